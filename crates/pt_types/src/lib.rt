@@ -1,0 +1,21 @@
+//! Names, numbers, calls and outcomes of a server of shared pthread objects.
+//!
+//! Contracts see a number type as its number, a name as its bytes and a moment as its nanoseconds.
+//! The verdict tables of all calls stand in `specs/`, over what one object is seen as.
+//! Only tests show the texts that `Display` writes.
+#![tactic(auto)]
+
+mod call;
+mod name;
+mod number;
+mod outcome;
+mod time;
+
+pub use call::{Call, How, MutexKind, ObjectKind};
+pub use name::Name;
+pub use number::{ClientId, ObjectId, Priority};
+pub use outcome::{Condition, Outcome, Refusal, Verdict};
+pub use time::{Deadline, Moment};
+
+#[cfg(test)]
+mod tests;
