@@ -1,0 +1,9 @@
+//! The history of a server of shared pthread objects, and what is legal in it.
+//!
+//! `specs/` says what a legal history is, and states the laws over all legal histories. Each law is
+//! the contract of a function with an empty body.
+#![tactic(auto)]
+
+mod entry;
+
+pub use entry::{Cause, Entry, Event};
