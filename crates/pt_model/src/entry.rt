@@ -4,7 +4,7 @@ use pt_types::{Call, ClientId, Moment, ObjectId, Outcome, Priority};
 ///
 /// The first four are outer entries, which come by events. The others are forced: they follow from
 /// the entries before them.
-#[derive(Debug, Drop)]
+#[derive(Debug, PartialEq, Eq, Drop)]
 pub enum Entry {
     /// A client joins. Its number is the place of this entry.
     Join(ClientId, Priority),
@@ -25,7 +25,7 @@ pub enum Entry {
 }
 
 /// What may happen to the server.  [profile]
-#[derive(Debug, Drop)]
+#[derive(Debug, PartialEq, Eq, Drop)]
 pub enum Event {
     /// A client joins, with its priority.
     Join(Priority),

@@ -32,7 +32,7 @@ pub enum How {
 }
 
 /// A call of a client, one variant for each word.  [XSH, the call's page]
-#[derive(Debug, Drop)]
+#[derive(Debug, PartialEq, Eq, Drop)]
 pub enum Call {
     MutexInit(Name, MutexKind, bool),
     Lock(Name),

@@ -8,7 +8,12 @@ fn names_of_up_to_32_bytes(rt: HostRuntime) -> Result<(), Fail> {
     assert!(rt; name.same() == name);
     assert!(rt; Name::new(&[b'x'; 32]).is_some());
     assert!(rt; Name::new(&[b'x'; 33]).is_none());
-    for bytes in [b"".as_slice(), b"A".as_slice(), b"a b".as_slice(), b"a\r".as_slice()] {
+    for bytes in [
+        b"".as_slice(),
+        b"A".as_slice(),
+        b"a b".as_slice(),
+        b"a\r".as_slice(),
+    ] {
         assert!(rt; Name::new(bytes).is_none());
     }
     Ok(())
@@ -41,9 +46,18 @@ fn times_within_their_limits(rt: HostRuntime) -> Result<(), Fail> {
 fn outcomes_and_refusals_print_their_words(rt: HostRuntime) -> Result<(), Fail> {
     let alloc = rt.alloc();
     assert_eq!(rt; format!(in alloc; "{}", Outcome::Done)?.as_str(), "0");
-    assert_eq!(rt; format!(in alloc; "{}", Outcome::Serial)?.as_str(), "SERIAL");
-    assert_eq!(rt; format!(in alloc; "{}", Outcome::Etimedout)?.as_str(), "ETIMEDOUT");
-    assert_eq!(rt; format!(in alloc; "{}", Refusal::Nohello)?.as_str(), "NOHELLO");
+    assert_eq!(rt;
+        format!(in alloc; "{}", Outcome::Serial)?.as_str(),
+        "SERIAL"
+    );
+    assert_eq!(rt;
+        format!(in alloc; "{}", Outcome::Etimedout)?.as_str(),
+        "ETIMEDOUT"
+    );
+    assert_eq!(rt;
+        format!(in alloc; "{}", Refusal::Nohello)?.as_str(),
+        "NOHELLO"
+    );
     assert_eq!(rt; Refusal::Enomem.word(), "ENOMEM");
     Ok(())
 }
