@@ -1,0 +1,82 @@
+-- Play: events played out by the definitions alone.
+use Rattle.std.specs.Prelude.{ℕ, zero, suc, List, [], ◌∷◌, ◌++◌, map, Option, Some, None, Result, Ok, Err}
+use Rattle.pt_types.specs.Limits.{most_entries}
+use Rattle.pt_types.specs.Times.{Timespec}
+use Rattle.pt_types.specs.declared.outcome.Outcome.{Outcome}
+use Rattle.pt_types.specs.declared.outcome.Refusal.{Refusal}
+use Rattle.pt_model.specs.declared.entry.Entry.{Entry}
+use Rattle.pt_model.specs.declared.entry.Event.{Event}
+use Rattle.pt_model.specs.Histories.{History, ◌▷◌, place, onto}
+use Rattle.pt_model.specs.Records.{Told}
+use Rattle.pt_model.specs.Answers.{replies_from}
+use Rattle.pt_model.specs.Forced.{forced}
+use Rattle.pt_model.specs.Room.{need, entry_for, refusal_within}
+
+-- a deadline as a line has it  [profile]
+abbrev pub at : ℕ → ℕ → Timespec
+at s n = record { sec = s; nsec = n }
+
+-- this entry, and what must follow it, at most so many entries more  [profile]
+abbrev pub settled_by : ℕ → History → Option Entry → List Entry
+settled_by zero h next = []
+settled_by (suc n) h None = []
+settled_by (suc n) h (Some e) = e ∷ settled_by n (h ▷ e) (forced (h ▷ e))
+
+-- an accepted event's entries  [profile]
+abbrev pub entered_by : History → Entry → List Entry
+entered_by h e = settled_by 20 h (Some e)
+
+-- what an accepted event or a refused one gives, and what all later events give  [profile]
+abbrev pub played_by :
+    History → Event → (History → List (Result (List Entry) Refusal)) → Option Refusal
+    → List (Result (List Entry) Refusal)
+played_by h v rest (Some r) = Err r ∷ rest h
+played_by h v rest None =
+    Ok (entered_by h (entry_for h v)) ∷ rest (onto h (entered_by h (entry_for h v)))
+
+-- the entries of each event, or its refusal, with so many entries at most  [profile]
+abbrev pub play_within : ℕ → History → List Event → List (Result (List Entry) Refusal)
+play_within limit h [] = []
+play_within limit h (v ∷ vs) =
+    played_by h v (λ g. play_within limit g vs) (refusal_within limit h v)
+
+-- the same, within the limit of every history  [profile]
+abbrev pub play : History → List Event → List (Result (List Entry) Refusal)
+play h vs = play_within most_entries h vs
+
+-- an answer without its place  [profile]
+abbrev pub said : Told → ℕ × Outcome
+said t = (t.client, t.outcome)
+
+-- who is told what by each accepted event  [profile]
+abbrev pub told_in : History → List (Result (List Entry) Refusal) → List (List (ℕ × Outcome))
+told_in h [] = []
+told_in h (Err r ∷ gs) = told_in h gs
+told_in h (Ok es ∷ gs) = map said (replies_from h es) ∷ told_in (onto h es) gs
+
+-- all entries of these events  [profile]
+abbrev pub entries_in : List (Result (List Entry) Refusal) → List Entry
+entries_in [] = []
+entries_in (Err r ∷ gs) = entries_in gs
+entries_in (Ok es ∷ gs) = es ++ entries_in gs
+
+-- the accepted ones of these events  [profile]
+abbrev pub accepted_of : List Event → List (Result (List Entry) Refusal) → List Event
+accepted_of [] gs = []
+accepted_of (v ∷ vs) [] = []
+accepted_of (v ∷ vs) (Err r ∷ gs) = accepted_of vs gs
+accepted_of (v ∷ vs) (Ok es ∷ gs) = v ∷ accepted_of vs gs
+
+-- the length and the need behind an accepted event or a refused one  [profile]
+abbrev pub measured_by :
+    History → Event → (History → List (Result (ℕ × ℕ) Refusal)) → Option Refusal
+    → List (Result (ℕ × ℕ) Refusal)
+measured_by h v rest (Some r) = Err r ∷ rest h
+measured_by h v rest None =
+    let g = onto h (entered_by h (entry_for h v)) in Ok (place g, need g) ∷ rest g
+
+-- the length and the need behind each event, or its refusal, within a limit  [profile]
+abbrev pub lengths : ℕ → History → List Event → List (Result (ℕ × ℕ) Refusal)
+lengths limit h [] = []
+lengths limit h (v ∷ vs) =
+    measured_by h v (λ g. lengths limit g vs) (refusal_within limit h v)
