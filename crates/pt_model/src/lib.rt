@@ -5,5 +5,7 @@
 #![tactic(auto)]
 
 mod entry;
+mod laws;
 
 pub use entry::{Cause, Entry, Event};
+pub use laws::law_one_list;

@@ -1,0 +1,6 @@
+pub mod Histories
+pub mod Lists
+pub mod Leasts
+pub mod Steps
+pub mod OneList
+pub mod Legality
