@@ -1,0 +1,4 @@
+pub mod Cores
+pub mod Applying
+pub mod Running
+pub mod Settling

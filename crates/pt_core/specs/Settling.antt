@@ -1,0 +1,31 @@
+-- Settling: forced entries, one after another, until none must follow.
+use Rattle.std.specs.Prelude.{ℕ, ◌≡◌, ◌+◌, ◌≤◌, List, [], ◌∷◌, ◌++◌, length, Some, None}
+use Rattle.pt_model.specs.declared.entry.Entry.{Entry}
+use Rattle.pt_model.specs.Histories.{History, ◌▷◌, history}
+use Rattle.pt_model.specs.Forced.{forced}
+use Rattle.pt_model.specs.Room.{need}
+use Rattle.pt_model.specs.Steps.{Follows}
+use Rattle.pt_history.specs.Stored.{Stored}
+
+-- each of these entries is the one that must follow  [profile]
+abbrev pub Forces : History → List Entry → Type 0
+Forces h [] = Unit {0}
+Forces h (f ∷ fs) = (forced h ≡ Some f) × Forces (h ▷ f) fs
+
+-- the length with what must still be written  [profile]
+abbrev pub reach : List Entry → ℕ
+reach es = length es + need (history es)
+
+-- forced entries were added so far, and there is room for the rest
+pub record IsSettling (old new : Stored) : Type 0 where
+  pub added : (fs : List Entry) × (new.entries ≡ old.entries ++ fs) × Forces (history old.entries) fs
+  pub follows : Follows (history new.entries)
+  pub room : need (history new.entries) ≤ new.room
+  pub same_limit : new.limit ≡ old.limit
+  pub same_end : length new.entries + new.room ≡ length old.entries + old.room
+  pub bounded : reach new.entries ≤ reach old.entries
+
+-- and now none must follow
+pub record Settles (old new : Stored) : Type 0 where
+  pub settling : IsSettling old new
+  pub settled : forced (history new.entries) ≡ None

@@ -1,0 +1,6 @@
+//! The core.
+#![tactic(auto)]
+
+mod applied;
+
+pub use applied::{Applied, Reply, Stopped};
