@@ -1,0 +1,215 @@
+ghost use Rattle.std.specs.Prelude.{◌≡◌, ◌≢◌, ◌↔◌, ◌+◌, ◌-◌, ◌<◌, ◌≤◌, ◌==◌, [], ◌++◌, Bool, false, ◌||◌, length, min, take, drop, vec_items, IsErr, IfOk, IfErr, MatchResult};
+ghost use Rattle.std.specs.IoError.{error_kind};
+ghost use Rattle.std.specs.declared.io.ErrorKind.TheVariants.{OutOfMemory};
+ghost use Rattle.std.specs.Io.{ReadsAtMost, WritesAtMost};
+ghost use Rattle.pt_io.specs.Devices.{count_of, count_of_once, tells_end};
+
+use crate::sink::Sink;
+use crate::source::{Source, is_end};
+use std::alloc::{Allocator, Global};
+use std::io;
+use std::io::ErrorKind;
+use std::marker::Model;
+
+/// A device in memory that moves few bytes at a time and can fail, for tests.
+///
+/// Reads give the bytes that it was made with, and after them those that were written.
+#[derive(Drop)]
+pub struct Faulty<A: Allocator + Copy = Global> {
+    bytes: Vec<u8, A>,
+    first: usize,
+    given: usize,
+    step: usize,
+    until_fault: u64,
+    has_failed: bool,
+    has_ended: bool,
+}
+
+impl<A: Allocator + Copy> Model for Faulty<A> {
+    ghost use Rattle.std.specs.Prelude.{◌<◌, ◌≤◌, length, take, drop};
+    ghost use Rattle.pt_io.specs.Devices.{Memory};
+
+    ghost Value = { Memory };
+
+    ghost view = { λ m. record {
+        given = take m.given m.bytes.items;
+        left = drop m.given m.bytes.items;
+        taken = drop m.first m.bytes.items;
+        step = m.step;
+        until_fault = m.until_fault;
+        has_failed = m.has_failed;
+        has_ended = m.has_ended
+    } };
+
+    ghost invariant = { λ m.
+        (m.first ≤ length m.bytes.items) × (m.given ≤ length m.bytes.items) × (0 < m.step) };
+}
+
+impl<A: Allocator + Copy> Faulty<A> {
+    /// A device that will give these bytes and moves up to `step` bytes per call. Its call number
+    /// `fails_at`, counted from 1, fails; with 0 none does.
+    pub fn new(bytes: Vec<u8, A>, step: usize, fails_at: u64) -> Faulty<A>
+        requires { 0 < step }
+        ensures { result ≡ record {
+            given = [];
+            left = bytes.items;
+            taken = [];
+            step = step;
+            until_fault = fails_at;
+            has_failed = false;
+            has_ended = false
+        } }
+    {
+        let first = bytes.len();
+        Faulty {
+            bytes,
+            first,
+            given: 0,
+            step,
+            until_fault: fails_at,
+            has_failed: false,
+            has_ended: false,
+        }
+    }
+
+    /// All the bytes that were written.
+    pub fn written(&self) -> &[u8]
+        ensures { result.now ≡ self.now.taken }
+    {
+        &self.bytes[self.first..]
+    }
+
+    /// The bytes that reads have not given yet.
+    pub fn left(&self) -> &[u8]
+        ensures { result.now ≡ self.now.left }
+    {
+        &self.bytes[self.given..]
+    }
+
+    /// Whether a call has failed.
+    pub fn has_failed(&self) -> bool
+        ensures { result ≡ self.now.has_failed }
+    {
+        self.has_failed
+    }
+}
+
+fn is_due(until_fault: &mut u64) -> bool
+    ensures now { result ≡ (until_fault.old == 1) }
+    ensures fewer { until_fault.new ≡ until_fault.old - 1 }
+{
+    let is_due = *until_fault == 1;
+    *until_fault = until_fault.saturating_sub(1);
+    is_due
+}
+
+fn copy_front(left: &[u8], step: usize, buf: &mut [u8]) -> usize
+    ensures value { result ≡ min (min (length buf.new) step) (length left.now) }
+    ensures there { result ≤ length left.now }
+    ensures room { (result ≤ length buf.new) × (result ≡ length (take result buf.new)) }
+    ensures piece { take result buf.new ≡ take result left.now }
+{
+    let n = buf.len().min(step).min(left.len());
+    buf[..n].copy_from_slice(&left[..n]);
+    n
+}
+
+#[tactic(auto, using(crate::proofs::Pieces::given_more, crate::proofs::Pieces::left_more))]
+fn give(bytes: &[u8], at: usize, step: usize, buf: &mut [u8]) -> usize
+    requires { at ≤ length bytes.now }
+    ensures value { result ≡ min (min (length buf.new) step) (length bytes.now - at) }
+    ensures there { at + result ≤ length bytes.now }
+    ensures room { (result ≤ length buf.new) × (result ≡ length (take result buf.new)) }
+    ensures given { take (at + result) bytes.now ≡ take at bytes.now ++ take result buf.new }
+    ensures left { drop at bytes.now ≡ take result buf.new ++ drop (at + result) bytes.now }
+{
+    copy_front(&bytes[at..], step, buf)
+}
+
+impl<A: Allocator + Copy> Source for Faulty<A> {
+    ghost given = { λ s. s.given };
+
+    ghost failures = { λ s. count_of s.has_failed };
+
+    ghost ended = { λ s. s.has_ended };
+
+    fn read(&mut self, buf: &mut [u8]) -> io::Result<usize>
+        requires { count_of self.old.has_failed ≡ 0 }
+        ensures bound { ReadsAtMost result buf.new }
+        ensures bytes { MatchResult result
+            (λ n. self.new.given ≡ self.old.given ++ take n buf.new)
+            (λ _. self.new.given ≡ self.old.given) }
+        ensures count { MatchResult result
+            (λ _. count_of self.new.has_failed ≡ 0)
+            (λ _. count_of self.new.has_failed ≡ 1) }
+        ensures end { self.new.has_ended ≡ (self.old.has_ended || tells_end result buf.new) }
+
+        // Which answer comes, and what is left.
+        ensures fault { IsErr result ↔ (self.old.until_fault ≡ 1) }
+        ensures moves { IfOk result
+            (λ n. n ≡ min (min (length buf.new) self.old.step) (length self.old.left)) }
+        ensures left { MatchResult result
+            (λ n. self.old.left ≡ take n buf.new ++ self.new.left)
+            (λ _. self.new.left ≡ self.old.left) }
+
+        // The rest stays, and the fault comes nearer.
+        ensures still { (self.new.taken ≡ self.old.taken) × (self.new.step ≡ self.old.step) }
+        ensures fewer { self.new.until_fault ≡ self.old.until_fault - 1 }
+    {
+        if is_due(&mut self.until_fault) {
+            self.has_failed = true;
+            return Err(io::Error::from(ErrorKind::Other));
+        }
+        let n = give(&self.bytes, self.given, self.step, buf);
+        self.given += n;
+        self.has_ended |= is_end(n, buf);
+        Ok(n)
+    }
+
+    ghost fails_once = { λ s. count_of_once s.has_failed };
+}
+
+impl<A: Allocator + Copy> Sink for Faulty<A> {
+    ghost taken = { λ s. s.taken };
+
+    ghost failures = { λ s. count_of s.has_failed };
+
+    /// A refused growth is a failure too.
+    fn write(&mut self, buf: &[u8]) -> io::Result<usize>
+        requires { count_of self.old.has_failed ≡ 0 }
+        ensures bound { WritesAtMost result buf.now }
+        ensures bytes { MatchResult result
+            (λ n. self.new.taken ≡ self.old.taken ++ take n buf.now)
+            (λ _. self.new.taken ≡ self.old.taken) }
+        ensures count { MatchResult result
+            (λ _. count_of self.new.has_failed ≡ 0)
+            (λ _. count_of self.new.has_failed ≡ 1) }
+
+        // Which answer comes, and what is left for reads.
+        ensures fault { self.old.until_fault ≡ 1 → IsErr result }
+        ensures memory { IfErr result
+            (λ e. self.old.until_fault ≢ 1 → error_kind e ≡ OutOfMemory) }
+        ensures moves { IfOk result (λ n. n ≡ min (length buf.now) self.old.step) }
+        ensures left { MatchResult result
+            (λ n. self.new.left ≡ self.old.left ++ take n buf.now)
+            (λ _. self.new.left ≡ self.old.left) }
+
+        // The rest stays, and the fault comes nearer.
+        ensures still { (self.new.given ≡ self.old.given) × (self.new.step ≡ self.old.step) }
+        ensures end { self.new.has_ended ≡ self.old.has_ended }
+        ensures fewer { self.new.until_fault ≡ self.old.until_fault - 1 }
+    {
+        if is_due(&mut self.until_fault) {
+            self.has_failed = true;
+            return Err(io::Error::from(ErrorKind::Other));
+        }
+        let n = buf.len().min(self.step);
+        if let Err(refused) = self.bytes.extend_from_slice(&buf[..n]) {
+            self.has_failed = true;
+            return Err(io::Error::from(refused));
+        }
+        Ok(n)
+    }
+
+    ghost fails_once = { λ s. count_of_once s.has_failed };
+}
