@@ -31,10 +31,10 @@ impl<D> Model for Counted<D> {
     ghost Value = { Standing D };
 
     ghost view = { λ c. record {
-        device = c.device;
-        bytes = bytes_of c.log.items;
-        has_failed = c.has_failed;
-        has_ended = c.has_ended
+      device = c.device;
+      bytes = bytes_of c.log.items;
+      has_failed = c.has_failed;
+      has_ended = c.has_ended;
     } };
 }
 
@@ -42,10 +42,10 @@ impl<D> Counted<D> {
     /// A device that has moved no byte yet, and has neither failed nor told its end.
     pub fn new(device: D) -> Counted<D>
         ensures { result ≡ record {
-            device = device;
-            bytes = [];
-            has_failed = false;
-            has_ended = false
+          device = device;
+          bytes = [];
+          has_failed = false;
+          has_ended = false;
         } }
     {
         Counted {

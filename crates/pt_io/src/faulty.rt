@@ -32,13 +32,13 @@ impl<A: Allocator + Copy> Model for Faulty<A> {
     ghost Value = { Memory };
 
     ghost view = { λ m. record {
-        given = take m.given m.bytes.items;
-        left = drop m.given m.bytes.items;
-        taken = drop m.first m.bytes.items;
-        step = m.step;
-        until_fault = m.until_fault;
-        has_failed = m.has_failed;
-        has_ended = m.has_ended
+      given = take m.given m.bytes.items;
+      left = drop m.given m.bytes.items;
+      taken = drop m.first m.bytes.items;
+      step = m.step;
+      until_fault = m.until_fault;
+      has_failed = m.has_failed;
+      has_ended = m.has_ended;
     } };
 
     ghost invariant = { λ m.
@@ -51,13 +51,13 @@ impl<A: Allocator + Copy> Faulty<A> {
     pub fn new(bytes: Vec<u8, A>, step: usize, fails_at: u64) -> Faulty<A>
         requires { 0 < step }
         ensures { result ≡ record {
-            given = [];
-            left = bytes.items;
-            taken = [];
-            step = step;
-            until_fault = fails_at;
-            has_failed = false;
-            has_ended = false
+          given = [];
+          left = bytes.items;
+          taken = [];
+          step = step;
+          until_fault = fails_at;
+          has_failed = false;
+          has_ended = false;
         } }
     {
         let first = bytes.len();

@@ -18,5 +18,5 @@ pub use faulty::Faulty;
 pub use sink::Sink;
 pub use source::Source;
 
-// #[cfg(test)]
-// mod tests;
+#[cfg(test)]
+mod tests;
