@@ -4,3 +4,5 @@ pub mod Leasts
 pub mod Steps
 pub mod OneList
 pub mod Legality
+pub mod Effects
+pub mod Allowances
