@@ -6,3 +6,5 @@ pub mod OneList
 pub mod Legality
 pub mod Effects
 pub mod Allowances
+pub mod Changes
+pub mod Readings
