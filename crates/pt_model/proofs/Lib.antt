@@ -8,3 +8,7 @@ pub mod Effects
 pub mod Allowances
 pub mod Changes
 pub mod Readings
+pub mod Sound
+pub mod Found
+pub mod Opens
+pub mod Unheld
