@@ -40,8 +40,8 @@ module _ (h : History) (c : ℕ) where
   makes : (n : List ℕ) (kind : ObjectKind) (a b : Bool) (o : Option Object) → is_bad_kind kind ≡ a
       → object_named h n ≡ o
       → Allowed h c (act h c (Makes n kind) (reply
-          (cond a (Reply Einval) (cond (is_some o) (Reply Ebusy)
-          (cond b (Reply Eagain) (Reply Done))))))
+      (cond a (Reply Einval) (cond (is_some o) (Reply Ebusy)
+      (cond b (Reply Eagain) (Reply Done))))))
   makes n kind true b o ea eo = tt
   makes n kind false b (Some o) ea eo = tt
   makes n kind false true None ea eo = tt
@@ -49,7 +49,7 @@ module _ (h : History) (c : ℕ) where
 
   ends : (n : List ℕ) (sort : Sort) (o : Option ℕ) → find h n sort ≡ o
       → Allowed h c (act h c (Ends n sort) (reply
-          (on o (λ q. cond (is_busy h sort q) (Reply Ebusy) (Reply Done)))))
+      (on o (λ q. cond (is_busy h sort q) (Reply Ebusy) (Reply Done)))))
   ends n sort None e = tt
   ends n sort (Some q) e = go (is_busy h sort q) refl
     where
@@ -60,13 +60,13 @@ module _ (h : History) (c : ℕ) where
 
   locks : (n : List ℕ) (how : How) (o : Option ℕ) → find h n MutexSort ≡ o
       → Allowed h c (act h c (Acquires n MutexLock how)
-          (reply (on o (λ m. want_verdict h c m MutexLock how))))
+      (reply (on o (λ m. want_verdict h c m MutexLock how))))
   locks n how None e = tt
   locks n how (Some m) e =
       go (is_lost (condition h m)) (is_none v.owner)
-          (owns v c && (is_recursive v.kind && nat_lt v.count most_locks))
-          (owns v c && is_recursive v.kind) (is_try how) (owns v c && is_errorcheck v.kind)
-          (has_bad_deadline (deadline_of how)) refl refl
+      (owns v c && (is_recursive v.kind && nat_lt v.count most_locks))
+      (owns v c && is_recursive v.kind) (is_try how) (owns v c && is_errorcheck v.kind)
+      (has_bad_deadline (deadline_of how)) refl refl
     where
       v : MutexView
       v = mutex_view h m
@@ -74,9 +74,9 @@ module _ (h : History) (c : ℕ) where
       go : (l f s t u x y : Bool) → is_lost (condition h m) ≡ l
           → (owns v c && (is_recursive v.kind && nat_lt v.count most_locks)) ≡ s
           → Allowed h c (act h c (Acquires n MutexLock how)
-              (reply (cond l Stands (cond f Stands
-              (cond s (Reply Done) (cond t (Reply Eagain)
-              (cond u (Reply Ebusy) (cond x (Reply Edeadlk) (cond y (Reply Einval) Stands)))))))))
+          (reply (cond l Stands (cond f Stands
+          (cond s (Reply Done) (cond t (Reply Eagain)
+          (cond u (Reply Ebusy) (cond x (Reply Edeadlk) (cond y (Reply Einval) Stands)))))))))
       go true f s t u x y el es = (refl, known n MutexSort m e)
       go false true s t u x y el es = (refl, known n MutexSort m e)
       go false false true t u x y el es =
@@ -91,12 +91,12 @@ module _ (h : History) (c : ℕ) where
 
   reads_in : (n : List ℕ) (how : How) (o : Option ℕ) → find h n RwlockSort ≡ o
       → Allowed h c (act h c (Acquires n ReadLock how)
-          (reply (on o (λ r. want_verdict h c r ReadLock how))))
+      (reply (on o (λ r. want_verdict h c r ReadLock how))))
   reads_in n how None e = tt
   reads_in n how (Some r) e =
       go (is_try how) (writes h r c) (nat_le most_reads v.reads) (nat_lt 0 v.reads)
-          (not v.is_written && not (is_blocked h r (unwrap_or (client h c) 0)))
-          (has_bad_deadline (deadline_of how)) refl
+      (not v.is_written && not (is_blocked h r (unwrap_or (client h c) 0)))
+      (has_bad_deadline (deadline_of how)) refl
     where
       v : RwlockView
       v = rwlock_view h r c
@@ -106,9 +106,9 @@ module _ (h : History) (c : ℕ) where
 
       go : (u w l p f y : Bool) → writes h r c ≡ w
           → Allowed h c (act h c (Acquires n ReadLock how)
-              (reply (cond w (Reply (relock_outcome u))
-              (cond l (Reply Eagain) (cond p Stands
-              (cond f Stands (cond u (Reply Ebusy) (cond y (Reply Einval) Stands))))))))
+          (reply (cond w (Reply (relock_outcome u))
+          (cond l (Reply Eagain) (cond p Stands
+          (cond f Stands (cond u (Reply Ebusy) (cond y (Reply Einval) Stands))))))))
       go true true l p f y ew = tt
       go false true l p f y ew = tt
       go u false true p f y ew = tt
@@ -120,7 +120,7 @@ module _ (h : History) (c : ℕ) where
 
   writes_in : (n : List ℕ) (how : How) (o : Option ℕ) → find h n RwlockSort ≡ o
       → Allowed h c (act h c (Acquires n WriteLock how)
-          (reply (on o (λ r. want_verdict h c r WriteLock how))))
+      (reply (on o (λ r. want_verdict h c r WriteLock how))))
   writes_in n how None e = tt
   writes_in n how (Some r) e = go (is_try how) (holds v) (is_free v)
       (has_bad_deadline (deadline_of how)) refl
@@ -133,8 +133,8 @@ module _ (h : History) (c : ℕ) where
 
       go : (u w f y : Bool) → holds v ≡ w
           → Allowed h c (act h c (Acquires n WriteLock how)
-              (reply (cond w (Reply (relock_outcome u))
-              (cond f Stands (cond u (Reply Ebusy) (cond y (Reply Einval) Stands))))))
+          (reply (cond w (Reply (relock_outcome u))
+          (cond f Stands (cond u (Reply Ebusy) (cond y (Reply Einval) Stands))))))
       go true true f y ew = tt
       go false true f y ew = tt
       go u false true y ew = stand ew
@@ -144,7 +144,7 @@ module _ (h : History) (c : ℕ) where
 
   unlocks : (n : List ℕ) (o : Option ℕ) → find h n MutexSort ≡ o
       → Allowed h c (act h c (Unlocks n) (reply
-          (on o (λ m. cond (not (owns (mutex_view h m) c)) (Reply Eperm) (Reply Done)))))
+      (on o (λ m. cond (not (owns (mutex_view h m) c)) (Reply Eperm) (Reply Done)))))
   unlocks n None e = tt
   unlocks n (Some m) e = go (owns (mutex_view h m) c) refl
     where
@@ -155,7 +155,7 @@ module _ (h : History) (c : ℕ) where
 
   returns : (n : List ℕ) (o : Option ℕ) → find h n RwlockSort ≡ o
       → Allowed h c (act h c (Rwunlocks n) (reply
-          (on o (λ r. cond (not (holds (rwlock_view h r c))) (Reply Eperm) (Reply Done)))))
+      (on o (λ r. cond (not (holds (rwlock_view h r c))) (Reply Eperm) (Reply Done)))))
   returns n None e = tt
   returns n (Some r) e = go (holds (rwlock_view h r c)) refl
     where
@@ -166,8 +166,8 @@ module _ (h : History) (c : ℕ) where
 
   restores : (n : List ℕ) (o : Option ℕ) → find h n MutexSort ≡ o
       → Allowed h c (act h c (Restores n) (reply
-          (on o (λ m. cond (not (is_robust (kind_of h m) && is_inconsistent (condition h m)))
-          (Reply Einval) (cond (not (owns (mutex_view h m) c)) (Reply Eperm) (Reply Done))))))
+      (on o (λ m. cond (not (is_robust (kind_of h m) && is_inconsistent (condition h m)))
+      (Reply Einval) (cond (not (owns (mutex_view h m) c)) (Reply Eperm) (Reply Done))))))
   restores n None e = tt
   restores n (Some m) e = go (is_robust (kind_of h m) && is_inconsistent (condition h m))
       (owns (mutex_view h m) c) refl refl
@@ -175,16 +175,21 @@ module _ (h : History) (c : ℕ) where
       go : (a b : Bool) → (is_robust (kind_of h m) && is_inconsistent (condition h m)) ≡ a
           → owns (mutex_view h m) c ≡ b
           → Allowed h c (act h c (Restores n)
-              (reply (cond (not a) (Reply Einval) (cond (not b) (Reply Eperm) (Reply Done)))))
-      go true true ea eb = rw e ((n, e), (eb,
-          (and_parts (is_robust (kind_of h m)) (is_inconsistent (condition h m)) ea).1))
+          (reply (cond (not a) (Reply Einval) (cond (not b) (Reply Eperm) (Reply Done)))))
+      go true true ea eb = rw e (
+        (n, e),
+        (
+          eb,
+          (and_parts (is_robust (kind_of h m)) (is_inconsistent (condition h m)) ea).1,
+        ),
+      )
       go true false ea eb = tt
       go false b ea eb = tt
 
   awaits : (n k : List ℕ) (d : Option Timespec) (o p : Option ℕ) → find h n CondSort ≡ o
       → find h k MutexSort ≡ p
       → Allowed h c (act h c (Awaits n k d) (reply
-          (on o (λ q. on p (λ m. awaits_verdict h c q m d)))))
+      (on o (λ q. on p (λ m. awaits_verdict h c q m d)))))
   awaits n k d None p e f = tt
   awaits n k d (Some q) None e f = tt
   awaits n k d (Some q) (Some m) e f = go (has_bad_deadline d)
@@ -197,8 +202,13 @@ module _ (h : History) (c : ℕ) where
       go true b x ex = tt
       go false true x ex = tt
       go false false false ex = tt
-      go false false true ex = (refl, (known n CondSort q e,
-          (known k MutexSort m f, rw (meant-found h k MutexSort m f) ex)))
+      go false false true ex = (
+        refl,
+        (
+          known n CondSort q e,
+          (known k MutexSort m f, rw (meant-found h k MutexSort m f) ex),
+        ),
+      )
 
   signals : (n : List ℕ) (o : Option ℕ) → find h n CondSort ≡ o
       → Allowed h c (act h c (Signals n) (reply (on o (λ q. Reply Done))))

@@ -45,8 +45,11 @@ at_place-last w v e =
 
 newest_call : (h : History) (c : ℕ) (E : Effect) → Allowed h c E → (w : Standing) → In w (left_by E)
     → (w.place ≡ place h) × (at_place w.place (left_by E) ≡ Some w)
-newest_call h c (Waits v) a w (inl e) = (ap (λ (u : Standing). u.place) (e ∙ a.0), at_place-last w v
-    e)
+newest_call h c (Waits v) a w (inl e) = (
+  ap (λ (u : Standing). u.place) (e ∙ a.0),
+  at_place-last w v
+      e,
+)
 newest_call h c (Waits v) a w (inr i) = absurd i
 newest_call h c Idle a w i = absurd i
 newest_call h c (Creates n kind) a w i = absurd i
@@ -62,8 +65,8 @@ newest : (h : History) (e : Entry) → Step h e → (w : Standing) → In w (sto
 newest h _ (calls c call n a o) w i =
     let r = reply (verdict h c call) in
     subst (λ ws. In w ws → (w.place ≡ place h) × (at_place w.place ws ≡ Some w))
-        (sym (stood-call h c call (reply (verdict h c call))))
-        (newest_call h c (effect h c call (reply (verdict h c call))) (allowed h c call) w) i
+    (sym (stood-call h c call (reply (verdict h c call))))
+    (newest_call h c (effect h c call (reply (verdict h c call))) (allowed h c call) w) i
 newest h _ (joins p n lt) w i = absurd i
 newest h _ (dies c n a) w i = absurd i
 newest h _ (ticks t n) w i = absurd i
@@ -83,8 +86,8 @@ found (h ▷ e) f = λ w i. go w (found h f.0 w) (In-append_cases w (stood h) (s
     go w ih (inr i) =
         let new = newest h e f.1 w i in
         at_place-append_right w.place (stood h) (stood_by h e)
-            (rw new.0 (Each-weaker (Below (place h)) (λ v. v.place < place h) (λ v b. b.0) (stood h)
-            (Fresh-follows h f.0).stood)) ∙ new.1
+        (rw new.0 (Each-weaker (Below (place h)) (λ v. v.place < place h) (λ v b. b.0) (stood h)
+        (Fresh-follows h f.0).stood)) ∙ new.1
 
 -- two calls that stood at one place are one
 pub one_place : (h : History) → Follows h → (v w : Standing) → In v (stood h) → In w (stood h)
@@ -93,7 +96,7 @@ one_place h f v w i j e =
     let a = found h f v i in
     let b = found h f w j in
     let c : at_place v.place (stood h) ≡ at_place w.place (stood h) = ap (λ p. at_place p (stood h))
-        e in
+    e in
     cc
 
 pub stood_open : (h : History) (w : Standing) → In w (open_calls h) → In w (stood h)
@@ -130,7 +133,7 @@ picks h f p t w i = bool_same (list_any (λ v. (v.place == w.place) && t v) (fil
         let in' = In-filter p (stood h) r.0 r.1.0 in
         let parts = and_parts (r.0.place == w.place) (t r.0) r.1.1 in
         let at : r.0.place ≡ w.place = let q : (r.0.place == w.place)
-            ≡ true = parts.0 in grind (arith, nat_tests) in
+        ≡ true = parts.0 in grind (arith, nat_tests) in
         let same : r.0 ≡ w = one_place h f r.0 w in'.0 i at in
         and_from (p w) (t w) (ap p (sym same) ∙ in'.1) (ap t (sym same) ∙ parts.1)
 
@@ -140,4 +143,4 @@ picks h f p t w i = bool_same (list_any (λ v. (v.place == w.place) && t v) (fil
         let parts = and_parts (p w) (t w) e in
         let here : (w.place == w.place) ≡ true = grind (arith, nat_tests) in
         in-any (λ (v : Standing). (v.place == w.place) && t v) (filter p (stood h)) w
-            (filter-in p (stood h) w i parts.0) (and_from (w.place == w.place) (t w) here parts.1)
+        (filter-in p (stood h) w i parts.0) (and_from (w.place == w.place) (t w) here parts.1)

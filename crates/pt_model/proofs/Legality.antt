@@ -14,15 +14,15 @@ use Rattle.pt_model.proofs.Steps.{step-forced, follows-legal}
 
 module _ (x : Entry) (xs ys : List Entry) (h : History) (more : List Event)
     (rest : (vs : List Event) → LegalFrom (h ▷ x) xs vs → LegalFrom (h ▷ x) (xs ++ ys) (vs ++ more))
-    where
-  goes_on : (o : Option Entry) (events : List Event)
-      → MatchOption o (Takes h x events (LegalFrom (h ▷ x) xs))
-          (λ f. (x ≡ f) × LegalFrom (h ▷ x) xs events)
-      → MatchOption o (Takes h x (events ++ more) (LegalFrom (h ▷ x) (xs ++ ys)))
-          (λ f. (x ≡ f) × LegalFrom (h ▷ x) (xs ++ ys) (events ++ more))
-  goes_on None [] l = absurd l
-  goes_on None (v ∷ vs) l = (l.0, l.1, rest vs l.2)
-  goes_on (Some f) events l = (l.0, rest events l.1)
+  where
+    goes_on : (o : Option Entry) (events : List Event)
+        → MatchOption o (Takes h x events (LegalFrom (h ▷ x) xs))
+        (λ f. (x ≡ f) × LegalFrom (h ▷ x) xs events)
+        → MatchOption o (Takes h x (events ++ more) (LegalFrom (h ▷ x) (xs ++ ys)))
+        (λ f. (x ≡ f) × LegalFrom (h ▷ x) (xs ++ ys) (events ++ more))
+    goes_on None [] l = absurd l
+    goes_on None (v ∷ vs) l = (l.0, l.1, rest vs l.2)
+    goes_on (Some f) events l = (l.0, rest events l.1)
 
 -- a legal list goes on to a longer one
 pub legal-more : (h : History) (xs ys : List Entry) (events more : List Event)
@@ -57,7 +57,7 @@ module _ (h : History) (x : Entry) (xs : List Entry)
     (rest : (vs : List Event) → LegalFrom (h ▷ x) xs vs → events_of xs ≡ vs) where
   events_on : (o : Option Entry) (events : List Event) → forced h ≡ o
       → MatchOption o (Takes h x events (LegalFrom (h ▷ x) xs))
-          (λ f. (x ≡ f) × LegalFrom (h ▷ x) xs events)
+      (λ f. (x ≡ f) × LegalFrom (h ▷ x) xs events)
       → events_of (x ∷ xs) ≡ events
   events_on None [] eo l = absurd l
   events_on None (v ∷ vs) eo l =

@@ -12,3 +12,6 @@ pub mod Sound
 pub mod Found
 pub mod Opens
 pub mod Unheld
+pub mod Counting
+pub mod Livings
+pub mod Room

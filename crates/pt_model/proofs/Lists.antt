@@ -76,7 +76,7 @@ pub filter-agree_on : {X : Type 0} (p q : X → Bool) (xs : List X) → Each (λ
 filter-agree_on p q [] a = refl
 filter-agree_on p q (x ∷ xs) a =
     ap (λ b. cond b (x ∷ filter p xs) (filter p xs)) a.0
-        ∙ ap (λ ys. cond (q x) (x ∷ ys) ys) (filter-agree_on p q xs a.1)
+    ∙ ap (λ ys. cond (q x) (x ∷ ys) ys) (filter-agree_on p q xs a.1)
 
 -- a filter that all pass
 pub filter-all : {X : Type 0} (p : X → Bool) (xs : List X) → ((x : X) → In x xs → p x ≡ true)
@@ -94,7 +94,7 @@ filter-filter p q (x ∷ xs) = go (q x) (p x) refl (filter-filter p q xs)
   where
     go : (b c : Bool) → p x ≡ c → filter p (filter q xs) ≡ filter (λ y. q y && p y) xs
         → filter p (cond b (x ∷ filter q xs) (filter q xs))
-            ≡ cond (b && c) (x ∷ filter (λ y. q y && p y) xs) (filter (λ y. q y && p y) xs)
+        ≡ cond (b && c) (x ∷ filter (λ y. q y && p y) xs) (filter (λ y. q y && p y) xs)
     go true true e ih = rw e (ap (λ ys. x ∷ ys) ih)
     go true false e ih = rw e ih
     go false c e ih = ih

@@ -19,9 +19,9 @@ mixed (Some x) h y events K L e n q = cc
 both : (f : Option Entry) (h : History) (x y : Entry) (xs ys : List Entry) (events : List Event)
     → ((g : History) (vs : List Event) → LegalFrom g xs vs → LegalFrom g ys vs → xs ≡ ys)
     → MatchOption f (Takes h x events (LegalFrom (h ▷ x) xs))
-        (λ e. (x ≡ e) × LegalFrom (h ▷ x) xs events)
+    (λ e. (x ≡ e) × LegalFrom (h ▷ x) xs events)
     → MatchOption f (Takes h y events (LegalFrom (h ▷ y) ys))
-        (λ e. (y ≡ e) × LegalFrom (h ▷ y) ys events)
+    (λ e. (y ≡ e) × LegalFrom (h ▷ y) ys events)
     → x ∷ xs ≡ y ∷ ys
 both None h x y xs ys [] ih p q = absurd p
 both None h x y xs ys (v ∷ vs) ih p q =
@@ -31,7 +31,7 @@ both None h x y xs ys (v ∷ vs) ih p q =
 both (Some f) h x y xs ys events ih p q =
     let e : y ≡ x = q.0 ∙ sym p.0 in
     let rest : xs ≡ ys = ih (h ▷ x) events p.1
-        (subst (λ (z : Entry). LegalFrom (h ▷ z) ys events) e q.1) in
+    (subst (λ (z : Entry). LegalFrom (h ▷ z) ys events) e q.1) in
     cc
 
 pub one_list_from : (h : History) (xs ys : List Entry) (events : List Event) → LegalFrom h xs events
@@ -39,10 +39,10 @@ pub one_list_from : (h : History) (xs ys : List Entry) (events : List Event) →
 one_list_from h [] [] events p q = refl
 one_list_from h [] (y ∷ ys) events p q =
     absurd (mixed (forced h) h y events (LegalFrom (h ▷ y) ys)
-        (λ f. (y ≡ f) × LegalFrom (h ▷ y) ys events) p.0 p.1 q)
+    (λ f. (y ≡ f) × LegalFrom (h ▷ y) ys events) p.0 p.1 q)
 one_list_from h (x ∷ xs) [] events p q =
     absurd (mixed (forced h) h x events (LegalFrom (h ▷ x) xs)
-        (λ f. (x ≡ f) × LegalFrom (h ▷ x) xs events) q.0 q.1 p)
+    (λ f. (x ≡ f) × LegalFrom (h ▷ x) xs events) q.0 q.1 p)
 one_list_from h (x ∷ xs) (y ∷ ys) events p q =
     both (forced h) h x y xs ys events (λ g vs. one_list_from g xs ys vs) p q
 

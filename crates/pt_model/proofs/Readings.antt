@@ -221,52 +221,52 @@ module _ (h : History) (c : ℕ) (call : Asked) (r : Option Outcome) where
       → named_by (Call c call r) at before n ≡ named_effect at (effect h c call r) before n
   named-call s at before n =
       by_reply h c call r (λ k. k.names at before n ≡ named_effect at k.effect before n)
-          (λ e. stays_same (λ E. named_effect at E before n) before refl (λ w. refl) h c
-          (deed call)) (λ e. named_done h c at before n (deed call)
-          (λ m sort t. s.ended m sort t e)) refl
+      (λ e. stays_same (λ E. named_effect at E before n) before refl (λ w. refl) h c
+      (deed call)) (λ e. named_done h c at before n (deed call)
+      (λ m sort t. s.ended m sort t e)) refl
 
   pub kind-call : (before : Option ObjectKind) (o : ℕ) → kind_by h (Call c call r) before o
       ≡ kind_effect (place h) (effect h c call r) before o
   kind-call before o =
       by_reply h c call r (λ k. k.kinds before o ≡ kind_effect (place h) k.effect before o)
-          (λ e. stays_same (λ E. kind_effect (place h) E before o) before refl (λ w. refl) h c
-          (deed call)) (λ e. kind_done h c before o (deed call)) refl
+      (λ e. stays_same (λ E. kind_effect (place h) E before o) before refl (λ w. refl) h c
+      (deed call)) (λ e. kind_done h c before o (deed call)) refl
 
   pub cause-call : (moves : ℕ → Option Move) (j : ℕ) → cause_by h moves (Call c call r) j
       ≡ cause_effect h moves (effect h c call r) j
   cause-call moves j =
       by_reply h c call r (λ k. k.causes moves j ≡ cause_effect h moves k.effect j)
-          (λ e. stays_same (λ E. cause_effect h moves E j) None refl (λ w. refl) h c (deed call))
-          (λ e. cause_done h c moves j (deed call)) refl
+      (λ e. stays_same (λ E. cause_effect h moves E j) None refl (λ w. refl) h c (deed call))
+      (λ e. cause_done h c moves j (deed call)) refl
 
   pub gained-call : (m d before : ℕ) → gained_by h (Call c call r) m d before
       ≡ cond (takes_more (effect h c call r) m && (c == d)) (suc before) before
   gained-call m d before =
       by_reply h c call r (λ k. k.gains m d before
-          ≡ cond (takes_more k.effect m && (c == d)) (suc before) before)
-          (λ e. ap (λ b. cond (b && (c == d)) (suc before) before)
-          (stays_same (λ E. takes_more E m) false refl (λ w. refl) h c (deed call)))
-          (λ e. ap (λ b. cond (b && (c == d)) (suc before) before) (relocks_done h c m (deed call)))
-          refl
+      ≡ cond (takes_more k.effect m && (c == d)) (suc before) before)
+      (λ e. ap (λ b. cond (b && (c == d)) (suc before) before)
+      (stays_same (λ E. takes_more E m) false refl (λ w. refl) h c (deed call)))
+      (λ e. ap (λ b. cond (b && (c == d)) (suc before) before) (relocks_done h c m (deed call)))
+      refl
 
   pub lost-call : Resolved h call r → (m d before : ℕ) → lost_by h (Call c call r) m d before
       ≡ cond (gives_up (effect h c call r) m && (c == d)) (suc before) before
   lost-call s m d before =
       by_reply h c call r (λ k. k.losses m d before
-          ≡ cond (gives_up k.effect m && (c == d)) (suc before) before)
-          (λ e. ap (λ b. cond (b && (c == d)) (suc before) before)
-          (waits_done h c m (deed call) (λ n k t q. s.awaited n k t q e)))
-          (λ e. ap (λ b. cond (b && (c == d)) (suc before) before) (unlocks_done h c m (deed call)))
-          refl
+      ≡ cond (gives_up k.effect m && (c == d)) (suc before) before)
+      (λ e. ap (λ b. cond (b && (c == d)) (suc before) before)
+      (waits_done h c m (deed call) (λ n k t q. s.awaited n k t q e)))
+      (λ e. ap (λ b. cond (b && (c == d)) (suc before) before) (unlocks_done h c m (deed call)))
+      refl
 
   pub condition-call : Resolved h call r → (m : ℕ) (before : Condition)
       → condition_by h (Call c call r) m before ≡ condition_effect h c (effect h c call r) m before
   condition-call s m before =
       by_reply h c call r (λ k. k.conditions m before ≡ condition_effect h c k.effect m before)
-          stays_it (λ e. ap (λ b. condition_by_deed b (frees h m c (unlocks h (deed call) m))
-          before) (restores_done h c m (deed call))
-          ∙ ap (λ b. condition_by_deed (mends (succeeds h (deed call)) m) (frees h m c b) before)
-          (unlocks_done h c m (deed call))) refl
+      stays_it (λ e. ap (λ b. condition_by_deed b (frees h m c (unlocks h (deed call) m))
+      before) (restores_done h c m (deed call))
+      ∙ ap (λ b. condition_by_deed (mends (succeeds h (deed call)) m) (frees h m c b) before)
+      (unlocks_done h c m (deed call))) refl
     where
       stays_it : r ≡ None → condition_by h (Call c call None) m before
           ≡ condition_effect h c (stays h c (deed call)) m before
@@ -279,25 +279,25 @@ module _ (h : History) (c : ℕ) (call : Asked) (r : Option Outcome) where
       ≡ cond (returns_it (effect h c call r) o && (c == d)) false before
   writes-call o d before =
       by_reply h c call r (λ k. k.writers o d before
-          ≡ cond (returns_it k.effect o && (c == d)) false before)
-          (λ e. ap (λ b. cond (b && (c == d)) false before)
-          (stays_same (λ E. returns_it E o) false refl (λ w. refl) h c (deed call)))
-          (λ e. ap (λ b. cond (b && (c == d)) false before) (rwunlocks_done h c o (deed call))) refl
+      ≡ cond (returns_it k.effect o && (c == d)) false before)
+      (λ e. ap (λ b. cond (b && (c == d)) false before)
+      (stays_same (λ E. returns_it E o) false refl (λ w. refl) h c (deed call)))
+      (λ e. ap (λ b. cond (b && (c == d)) false before) (rwunlocks_done h c o (deed call))) refl
 
   pub reads-call : (o d before : ℕ) → reads_by h (Call c call r) o d before
       ≡ cond (returns_it (effect h c call r) o && (c == d)) (read_given_back (writes h o d) before)
       before
   reads-call o d before =
       by_reply h c call r (λ k. k.readers o d before
-          ≡ cond (returns_it k.effect o && (c == d)) (read_given_back (writes h o d) before) before)
-          (λ e. ap (λ b. cond (b && (c == d)) (read_given_back (writes h o d) before) before)
-          (stays_same (λ E. returns_it E o) false refl (λ w. refl) h c (deed call)))
-          (λ e. ap (λ b. cond (b && (c == d)) (read_given_back (writes h o d) before) before)
-          (rwunlocks_done h c o (deed call))) refl
+      ≡ cond (returns_it k.effect o && (c == d)) (read_given_back (writes h o d) before) before)
+      (λ e. ap (λ b. cond (b && (c == d)) (read_given_back (writes h o d) before) before)
+      (stays_same (λ E. returns_it E o) false refl (λ w. refl) h c (deed call)))
+      (λ e. ap (λ b. cond (b && (c == d)) (read_given_back (writes h o d) before) before)
+      (rwunlocks_done h c o (deed call))) refl
 
   pub heir-call : (m d : ℕ) (before : Bool) → is_heir_by h (Call c call r) m d before
       ≡ cond (mends (effect h c call r) m) false before
   heir-call m d before =
       by_reply h c call r (λ k. k.heirs m d before ≡ cond (mends k.effect m) false before)
-          (λ e. ap (λ b. cond b false before) (mends_not h c m (deed call)))
-          (λ e. ap (λ b. cond b false before) (restores_done h c m (deed call))) refl
+      (λ e. ap (λ b. cond b false before) (mends_not h c m (deed call)))
+      (λ e. ap (λ b. cond b false before) (restores_done h c m (deed call))) refl

@@ -76,7 +76,7 @@ same_stood h f = Each-append (Below (suc (place h))) (stood h) []
 has_none : (n j : ℕ) (ws : List Standing) → Each (Below n) ws → n ≤ j → has_place ws j ≡ false
 has_none n j ws a le =
     none-any (λ (w : Standing). w.place == j) ws
-        (λ w i. let lt : w.place < n = (Each-in (Below n) ws w a i).0 in grind (arith, nat_tests))
+    (λ w i. let lt : w.place < n = (Each-in (Below n) ws w a i).0 in grind (arith, nat_tests))
 
 -- answers to places below a place are none there
 untold : (n j : ℕ) (ts : List Told) → Each (λ t. t.place < n) ts → n ≤ j → outcome_in ts j ≡ None
@@ -111,14 +111,14 @@ told_below h _ f (ticks t n) = tt
 told_below h _ f (grants w s i g) = let b = below_open h w f i in (omega (arith, b.0), tt)
 told_below h _ f (trips w s i t) =
     told_trip (suc (place h)) (at_barrier w.object (open_calls h))
-        (widen (place h) (at_barrier w.object (open_calls h))
-        (Each-filter (Below (place h)) (λ v. is_arrival v.role && (v.object == w.object))
-        (open_calls h) (open_below h f)))
+    (widen (place h) (at_barrier w.object (open_calls h))
+    (Each-filter (Below (place h)) (λ v. is_arrival v.role && (v.object == w.object))
+    (open_calls h) (open_below h f)))
 told_below h _ f (yields m s t) = tt
 told_below h _ f (expires w s i t) =
     let b = below_open h w f i in
     told_expiry (suc (place h)) w.place (at_place w.place (stood h))
-        (is_wait_if (at_place w.place (stood h))) (omega (arith, b.0))
+    (is_wait_if (at_place w.place (stood h))) (omega (arith, b.0))
 
 fresh_answers : (h : History) (e : Entry) → Fresh h → Step h e → (j : ℕ) → suc (place h) ≤ j
     → outcome (h ▷ e) j ≡ None
@@ -137,8 +137,11 @@ first_below h n f = go (least (precedes_by (moved h)) (waiting_at h (moved h) n)
     go : (o : Option Standing) → least (precedes_by (moved h)) (waiting_at h (moved h) n) ≡ o
         → Each (Below (place h)) (listed o)
     go None e = tt
-    go (Some w) e = (Each-in (Below (place h)) (waiting_at h (moved h) n) w (waiting_below h n f)
-        (least-in (precedes_by (moved h)) (waiting_at h (moved h) n) w e), tt)
+    go (Some w) e = (
+      Each-in (Below (place h)) (waiting_at h (moved h) n) w (waiting_below h n f)
+          (least-in (precedes_by (moved h)) (waiting_at h (moved h) n) w e),
+      tt,
+    )
 
 cause_none : (h : History) (E : Effect) (j : ℕ) → Fresh h → place h ≤ j
     → cause_effect h (moved h) E j ≡ None
@@ -207,8 +210,11 @@ Fresh-step h _ f (calls c call n a o) =
     record {
       clients = λ d le. f.clients d (omega arith);
       answers = fresh_answers h _ f (calls c call n a o);
-      moves = λ j le. rw (cause-call h c call (reply (verdict h c call)) (moved h) j, cause_none h
-          (effect h c call (reply (verdict h c call))) j f (omega arith)) (f.moves j (omega arith));
+      moves = λ j le. rw (
+        cause-call h c call (reply (verdict h c call)) (moved h) j,
+        cause_none h
+            (effect h c call (reply (verdict h c call))) j f (omega arith),
+      ) (f.moves j (omega arith));
       kinds = λ q le. kind-call h c call (reply (verdict h c call)) (kind_of h q) q
           ∙ kind_none (place h) (effect h c call (reply (verdict h c call))) (kind_of h q) q le
           (f.kinds q (omega arith));

@@ -92,10 +92,10 @@ step_service h f None eo e is = absurd cc
 step_service h f (Some w) eo e is =
     let same : service h w ≡ f = cc in
     let found = In-filter (is_served h) (open_calls h) w
-        (least-in (is_served_before h) (filter (is_served h) (open_calls h)) w eo) in
+    (least-in (is_served_before h) (filter (is_served h) (open_calls h)) w eo) in
     subst (λ (x : Entry). Step h x) same
     (step_service_as h w (is_arrival w.role) (is_grantable h w) (is_complete h w) refl refl refl
-        found.0 found.1 (arrival_ungranted h w) (other_untripped h w) (is ∙ ap Some (sym same)))
+    found.0 found.1 (arrival_ungranted h w) (other_untripped h w) (is ∙ ap Some (sym same)))
 
 step_yield : (h : History) (f : Entry) (o : Option ℕ) → first_below (place h) (is_orphan h) ≡ o
     → yield_if o ≡ Some f → forced h ≡ Some f → Step h f
@@ -103,7 +103,7 @@ step_yield h f None eo e is = absurd cc
 step_yield h f (Some m) eo e is =
     let same : Yield m ≡ f = cc in
     subst (λ (x : Entry). Step h x) same (yields m (is ∙ ap Some (sym same))
-        (first_below-passes (place h) (is_orphan h) m eo))
+    (first_below-passes (place h) (is_orphan h) m eo))
 
 step_expire : (h : History) (f : Entry) (o : Option Standing)
     → least expires_before (filter (is_overdue h) (open_calls h)) ≡ o
@@ -112,7 +112,7 @@ step_expire h f None eo e is = absurd cc
 step_expire h f (Some w) eo e is =
     let same : Expire w.place ≡ f = cc in
     let found = In-filter (is_overdue h) (open_calls h) w
-        (least-in expires_before (filter (is_overdue h) (open_calls h)) w eo) in
+    (least-in expires_before (filter (is_overdue h) (open_calls h)) w eo) in
     subst (λ (x : Entry). Step h x) same (expires w (is ∙ ap Some (sym same)) found.0 found.1)
 
 -- a forced entry is a step
@@ -129,13 +129,16 @@ steps_on : (h : History) (e : Entry) (events : List Event) (K : List Event → T
     ≡ None
     → Takes h e events K → Step h e × (vs : List Event) × K vs
 steps_on h e [] K f t = absurd t
-steps_on h e (v ∷ vs) K f t = (subst (λ (x : Entry). Step h x) (sym t.1) (step-event h v f t.0), vs,
-    t.2)
+steps_on h e (v ∷ vs) K f t = (
+  subst (λ (x : Entry). Step h x) (sym t.1) (step-event h v f t.0),
+  vs,
+  t.2,
+)
 
 first_step : (h : History) (e : Entry) (es : List Entry) (events : List Event) (o : Option Entry)
     → forced h ≡ o
     → MatchOption o (Takes h e events (LegalFrom (h ▷ e) es))
-        (λ f. (e ≡ f) × LegalFrom (h ▷ e) es events)
+    (λ f. (e ≡ f) × LegalFrom (h ▷ e) es events)
     → Step h e × (vs : List Event) × LegalFrom (h ▷ e) es vs
 first_step h e es events None eo m = steps_on h e events (LegalFrom (h ▷ e) es) eo m
 first_step h e es events (Some f) eo m =

@@ -102,22 +102,29 @@ Unheld-step h _ f u (calls c call n a o) =
 Unheld-step h _ f u (grants w s i g) =
     let below = below_open h w (Fresh-follows h f) i in
     record {
-      gains = λ m d le. rw (found_open h f w i, and_false (is_acquired (grant_outcome h w))
-          (is_number (mutex_of w.role w.object) m && (w.client == d))
-          (and_false (is_number (mutex_of w.role w.object) m) (w.client == d) (apart d le)))
+      gains = λ m d le. rw (
+        found_open h f w i,
+        and_false (is_acquired (grant_outcome h w))
+            (is_number (mutex_of w.role w.object) m && (w.client == d))
+            (and_false (is_number (mutex_of w.role w.object) m) (w.client == d) (apart d le)),
+      )
           (u.gains m d (omega arith));
-      writers = λ r d le. rw (found_open h f w i,
-          (there_false w.role (w.object == r) (w.client == d) (apart d le)).1)
+      writers = λ r d le. rw (
+        found_open h f w i,
+        (there_false w.role (w.object == r) (w.client == d) (apart d le)).1,
+      )
           (u.writers r d (omega arith));
-      readers = λ r d le. rw (found_open h f w i,
-          (there_false w.role (w.object == r) (w.client == d) (apart d le)).0)
+      readers = λ r d le. rw (
+        found_open h f w i,
+        (there_false w.role (w.object == r) (w.client == d) (apart d le)).0,
+      )
           (u.readers r d (omega arith));
     }
   where
     apart : (d : ℕ) → suc (place h) ≤ d → (w.client == d) ≡ false
     apart d le =
         let lt : w.client < place h = (below_open h w (Fresh-follows h f) i).1 in grind
-            (arith, nat_tests)
+        (arith, nat_tests)
 
 pub Unheld-follows : (h : History) → Follows h → Unheld h
 Unheld-follows Begin f =
@@ -148,7 +155,7 @@ pub none_reads : (h : History) → Follows h → (r : ℕ) → is_none (reader h
     → has_read h r c ≡ false
 none_reads h f r e c =
     none-passes (place h) (λ d. has_read h r d)
-        (λ k le. ap (nat_lt 0) ((Unheld-follows h f).readers r k le)) e c
+    (λ k le. ap (nat_lt 0) ((Unheld-follows h f).readers r k le)) e c
 
 -- the owner has a lock
 pub owner-has : (h : History) (m c : ℕ) → owner h m ≡ Some c → has h m c ≡ true

@@ -8,4 +8,4 @@ mod entry;
 mod laws;
 
 pub use entry::{Cause, Entry, Event};
-pub use laws::law_one_list;
+pub use laws::{law_one_list, law_room};
