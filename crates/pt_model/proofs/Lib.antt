@@ -15,3 +15,5 @@ pub mod Unheld
 pub mod Counting
 pub mod Livings
 pub mod Room
+pub mod Once
+pub mod Orders
