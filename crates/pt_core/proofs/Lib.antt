@@ -1,2 +1,3 @@
 mod Settling
 mod Running
+mod Accepting

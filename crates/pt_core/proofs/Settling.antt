@@ -12,7 +12,8 @@ use Rattle.pt_model.proofs.Histories.{onto-append, history-push, place-history}
 use Rattle.pt_model.proofs.Steps.{step-event, step-forced}
 use Rattle.pt_model.proofs.Legality.{legal-more, events_of-legal, legal-follows, legal-settled}
 use Rattle.pt_history.specs.Stored.{Stored}
-use Rattle.pt_core.specs.Settling.{Forces, IsSettling, Settles, reach}
+use Rattle.pt_core.specs.Cores.{IsKept}
+use Rattle.pt_core.specs.Settling.{Forces, IsSettling, Settles, Enters, reach}
 
 -- one forced entry more
 pub forces-push : (h : History) (fs : List Entry) (f : Entry) → Forces h fs
@@ -131,3 +132,42 @@ module _ (old new : List Entry) (v : Event) (l : Legal old (events_of old))
   applied-kept =
       subst (λ (vs : List Event). Legal new vs)
       (sym (events_of-legal Begin new (events_of old ++ v ∷ []) applied-legal)) applied-legal
+
+-- behind an event's entry: what was settled then was entered
+module _ (old new : Stored) (v : Event) (lt : 0 < old.room)
+    (s : Settles (pushed old (entry_for (history old.entries) v)) new) where
+  behind_entry : List Entry
+  behind_entry = old.entries ++ entry_for (history old.entries) v ∷ []
+
+  entered_bounded :
+      length new.entries
+      ≤ length old.entries + 1 + need (history old.entries ▷ entry_for (history old.entries) v)
+  entered_bounded =
+      omega (
+        arith,
+        s.settling.bounded,
+        ap need (history-push old.entries (entry_for (history old.entries) v)),
+        length-append old.entries (entry_for (history old.entries) v ∷ []),
+      )
+
+  pub enters-settled : Enters old v new
+  enters-settled =
+      record {
+        added = s.settling.added;
+        settled = s.settled;
+        room = s.settling.room;
+        same_limit = s.settling.same_limit;
+        same_end = s.settling.same_end ∙ pushed-end old (entry_for (history old.entries) v) lt;
+        bounded = entered_bounded;
+      }
+
+-- what was entered behind a legal list keeps it
+pub kept-entered : (old new : Stored) (v : Event) → IsKept old
+    → refusal (history old.entries) v ≡ None → Enters old v new → IsKept new
+kept-entered old new v k ok e =
+    record {
+      legal = applied-kept old.entries new.entries v k.legal ok e.added.0 e.added.1 e.added.2 e.settled;
+      room = e.room;
+      fits = omega (arith, e.same_end, k.fits, e.same_limit);
+      limit = omega (arith, k.limit, e.same_limit);
+    }

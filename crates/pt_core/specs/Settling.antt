@@ -3,7 +3,8 @@ use Rattle.std.specs.Prelude.{ℕ, ◌≡◌, ◌+◌, ◌≤◌, List, [], ◌�
 use Rattle.pt_model.specs.declared.entry.Entry.{Entry}
 use Rattle.pt_model.specs.Histories.{History, ◌▷◌, history}
 use Rattle.pt_model.specs.Forced.{forced}
-use Rattle.pt_model.specs.Room.{need}
+use Rattle.pt_model.specs.declared.entry.Event.{Event}
+use Rattle.pt_model.specs.Room.{need, entry_for}
 use Rattle.pt_model.specs.Steps.{Follows}
 use Rattle.pt_history.specs.Stored.{Stored}
 
@@ -29,3 +30,17 @@ pub record IsSettling (old new : Stored) : Type 0 where
 pub record Settles (old new : Stored) : Type 0 where
   pub settling : IsSettling old new
   pub settled : forced (history new.entries) ≡ None
+
+-- an event's entry was added, and then forced ones until none must follow  [profile]
+pub record Enters (old : Stored) (event : Event) (new : Stored) : Type 0 where
+  pub added :
+      (fs : List Entry)
+      × (new.entries ≡ (old.entries ++ entry_for (history old.entries) event ∷ []) ++ fs)
+      × Forces (history (old.entries ++ entry_for (history old.entries) event ∷ [])) fs
+  pub settled : forced (history new.entries) ≡ None
+  pub room : need (history new.entries) ≤ new.room
+  pub same_limit : new.limit ≡ old.limit
+  pub same_end : length new.entries + new.room ≡ length old.entries + old.room
+  pub bounded :
+      length new.entries
+      ≤ length old.entries + 1 + need (history old.entries ▷ entry_for (history old.entries) event)
