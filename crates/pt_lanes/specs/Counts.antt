@@ -1,0 +1,25 @@
+-- Counts: what is asked of a slice of counts. The count of priority p stands at index p - 1.
+use Rattle.std.specs.Prelude.{◌≡◌, ◌≢◌, ◌<◌, ◌≤◌, ◌==◌, ℕ, Bool, not, List, length, Option, slice_index, MatchOption}
+
+-- whether a count isn't zero  [profile]
+abbrev pub is_set : ℕ → Bool
+is_set n = not (n == 0)
+
+-- the count at an index isn't zero  [profile]
+abbrev pub IsSetAt : List ℕ → ℕ → Type 0
+IsSetAt counts i = (i < length counts) × (slice_index counts i ≢ 0)
+
+-- some count at index p or above isn't zero  [profile]
+abbrev pub AnyFrom : List ℕ → ℕ → Type 0
+AnyFrom counts p = (i : ℕ) × (p ≤ i) × IsSetAt counts i
+
+-- each count is zero  [profile]
+abbrev pub AllZero : List ℕ → Type 0
+AllZero counts = (i : ℕ) → i < length counts → slice_index counts i ≡ 0
+
+-- the greatest index whose count isn't zero, or none where each is zero  [profile]
+abbrev pub IsHighest : List ℕ → Option ℕ → Type 0
+IsHighest counts found =
+    MatchOption found
+    (AllZero counts)
+    (λ i. IsSetAt counts i × ((j : ℕ) → IsSetAt counts j → j ≤ i))
