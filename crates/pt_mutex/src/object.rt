@@ -1,0 +1,269 @@
+ghost use Rattle.std.specs.Prelude.{◌≡◌, ◌<◌, ◌+◌, ◌-◌, ◌↔◌, IsTrue, IsSome, IsNone};
+ghost use Rattle.pt_types.specs.MutexTable.{owns, lock_verdict, unlock_verdict, consistent_verdict};
+
+use pt_types::{ClientId, Condition, Deadline, How, MutexKind, Outcome, Verdict};
+use std::marker::Model;
+
+/// Locks of one owner on a RECURSIVE mutex.  [XSH pthread_mutex_lock, the number is profile]
+const MOST_LOCKS: u8 = 255;
+
+// condition        count falls to 0    owner dies        consistent
+// Consistent       Consistent          Inconsistent      -
+// Inconsistent     NotRecoverable      Inconsistent      Consistent
+// NotRecoverable   -                   -                 -
+
+/// A mutex: what it was made as, its condition, its owner, and the waits that are bound to it.
+/// [XSH 2.9.3]
+///
+/// A wait is bound to its mutex while it stands at its condition.
+#[derive(Debug, Drop)]
+pub struct MutexObj {
+    kind: MutexKind,
+    robust: bool,
+    condition: Condition,
+    owner: Option<ClientId>,
+    count: u8,
+    bound_waits: u32,
+}
+
+impl Model for MutexObj {
+    ghost use Rattle.std.specs.Prelude.{◌≡◌, ◌<◌, ◌≤◌, IsSome, IsNone};
+    ghost use Rattle.pt_mutex.specs.MutexState.{MutexState};
+
+    ghost Value = { MutexState };
+
+    ghost view = { λ m. record {
+      seen = record {
+        kind = m.kind;
+        robust = m.robust;
+        condition = m.condition;
+        owner = m.owner;
+        count = m.count;
+      };
+      bound_waits = m.bound_waits;
+    } };
+
+    ghost invariant = { λ m.
+        (IsNone m.owner → m.count ≡ 0)
+        × (IsSome m.owner → 0 < m.count)
+        × (m.count ≤ 255) };
+}
+
+impl MutexObj {
+    ghost use Rattle.pt_mutex.specs.MutexState.{made, can_acquire, acquired, released, yielded, restored, freed};
+
+    /// A mutex that nobody holds and that is consistent.  [XSH pthread_mutex_init]
+    pub fn new(kind: MutexKind, robust: bool) -> MutexObj
+        ensures { result ≡ made kind robust }
+    {
+        MutexObj {
+            kind,
+            robust,
+            condition: Condition::Consistent,
+            owner: None,
+            count: 0,
+            bound_waits: 0,
+        }
+    }
+
+    /// What becomes of the client's `lock`.  [XSH pthread_mutex_lock]
+    pub fn verdict_lock(&self, caller: ClientId) -> Verdict
+        ensures { result ≡ lock_verdict self.now.seen caller How.Plain }
+    {
+        self.verdict(caller, &How::Plain)
+    }
+
+    /// What becomes of the client's `trylock`.  [XSH pthread_mutex_trylock]
+    pub fn verdict_try(&self, caller: ClientId) -> Verdict
+        ensures { result ≡ lock_verdict self.now.seen caller How.Try }
+    {
+        self.verdict(caller, &How::Try)
+    }
+
+    /// What becomes of the client's `timedlock`. Whether the deadline is due is not asked here.
+    /// [XSH pthread_mutex_timedlock]
+    pub fn verdict_timed(&self, caller: ClientId, deadline: Deadline) -> Verdict
+        ensures { result ≡ lock_verdict self.now.seen caller (How.Timed deadline) }
+    {
+        self.verdict(caller, &How::Timed(deadline))
+    }
+
+    fn verdict(&self, caller: ClientId, how: &How) -> Verdict
+        ensures { result ≡ lock_verdict self.now.seen caller how.now }
+    {
+        if self.condition == Condition::NotRecoverable || self.owner.is_none() {
+            return Verdict::Stands;
+        }
+        let owns = self.is_owned_by(caller);
+        let relocks = owns && self.kind == MutexKind::Recursive;
+        match how {
+            _ if relocks && self.count < MOST_LOCKS => Verdict::Reply(Outcome::Done),
+            _ if relocks => Verdict::Reply(Outcome::Eagain),
+            How::Try => Verdict::Reply(Outcome::Ebusy),
+            _ if owns && self.kind == MutexKind::Errorcheck => Verdict::Reply(Outcome::Edeadlk),
+            How::Timed(deadline) if deadline.is_bad() => Verdict::Reply(Outcome::Einval),
+            _ => Verdict::Stands,
+        }
+    }
+
+    /// What becomes of the client's `unlock`. EPERM is told for every kind; that is profile where
+    /// the standard leaves it open.  [XSH pthread_mutex_unlock]
+    pub fn verdict_unlock(&self, caller: ClientId) -> Verdict
+        ensures { result ≡ unlock_verdict self.now.seen caller }
+    {
+        if self.is_owned_by(caller) {
+            Verdict::Reply(Outcome::Done)
+        } else {
+            Verdict::Reply(Outcome::Eperm)
+        }
+    }
+
+    /// What becomes of the client's `consistent`. EPERM is profile.  [XSH pthread_mutex_consistent]
+    pub fn verdict_consistent(&self, caller: ClientId) -> Verdict
+        ensures { result ≡ consistent_verdict self.now.seen caller }
+    {
+        if !self.robust || self.condition != Condition::Inconsistent {
+            return Verdict::Reply(Outcome::Einval);
+        }
+        if !self.is_owned_by(caller) {
+            return Verdict::Reply(Outcome::Eperm);
+        }
+        Verdict::Reply(Outcome::Done)
+    }
+
+    /// Whether the client can be given the lock once more: nobody has it, or the client owns a
+    /// RECURSIVE mutex and has fewer than 255 locks.  [XSH pthread_mutex_lock]
+    pub fn can_acquire(&self, client: ClientId) -> bool
+        ensures { result ≡ can_acquire self.now.seen client }
+    {
+        match self.owner {
+            None => true,
+            Some(owner) => {
+                owner == client && self.kind == MutexKind::Recursive && self.count < MOST_LOCKS
+            }
+        }
+    }
+
+    /// The client has the lock once more: by a grant, by a relock, or when its wait comes back.
+    /// [XSH pthread_mutex_lock, pthread_cond_wait]
+    pub fn acquire(&mut self, client: ClientId)
+        requires { IsTrue (can_acquire self.old.seen client) }
+        ensures { self.new ≡ record self.old { seen = acquired self.old.seen client } }
+    {
+        self.owner = Some(client);
+        self.count += 1;
+    }
+
+    /// The owner gives one lock back. With the last one nobody owns the mutex, and an inconsistent
+    /// one is lost for good.  [XSH pthread_mutex_unlock, pthread_mutex_consistent]
+    pub fn release(&mut self, client: ClientId)
+        requires { IsTrue (owns self.old.seen client) }
+        ensures { self.new ≡ record self.old { seen = released self.old.seen } }
+    {
+        prove!(self.owner == Some(client));
+        if self.count > 1 {
+            self.count -= 1;
+            return;
+        }
+        self.free();
+        if self.condition == Condition::Inconsistent {
+            self.condition = Condition::NotRecoverable;
+        }
+    }
+
+    fn free(&mut self)
+        ensures { let seen = self.old.seen in
+            self.new ≡ record self.old { seen = freed seen seen.condition } }
+    {
+        self.owner = None;
+        self.count = 0;
+    }
+
+    /// What the mutex guards is in order again. A lost mutex stays lost.
+    /// [XSH pthread_mutex_consistent]
+    pub fn mark_consistent(&mut self)
+        ensures { self.new ≡ record self.old { seen = restored self.old.seen } }
+    {
+        if self.condition == Condition::Inconsistent {
+            self.condition = Condition::Consistent;
+        }
+    }
+
+    /// The mutex is taken from its dead owner. A lost mutex stays lost.
+    /// [XSH pthread_mutex_lock, EOWNERDEAD]
+    pub fn yield_dead(&mut self)
+        ensures { self.new ≡ record self.old { seen = yielded self.old.seen } }
+    {
+        self.free();
+        if self.condition == Condition::Consistent {
+            self.condition = Condition::Inconsistent;
+        }
+    }
+
+    /// A wait of the owner begins to stand at its condition.  [XSH pthread_cond_wait]
+    pub fn bind(&mut self)
+        requires owned { IsSome self.old.seen.owner }
+        requires room { self.old.bound_waits < u32.MAX }
+        ensures { self.new ≡ record self.old { bound_waits = self.old.bound_waits + 1 } }
+    {
+        self.bound_waits += 1;
+    }
+
+    /// A bound wait is moved here, or is gone.  [XSH pthread_cond_wait]
+    pub fn unbind(&mut self)
+        requires { 0 < self.old.bound_waits }
+        ensures { self.new ≡ record self.old { bound_waits = self.old.bound_waits - 1 } }
+    {
+        self.bound_waits -= 1;
+    }
+
+    /// What a relock by the owner does.  [XSH pthread_mutexattr_settype]
+    pub fn kind(&self) -> MutexKind
+        ensures { result ≡ self.now.seen.kind }
+    {
+        self.kind
+    }
+
+    /// Whether its next owner is told that the last one died.  [XSH pthread_mutexattr_setrobust]
+    pub fn is_robust(&self) -> bool
+        ensures { result ≡ self.now.seen.robust }
+    {
+        self.robust
+    }
+
+    /// Whether what it guards is in order.  [XSH pthread_mutex_consistent]
+    pub fn condition(&self) -> Condition
+        ensures { result ≡ self.now.seen.condition }
+    {
+        self.condition
+    }
+
+    /// The client that holds it, dead or alive.  [XSH pthread_mutex_lock]
+    pub fn owner(&self) -> Option<ClientId>
+        ensures { result ≡ self.now.seen.owner }
+    {
+        self.owner
+    }
+
+    /// Whether the client is the owner.  [XSH pthread_mutex_lock]
+    pub fn is_owned_by(&self, client: ClientId) -> bool
+        ensures { result ≡ owns self.now.seen client }
+    {
+        self.owner == Some(client)
+    }
+
+    /// How often its owner holds it; 0 exactly where nobody does.  [XSH pthread_mutex_lock]
+    pub fn count(&self) -> u8
+        ensures value { result ≡ self.now.seen.count }
+        ensures none { IsNone self.now.seen.owner ↔ (result ≡ 0) }
+    {
+        self.count
+    }
+
+    /// The waits that released it and still stand at a condition.  [XSH pthread_cond_wait]
+    pub fn bound_waits(&self) -> u32
+        ensures { result ≡ self.now.bound_waits }
+    {
+        self.bound_waits
+    }
+}
