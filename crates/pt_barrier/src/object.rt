@@ -1,0 +1,70 @@
+ghost use Rattle.std.specs.Prelude.{◌≡◌, ◌≤◌, ◌↔◌, IsTrue, false};
+ghost use Rattle.pt_types.specs.ObjectTable.{init_verdict};
+
+use pt_types::{ObjectKind, Outcome, Verdict};
+use std::marker::Model;
+
+/// Calls that the largest barrier waits for.  [profile]
+const MOST_AT_BARRIER: u32 = 1024;
+
+/// What becomes of a `barrier-init` with this count, where its name is free and no object exists:
+/// EINVAL for 0, and above 1,024, which is profile.  [XSH pthread_barrier_init]
+///
+/// A name in use or too many objects are told after a bad count.
+pub fn verdict_init(count: u64) -> Verdict
+    ensures { result ≡ init_verdict (ObjectKind.Barrier count) false 0 }
+{
+    if count == 0 || count > MOST_AT_BARRIER as u64 {
+        return Verdict::Reply(Outcome::Einval);
+    }
+    Verdict::Reply(Outcome::Done)
+}
+
+// calls that stand    one more comes
+// count - 1           all of them are answered, and none stands
+// fewer               it stands with them
+
+/// A barrier, which lets the calls that stand at it go on together.  [XSH pthread_barrier_wait]
+#[derive(Debug, Drop)]
+pub struct BarrierObj {
+    count: u32,
+}
+
+impl Model for BarrierObj {
+    ghost use Rattle.std.specs.Prelude.{ℕ, ◌≤◌};
+
+    ghost Value = { ℕ };
+
+    ghost view = { λ b. b.count };
+
+    ghost invariant = { λ b. (1 ≤ b.count) × (b.count ≤ 1024) };
+}
+
+impl BarrierObj {
+    /// A barrier for so many calls; `verdict_init` is the test of the count.
+    /// [XSH pthread_barrier_init]
+    pub fn new(count: u32) -> BarrierObj
+        requires least { 1 ≤ count }
+        requires greatest { count ≤ 1024 }
+        ensures { result ≡ count }
+    {
+        BarrierObj { count }
+    }
+
+    /// The calls that it waits for.  [XSH pthread_barrier_init]
+    pub fn count(&self) -> u32
+        ensures value { result ≡ self.now }
+        ensures least { 1 ≤ result }
+        ensures greatest { result ≤ 1024 }
+    {
+        self.count
+    }
+
+    /// Whether it lets the calls go that stand at it, where they are so many.
+    /// [XSH pthread_barrier_wait]
+    pub fn full(&self, standing: usize) -> bool
+        ensures { IsTrue result ↔ (standing ≡ self.now) }
+    {
+        standing == self.count as usize
+    }
+}
