@@ -61,3 +61,17 @@ fn outcomes_and_refusals_print_their_words(rt: HostRuntime) -> Result<(), Fail> 
     assert_eq!(rt; Refusal::Enomem.word(), "ENOMEM");
     Ok(())
 }
+
+#[test]
+fn calls_of_the_same_word_and_arguments(rt: HostRuntime) -> Result<(), Fail> {
+    let m = Name::new(b"m").ok_or("name")?;
+    let c = Name::new(b"c").ok_or("name")?;
+    let deadline = Deadline::new(5, 0).ok_or("deadline")?;
+    let wait = Call::Timedwait(c.same(), m.same(), deadline);
+    assert!(rt; wait.again() == wait);
+    let init = Call::MutexInit(m.same(), MutexKind::Recursive, true);
+    assert!(rt; init.again() == init);
+    assert!(rt; init.again() != Call::MutexInit(m.same(), MutexKind::Recursive, false));
+    assert!(rt; Call::Lock(m.same()).again() != Call::Unlock(m));
+    Ok(())
+}
