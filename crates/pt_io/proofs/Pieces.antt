@@ -1,4 +1,5 @@
--- A piece of a row of bytes, copied from place at on: what was given grows by it, what is left loses it.
+-- A piece of a row of bytes, copied from place at on: what was given grows by it, and what is left
+-- loses it.
 use Rattle.std.proofs.Common.{◌≡◌, ℕ, ◌+◌, ◌≤◌, List, ◌++◌, take, drop, sym, ap, ◌∙◌, take-append-drop, drop-drop, take-add, take-take}
 
 pub given_more : (xs : List ℕ) (at n k : ℕ) (buf : List ℕ) → n ≤ k

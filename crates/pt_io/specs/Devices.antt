@@ -25,15 +25,17 @@ abbrev pub tells_end : {E : Type 0} → Result ℕ E → List ℕ → Bool
 tells_end (Ok n) buf = is_end n buf
 tells_end (Err e) buf = false
 
--- a device of std, with the bytes that it gave or took here, and how it stands  [profile]
-pub record Standing (D : Type 0) : Type 0 where
+-- a device of std, the bytes that it gave or took so far, and whether it failed or told its
+-- end  [profile]
+pub record Tally (D : Type 0) : Type 0 where
   pub device : D
   pub bytes : List ℕ
   pub has_failed : Bool
   pub has_ended : Bool
 
 -- a device in memory: the bytes that it gave, those that reads will give, and those that it took;
--- how many bytes a call moves at most, which call fails from here on, and how it stands  [profile]
+-- how many bytes a call moves at most, which call from here on fails (0 for none), and how it
+-- stands  [profile]
 pub record Memory : Type 0 where
   pub given : List ℕ
   pub left : List ℕ

@@ -10,13 +10,14 @@ use std::io;
 use std::io::{ErrorKind, Read, Write};
 use std::marker::Model;
 
-/// How often an interrupted read or write is tried again before it counts as a failure.  [profile]
+/// How often a read or a write that a signal interrupts is tried again before it counts as a
+/// failure, the first try not counted.  [XSH read, EINTR; the number is profile]
 pub const TRIES_AGAIN: u32 = 16;
 
-/// A reader or a writer of std, as a `Source` or a `Sink`.
+/// A reader of std as a `Source`, or a writer as a `Sink`.
 ///
-/// Contracts see it as its device, the bytes that went through, whether it failed and whether it told
-/// its end.
+/// Contracts see it as its device, the bytes that went through, whether it failed, and whether it
+/// told its end. The bytes are noted for proofs alone and take no memory.
 #[derive(Drop)]
 pub struct Counted<D> {
     device: D,
@@ -26,9 +27,9 @@ pub struct Counted<D> {
 }
 
 impl<D> Model for Counted<D> {
-    ghost use Rattle.pt_io.specs.Devices.{Standing, bytes_of};
+    ghost use Rattle.pt_io.specs.Devices.{Tally, bytes_of};
 
-    ghost Value = { Standing D };
+    ghost Value = { Tally D };
 
     ghost view = { λ c. record {
       device = c.device;
@@ -63,7 +64,7 @@ impl<D> Counted<D> {
         &self.device
     }
 
-    /// Gives the device back.
+    /// Gives the device back, and forgets what went through.
     pub fn into_inner(self) -> D
         ensures { result ≡ self.device }
     {
@@ -85,6 +86,7 @@ impl<D> Counted<D> {
     }
 }
 
+/// Notes a piece that went through.
 fn note(log: &mut Log<u8, ()>, piece: &[u8])
     ensures { bytes_of log.new.items ≡ bytes_of log.old.items ++ piece.now }
 {
@@ -93,6 +95,7 @@ fn note(log: &mut Log<u8, ()>, piece: &[u8])
     }
 }
 
+/// A read that is tried again where it is interrupted: nothing has moved then.
 fn read_again<R: Read>(device: &mut R, buf: &mut [u8]) -> io::Result<usize>
     ensures bound { ReadsAtMost result buf.new }
     ensures device { ReadConsumes (R.remaining device.old) (R.remaining device.new) result buf.new }
@@ -106,6 +109,7 @@ fn read_again<R: Read>(device: &mut R, buf: &mut [u8]) -> io::Result<usize>
     device.read(buf)
 }
 
+/// A write that is tried again where it is interrupted: nothing has moved then.
 fn write_again<W: Write>(device: &mut W, buf: &[u8]) -> io::Result<usize>
     ensures bound { WritesAtMost result buf.now }
     ensures device { WriteAppends (W.contents device.old) (W.contents device.new) result buf.now }

@@ -1,6 +1,6 @@
-ghost use Rattle.std.specs.Prelude.{◌≡◌, ◌≢◌, ◌↔◌, ◌+◌, ◌-◌, ◌<◌, ◌≤◌, ◌==◌, [], ◌++◌, Bool, false, ◌||◌, length, min, take, drop, vec_items, IsErr, IfOk, IfErr, MatchResult};
+ghost use Rattle.std.specs.Prelude.{◌≡◌, ◌↔◌, ◌+◌, ◌-◌, ◌<◌, ◌≤◌, ◌==◌, [], ◌++◌, Bool, false, ◌||◌, length, min, take, drop, vec_items, IsErr, IfOk, IfErr, MatchResult, if◌then◌else◌};
 ghost use Rattle.std.specs.IoError.{error_kind};
-ghost use Rattle.std.specs.declared.io.ErrorKind.TheVariants.{OutOfMemory};
+ghost use Rattle.std.specs.declared.io.ErrorKind.TheVariants.{Other, OutOfMemory};
 ghost use Rattle.std.specs.Io.{ReadsAtMost, WritesAtMost};
 ghost use Rattle.pt_io.specs.Devices.{count_of, count_of_once, tells_end};
 
@@ -11,9 +11,10 @@ use std::io;
 use std::io::ErrorKind;
 use std::marker::Model;
 
-/// A device in memory that moves few bytes at a time and can fail, for tests.
+/// A device in memory that moves few bytes at a time and fails at a set call, for tests.
 ///
-/// Reads give the bytes that it was made with, and after them those that were written.
+/// Reads give the bytes that it was made with, and after them those that were written. Contracts
+/// see the bytes given, left and taken, how many move at most, and which call from here on fails.
 #[derive(Drop)]
 pub struct Faulty<A: Allocator + Copy = Global> {
     bytes: Vec<u8, A>,
@@ -46,8 +47,8 @@ impl<A: Allocator + Copy> Model for Faulty<A> {
 }
 
 impl<A: Allocator + Copy> Faulty<A> {
-    /// A device that will give these bytes and moves up to `step` bytes per call. Its call number
-    /// `fails_at`, counted from 1, fails; with 0 none does.
+    /// A device that will give these bytes, and moves up to `step` bytes per call. Its call number
+    /// `fails_at` fails, reads and writes counted together from 1; with 0 none does.
     pub fn new(bytes: Vec<u8, A>, step: usize, fails_at: u64) -> Faulty<A>
         requires { 0 < step }
         ensures { result ≡ record {
@@ -94,6 +95,7 @@ impl<A: Allocator + Copy> Faulty<A> {
     }
 }
 
+/// Counts a call, and tells whether it is the one that fails.
 fn is_due(until_fault: &mut u64) -> bool
     ensures now { result ≡ (until_fault.old == 1) }
     ensures fewer { until_fault.new ≡ until_fault.old - 1 }
@@ -103,6 +105,7 @@ fn is_due(until_fault: &mut u64) -> bool
     is_due
 }
 
+/// Copies the front of what is left.
 fn copy_front(left: &[u8], step: usize, buf: &mut [u8]) -> usize
     ensures value { result ≡ min (min (length buf.new) step) (length left.now) }
     ensures there { result ≤ length left.now }
@@ -114,6 +117,7 @@ fn copy_front(left: &[u8], step: usize, buf: &mut [u8]) -> usize
     n
 }
 
+/// Copies bytes from place `at` on.
 #[tactic(auto, using(crate::proofs::Pieces::given_more, crate::proofs::Pieces::left_more))]
 fn give(bytes: &[u8], at: usize, step: usize, buf: &mut [u8]) -> usize
     requires { at ≤ length bytes.now }
@@ -146,6 +150,7 @@ impl<A: Allocator + Copy> Source for Faulty<A> {
 
         // Which answer comes, and what is left.
         ensures fault { IsErr result ↔ (self.old.until_fault ≡ 1) }
+        ensures kind { IfErr result (λ e. error_kind e ≡ Other) }
         ensures moves { IfOk result
             (λ n. n ≡ min (min (length buf.new) self.old.step) (length self.old.left)) }
         ensures left { MatchResult result
@@ -187,8 +192,8 @@ impl<A: Allocator + Copy> Sink for Faulty<A> {
 
         // Which answer comes, and what is left for reads.
         ensures fault { self.old.until_fault ≡ 1 → IsErr result }
-        ensures memory { IfErr result
-            (λ e. self.old.until_fault ≢ 1 → error_kind e ≡ OutOfMemory) }
+        ensures kind { IfErr result
+            (λ e. error_kind e ≡ (if self.old.until_fault == 1 then Other else OutOfMemory)) }
         ensures moves { IfOk result (λ n. n ≡ min (length buf.now) self.old.step) }
         ensures left { MatchResult result
             (λ n. self.new.left ≡ self.old.left ++ take n buf.now)

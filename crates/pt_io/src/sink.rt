@@ -15,7 +15,7 @@ pub trait Sink {
 
     /// Takes bytes from the front of `buf`, and answers how many.  [XSH write]
     ///
-    /// An error leaves the bytes taken so far as they were, and is the last answer.
+    /// An error takes no byte, and is the last answer.
     fn write(&mut self, buf: &[u8]) -> io::Result<usize>
         requires { failures self.old ≡ 0 }
         ensures bound { WritesAtMost result buf.now }

@@ -17,10 +17,10 @@ pub trait Source {
     // Whether it has told its end.
     ghost ended: { Self → Bool };
 
-    /// Reads up to `buf.len()` bytes to the front of `buf`, and answers how many. It answers 0 where
-    /// `buf` has room at the end alone.  [XSH read]
+    /// Reads up to `buf.len()` bytes to the front of `buf`, and answers how many. Where `buf` has
+    /// room, 0 tells the end.  [XSH read]
     ///
-    /// An error leaves the bytes given so far as they were, and is the last answer.
+    /// An error gives no byte, and is the last answer.
     fn read(&mut self, buf: &mut [u8]) -> io::Result<usize>
         requires { failures self.old ≡ 0 }
         ensures bound { ReadsAtMost result buf.new }
@@ -35,6 +35,7 @@ pub trait Source {
     ghost fails_once: { (s : Self) → failures s ≤ 1 };
 }
 
+/// Whether n bytes read into this buffer tell the end.  [XSH read]
 pub(crate) fn is_end(n: usize, buf: &[u8]) -> bool
     ensures { result ≡ is_end n buf.now }
 {
