@@ -1,0 +1,73 @@
+-- CallLemmas: each call is spelled by its verb.
+use Rattle.std.proofs.Common.{ℕ, List}
+use Rattle.pt_types.specs.Times.{Timespec}
+use Rattle.pt_types.specs.declared.call.Call.{Call}
+use Rattle.pt_types.specs.declared.call.Call.TheVariants as call
+use Rattle.pt_lines.specs.declared.call_line.CallLine.TheVariants as line
+use Rattle.pt_lines.specs.declared.verb.NamedVerb.{NamedVerb}
+use Rattle.pt_lines.specs.declared.verb.NamedVerb.TheVariants.{Lock, Trylock, Unlock, Consistent, MutexDestroy, RwlockInit, Rdlock, Tryrdlock, Wrlock, Trywrlock, Rwunlock, RwlockDestroy, CondInit, CondDestroy, Signal, Broadcast, Bwait, BarrierDestroy}
+use Rattle.pt_lines.specs.declared.verb.TimedVerb.{TimedVerb}
+use Rattle.pt_lines.specs.declared.verb.TimedVerb.TheVariants.{Timedlock, Timedrdlock, Timedwrlock}
+use Rattle.pt_lines.specs.Verbs.{named_word, timed_word, call_on, call_until}
+use Rattle.pt_lines.specs.Grammar.{OnName, OnNameUntil, SpellsCall}
+use Rattle.pt_lines.proofs.SpelledLemmas.{IsSpelled, by_name, by_deadline, by_new_mutex, by_new_barrier, by_wait, by_timedwait}
+
+-- a word and a name spell the call of the word
+pub spells-call_on :
+    (verb : NamedVerb) (text name : List ℕ) → OnName text (named_word verb) name
+    → SpellsCall text (call_on verb name)
+spells-call_on Lock text name h = h
+spells-call_on Trylock text name h = h
+spells-call_on Unlock text name h = h
+spells-call_on Consistent text name h = h
+spells-call_on MutexDestroy text name h = h
+spells-call_on RwlockInit text name h = h
+spells-call_on Rdlock text name h = h
+spells-call_on Tryrdlock text name h = h
+spells-call_on Wrlock text name h = h
+spells-call_on Trywrlock text name h = h
+spells-call_on Rwunlock text name h = h
+spells-call_on RwlockDestroy text name h = h
+spells-call_on CondInit text name h = h
+spells-call_on CondDestroy text name h = h
+spells-call_on Signal text name h = h
+spells-call_on Broadcast text name h = h
+spells-call_on Bwait text name h = h
+spells-call_on BarrierDestroy text name h = h
+
+-- the same with a deadline
+pub spells-call_until :
+    (verb : TimedVerb) (text name : List ℕ) (d : Timespec)
+    → OnNameUntil text (timed_word verb) name d → SpellsCall text (call_until verb name d)
+spells-call_until Timedlock text name d h = h
+spells-call_until Timedrdlock text name d h = h
+spells-call_until Timedwrlock text name d h = h
+
+-- the text of each call is its verb's word and what it is read from
+pub spelled_call :
+    (text : List ℕ) (asked : Call) → SpellsCall text asked → IsSpelled text (line.Ask asked)
+spelled_call text (call.MutexInit name kind robust) h = by_new_mutex text name kind robust h
+spelled_call text (call.Lock name) h = by_name Lock text name h
+spelled_call text (call.Trylock name) h = by_name Trylock text name h
+spelled_call text (call.Timedlock name d) h = by_deadline Timedlock text name d h
+spelled_call text (call.Unlock name) h = by_name Unlock text name h
+spelled_call text (call.Consistent name) h = by_name Consistent text name h
+spelled_call text (call.MutexDestroy name) h = by_name MutexDestroy text name h
+spelled_call text (call.RwlockInit name) h = by_name RwlockInit text name h
+spelled_call text (call.Rdlock name) h = by_name Rdlock text name h
+spelled_call text (call.Tryrdlock name) h = by_name Tryrdlock text name h
+spelled_call text (call.Timedrdlock name d) h = by_deadline Timedrdlock text name d h
+spelled_call text (call.Wrlock name) h = by_name Wrlock text name h
+spelled_call text (call.Trywrlock name) h = by_name Trywrlock text name h
+spelled_call text (call.Timedwrlock name d) h = by_deadline Timedwrlock text name d h
+spelled_call text (call.Rwunlock name) h = by_name Rwunlock text name h
+spelled_call text (call.RwlockDestroy name) h = by_name RwlockDestroy text name h
+spelled_call text (call.CondInit name) h = by_name CondInit text name h
+spelled_call text (call.CondDestroy name) h = by_name CondDestroy text name h
+spelled_call text (call.Wait cond mutex) h = by_wait text cond mutex h
+spelled_call text (call.Timedwait cond mutex d) h = by_timedwait text cond mutex d h
+spelled_call text (call.Signal name) h = by_name Signal text name h
+spelled_call text (call.Broadcast name) h = by_name Broadcast text name h
+spelled_call text (call.BarrierInit name count) h = by_new_barrier text name count h
+spelled_call text (call.Bwait name) h = by_name Bwait text name h
+spelled_call text (call.BarrierDestroy name) h = by_name BarrierDestroy text name h

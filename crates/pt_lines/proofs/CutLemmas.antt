@@ -1,0 +1,224 @@
+-- CutLemmas: lines by the bytes that they begin with.
+use Rattle.std.proofs.Common.{◌≡◌, ◌≢◌, ◌<◌, ◌≤◌, ◌+◌, ◌∙◌, ◌==◌, ℕ, suc, Bool, true, false, cond, nat_le, List, [], ◌∷◌, ◌++◌, length, take, drop, get_or, refl, map, None, Some, length-append, ap, sym, drop-cons, add-one, arith, append_assoc}
+use Rattle.std.proofs.lemmas.Grind.{common_steps}
+use Rattle.std.proofs.lemmas.List.{take-append-drop, append-nil, get_or-take}
+use Rattle.std.proofs.lemmas.Bool.{eq-eqb, eqb-true}
+use Rattle.memchr.specs.Find.{IsFirstByte, is_byte}
+use Rattle.pt_lines.specs.declared.cutter.Cut.{Cut}
+use Rattle.pt_lines.specs.declared.cutter.Cut.TheVariants.{Line, Long}
+use Rattle.pt_lines.specs.Cuts.{cut_of}
+use Rattle.pt_lines.specs.Lines.{lines_after, lines, lines_past_newline, NoNewline, Held, IsBegun, to_come, last_of, joined, AllTexts}
+
+not_newline : (x : ℕ) → x ≢ 10 → (x == 10) ≡ false
+not_newline x ne = grind arith
+
+tail_has_none : (x : ℕ) (xs : List ℕ) → NoNewline (x ∷ xs) → NoNewline xs
+tail_has_none x xs h i lt = h (suc i) (omega arith)
+
+-- one more byte of a line
+lines_after-byte :
+    (begun : List ℕ) (b : ℕ) (bytes : List ℕ)
+    → lines_after begun (b ∷ bytes)
+    ≡ cond (b == 10) (cut_of begun ∷ lines_after [] bytes) (lines_after (begun ++ b ∷ []) bytes)
+lines_after-byte [] b bytes = refl
+lines_after-byte (x ∷ begun) b bytes = refl
+
+-- a byte that is no newline goes on the line
+lines_after-other :
+    (begun : List ℕ) (b : ℕ) (bytes : List ℕ) → b ≢ 10
+    → lines_after begun (b ∷ bytes) ≡ lines_after (begun ++ b ∷ []) bytes
+lines_after-other begun b bytes ne =
+    let ended = cut_of begun ∷ lines_after [] bytes in
+    lines_after-byte begun b bytes
+    ∙ ap (λ t. cond t ended (lines_after (begun ++ b ∷ []) bytes)) (not_newline b ne)
+
+-- bytes without a newline go on the line
+pub lines_after-append :
+    (begun xs ys : List ℕ) → NoNewline xs
+    → lines_after begun (xs ++ ys) ≡ lines_after (begun ++ xs) ys
+lines_after-append begun [] ys h = ap (λ text. lines_after text ys) (sym (append-nil begun))
+lines_after-append begun (x ∷ xs) ys h =
+    lines_after-other begun x (xs ++ ys) (h 0 (omega arith))
+    ∙ lines_after-append (begun ++ x ∷ []) xs ys (tail_has_none x xs h)
+    ∙ ap (λ text. lines_after text ys) (append_assoc begun (x ∷ []) xs)
+
+-- a newline ends the line
+pub lines_after-newline :
+    (begun xs ys : List ℕ) → NoNewline xs
+    → lines_after begun (xs ++ 10 ∷ ys) ≡ cut_of (begun ++ xs) ∷ lines ys
+lines_after-newline begun xs ys h =
+    lines_after-append begun xs (10 ∷ ys) h ∙ lines_after-byte (begun ++ xs) 10 ys
+
+pub cut_of-long : (text : List ℕ) → 128 < length text → cut_of text ≡ Long
+cut_of-long text long =
+    let no : nat_le (length text) 128 ≡ false = grind arith in
+    ap (λ b. cond b (Line (record { items = text })) Long) no
+
+pub cut_of-short :
+    (text : List ℕ) → length text ≤ 128 → cut_of text ≡ Line (record { items = text })
+cut_of-short text short =
+    let yes : nat_le (length text) 128 ≡ true = grind arith in
+    ap (λ b. cond b (Line (record { items = text })) Long) yes
+
+-- a line that is too long is given once, and the rest of it is dropped
+pub lines_after-long :
+    (begun bytes : List ℕ) → 128 < length begun
+    → lines_after begun bytes ≡ Long ∷ lines_past_newline bytes
+lines_after-long [] [] long = absurd (omega arith)
+lines_after-long (x ∷ begun) [] long = ap (λ c. c ∷ []) (cut_of-long (x ∷ begun) long)
+lines_after-long begun (b ∷ bytes) long =
+    let longer : 128 < length (begun ++ b ∷ []) =
+    omega (arith, length-append begun (b ∷ [])) in
+    lines_after-byte begun b bytes
+    ∙ ap (λ c. cond (b == 10) (c ∷ lines bytes) (lines_after (begun ++ b ∷ []) bytes))
+    (cut_of-long begun long)
+    ∙ ap (λ ls. cond (b == 10) (Long ∷ lines bytes) ls)
+    (lines_after-long (begun ++ b ∷ []) bytes longer)
+    ∙ either (b == 10) (lines bytes) (lines_past_newline bytes)
+  where
+    either :
+        (t : Bool) (xs ys : List Cut) → cond t (Long ∷ xs) (Long ∷ ys) ≡ Long ∷ cond t xs ys
+    either true xs ys = refl
+    either false xs ys = refl
+
+-- bytes without a newline are dropped
+pub lines_past_newline-append :
+    (xs ys : List ℕ) → NoNewline xs → lines_past_newline (xs ++ ys) ≡ lines_past_newline ys
+lines_past_newline-append [] ys h = refl
+lines_past_newline-append (x ∷ xs) ys h =
+    ap (λ b. cond b (lines (xs ++ ys)) (lines_past_newline (xs ++ ys)))
+    (not_newline x (h 0 (omega arith)))
+    ∙ lines_past_newline-append xs ys (tail_has_none x xs h)
+
+-- a newline is passed
+pub lines_past_newline-newline :
+    (xs ys : List ℕ) → NoNewline xs → lines_past_newline (xs ++ 10 ∷ ys) ≡ lines ys
+lines_past_newline-newline xs ys h = lines_past_newline-append xs (10 ∷ ys) h
+
+-- the first newline of the bytes is at i
+pub record FirstAt (xs : List ℕ) (i : ℕ) : Type 0 where
+  pub within : i < length xs
+  pub here : get_or xs i 0 ≡ 10
+  pub before : (k : ℕ) → k < i → get_or xs k 0 ≢ 10
+
+pub split_at_newline :
+    (xs : List ℕ) (i : ℕ) → FirstAt xs i → xs ≡ take i xs ++ 10 ∷ drop (i + 1) xs
+split_at_newline xs i f =
+    let back =
+    drop-cons xs i 0 f.within
+    ∙ ap (λ b. b ∷ drop (suc i) xs) f.here
+    ∙ ap (λ n. 10 ∷ drop n xs) (sym (add-one i)) in
+    sym (take-append-drop i xs) ∙ ap (λ ys. take i xs ++ ys) back
+
+pub NoNewline-take : (xs : List ℕ) (i : ℕ) → FirstAt xs i → NoNewline (take i xs)
+NoNewline-take xs i f k lt e =
+    let small : k < i = grind (arith, common_steps) in
+    f.before k small (sym (get_or-take i xs k 0 small) ∙ e)
+
+-- what memchr finds
+pub first_at : (xs : List ℕ) (i : ℕ) → IsFirstByte (is_byte 10) xs (Some i) → FirstAt xs i
+first_at xs i h = record {
+  within = h.0.high;
+  here = eqb-true (get_or xs i 0) 10 h.1;
+  before = λ k lt e. h.0.before k (omega arith) lt (eq-eqb (get_or xs k 0) 10 e);
+}
+
+pub none_at : (xs : List ℕ) → IsFirstByte (is_byte 10) xs None → NoNewline xs
+none_at xs h k lt e = h k (omega arith) lt (eq-eqb (get_or xs k 0) 10 e)
+
+-- the same in the first n bytes
+pub first_in_front :
+    (xs : List ℕ) (n i : ℕ) → IsFirstByte (is_byte 10) (take n xs) (Some i)
+    → FirstAt xs i × (i < n)
+first_in_front xs n i h =
+    let f = first_at (take n xs) i h in
+    let w : i < length (take n xs) = f.within in
+    let small : i < n = grind (arith, common_steps) in (
+      record {
+        within = grind (arith, common_steps);
+        here = sym (get_or-take n xs i 0 small) ∙ f.here;
+        before = λ k lt e. f.before k lt (get_or-take n xs k 0 (omega arith) ∙ e);
+      },
+      small,
+    )
+
+-- what is after the first newline
+pub past_first :
+    (xs : List ℕ) (i : ℕ) → FirstAt xs i → (more : List ℕ)
+    → lines_past_newline (xs ++ more) ≡ lines (drop (i + 1) xs ++ more)
+past_first xs i f more =
+    ap (λ ys. lines_past_newline (ys ++ more)) (split_at_newline xs i f)
+    ∙ ap lines_past_newline (append_assoc (take i xs) (10 ∷ drop (i + 1) xs) more)
+    ∙ lines_past_newline-newline (take i xs) (drop (i + 1) xs ++ more) (NoNewline-take xs i f)
+
+-- what is before it is the first line
+pub first_line :
+    (xs : List ℕ) (i : ℕ) → FirstAt xs i → i ≤ 128
+    → (text : List ℕ) → text ≡ take i xs → (more : List ℕ)
+    → lines (xs ++ more) ≡ Line (record { items = text }) ∷ lines (drop (i + 1) xs ++ more)
+first_line xs i f short text is more =
+    let line =
+    cut_of-short (take i xs) (grind (arith, common_steps))
+    ∙ ap (λ t. Line (record { items = t })) (sym is) in
+    ap (λ ys. lines (ys ++ more)) (split_at_newline xs i f)
+    ∙ ap lines (append_assoc (take i xs) (10 ∷ drop (i + 1) xs) more)
+    ∙ lines_after-newline [] (take i xs) (drop (i + 1) xs ++ more) (NoNewline-take xs i f)
+    ∙ ap (λ c. c ∷ lines (drop (i + 1) xs ++ more)) line
+
+front_len : (n : ℕ) (xs : List ℕ) → n ≤ length xs → length (take n xs) ≡ n
+front_len n xs le = grind (arith, common_steps)
+
+too_long_by :
+    (n : ℕ) (xs : List ℕ) → 128 < n → n ≤ length xs → NoNewline (take n xs)
+    → (more : List ℕ) → lines (xs ++ more) ≡ Long ∷ lines_past_newline (drop n xs ++ more)
+too_long_by n xs big le none more =
+    ap (λ ys. lines (ys ++ more)) (sym (take-append-drop n xs))
+    ∙ ap lines (append_assoc (take n xs) (drop n xs) more)
+    ∙ lines_after-append [] (take n xs) (drop n xs ++ more) none
+    ∙ lines_after-long (take n xs) (drop n xs ++ more) (omega (arith, front_len n xs le))
+
+-- 129 bytes without a newline are of a line that is too long
+pub too_long :
+    (n : ℕ) (xs ys : List ℕ) → n ≡ 129 → n ≤ length xs → NoNewline (take n xs)
+    → ys ≡ drop 129 xs
+    → (more : List ℕ) → lines (xs ++ more) ≡ Long ∷ lines_past_newline (ys ++ more)
+too_long n xs ys e le none rest more =
+    too_long_by n xs (omega arith) le none more
+    ∙ ap (λ zs. Long ∷ lines_past_newline (zs ++ more)) (ap (λ m. drop m xs) e ∙ sym rest)
+
+last_line :
+    (xs : List ℕ) → NoNewline xs → length xs ≤ 128 → 0 < length xs
+    → lines (xs ++ []) ≡ Line (record { items = xs }) ∷ []
+last_line [] none short some = absurd (omega arith)
+last_line (x ∷ xs) none short some =
+    lines_after-append [] (x ∷ xs) [] none ∙ ap (λ c. c ∷ []) (cut_of-short (x ∷ xs) short)
+
+by_state :
+    (rest : List ℕ) (dropping : Bool) → NoNewline rest → length rest ≤ 128
+    → (dropping ≡ true → rest ≡ []) → 0 < length rest
+    → cond dropping (lines_past_newline (rest ++ [])) (lines (rest ++ []))
+    ≡ Line (record { items = rest }) ∷ []
+by_state rest true none short dropped some =
+    let empty : length rest ≡ 0 = ap length (dropped refl) in
+    absurd (omega arith)
+by_state rest false none short dropped some = last_line rest none short some
+
+-- what is left at the end is the last line
+pub at_end :
+    (held : Held) → IsBegun held → 0 < length held.rest
+    → (text : List ℕ) → text ≡ held.rest
+    → to_come held [] ≡ Line (record { items = text }) ∷ []
+at_end held h some text is =
+    by_state held.rest held.dropping h.no_newline h.short h.dropped some
+    ∙ ap (λ t. Line (record { items = t }) ∷ []) (sym is)
+
+-- the lines of texts and a rest
+pub lines-joined :
+    (texts : List (List ℕ)) (rest : List ℕ) → AllTexts texts → NoNewline rest
+    → lines (joined texts rest) ≡ map cut_of texts ++ last_of rest
+lines-joined [] [] all none = refl
+lines-joined [] (b ∷ rest) all none =
+    ap lines (sym (append-nil (b ∷ rest))) ∙ lines_after-append [] (b ∷ rest) [] none
+lines-joined (text ∷ texts) rest all none =
+    lines_after-newline [] text (joined texts rest) all.0
+    ∙ ap (λ ls. cut_of text ∷ ls) (lines-joined texts rest all.1 none)

@@ -1,0 +1,9 @@
+pub mod CutLemmas
+pub mod TestLemmas
+pub mod FieldLemmas
+pub mod NumberLemmas
+pub mod VerbLemmas
+pub mod ArgumentLemmas
+pub mod SpelledLemmas
+pub mod CallLemmas
+pub mod GrammarLemmas

@@ -1,0 +1,68 @@
+-- VerbLemmas: each verb is found by its word, and its word is short and has no space.
+use Rattle.std.proofs.Common.{◌≡◌, true, Some, refl}
+use Rattle.pt_lines.specs.declared.verb.NamedVerb.TheVariants.{Lock, Trylock, Unlock, Consistent, MutexDestroy, RwlockInit, Rdlock, Tryrdlock, Wrlock, Trywrlock, Rwunlock, RwlockDestroy, CondInit, CondDestroy, Signal, Broadcast, Bwait, BarrierDestroy}
+use Rattle.pt_lines.specs.declared.verb.TimedVerb.TheVariants.{Timedlock, Timedrdlock, Timedwrlock}
+use Rattle.pt_lines.specs.declared.verb.Verb.{Verb}
+use Rattle.pt_lines.specs.declared.verb.Verb.TheVariants.{Hello, Moment, MutexInit, BarrierInit, Wait, Timedwait, Named, Timed}
+use Rattle.pt_lines.specs.Verbs.{word_of, verb_of}
+use Rattle.pt_lines.proofs.FieldLemmas.{is_short_word}
+
+-- each verb is found by its word
+pub verb_of-word : (verb : Verb) → verb_of (word_of verb) ≡ Some verb
+verb_of-word Hello = refl
+verb_of-word Moment = refl
+verb_of-word MutexInit = refl
+verb_of-word BarrierInit = refl
+verb_of-word Wait = refl
+verb_of-word Timedwait = refl
+verb_of-word (Named Lock) = refl
+verb_of-word (Named Trylock) = refl
+verb_of-word (Named Unlock) = refl
+verb_of-word (Named Consistent) = refl
+verb_of-word (Named MutexDestroy) = refl
+verb_of-word (Named RwlockInit) = refl
+verb_of-word (Named Rdlock) = refl
+verb_of-word (Named Tryrdlock) = refl
+verb_of-word (Named Wrlock) = refl
+verb_of-word (Named Trywrlock) = refl
+verb_of-word (Named Rwunlock) = refl
+verb_of-word (Named RwlockDestroy) = refl
+verb_of-word (Named CondInit) = refl
+verb_of-word (Named CondDestroy) = refl
+verb_of-word (Named Signal) = refl
+verb_of-word (Named Broadcast) = refl
+verb_of-word (Named Bwait) = refl
+verb_of-word (Named BarrierDestroy) = refl
+verb_of-word (Timed Timedlock) = refl
+verb_of-word (Timed Timedrdlock) = refl
+verb_of-word (Timed Timedwrlock) = refl
+
+-- each word is short, and has no space
+pub word_is_short : (verb : Verb) → is_short_word (word_of verb) ≡ true
+word_is_short Hello = refl
+word_is_short Moment = refl
+word_is_short MutexInit = refl
+word_is_short BarrierInit = refl
+word_is_short Wait = refl
+word_is_short Timedwait = refl
+word_is_short (Named Lock) = refl
+word_is_short (Named Trylock) = refl
+word_is_short (Named Unlock) = refl
+word_is_short (Named Consistent) = refl
+word_is_short (Named MutexDestroy) = refl
+word_is_short (Named RwlockInit) = refl
+word_is_short (Named Rdlock) = refl
+word_is_short (Named Tryrdlock) = refl
+word_is_short (Named Wrlock) = refl
+word_is_short (Named Trywrlock) = refl
+word_is_short (Named Rwunlock) = refl
+word_is_short (Named RwlockDestroy) = refl
+word_is_short (Named CondInit) = refl
+word_is_short (Named CondDestroy) = refl
+word_is_short (Named Signal) = refl
+word_is_short (Named Broadcast) = refl
+word_is_short (Named Bwait) = refl
+word_is_short (Named BarrierDestroy) = refl
+word_is_short (Timed Timedlock) = refl
+word_is_short (Timed Timedrdlock) = refl
+word_is_short (Timed Timedwrlock) = refl

@@ -1,0 +1,14 @@
+use Rattle.pt_lines.proofs.CutLemmas.{first_at, past_first, none_at, lines_past_newline-append}
+use Rattle.pt_lines.proofs.cutter.drop_line.Goals as goal
+
+pub returns-in-Some-clause-found : goal.returns-in-Some-clause-found
+returns-in-Some-clause-found g c =
+    let held = c.args.held.now.items in
+    let found = first_at held c.in-Some.end (rw c.as_slice.ensures at c.in-Some.ensures) in
+    rw c.advance.ensures.items (past_first held c.in-Some.end found)
+
+pub returns-in-None-clause-none : goal.returns-in-None-clause-none
+returns-in-None-clause-none g c =
+    let held = c.args.held.now.items in
+    let none = none_at held (rw c.as_slice.ensures at c.in-None.ensures) in
+    λ more. lines_past_newline-append held more none

@@ -1,0 +1,5 @@
+use Rattle.pt_lines.proofs.CutLemmas.{lines-joined}
+use Rattle.pt_lines.proofs.cutter.lines_of_texts.Goals as goal
+
+pub returns : goal.returns
+returns c = lines-joined

@@ -1,0 +1,47 @@
+-- Reading: what a text is read as, if it is read.
+use Rattle.std.specs.Prelude.{ℕ, List, [], ◌∷◌, Option, None, Result, Err, length, nat_lt, if◌then◌else◌}
+use Rattle.std.specs.Option.{option_map, option_and_then, ok_or}
+use Rattle.pt_types.specs.declared.call.Call.TheVariants as call
+use Rattle.pt_types.specs.declared.outcome.Refusal.{Refusal}
+use Rattle.pt_types.specs.declared.outcome.Refusal.TheVariants.{Syntax, Long}
+use Rattle.pt_lines.specs.declared.call_line.CallLine.{CallLine}
+use Rattle.pt_lines.specs.declared.call_line.CallLine.TheVariants as line
+use Rattle.pt_lines.specs.declared.verb.Verb.{Verb}
+use Rattle.pt_lines.specs.declared.verb.Verb.TheVariants.{Hello, Moment, MutexInit, BarrierInit, Wait, Timedwait, Named, Timed}
+use Rattle.pt_lines.specs.Verbs.{verb_of, call_on, call_until}
+use Rattle.pt_lines.specs.Fields.{fields}
+use Rattle.pt_lines.specs.Numbers.{number_of}
+use Rattle.pt_lines.specs.Arguments.{name_of, kind_of, robust_of, alone, first_then, priority_of, moment_of, two_numbers, name_and_deadline}
+
+-- the line of a verb and the fields after it
+abbrev pub line_of : Verb → List (List ℕ) → Option CallLine
+line_of Hello args =
+    option_map line.Hello (option_and_then priority_of (alone number_of args))
+line_of Moment args = option_map line.Tick (option_and_then moment_of (two_numbers args))
+line_of MutexInit args =
+    option_map (λ a. line.Ask (call.MutexInit a.0 a.1.0 a.1.1))
+    (first_then name_of (first_then kind_of (alone robust_of)) args)
+line_of BarrierInit args =
+    option_map (λ a. line.Ask (call.BarrierInit a.0 a.1))
+    (first_then name_of (alone number_of) args)
+line_of Wait args =
+    option_map (λ a. line.Ask (call.Wait a.0 a.1)) (first_then name_of (alone name_of) args)
+line_of Timedwait args =
+    option_map (λ a. line.Ask (call.Timedwait a.0 a.1.0 a.1.1))
+    (first_then name_of name_and_deadline args)
+line_of (Named verb) args = option_map (λ n. line.Ask (call_on verb n)) (alone name_of args)
+line_of (Timed verb) args =
+    option_map (λ a. line.Ask (call_until verb a.0 a.1)) (name_and_deadline args)
+
+-- the line of these fields
+abbrev pub line_of_fields : List (List ℕ) → Option CallLine
+line_of_fields [] = None
+line_of_fields (word ∷ args) = option_and_then (λ verb. line_of verb args) (verb_of word)
+
+-- the line that a text is read as
+abbrev pub line_read : List ℕ → Option CallLine
+line_read text = line_of_fields (fields text)
+
+-- what a line of a connection is read as, or why it is not read  [profile]
+abbrev pub call_read : List ℕ → Result CallLine Refusal
+call_read text = if nat_lt 128 (length text) then Err Long else ok_or (line_read text) Syntax

@@ -1,0 +1,82 @@
+-- Verbs: the words of calls, by what follows them.
+use Rattle.std.specs.Prelude.{ℕ, List, Option, codes, find}
+use Rattle.std.specs.Str.{bytes_eq}
+use Rattle.pt_types.specs.Times.{Timespec}
+use Rattle.pt_types.specs.declared.call.Call.{Call}
+use Rattle.pt_types.specs.declared.call.Call.TheVariants as call
+use Rattle.pt_lines.specs.declared.verb.NamedVerb.{NamedVerb}
+use Rattle.pt_lines.specs.declared.verb.NamedVerb.TheVariants.{Lock, Trylock, Unlock, Consistent, MutexDestroy, RwlockInit, Rdlock, Tryrdlock, Wrlock, Trywrlock, Rwunlock, RwlockDestroy, CondInit, CondDestroy, Signal, Broadcast, Bwait, BarrierDestroy}
+use Rattle.pt_lines.specs.declared.verb.TimedVerb.{TimedVerb}
+use Rattle.pt_lines.specs.declared.verb.TimedVerb.TheVariants.{Timedlock, Timedrdlock, Timedwrlock}
+use Rattle.pt_lines.specs.declared.verb.Verb.{Verb}
+use Rattle.pt_lines.specs.declared.verb.Verb.TheVariants.{Hello, Moment, MutexInit, BarrierInit, Wait, Timedwait, Named, Timed}
+use Rattle.pt_lines.specs.declared.verb.TheConstants.{VERBS}
+
+-- the word of a call that one name follows  [XSH, the call's page, without `pthread_`; profile]
+abbrev pub named_word : NamedVerb → List ℕ
+named_word Lock = codes "lock"
+named_word Trylock = codes "trylock"
+named_word Unlock = codes "unlock"
+named_word Consistent = codes "consistent"
+named_word MutexDestroy = codes "mutex-destroy"
+named_word RwlockInit = codes "rwlock-init"
+named_word Rdlock = codes "rdlock"
+named_word Tryrdlock = codes "tryrdlock"
+named_word Wrlock = codes "wrlock"
+named_word Trywrlock = codes "trywrlock"
+named_word Rwunlock = codes "rwunlock"
+named_word RwlockDestroy = codes "rwlock-destroy"
+named_word CondInit = codes "cond-init"
+named_word CondDestroy = codes "cond-destroy"
+named_word Signal = codes "signal"
+named_word Broadcast = codes "broadcast"
+named_word Bwait = codes "bwait"
+named_word BarrierDestroy = codes "barrier-destroy"
+
+-- the word of a call that a name and a deadline follow  [profile]
+abbrev pub timed_word : TimedVerb → List ℕ
+timed_word Timedlock = codes "timedlock"
+timed_word Timedrdlock = codes "timedrdlock"
+timed_word Timedwrlock = codes "timedwrlock"
+
+-- the word that a line begins with  [profile]
+abbrev pub word_of : Verb → List ℕ
+word_of Hello = codes "hello"
+word_of Moment = codes "moment"
+word_of MutexInit = codes "mutex-init"
+word_of BarrierInit = codes "barrier-init"
+word_of Wait = codes "wait"
+word_of Timedwait = codes "timedwait"
+word_of (Named verb) = named_word verb
+word_of (Timed verb) = timed_word verb
+
+-- the verb with this word
+abbrev pub verb_of : List ℕ → Option Verb
+verb_of text = find (λ verb. bytes_eq (word_of verb) text) VERBS
+
+-- the call of a word on one name
+abbrev pub call_on : NamedVerb → List ℕ → Call
+call_on Lock name = call.Lock name
+call_on Trylock name = call.Trylock name
+call_on Unlock name = call.Unlock name
+call_on Consistent name = call.Consistent name
+call_on MutexDestroy name = call.MutexDestroy name
+call_on RwlockInit name = call.RwlockInit name
+call_on Rdlock name = call.Rdlock name
+call_on Tryrdlock name = call.Tryrdlock name
+call_on Wrlock name = call.Wrlock name
+call_on Trywrlock name = call.Trywrlock name
+call_on Rwunlock name = call.Rwunlock name
+call_on RwlockDestroy name = call.RwlockDestroy name
+call_on CondInit name = call.CondInit name
+call_on CondDestroy name = call.CondDestroy name
+call_on Signal name = call.Signal name
+call_on Broadcast name = call.Broadcast name
+call_on Bwait name = call.Bwait name
+call_on BarrierDestroy name = call.BarrierDestroy name
+
+-- the call of a word on one name with a deadline
+abbrev pub call_until : TimedVerb → List ℕ → Timespec → Call
+call_until Timedlock name deadline = call.Timedlock name deadline
+call_until Timedrdlock name deadline = call.Timedrdlock name deadline
+call_until Timedwrlock name deadline = call.Timedwrlock name deadline

@@ -1,0 +1,79 @@
+ghost use Rattle.std.specs.Prelude.{◌≡◌, ◌≤◌, Ok, Some, IfSome, IfOk, IfErr, IsOk, nat_lt, length, if◌then◌else◌};
+ghost use Rattle.pt_lines.specs.declared.call_line.CallLine.{CallLine};
+ghost use Rattle.pt_lines.specs.Grammar.{Spells};
+ghost use Rattle.pt_lines.specs.Reading.{line_of, line_read, call_read};
+
+use crate::arguments::{
+    name_and_count, name_and_deadline, name_and_kind, only_moment, only_name, only_priority,
+    two_names, two_names_and_deadline,
+};
+use crate::fields::Fields;
+use crate::verb::Verb;
+use pt_types::{Call, Moment, Priority, Refusal};
+
+/// A line of a connection: a hello, a call, or a reading of the clock.  [profile]
+#[derive(Debug, PartialEq, Eq, Drop)]
+pub enum CallLine {
+    Hello(Priority),
+    Ask(Call),
+    Tick(Moment),
+}
+
+// The line of a verb and the fields after it.
+fn read_arguments(verb: Verb, args: Fields) -> Option<CallLine>
+    ensures { result ≡ line_of verb args.entry }
+{
+    match verb {
+        Verb::Hello => Some(CallLine::Hello(only_priority(args)?)),
+        Verb::Moment => Some(CallLine::Tick(only_moment(args)?)),
+        Verb::MutexInit => {
+            let (name, (kind, robust)) = name_and_kind(args)?;
+            Some(CallLine::Ask(Call::MutexInit(name, kind, robust)))
+        }
+        Verb::BarrierInit => {
+            let (name, count) = name_and_count(args)?;
+            Some(CallLine::Ask(Call::BarrierInit(name, count)))
+        }
+        Verb::Wait => {
+            let (cond, mutex) = two_names(args)?;
+            Some(CallLine::Ask(Call::Wait(cond, mutex)))
+        }
+        Verb::Timedwait => {
+            let (cond, (mutex, deadline)) = two_names_and_deadline(args)?;
+            Some(CallLine::Ask(Call::Timedwait(cond, mutex, deadline)))
+        }
+        Verb::Named(verb) => Some(CallLine::Ask(verb.on(only_name(args)?))),
+        Verb::Timed(verb) => {
+            let (name, deadline) = name_and_deadline(args)?;
+            Some(CallLine::Ask(verb.on(name, deadline)))
+        }
+    }
+}
+
+// The line that a text spells, whatever its length.
+fn read_text(text: &[u8]) -> Option<CallLine>
+    ensures { result ≡ line_read text.now }
+{
+    let mut fields = Fields::new(text);
+    let verb = Verb::read(fields.next()?)?;
+    read_arguments(verb, fields)
+}
+
+/// Reads a line of a connection: LONG past 128 bytes, else SYNTAX where the text spells no line.
+/// It takes no memory.  [profile]
+pub fn read_call(text: &[u8]) -> Result<CallLine, Refusal>
+    ensures value { result ≡ call_read text.now }
+
+    // It is just the line that the text spells, and no such text is too long.
+    ensures found { IfOk result (Spells text.now) }
+    ensures exact { (line : CallLine) → Spells text.now line → result ≡ Ok line }
+
+    ensures err { IfErr result (λ refusal. refusal
+        ≡ (if nat_lt 128 (length text.now) then Refusal.Long else Refusal.Syntax)) }
+    ensures short { IsOk result → length text.now ≤ 128 }
+{
+    if text.len() > 128 {
+        return Err(Refusal::Long);
+    }
+    read_text(text).ok_or(Refusal::Syntax)
+}

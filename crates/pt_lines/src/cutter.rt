@@ -1,0 +1,179 @@
+ghost use Rattle.std.specs.Prelude.{◌≡◌, ◌≤◌, ◌<◌, ◌+◌, ◌++◌, [], ◌∷◌, ℕ, List, OnOk, OnErr, IfErr, OnSome, IfOk, IfSome, IfNone, true, false, length, option_to_list, if◌then◌else◌};
+ghost use Rattle.std.specs.Bool.{OnTrue, OnFalse};
+ghost use Rattle.std.specs.List.{flat_map};
+ghost use Rattle.pt_lines.specs.Cuts.{is_long};
+ghost use Rattle.pt_lines.specs.Lines.{lines, lines_past_newline, to_come, NoNewline, IsBegun, LinesOfTexts};
+
+use arrayvec::ArrayVec;
+use bytes::BytesMut;
+use memchr::memchr;
+use pt_types::Refusal;
+use std::alloc::{Allocator, Global};
+use std::marker::Model;
+
+/// What is given of a line: its text without the newline, or that it has more than 128 bytes.
+/// [profile]
+#[derive(Debug, PartialEq, Eq, Drop)]
+pub enum Cut {
+    Line(ArrayVec<u8, 128>),
+    Long,
+}
+
+/// Cuts a stream of bytes into lines, in whatever pieces the bytes come.
+///
+/// Contracts see it as the bytes that it holds, and whether they go on a line that was given as
+/// too long. Once `next_line` has answered None it holds at most 128 bytes, and none of a line
+/// that was too long.
+#[derive(Drop)]
+pub struct Cutter<A: Allocator + Copy = Global> {
+    held: BytesMut<A>,
+    dropping: bool,
+}
+
+impl<A: Allocator + Copy> Model for Cutter<A> {
+    ghost use Rattle.pt_lines.specs.Lines.{Held};
+
+    ghost Value = { Held };
+
+    ghost view = { λ c. record { rest = c.held.items; dropping = c.dropping } };
+}
+
+// A line of at most 128 bytes.
+fn line_of(text: &[u8]) -> ArrayVec<u8, 128>
+    requires { length text.now ≤ 128 }
+    ensures { result.items ≡ text.now }
+{
+    ArrayVec::try_from(text).unwrap()
+}
+
+// Drops the bytes up to and with the first newline, or all where there is none.
+fn drop_line<A: Allocator + Copy>(held: &mut BytesMut<A>) -> bool
+    ensures found { OnTrue result ((more : List ℕ) →
+        lines_past_newline (held.old.items ++ more) ≡ lines (held.new.items ++ more)) }
+    ensures none { OnFalse result ((more : List ℕ) →
+        lines_past_newline (held.old.items ++ more) ≡ lines_past_newline more) }
+    ensures empty { OnFalse result (held.new.items ≡ []) }
+    ensures fewer { length held.new.items ≤ length held.old.items }
+{
+    match memchr(b'\n', held.as_slice()) {
+        Some(end) => {
+            held.advance(end + 1);
+            true
+        }
+        None => {
+            held.clear();
+            false
+        }
+    }
+}
+
+// Takes the first line, if it is whole or too long already.
+fn take_line<A: Allocator + Copy>(held: &mut BytesMut<A>) -> Option<Cut>
+    ensures some { IfSome result (λ cut. (more : List ℕ) → lines (held.old.items ++ more)
+        ≡ cut ∷ (if is_long cut then lines_past_newline (held.new.items ++ more)
+        else lines (held.new.items ++ more))) }
+    ensures fewer { OnSome result (length held.new.items < length held.old.items) }
+    ensures none { IfNone result (NoNewline held.old.items × (length held.old.items ≤ 128)
+        × (held.new.items ≡ held.old.items)) }
+{
+    let count = held.len().min(129);
+    let text = held.as_slice();
+    match memchr(b'\n', &text[..count]) {
+        Some(end) => {
+            let line = line_of(&text[..end]);
+            held.advance(end + 1);
+            Some(Cut::Line(line))
+        }
+        None if count > 128 => {
+            held.advance(129);
+            Some(Cut::Long)
+        }
+        None => None,
+    }
+}
+
+impl<A: Allocator + Copy> Cutter<A> {
+    /// A cutter that was fed nothing. It takes no memory.
+    pub fn new(alloc: A) -> Self
+        ensures { result ≡ record { rest = []; dropping = false } }
+    {
+        Cutter {
+            held: BytesMut::new(alloc),
+            dropping: false,
+        }
+    }
+
+    /// Takes the next piece. ENOMEM where a growth was refused: nothing of the piece is taken.
+    pub fn feed(&mut self, piece: &[u8]) -> Result<(), Refusal>
+        ensures ok { OnOk result
+            (self.new ≡ record self.old { rest = self.old.rest ++ piece.now }) }
+        ensures err { OnErr result (self.new ≡ self.old) }
+        ensures why { IfErr result (λ refusal. refusal ≡ Refusal.Enomem) }
+    {
+        self.held
+            .extend_from_slice(piece)
+            .map_err(|_| Refusal::Enomem)
+    }
+
+    /// The next line, as soon as its newline or its 129th byte has come. It takes no memory.
+    pub fn next_line(&mut self) -> Option<Cut>
+        ensures given { (more : List ℕ) →
+            to_come self.old more ≡ option_to_list result ++ to_come self.new more }
+        ensures none { IfNone result (IsBegun self.new) }
+        ensures fewer { OnSome result (length self.new.rest < length self.old.rest) }
+    {
+        if self.dropping {
+            if !drop_line(&mut self.held) {
+                return None;
+            }
+            self.dropping = false;
+        }
+        let cut = take_line(&mut self.held)?;
+        if let Cut::Long = cut {
+            self.dropping = true;
+        }
+        Some(cut)
+    }
+
+    /// The last line, which no newline ended; None where nothing is left of the input, or a line
+    /// that was given as too long. It takes no memory.
+    pub fn finish(self) -> Option<Cut>
+        requires { IsBegun self }
+        ensures { to_come self [] ≡ option_to_list result }
+    {
+        if self.held.is_empty() {
+            return None;
+        }
+        Some(Cut::Line(line_of(self.held.as_slice())))
+    }
+}
+
+/// The lines of texts without a newline, each ended by one, and of a rest without a newline are
+/// these texts and, unless it is empty, the rest; one of more than 128 bytes is too long.
+pub fn lines_of_texts()
+    ensures { LinesOfTexts }
+{}
+
+/// All lines of a stream that comes in these pieces, and then ends. ENOMEM where a growth was
+/// refused.
+pub fn cut_all<A: Allocator + Copy>(alloc: A, pieces: &[&[u8]]) -> Result<Vec<Cut, A>, Refusal>
+    ensures ok { IfOk result
+        (λ cuts. cuts.items ≡ lines (flat_map (λ piece. piece.now) pieces.now)) }
+    ensures why { IfErr result (λ refusal. refusal ≡ Refusal.Enomem) }
+{
+    let mut cuts = Vec::new(alloc);
+    let mut cutter = Cutter::new(alloc);
+    for piece in pieces {
+        cutter.feed(piece)?;
+        while let Some(cut) = cutter.next_line() {
+            cuts.push(cut).map_err(|_| Refusal::Enomem)?;
+        }
+    }
+    if let Some(cut) = cutter.finish() {
+        cuts.push(cut).map_err(|_| Refusal::Enomem)?;
+    }
+    Ok(cuts)
+}
+
+#[cfg(test)]
+mod tests;

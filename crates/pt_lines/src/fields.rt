@@ -1,0 +1,47 @@
+ghost use Rattle.std.specs.Prelude.{◌≡◌, [], ◌∷◌, MatchOption};
+ghost use Rattle.pt_lines.specs.Fields.{fields};
+
+use memchr::memchr;
+use std::marker::Model;
+
+/// The fields of a line that are left, one after another.
+#[derive(Drop)]
+pub struct Fields<'a> {
+    rest: Option<&'a [u8]>,
+}
+
+impl<'a> Model for Fields<'a> {
+    ghost use Rattle.std.specs.Prelude.{List, ℕ};
+    ghost use Rattle.pt_lines.specs.Fields.{fields_left};
+
+    ghost Value = { List (List ℕ) };
+
+    ghost view = { λ f. fields_left f.rest };
+}
+
+impl<'a> Fields<'a> {
+    /// The parts of a text between its spaces.
+    pub fn new(text: &'a [u8]) -> Self
+        ensures { result ≡ fields text.now }
+    {
+        Fields { rest: Some(text) }
+    }
+
+    /// The next field.
+    pub fn next(&mut self) -> Option<&'a [u8]>
+        ensures { MatchOption result ((self.old ≡ []) × (self.new ≡ []))
+            (λ field. self.old ≡ field.now ∷ self.new) }
+    {
+        let text = self.rest?;
+        match memchr(b' ', text) {
+            Some(end) => {
+                self.rest = Some(&text[end + 1..]);
+                Some(&text[..end])
+            }
+            None => {
+                self.rest = None;
+                Some(text)
+            }
+        }
+    }
+}

@@ -1,0 +1,193 @@
+ghost use Rattle.std.specs.Prelude.{◌≡◌, find, IfSome, Some};
+ghost use Rattle.std.specs.Str.{bytes_eq};
+ghost use Rattle.pt_lines.specs.declared.verb.Verb.{Verb};
+ghost use Rattle.pt_lines.specs.Verbs.{named_word, timed_word, word_of, verb_of, call_on, call_until};
+
+use pt_types::{Call, Deadline, Name};
+
+/// The word of a call that one name follows.
+#[derive(Clone, Copy, Debug, PartialEq, Eq)]
+pub enum NamedVerb {
+    Lock,
+    Trylock,
+    Unlock,
+    Consistent,
+    MutexDestroy,
+    RwlockInit,
+    Rdlock,
+    Tryrdlock,
+    Wrlock,
+    Trywrlock,
+    Rwunlock,
+    RwlockDestroy,
+    CondInit,
+    CondDestroy,
+    Signal,
+    Broadcast,
+    Bwait,
+    BarrierDestroy,
+}
+
+/// The word of a call that a name and a deadline follow.
+#[derive(Clone, Copy, Debug, PartialEq, Eq)]
+pub enum TimedVerb {
+    Timedlock,
+    Timedrdlock,
+    Timedwrlock,
+}
+
+/// The first word of a line, by what follows it.
+#[derive(Clone, Copy, Debug, PartialEq, Eq)]
+pub enum Verb {
+    Hello,
+    Moment,
+    MutexInit,
+    BarrierInit,
+    Wait,
+    Timedwait,
+    Named(NamedVerb),
+    Timed(TimedVerb),
+}
+
+const VERBS: [Verb; 27] = [
+    Verb::Hello,
+    Verb::Moment,
+    Verb::MutexInit,
+    Verb::BarrierInit,
+    Verb::Wait,
+    Verb::Timedwait,
+    Verb::Named(NamedVerb::Lock),
+    Verb::Named(NamedVerb::Trylock),
+    Verb::Named(NamedVerb::Unlock),
+    Verb::Named(NamedVerb::Consistent),
+    Verb::Named(NamedVerb::MutexDestroy),
+    Verb::Named(NamedVerb::RwlockInit),
+    Verb::Named(NamedVerb::Rdlock),
+    Verb::Named(NamedVerb::Tryrdlock),
+    Verb::Named(NamedVerb::Wrlock),
+    Verb::Named(NamedVerb::Trywrlock),
+    Verb::Named(NamedVerb::Rwunlock),
+    Verb::Named(NamedVerb::RwlockDestroy),
+    Verb::Named(NamedVerb::CondInit),
+    Verb::Named(NamedVerb::CondDestroy),
+    Verb::Named(NamedVerb::Signal),
+    Verb::Named(NamedVerb::Broadcast),
+    Verb::Named(NamedVerb::Bwait),
+    Verb::Named(NamedVerb::BarrierDestroy),
+    Verb::Timed(TimedVerb::Timedlock),
+    Verb::Timed(TimedVerb::Timedrdlock),
+    Verb::Timed(TimedVerb::Timedwrlock),
+];
+
+impl NamedVerb {
+    /// The word.
+    pub fn word(self) -> &'static [u8]
+        ensures { result.now ≡ named_word self }
+    {
+        match self {
+            NamedVerb::Lock => b"lock",
+            NamedVerb::Trylock => b"trylock",
+            NamedVerb::Unlock => b"unlock",
+            NamedVerb::Consistent => b"consistent",
+            NamedVerb::MutexDestroy => b"mutex-destroy",
+            NamedVerb::RwlockInit => b"rwlock-init",
+            NamedVerb::Rdlock => b"rdlock",
+            NamedVerb::Tryrdlock => b"tryrdlock",
+            NamedVerb::Wrlock => b"wrlock",
+            NamedVerb::Trywrlock => b"trywrlock",
+            NamedVerb::Rwunlock => b"rwunlock",
+            NamedVerb::RwlockDestroy => b"rwlock-destroy",
+            NamedVerb::CondInit => b"cond-init",
+            NamedVerb::CondDestroy => b"cond-destroy",
+            NamedVerb::Signal => b"signal",
+            NamedVerb::Broadcast => b"broadcast",
+            NamedVerb::Bwait => b"bwait",
+            NamedVerb::BarrierDestroy => b"barrier-destroy",
+        }
+    }
+
+    /// The call on this name.
+    pub fn on(self, name: Name) -> Call
+        ensures { result ≡ call_on self name }
+    {
+        match self {
+            NamedVerb::Lock => Call::Lock(name),
+            NamedVerb::Trylock => Call::Trylock(name),
+            NamedVerb::Unlock => Call::Unlock(name),
+            NamedVerb::Consistent => Call::Consistent(name),
+            NamedVerb::MutexDestroy => Call::MutexDestroy(name),
+            NamedVerb::RwlockInit => Call::RwlockInit(name),
+            NamedVerb::Rdlock => Call::Rdlock(name),
+            NamedVerb::Tryrdlock => Call::Tryrdlock(name),
+            NamedVerb::Wrlock => Call::Wrlock(name),
+            NamedVerb::Trywrlock => Call::Trywrlock(name),
+            NamedVerb::Rwunlock => Call::Rwunlock(name),
+            NamedVerb::RwlockDestroy => Call::RwlockDestroy(name),
+            NamedVerb::CondInit => Call::CondInit(name),
+            NamedVerb::CondDestroy => Call::CondDestroy(name),
+            NamedVerb::Signal => Call::Signal(name),
+            NamedVerb::Broadcast => Call::Broadcast(name),
+            NamedVerb::Bwait => Call::Bwait(name),
+            NamedVerb::BarrierDestroy => Call::BarrierDestroy(name),
+        }
+    }
+}
+
+impl TimedVerb {
+    /// The word.
+    pub fn word(self) -> &'static [u8]
+        ensures { result.now ≡ timed_word self }
+    {
+        match self {
+            TimedVerb::Timedlock => b"timedlock",
+            TimedVerb::Timedrdlock => b"timedrdlock",
+            TimedVerb::Timedwrlock => b"timedwrlock",
+        }
+    }
+
+    /// The call on this name, with this deadline.
+    pub fn on(self, name: Name, deadline: Deadline) -> Call
+        ensures { result ≡ call_until self name deadline }
+    {
+        match self {
+            TimedVerb::Timedlock => Call::Timedlock(name, deadline),
+            TimedVerb::Timedrdlock => Call::Timedrdlock(name, deadline),
+            TimedVerb::Timedwrlock => Call::Timedwrlock(name, deadline),
+        }
+    }
+}
+
+impl Verb {
+    /// The word.
+    pub fn word(self) -> &'static [u8]
+        ensures { result.now ≡ word_of self }
+    {
+        match self {
+            Verb::Hello => b"hello",
+            Verb::Moment => b"moment",
+            Verb::MutexInit => b"mutex-init",
+            Verb::BarrierInit => b"barrier-init",
+            Verb::Wait => b"wait",
+            Verb::Timedwait => b"timedwait",
+            Verb::Named(verb) => verb.word(),
+            Verb::Timed(verb) => verb.word(),
+        }
+    }
+
+    /// The verb with this word.
+    pub fn read(text: &[u8]) -> Option<Verb>
+        ensures value { result ≡ verb_of text.now }
+        ensures found { IfSome result (λ verb. text.now ≡ word_of verb) }
+        ensures exact { (verb : Verb) → text.now ≡ word_of verb → result ≡ Some verb }
+    {
+        first_verb(text)
+    }
+}
+
+// The first verb in the table whose word this is.
+fn first_verb(text: &[u8]) -> Option<Verb>
+    ensures first { result ≡ verb_of text.now }
+    ensures found { IfSome result (λ verb. text.now ≡ word_of verb) }
+{
+    VERBS.iter().copied().find(|verb| verb.word() == text)
+}
