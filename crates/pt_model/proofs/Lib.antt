@@ -17,3 +17,12 @@ pub mod Livings
 pub mod Room
 pub mod Once
 pub mod Orders
+pub mod Services
+pub mod GrantIsLeast
+pub mod NoneLeft
+pub mod Moves
+pub mod Named
+pub mod OneEach
+pub mod Seats
+pub mod Stands
+pub mod Partition

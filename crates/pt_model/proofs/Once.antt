@@ -31,13 +31,13 @@ none_of (Some x) e = absurd cc
 pub open_unanswered : (h : History) (v : Standing) → In v (open_calls h) → outcome h v.place ≡ None
 open_unanswered h v i =
     none_of (outcome h v.place) (and_parts (is_none (outcome h v.place)) (is_alive h v.client)
-        (In-filter (is_open_by h (outcome h)) (stood h) v i).1).0
+    (In-filter (is_open_by h (outcome h)) (stood h) v i).1).0
 
 unanswered_at : (h : History) (v : Standing) (j : ℕ) → In v (open_calls h) → (v.place == j) ≡ true
     → outcome h j ≡ None
 unanswered_at h v j i e =
     let at : v.place ≡ j = grind (arith, nat_tests) in ap (outcome h) (sym at)
-        ∙ open_unanswered h v i
+    ∙ open_unanswered h v i
 
 if_some : {X : Type 0} (b : Bool) (x : X) → is_some (cond b (Some x) None) ≡ true → b ≡ true
 if_some true x e = refl
@@ -48,10 +48,10 @@ tripped : (h : History) (b j : ℕ) → is_some (outcome_in (told_by_trip (at_ba
     j) ≡ true → outcome h j ≡ None
 tripped h b j t =
     let r =
-        any-in (λ (v : Standing). (v.place == j) && true) (at_barrier b (open_calls h))
-            (sym (trip-any (at_barrier b (open_calls h)) j) ∙ t) in
+    any-in (λ (v : Standing). (v.place == j) && true) (at_barrier b (open_calls h))
+    (sym (trip-any (at_barrier b (open_calls h)) j) ∙ t) in
     unanswered_at h r.0 j (In-filter (stands_at_barrier b) (open_calls h) r.0 r.1.0).0
-        (and_parts (r.0.place == j) true r.1.1).0
+    (and_parts (r.0.place == j) true r.1.1).0
 
 expired : (h : History) (w : Standing) (j : ℕ) (o : Option Standing) (b : Bool)
     → In w (open_calls h) → is_some (outcome_in (told_by_expiry w.place o b) j) ≡ true → outcome h j

@@ -83,21 +83,21 @@ abbrev by_arrival : (ℕ → Option Move) → Standing → Standing → Bool
 by_arrival moves a b =
     nat_lt (arrival_by (moves a.place) a.place).0 (arrival_by (moves b.place) b.place).0
     || (((arrival_by (moves a.place) a.place).0 == (arrival_by (moves b.place) b.place).0) && nat_lt
-        (arrival_by (moves a.place) a.place).1 (arrival_by (moves b.place) b.place).1)
+    (arrival_by (moves a.place) a.place).1 (arrival_by (moves b.place) b.place).1)
 
 abbrev by_rank : (ℕ → Option Move) → Standing → Standing → Bool
 by_rank moves a b =
     nat_lt (rank (is_write a.role)) (rank (is_write b.role))
-        || ((rank (is_write a.role) == rank (is_write b.role)) && by_arrival moves a b)
+    || ((rank (is_write a.role) == rank (is_write b.role)) && by_arrival moves a b)
 
 pub precedes_by-order : (moves : ℕ → Option Move) → IsOrder (precedes_by moves)
 precedes_by-order moves =
     order-down (λ (a : Standing). a.priority) (by_rank moves)
-        (order-by (λ (a : Standing). rank (is_write a.role)) (by_arrival moves)
-        (order-by (λ (a : Standing). (arrival_by (moves a.place) a.place).0)
-        (λ a b. nat_lt (arrival_by (moves a.place) a.place).1
-        (arrival_by (moves b.place) b.place).1)
-        (order-key (λ (a : Standing). (arrival_by (moves a.place) a.place).1))))
+    (order-by (λ (a : Standing). rank (is_write a.role)) (by_arrival moves)
+    (order-by (λ (a : Standing). (arrival_by (moves a.place) a.place).0)
+    (λ a b. nat_lt (arrival_by (moves a.place) a.place).1
+    (arrival_by (moves b.place) b.place).1)
+    (order-key (λ (a : Standing). (arrival_by (moves a.place) a.place).1))))
 
 pub precedes-order : (h : History) → IsOrder (precedes h)
 precedes-order h = precedes_by-order (moved h)
@@ -108,7 +108,7 @@ is_served_before-order h = order-by (at_object h) (precedes h) (precedes-order h
 pub expires_before-order : IsOrder expires_before
 expires_before-order =
     order-by (λ (a : Standing). unwrap_or a.deadline 0) (λ a b. nat_lt a.place b.place)
-        (order-key (λ (a : Standing). a.place))
+    (order-key (λ (a : Standing). a.place))
 
 -- none is before the least
 pub least-first : {X : Type 0} (lt : X → X → Bool) → IsOrder lt → (ws : List X) (w : X)
@@ -118,7 +118,7 @@ least-first lt o (x ∷ xs) w e v i = go (least lt xs) refl e (least-first lt o 
   where
     go : (q : Option _) → least lt xs ≡ q → least_with lt x q ≡ Some w
         → ((u : _) → least lt xs ≡ Some u → (y : _) → In y xs → lt y u ≡ false) → In v (x ∷ xs)
-            → lt v w ≡ false
+        → lt v w ≡ false
     go None eq k ih (inl j) = let same : v ≡ w = cc in rw same (o.irreflexive w)
     go None eq k ih (inr j) = absurd (least-none lt xs eq v j)
     go (Some u) eq k ih j = pick (lt u x) refl k j
@@ -131,7 +131,7 @@ least-first lt o (x ∷ xs) w e v i = go (least lt xs) refl e (least-first lt o 
         pick false eb r (inr i') =
             let same : x ≡ w = cc in
             rw (← same) (false_by (lt v x) (λ t. false≢true
-                (sym eb ∙ o.across v u x t (ih u eq v i'))))
+            (sym eb ∙ o.across v u x t (ih u eq v i'))))
 
 -- what none is before, where one of two is before the other
 pub least-of : {X : Type 0} (lt : X → X → Bool) → IsOrder lt
@@ -148,14 +148,14 @@ least-of lt o one ws w i first = go (least lt ws) refl
 pub least-part : {X : Type 0} (lt : X → X → Bool) → IsOrder lt → (p q : X → Bool)
     → ((x : X) → p x ≡ true → q x ≡ true)
     → (ws : List X) (u : X) → least lt (filter q ws) ≡ Some u → p u ≡ true → least lt (filter p ws)
-        ≡ Some u
+    ≡ Some u
 least-part lt o p q f [] u e t = e
 least-part lt o p q f (x ∷ xs) u e t = go (q x) (p x) refl refl e (λ v. least-part lt o p q f xs v)
   where
     nowhere : least lt (filter q xs) ≡ None → least lt (filter p xs) ≡ None
     nowhere n =
         none-least lt (filter p xs) (λ v i. let r = In-filter p xs v i in least-none lt
-            (filter q xs) n v (filter-in q xs v r.0 (f v r.1)))
+        (filter q xs) n v (filter-in q xs v r.0 (f v r.1)))
 
     stays : (v : _) (z : Option _) → least lt (filter q xs) ≡ Some v → lt v x ≡ false
         → least lt (filter p xs) ≡ z → least_with lt x z ≡ Some x
@@ -164,12 +164,12 @@ least-part lt o p q f (x ∷ xs) u e t = go (q x) (p x) refl refl e (λ v. least
         let r = In-filter p xs y (least-in lt (filter p xs) y ez) in
         let first = least-first lt o (filter q xs) v ev y (filter-in q xs y r.0 (f y r.1)) in
         let ny : lt y x ≡ false =
-            false_by (lt y x) (λ k. false≢true (sym nb ∙ o.across y v x k first)) in
+        false_by (lt y x) (λ k. false≢true (sym nb ∙ o.across y v x k first)) in
         rw ny refl
 
     both : (z : Option _) → least lt (filter q xs) ≡ z → least_with lt x z ≡ Some u
         → ((v : _) → least lt (filter q xs) ≡ Some v → p v ≡ true → least lt (filter p xs) ≡ Some v)
-            → least_with lt x (least lt (filter p xs)) ≡ Some u
+        → least_with lt x (least lt (filter p xs)) ≡ Some u
     both None ez k ih = rw (nowhere ez) k
     both (Some v) ez k ih = pick (lt v x) refl k
       where
@@ -180,7 +180,7 @@ least-part lt o p q f (x ∷ xs) u e t = go (q x) (p x) refl refl e (λ v. least
 
     one : (z : Option _) → p x ≡ false → least lt (filter q xs) ≡ z → least_with lt x z ≡ Some u
         → ((v : _) → least lt (filter q xs) ≡ Some v → p v ≡ true → least lt (filter p xs) ≡ Some v)
-            → least lt (filter p xs) ≡ Some u
+        → least lt (filter p xs) ≡ Some u
     one None np ez k ih = let same : x ≡ u = cc in absurd (false≢true (sym np ∙ (ap p same ∙ t)))
     one (Some v) np ez k ih = pick (lt v x) k
       where
