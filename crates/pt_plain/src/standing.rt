@@ -1,0 +1,174 @@
+ghost use Rattle.std.specs.Prelude.{◌≡◌, ◌≤◌, ◌+◌, option_map};
+ghost use Rattle.pt_model.specs.Histories.{history};
+ghost use Rattle.pt_model.specs.Searches.{listed};
+ghost use Rattle.pt_model.specs.Standing.{role_wanted as role_meant, meant as meant_in, entered as entered_in, stood_by as stood_after, stood, at_place, is_arrival as is_arrival_role, is_wait as is_wait_role, is_write as is_write_role, mutex_of as mutex_meant, is_wait_if};
+ghost use Rattle.pt_types.specs.Deeds.{deadline_of as deadline_meant};
+ghost use Rattle.pt_plain.specs.Shown.{shown, shown_role, shown_sort, shown_want};
+
+use crate::clients::client;
+use crate::deeds::{deed_of, sort_wanted, Deed, Sort, Want};
+use crate::objects::find;
+use pt_model::Entry;
+use pt_types::{ClientId, Deadline, How, Name, ObjectId};
+
+/// What a standing call is for; a wait also has its mutex's number.  [XSH, the call's page]
+#[derive(Clone, Copy, Debug, PartialEq, Eq)]
+pub enum Role {
+    ForMutex,
+    ForRead,
+    ForWrite,
+    ForBarrier,
+    ForCond(u64),
+}
+
+/// A call that came without a reply, with what held as it came.  [profile]
+#[derive(Clone, Copy, Debug, PartialEq, Eq)]
+pub struct Standing {
+    /// The place of its entry.
+    pub place: u64,
+    /// The number of its client.
+    pub client: u64,
+    /// The priority with which the client joined.
+    pub priority: u64,
+    /// The number of its object; of a wait, of its condition.
+    pub object: u64,
+    pub role: Role,
+    /// All nanoseconds of its deadline.
+    pub deadline: Option<u64>,
+}
+
+/// The role of a call for a lock.  [profile]
+pub fn role_wanted(want: Want) -> Role
+    ensures { shown_role result ≡ role_meant (shown_want want) }
+{
+    match want {
+        Want::MutexLock => Role::ForMutex,
+        Want::ReadLock => Role::ForRead,
+        Want::WriteLock => Role::ForWrite,
+    }
+}
+
+/// The object that a name means as the call comes; 0 where it means none.  [profile]
+pub fn meant(entries: &[Entry], n: &Name, sort: Sort) -> u64
+    ensures { result ≡ meant_in (history entries.now) n.now (shown_sort sort) }
+{
+    match find(entries, n, sort) {
+        Some(object) => object.0,
+        None => 0,
+    }
+}
+
+/// A client's call that is entered now.  [profile]
+#[tactic(auto, using(crate::proofs::Past::place_all))]
+pub fn entered(
+    entries: &[Entry],
+    c: ClientId,
+    object: u64,
+    role: Role,
+    deadline: Option<Deadline>,
+) -> Standing
+    ensures { shown result ≡ entered_in (history entries.now) c object (shown_role role) deadline }
+{
+    Standing {
+        place: entries.len() as u64,
+        client: c.0,
+        priority: match client(entries, c) {
+            Some(priority) => priority.level() as u64,
+            None => 0,
+        },
+        object,
+        role,
+        deadline: match deadline {
+            Some(deadline) => Some(deadline.nanos()),
+            None => None,
+        },
+    }
+}
+
+/// The deadline of a call for a lock.  [XSH pthread_mutex_timedlock]
+pub fn deadline_of(how: How) -> Option<Deadline>
+    ensures { result ≡ deadline_meant how }
+{
+    match how {
+        How::Timed(deadline) => Some(deadline),
+        _ => None,
+    }
+}
+
+/// What an entry leaves standing, behind those before it.  [profile]
+pub fn stood_by(entries: &[Entry], entry: &Entry) -> Option<Standing>
+    ensures { listed (option_map shown result) ≡ stood_after (history entries.now) entry.now }
+{
+    let Entry::Call(c, call, None) = entry else {
+        return None;
+    };
+    match deed_of(call) {
+        Deed::Acquires(n, want, how) => {
+            let object = meant(entries, n, sort_wanted(want));
+            Some(entered(entries, *c, object, role_wanted(want), deadline_of(how)))
+        }
+        Deed::Awaits(n, m, deadline) => {
+            let mutex = meant(entries, m, Sort::Mutex);
+            let object = meant(entries, n, Sort::Cond);
+            Some(entered(entries, *c, object, Role::ForCond(mutex), deadline))
+        }
+        Deed::Arrives(n) => {
+            let object = meant(entries, n, Sort::Barrier);
+            Some(entered(entries, *c, object, Role::ForBarrier, None))
+        }
+        _ => None,
+    }
+}
+
+/// The call that came without a reply at a place.  [profile]
+pub fn standing_at(entries: &[Entry], j: u64) -> Option<Standing>
+    ensures { option_map shown result ≡ at_place j (stood (history entries.now)) }
+{
+    if j >= entries.len() as u64 {
+        return None;
+    }
+    let i = j as usize;
+    stood_by(&entries[..i], &entries[i])
+}
+
+/// Whether a call is for a barrier.  [XSH pthread_barrier_wait]
+pub fn is_arrival(role: Role) -> bool
+    ensures { result ≡ is_arrival_role (shown_role role) }
+{
+    matches!(role, Role::ForBarrier)
+}
+
+/// Whether it is a wait.  [XSH pthread_cond_wait]
+pub fn is_wait(role: Role) -> bool
+    ensures { result ≡ is_wait_role (shown_role role) }
+{
+    matches!(role, Role::ForCond(_))
+}
+
+/// Whether it is for a write lock.  [XSH pthread_rwlock_wrlock]
+pub fn is_write(role: Role) -> bool
+    ensures { result ≡ is_write_role (shown_role role) }
+{
+    matches!(role, Role::ForWrite)
+}
+
+/// The mutex that a call is for, in the end.  [XSH pthread_mutex_lock, pthread_cond_wait]
+pub fn mutex_of(w: &Standing) -> Option<ObjectId>
+    ensures { result ≡ mutex_meant (shown_role w.now.role) w.now.object }
+{
+    match w.role {
+        Role::ForMutex => Some(ObjectId(w.object)),
+        Role::ForCond(m) => Some(ObjectId(m)),
+        _ => None,
+    }
+}
+
+/// Whether the call at a place is a wait.  [XSH pthread_cond_wait]
+pub fn is_wait_at(entries: &[Entry], j: u64) -> bool
+    ensures { result ≡ is_wait_if (at_place j (stood (history entries.now))) }
+{
+    match standing_at(entries, j) {
+        Some(w) => is_wait(w.role),
+        None => false,
+    }
+}
