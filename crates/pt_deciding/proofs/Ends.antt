@@ -1,0 +1,111 @@
+-- Ends: what is told of the open calls when they are looked at one by one, from their end.
+use Rattle.std.proofs.Common.{◌≡◌, ℕ, ◌+◌, ◌-◌, ◌<◌, ◌≤◌, Bool, true, false, cond, List, [], ◌∷◌, ◌++◌, Option, Some, None, refl, sym, ap, ◌∙◌, filter, length, length-append, arith}
+use Rattle.pt_model.specs.declared.entry.Entry.{Entry}
+use Rattle.std.proofs.lemmas.List.Elements.{filter-append}
+use Rattle.pt_model.specs.Histories.{History, history}
+use Rattle.pt_model.specs.Searches.{least, listed}
+use Rattle.pt_model.specs.Records.{Standing}
+use Rattle.pt_model.specs.Standing.{at_place}
+use Rattle.pt_model.specs.Answers.{open_calls}
+use Rattle.pt_model.specs.Verdicts.{bound_by}
+use Rattle.pt_plain.specs.Found.{passes, keep}
+use Rattle.pt_plain.proofs.Lists.{from, upto, upto_more, upto-before, upto_all}
+use Rattle.pt_plain.proofs.Opens.{open-ascends, open-within, open_from_less}
+use Rattle.pt_deciding.specs.Best.{best_of, awaited_or}
+
+filter-listed :
+    (p : Standing → Bool) (o : Option Standing) (ws : List Standing)
+    → filter p (listed o ++ ws) ≡ listed (keep p o) ++ filter p ws
+filter-listed p None ws = refl
+filter-listed p (Some w) ws = go (p w)
+  where
+    go : (b : Bool) → cond b (w ∷ filter p ws) (filter p ws)
+        ≡ listed (cond b (Some w) None) ++ filter p ws
+    go true = refl
+    go false = refl
+
+-- one call more
+filter-less :
+    (h : History) (p : Standing → Bool) (i : ℕ) → 0 < i
+    → filter p (from (i - 1) (open_calls h))
+    ≡ listed (keep p (at_place (i - 1) (open_calls h))) ++ filter p (from i (open_calls h))
+filter-less h p i lt =
+    ap (filter p) (open_from_less h i lt)
+    ∙ filter-listed p (at_place (i - 1) (open_calls h)) (from i (open_calls h))
+
+least-listed :
+    (before : Standing → Standing → Bool) (o : Option Standing) (ws : List Standing)
+    → least before (listed o ++ ws) ≡ best_of before o (least before ws)
+least-listed before None ws = refl
+least-listed before (Some w) ws = refl
+
+-- the least of one call more
+pub least-less :
+    (h : History) (before : Standing → Standing → Bool) (p : Standing → Bool) (i : ℕ) → 0 < i
+    → least before (filter p (from (i - 1) (open_calls h)))
+    ≡ best_of before (keep p (at_place (i - 1) (open_calls h)))
+    (least before (filter p (from i (open_calls h))))
+least-less h before p i lt =
+    ap (least before) (filter-less h p i lt)
+    ∙ least-listed before (keep p (at_place (i - 1) (open_calls h))) (filter p (from i (open_calls h)))
+
+bound-listed :
+    (o : Option Standing) (ws : List Standing)
+    → bound_by (listed o ++ ws) ≡ awaited_or o (bound_by ws)
+bound-listed None ws = refl
+bound-listed (Some w) ws = refl
+
+-- the mutex of the first of one call more
+pub bound-less :
+    (h : History) (p : Standing → Bool) (i : ℕ) → 0 < i
+    → bound_by (filter p (from (i - 1) (open_calls h)))
+    ≡ awaited_or (keep p (at_place (i - 1) (open_calls h)))
+    (bound_by (filter p (from i (open_calls h))))
+bound-less h p i lt =
+    ap bound_by (filter-less h p i lt)
+    ∙ bound-listed (keep p (at_place (i - 1) (open_calls h))) (filter p (from i (open_calls h)))
+
+-- how many pass a test, of one call more
+pub length-more :
+    (h : History) (q : Standing → Bool) (i : ℕ)
+    → length (filter q (upto (i + 1) (open_calls h)))
+    ≡ length (filter q (upto i (open_calls h)))
+    + cond (passes q (at_place i (open_calls h))) 1 0
+length-more h q i =
+    ap (λ ws. length (filter q ws)) (upto_more i 0 (open_calls h) (open-ascends h))
+    ∙ ap length (filter-append q (upto i (open_calls h)) (listed (at_place i (open_calls h))))
+    ∙ length-append (filter q (upto i (open_calls h))) (filter q (listed (at_place i (open_calls h))))
+    ∙ ap (λ n. length (filter q (upto i (open_calls h))) + n) (go (at_place i (open_calls h)))
+  where
+    go : (o : Option Standing) → length (filter q (listed o)) ≡ cond (passes q o) 1 0
+    go None = refl
+    go (Some w) = pick (q w)
+      where
+        pick : (b : Bool) → length (cond b (w ∷ []) []) ≡ cond b 1 0
+        pick true = refl
+        pick false = refl
+
+-- where it passes
+pub length_yes :
+    (h : History) (q : Standing → Bool) (i : ℕ) → passes q (at_place i (open_calls h)) ≡ true
+    → length (filter q (upto (i + 1) (open_calls h))) ≡ length (filter q (upto i (open_calls h))) + 1
+length_yes h q i e = length-more h q i ∙ rw e refl
+
+-- where it fails
+pub length_no :
+    (h : History) (q : Standing → Bool) (i : ℕ) → passes q (at_place i (open_calls h)) ≡ false
+    → length (filter q (upto (i + 1) (open_calls h))) ≡ length (filter q (upto i (open_calls h)))
+length_no h q i e = length-more h q i ∙ rw e (omega arith)
+
+-- of none
+pub upto_none : (h : History) → upto 0 (open_calls h) ≡ []
+upto_none h = upto-before 0 0 (open_calls h) (open-ascends h) (omega arith)
+
+-- of all
+pub upto_end : (es : List Entry) → upto (length es) (open_calls (history es)) ≡ open_calls (history es)
+upto_end es = upto_all (length es) (open_calls (history es)) (open-within es)
+
+-- two equal arguments
+pub both :
+    {A B C : Type 0} (f : A → B → C) {a c : A} {b d : B} → a ≡ c → b ≡ d → f a b ≡ f c d
+both f {a} {c} {b} {d} e k = ap (λ x. f x b) e ∙ ap (f c) k

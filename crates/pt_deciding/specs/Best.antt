@@ -1,0 +1,16 @@
+-- Best: the least of a list whose calls are looked at one by one, from its end.
+use Rattle.std.specs.Prelude.{ℕ, Bool, Option, Some, None}
+use Rattle.pt_model.specs.Records.{Standing}
+use Rattle.pt_model.specs.Searches.{least_with}
+use Rattle.pt_model.specs.Verdicts.{mutex_awaited}
+
+-- the least, where one call more may stand before those of which it is known
+abbrev pub best_of :
+    (Standing → Standing → Bool) → Option Standing → Option Standing → Option Standing
+best_of before None best = best
+best_of before (Some w) best = least_with before w best
+
+-- the mutex of a wait, if there is a call; else the mutex that was found
+abbrev pub awaited_or : Option Standing → Option ℕ → Option ℕ
+awaited_or None found = found
+awaited_or (Some w) found = mutex_awaited w.role

@@ -1,0 +1,6 @@
+//! The plain slow program: verdicts, forced entries and refusals, over what is read off a history.
+#![tactic(auto)]
+
+pub mod forced;
+pub mod grants;
+pub mod tables;
