@@ -1,3 +1,3 @@
-mod Settling
-mod Running
-mod Accepting
+mod SettlingLemmas
+mod RunningLemmas
+mod AcceptingLemmas

@@ -2,5 +2,6 @@
 #![tactic(auto)]
 
 mod applied;
+mod settling;
 
 pub use applied::{Applied, Reply, Stopped};

@@ -1,15 +1,16 @@
 -- Forced entries one after another, and the legal list that they end.
-use Rattle.std.proofs.Common.{◌≡◌, ℕ, ◌+◌, ◌-◌, ◌≤◌, ◌<◌, List, [], ◌∷◌, ◌++◌, length, Some, None, refl, sym, ap, ◌∙◌, subst, append_assoc, append-nil, arith, length-append}
+use Rattle.std.proofs.Common.{◌≡◌, ℕ, ◌+◌, ◌-◌, ◌≤◌, ◌<◌, List, [], ◌∷◌, ◌++◌, length, Some, None, true, refl, sym, ap, ◌∙◌, subst, append_assoc, append-nil, arith, length-append}
 use Rattle.pt_model.specs.declared.entry.Entry.{Entry}
 use Rattle.pt_model.specs.declared.entry.Event.{Event}
-use Rattle.pt_model.specs.Histories.{History, Begin, ◌▷◌, place, onto, history}
+use Rattle.pt_model.specs.Histories.{History, Begin, ◌▷◌, place, onto, history, is_forced}
 use Rattle.pt_model.specs.Forced.{forced}
 use Rattle.pt_model.specs.Room.{need, refusal, entry_for}
 use Rattle.pt_model.specs.Legal.{LegalFrom, Legal, events_of}
-use Rattle.pt_model.specs.Steps.{Follows}
+use Rattle.pt_model.specs.Steps.{Step, joins, calls, dies, ticks, grants, trips, yields, expires, Follows}
 use Rattle.pt_model.specs.EndLaws.{KeepsRoom}
 use Rattle.pt_model.proofs.Histories.{onto-append, history-push, place-history}
 use Rattle.pt_model.proofs.Steps.{step-event, step-forced}
+use Rattle.pt_model.proofs.Room.{room-step}
 use Rattle.pt_model.proofs.Legality.{legal-more, events_of-legal, legal-follows, legal-settled}
 use Rattle.pt_history.specs.Stored.{Stored}
 use Rattle.pt_core.specs.Cores.{IsKept}
@@ -46,6 +47,20 @@ pub legal-entered : (h : History) (v : Event) (fs : List Entry) → forced h ≡
 legal-entered h v fs quiet ok a n =
     rw quiet (ok, refl, legal-forces (h ▷ entry_for h v) fs a n)
 
+-- a forced entry is a step that keeps the room
+pub keeps-forced : (h : History) (f : Entry) → Follows h → forced h ≡ Some f → KeepsRoom h f
+keeps-forced h f follows is = room-step h f follows (step-forced h f is) (go f (step-forced h f is) is)
+  where
+    go : (e : Entry) → Step h e → forced h ≡ Some e → is_forced e ≡ true
+    go _ (joins p n lt) f = absurd (let no = sym n ∙ f in cc)
+    go _ (calls c call n a o) f = absurd (let no = sym n ∙ f in cc)
+    go _ (dies c n a) f = absurd (let no = sym n ∙ f in cc)
+    go _ (ticks t n) f = absurd (let no = sym n ∙ f in cc)
+    go _ (grants w s i g) f = refl
+    go _ (trips w s i t) f = refl
+    go _ (yields m s t) f = refl
+    go _ (expires w s i t) f = refl
+
 -- what a stored history becomes by a push
 abbrev pub pushed : Stored → Entry → Stored
 pushed s e = record s { entries = s.entries ++ e ∷ []; room = s.room - 1 }
@@ -70,11 +85,14 @@ added-more start now f a e =
 
 -- behind one entry more: its reach, and that it was a step
 module _ (old now : Stored) (f : Entry) (s : IsSettling old now)
-    (is : forced (history now.entries) ≡ Some f) (keeps : KeepsRoom (history now.entries) f) where
+    (is : forced (history now.entries) ≡ Some f) where
+  keeps : KeepsRoom (history now.entries) f
+  keeps = keeps-forced (history now.entries) f s.follows is
+
   next_need : need (history (now.entries ++ f ∷ [])) ≡ need (history now.entries ▷ f)
   next_need = ap need (history-push now.entries f)
 
-  settling-room : 0 < now.room
+  pub settling-room : 0 < now.room
   settling-room = omega (arith, keeps.1, s.room)
 
   settling-bounded : reach (now.entries ++ f ∷ []) ≤ reach old.entries
@@ -87,6 +105,9 @@ module _ (old now : Stored) (f : Entry) (s : IsSettling old now)
         place-history now.entries,
         length-append now.entries (f ∷ []),
       )
+
+  pub settling-smaller : need (history (now.entries ++ f ∷ [])) < need (history now.entries)
+  settling-smaller = omega (arith, keeps.1, next_need)
 
   pub settling-more : IsSettling old (pushed now f)
   settling-more =
