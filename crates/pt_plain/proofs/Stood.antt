@@ -72,7 +72,7 @@ newest-listed :
 newest-listed n none = refl
 newest-listed n (one w e) = rw (eq-eqb w.place n e) refl
 
-newest-other :
+pub newest-other :
     (n j : ℕ) {ws : List Standing} → IsNewest n ws → j < n → at_place j ws ≡ None
 newest-other n j none lt = refl
 newest-other n j (one w e) lt = at_place-before j n (w ∷ []) (omega (arith, e), tt) lt
