@@ -1,16 +1,19 @@
 -- Ends: what is told of the open calls when they are looked at one by one, from their end.
-use Rattle.std.proofs.Common.{◌≡◌, ℕ, ◌+◌, ◌-◌, ◌<◌, ◌≤◌, Bool, true, false, cond, List, [], ◌∷◌, ◌++◌, Option, Some, None, refl, sym, ap, ◌∙◌, filter, length, length-append, arith}
+use Rattle.std.proofs.Common.{◌≡◌, ℕ, suc, inl, inr, ◌+◌, ◌-◌, ◌<◌, ◌≤◌, Bool, true, false, cond, List, [], ◌∷◌, ◌++◌, Option, Some, None, refl, sym, ap, ◌∙◌, filter, length, length-append, arith}
 use Rattle.pt_model.specs.declared.entry.Entry.{Entry}
 use Rattle.std.proofs.lemmas.List.Elements.{filter-append}
-use Rattle.pt_model.specs.Histories.{History, history}
+use Rattle.std.proofs.lemmas.Bool.{cases_order}
+use Rattle.pt_model.specs.Histories.{History, ◌▷◌, place, history}
 use Rattle.pt_model.specs.Searches.{least, listed}
 use Rattle.pt_model.specs.Records.{Standing}
-use Rattle.pt_model.specs.Standing.{at_place}
-use Rattle.pt_model.specs.Answers.{open_calls}
+use Rattle.pt_model.specs.Standing.{at_place, stood, stood_by}
+use Rattle.pt_model.specs.Answers.{open_calls, outcome, is_open_by}
 use Rattle.pt_model.specs.Verdicts.{bound_by}
 use Rattle.pt_plain.specs.Found.{passes, keep}
-use Rattle.pt_plain.proofs.Lists.{from, upto, upto_more, upto-before, upto_all}
-use Rattle.pt_plain.proofs.Opens.{open-ascends, open-within, open_from_less}
+use Rattle.pt_plain.proofs.Lists.{from, upto, upto_more, upto-before, upto_all, at_place-append_right, at_place-below, Each-weaker}
+use Rattle.pt_plain.proofs.Past.{place_all}
+use Rattle.pt_plain.proofs.Stood.{at_place-here, newest, newest-other, stood-below}
+use Rattle.pt_plain.proofs.Opens.{open-ascends, open-within, open_from_less, at_place_open}
 use Rattle.pt_deciding.specs.Best.{best_of, awaited_or}
 
 filter-listed :
@@ -109,3 +112,57 @@ upto_end es = upto_all (length es) (open_calls (history es)) (open-within es)
 pub both :
     {A B C : Type 0} (f : A → B → C) {a c : A} {b d : B} → a ≡ c → b ≡ d → f a b ≡ f c d
 both f {a} {c} {b} {d} e k = ap (λ x. f x b) e ∙ ap (f c) k
+
+-- the place of the next entry
+pub place_of_all : (es : List Entry) → place (history es) ≡ length es
+place_of_all es = place_all es
+
+-- an open call at a place
+pub open_yes :
+    (h : History) (i : ℕ) (w : Standing) → Some w ≡ at_place i (stood h)
+    → is_open_by h (outcome h) w ≡ true → Some w ≡ at_place i (open_calls h)
+open_yes h i w e open_now =
+    sym (at_place_open h i ∙ ap (keep (is_open_by h (outcome h))) (sym e) ∙ rw open_now refl)
+
+-- a call at a place that isn't open
+pub open_no :
+    (h : History) (i : ℕ) (w : Standing) → Some w ≡ at_place i (stood h)
+    → is_open_by h (outcome h) w ≡ false → None ≡ at_place i (open_calls h)
+open_no h i w e shut =
+    sym (at_place_open h i ∙ ap (keep (is_open_by h (outcome h))) (sym e) ∙ rw shut refl)
+
+-- no call at a place
+pub open_none :
+    (h : History) (i : ℕ) → None ≡ at_place i (stood h) → None ≡ at_place i (open_calls h)
+open_none h i e = sym (at_place_open h i ∙ ap (keep (is_open_by h (outcome h))) (sym e))
+
+-- the call of one entry more
+pub stood_new :
+    (es : List Entry) (e : Entry) (o : Option Standing) (i : ℕ)
+    → listed o ≡ stood_by (history es) e → i ≡ length es
+    → o ≡ at_place i (stood (history es ▷ e))
+stood_new es e o i is same =
+    let h = history es in
+    let k : place h ≡ i = omega (arith, place_all es) in
+    at_place-here h e [] o is ∙ ap (λ j. at_place j (stood (h ▷ e))) k
+
+-- those before it
+pub stood_old :
+    (es : List Entry) (e : Entry) (i : ℕ) → (i ≡ length es → ⊥)
+    → at_place i (stood (history es)) ≡ at_place i (stood (history es ▷ e))
+stood_old es e i other =
+    elim (cases_order i (place (history es))) [
+      | inl same ↦ absurd (other (same ∙ place_all es))
+      | inr (inl before) ↦
+        let h = history es in
+        sym (at_place-append_right i (stood h) (stood_by h e)
+        (newest-other (place h) i (newest h e) before))
+      | inr (inr behind) ↦
+        let h = history es in
+        at_place-below i (stood h)
+        (Each-weaker (λ w. w.place < place h) (λ w. w.place < i) (λ w lt. omega arith)
+        (stood h) (stood-below h))
+        ∙ sym (at_place-below i (stood (h ▷ e))
+        (Each-weaker (λ w. w.place < suc (place h)) (λ w. w.place < i) (λ w lt. omega arith)
+        (stood (h ▷ e)) (stood-below (h ▷ e))))
+    ]

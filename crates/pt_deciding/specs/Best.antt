@@ -2,7 +2,9 @@
 use Rattle.std.specs.Prelude.{ℕ, Bool, Option, Some, None}
 use Rattle.pt_model.specs.Records.{Standing}
 use Rattle.pt_model.specs.Searches.{least_with}
+use Rattle.pt_model.specs.Histories.{History}
 use Rattle.pt_model.specs.Verdicts.{mutex_awaited}
+use Rattle.pt_model.specs.Room.{kept_for}
 
 -- the least, where one call more may stand before those of which it is known
 abbrev pub best_of :
@@ -14,3 +16,8 @@ best_of before (Some w) best = least_with before w best
 abbrev pub awaited_or : Option Standing → Option ℕ → Option ℕ
 awaited_or None found = found
 awaited_or (Some w) found = mutex_awaited w.role
+
+-- the entries kept for a call, if there is one
+abbrev pub kept_of : History → Option Standing → ℕ
+kept_of h None = 0
+kept_of h (Some w) = kept_for h w
