@@ -1,3 +1,4 @@
 mod SettlingLemmas
 mod RunningLemmas
 mod AcceptingLemmas
+mod RoomLemmas

@@ -14,7 +14,7 @@ use Rattle.pt_model.proofs.Room.{room-step}
 use Rattle.pt_model.proofs.Legality.{legal-more, events_of-legal, legal-follows, legal-settled}
 use Rattle.pt_history.specs.Stored.{Stored}
 use Rattle.pt_core.specs.Cores.{IsKept}
-use Rattle.pt_core.specs.Settling.{Forces, IsSettling, Settles, Enters, reach}
+use Rattle.pt_core.specs.Settling.{Forces, IsSettling, Settles, Enters, IsReady, reach}
 
 -- one forced entry more
 pub forces-push : (h : History) (fs : List Entry) (f : Entry) → Forces h fs
@@ -183,7 +183,7 @@ module _ (old new : Stored) (v : Event) (lt : 0 < old.room)
       }
 
 -- what was entered behind a legal list keeps it
-pub kept-entered : (old new : Stored) (v : Event) → IsKept old
+pub kept-entered : (old new : Stored) (v : Event) → IsReady old v
     → refusal (history old.entries) v ≡ None → Enters old v new → IsKept new
 kept-entered old new v k ok e =
     record {
@@ -192,3 +192,32 @@ kept-entered old new v k ok e =
       fits = omega (arith, e.same_end, k.fits, e.same_limit);
       limit = omega (arith, k.limit, e.same_limit);
     }
+
+-- behind the entry of an accepted event, where there was room for it
+module _ (s : Stored) (v : Event) (r : IsReady s v) (ok : refusal (history s.entries) v ≡ None) where
+  pub ready-room : 0 < s.room
+  ready-room = omega (arith, r.room)
+
+  pub ready-follows : Follows (history (s.entries ++ entry_for (history s.entries) v ∷ []))
+  ready-follows =
+      subst Follows (sym (history-push s.entries (entry_for (history s.entries) v)))
+      (
+        legal-follows s.entries (events_of s.entries) r.legal,
+        step-event (history s.entries) v (legal-settled s.entries (events_of s.entries) r.legal) ok,
+      )
+
+  pub ready-need :
+      need (history (s.entries ++ entry_for (history s.entries) v ∷ [])) ≤ s.room - 1
+  ready-need =
+      omega (
+        arith,
+        r.room,
+        ap need (history-push s.entries (entry_for (history s.entries) v)),
+      )
+
+-- what a push of an event's entry makes of a stored history
+pub pushed-entry : (s : Stored) (read : List Entry) (v : Event) (e : Entry) (next : Stored)
+    → read ≡ s.entries → e ≡ entry_for (history read) v → next ≡ pushed s e
+    → next ≡ pushed s (entry_for (history s.entries) v)
+pushed-entry s read v e next er ee en =
+    en ∙ ap (pushed s) (ee ∙ ap (λ es. entry_for (history es) v) er)

@@ -5,6 +5,8 @@ use Rattle.pt_model.specs.Histories.{History, ◌▷◌, history}
 use Rattle.pt_model.specs.Forced.{forced}
 use Rattle.pt_model.specs.declared.entry.Event.{Event}
 use Rattle.pt_model.specs.Room.{need, entry_for}
+use Rattle.pt_types.specs.Limits.{most_entries}
+use Rattle.pt_model.specs.Legal.{Legal, events_of}
 use Rattle.pt_model.specs.Steps.{Follows}
 use Rattle.pt_history.specs.Stored.{Stored}
 
@@ -44,3 +46,16 @@ pub record Enters (old : Stored) (event : Event) (new : Stored) : Type 0 where
   pub bounded :
       length new.entries
       ≤ length old.entries + 1 + need (history old.entries ▷ entry_for (history old.entries) event)
+
+-- the entries are legal, and there is room for the event's entry and all that must follow it
+pub record IsReady (s : Stored) (event : Event) : Type 0 where
+  pub legal : Legal s.entries (events_of s.entries)
+  pub room : 1 + need (history s.entries ▷ entry_for (history s.entries) event) ≤ s.room
+  pub fits : length s.entries + s.room ≤ s.limit
+  pub limit : s.limit ≤ most_entries
+
+-- only room was made  [profile]
+pub record IsMade (old : Stored) (event : Event) (new : Stored) : Type 0 where
+  pub same_entries : new.entries ≡ old.entries
+  pub same_limit : new.limit ≡ old.limit
+  pub ready : IsReady new event
