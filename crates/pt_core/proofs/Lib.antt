@@ -2,3 +2,4 @@ mod SettlingLemmas
 mod RunningLemmas
 mod AcceptingLemmas
 mod RoomLemmas
+mod ApplyingLemmas

@@ -2,6 +2,7 @@
 #![tactic(auto)]
 
 mod applied;
+mod applying;
 mod settling;
 
 pub use applied::{Applied, Reply, Stopped};
