@@ -3,6 +3,8 @@
 
 mod applied;
 mod applying;
+mod machine;
 mod settling;
 
 pub use applied::{Applied, Reply, Stopped};
+pub use machine::Core;
