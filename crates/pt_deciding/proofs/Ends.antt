@@ -1,5 +1,5 @@
 -- Ends: what is told of the open calls when they are looked at one by one, from their end.
-use Rattle.std.proofs.Common.{◌≡◌, ℕ, suc, inl, inr, ◌+◌, ◌-◌, ◌<◌, ◌≤◌, Bool, true, false, cond, List, [], ◌∷◌, ◌++◌, Option, Some, None, refl, sym, ap, ◌∙◌, filter, length, length-append, arith}
+use Rattle.std.proofs.Common.{◌≡◌, ℕ, suc, inl, inr, ◌+◌, ◌-◌, ◌<◌, ◌≤◌, Bool, true, false, cond, List, [], ◌∷◌, ◌++◌, Option, Some, None, refl, sym, ap, ◌∙◌, filter, length, length-append, take, get_or, arith}
 use Rattle.pt_model.specs.declared.entry.Entry.{Entry}
 use Rattle.std.proofs.lemmas.List.Elements.{filter-append}
 use Rattle.std.proofs.lemmas.Bool.{cases_order}
@@ -11,7 +11,7 @@ use Rattle.pt_model.specs.Answers.{open_calls, outcome, is_open_by}
 use Rattle.pt_model.specs.Verdicts.{bound_by}
 use Rattle.pt_plain.specs.Found.{passes, keep}
 use Rattle.pt_plain.proofs.Lists.{from, upto, upto_more, upto-before, upto_all, at_place-append_right, at_place-below, Each-weaker}
-use Rattle.pt_plain.proofs.Past.{place_all}
+use Rattle.pt_plain.proofs.Past.{place_all, history_more}
 use Rattle.pt_plain.proofs.Stood.{at_place-here, newest, newest-other, stood-below}
 use Rattle.pt_plain.proofs.Opens.{open-ascends, open-within, open_from_less, at_place_open}
 use Rattle.pt_deciding.specs.Best.{best_of, awaited_or}
@@ -166,3 +166,9 @@ stood_old es e i other =
         (Each-weaker (λ w. w.place < suc (place h)) (λ w. w.place < i) (λ w lt. omega arith)
         (stood (h ▷ e)) (stood-below (h ▷ e))))
     ]
+
+-- the history of one entry more
+pub one_more :
+    (es : List Entry) (i : ℕ) (d : Entry) → i < length es
+    → history (take (i + 1) es) ≡ history (take i es) ▷ get_or es i d
+one_more es i d lt = history_more es i d lt

@@ -58,8 +58,14 @@ pub fn open_at(entries: &[Entry], entry: &Entry, i: u64) -> Option<Standing>
     ensures { option_map shown result ≡ at_place i (open_calls (history entries.now ▷ entry.now)) }
 {
     match stood_at(entries, entry, i) {
-        Some(w) if is_open(entries, entry, &w) => Some(w),
-        _ => None,
+        Some(w) => {
+            if is_open(entries, entry, &w) {
+                Some(w)
+            } else {
+                None
+            }
+        }
+        None => None,
     }
 }
 

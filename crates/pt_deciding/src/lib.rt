@@ -4,6 +4,7 @@
 pub mod after;
 pub mod forced;
 pub mod grants;
+pub mod queries;
 pub mod room;
 pub mod tables;
 pub mod verdicts;
