@@ -111,3 +111,30 @@ none-passes n test later e k = go (nat_lt k n) refl (first_below n test) refl e
     go true eb None eo t = let lt : k < n = grind (arith, nat_tests) in first_below-none n test eo k
         lt
     go true eb (Some j) eo t = absurd cc
+
+-- tests that agree below the bound find the same
+pub first_below-same : (n : ℕ) (s t : ℕ → Bool) → ((k : ℕ) → k < n → s k ≡ t k) → first_below n s
+    ≡ first_below n t
+first_below-same zero s t f = refl
+first_below-same (suc n) s t f =
+    rw (first_below-same n s t (λ k lt. f k (omega arith)), f n (omega arith)) refl
+
+-- a bound that doesn't pass adds nothing
+pub first_below-more : (n : ℕ) (test : ℕ → Bool) → test n ≡ false → first_below (suc n) test
+    ≡ first_below n test
+first_below-more n test e = rw e (go (first_below n test))
+  where
+    go : (o : Option ℕ) → option_or o None ≡ o
+    go None = refl
+    go (Some k) = refl
+
+-- where none passes, none is found
+pub first_below-nowhere : (n : ℕ) (test : ℕ → Bool) → ((k : ℕ) → k < n → test k ≡ false)
+    → first_below n test ≡ None
+first_below-nowhere n test f = go (first_below n test) refl
+  where
+    go : (o : Option ℕ) → first_below n test ≡ o → o ≡ None
+    go None e = refl
+    go (Some k) e =
+        absurd (false≢true (sym (f k (first_below-below n test k e))
+            ∙ first_below-passes n test k e))

@@ -26,3 +26,12 @@ pub mod OneEach
 pub mod Seats
 pub mod Stands
 pub mod Partition
+pub mod Counts
+pub mod Owners
+pub mod Gone
+pub mod OwnerDead
+pub mod InOrder
+pub mod Rwlocks
+pub mod Forcing
+pub mod Holders
+pub mod Apart

@@ -175,3 +175,17 @@ owned_before g h f m each t = go (owner g m) refl t
     go : (o : Option ℕ) → owner g m ≡ o → is_some o ≡ true → is_some (owner h m) ≡ true
     go None e k = absurd cc
     go (Some c) e k = has-owned h f m c (each c (owner-has g m c e))
+
+-- who writes or reads joined before
+pub writes_below : (h : History) → Follows h → (r c : ℕ) → writes h r c ≡ true → c < place h
+writes_below h f r c t = below_by (place h) c (writes h r c) ((Unheld-follows h f).writers r c) t
+
+pub reads_below : (h : History) → Follows h → (r c : ℕ) → has_read h r c ≡ true → c < place h
+reads_below h f r c t =
+    below_by (place h) c (has_read h r c) (λ le. ap (nat_lt 0)
+        ((Unheld-follows h f).readers r c le)) t
+
+-- who reads makes that there is a reader
+pub reads-read : (h : History) → Follows h → (r c : ℕ) → has_read h r c ≡ true
+    → is_some (reader h r) ≡ true
+reads-read h f r c t = first_below-some (place h) (λ d. has_read h r d) c (reads_below h f r c t) t

@@ -8,4 +8,7 @@ mod entry;
 mod laws;
 
 pub use entry::{Cause, Entry, Event};
-pub use laws::{law_grant, law_none_left, law_once, law_one_list, law_partition, law_room};
+pub use laws::{
+    law_gone, law_grant, law_none_left, law_once, law_one_list, law_order, law_ownerdead,
+    law_partition, law_room,
+};
