@@ -11,7 +11,7 @@ use Rattle.pt_model.specs.Room.{need, refusal, refusal_within, entry_for}
 use Rattle.pt_model.specs.Legal.{Legal, events_of}
 use Rattle.pt_history.specs.Stored.{Stored}
 use Rattle.pt_core.specs.Cores.{IsKept, kept}
-use Rattle.pt_core.specs.Applying.{Applies, IsApplied, told_of}
+use Rattle.pt_core.specs.Applying.{Applies, IsApplied, told_at_once}
 use Rattle.pt_core.specs.Settling.{Enters, IsMade}
 use Rattle.pt_core.proofs.AcceptingLemmas.{unrefused-itself, death-unrefused}
 use Rattle.pt_core.proofs.SettlingLemmas.{applied-extends, applied-legal, kept-entered}
@@ -89,7 +89,7 @@ module _ (old made new : Stored) (v : Event) (m : IsMade old v made) (e : Enters
 
   pub entered-applied : (first len : ℕ) (read : List Entry) (x : Option Outcome)
       → first ≡ length made.entries → len ≡ length new.entries → read ≡ new.entries
-      → x ≡ told_of v (history read) first
+      → x ≡ told_at_once v (history read) first
       → IsApplied (kept old) v (kept new) (record { first = first; last = len - 1; outcome = x })
   entered-applied first len read x ef el er ex =
       record {
@@ -97,7 +97,7 @@ module _ (old made new : Stored) (v : Event) (m : IsMade old v made) (e : Enters
         first = ef ∙ ap length m.same_entries;
         last = omega (arith, el, entered_longer);
         bounded = omega (arith, ef, ap length m.same_entries, el, entered_longer, entered_bounded);
-        told = ex ∙ ap (λ es. told_of v (history es) first) er;
+        told = ex ∙ ap (λ es. told_at_once v (history es) first) er;
       }
 
 -- the refusal that was computed

@@ -3,3 +3,4 @@ mod RunningLemmas
 mod AcceptingLemmas
 mod RoomLemmas
 mod ApplyingLemmas
+mod AnsweringLemmas

@@ -15,11 +15,11 @@ use Rattle.pt_core.specs.declared.applied.Applied.{Applied}
 use Rattle.pt_core.specs.Cores.{Kept}
 
 -- the answer that the event's own call has by now: a join is done, a death and a moment have none
-abbrev pub told_of : Event → History → ℕ → Option Outcome
-told_of (Join p) h j = Some Done
-told_of (Call c call) h j = outcome h j
-told_of (Death c) h j = None
-told_of (Moment t) h j = None
+abbrev pub told_at_once : Event → History → ℕ → Option Outcome
+told_at_once (Join p) h j = Some Done
+told_at_once (Call c call) h j = outcome h j
+told_at_once (Death c) h j = None
+told_at_once (Moment t) h j = None
 
 -- the event is accepted: its entry and forced ones follow the old entries, legally  [profile]
 pub record Applies (old : Kept) (event : Event) (new : Kept) : Type 0 where
@@ -35,7 +35,7 @@ pub record IsApplied (old : Kept) (event : Event) (new : Kept) (a : Applied) : T
   pub first : a.first ≡ length old.entries
   pub last : a.last + 1 ≡ length new.entries
   pub bounded : a.last ≤ a.first + need (history old.entries ▷ entry_for (history old.entries) event)
-  pub told : a.outcome ≡ told_of event (history new.entries) a.first
+  pub told : a.outcome ≡ told_at_once event (history new.entries) a.first
 
 -- whether it is the Death of a client  [profile]
 abbrev pub is_death : Event → Bool

@@ -2,3 +2,4 @@ pub mod Cores
 pub mod Applying
 pub mod Running
 pub mod Settling
+pub mod Replies

@@ -4,7 +4,7 @@ ghost use Rattle.std.specs.Prelude.{◌≡◌, ℕ, true, IfOk, IfErr, IsOk, OnE
 ghost use Rattle.pt_model.specs.Histories.{history};
 ghost use Rattle.pt_model.specs.Clients.{is_alive};
 ghost use Rattle.pt_core.specs.Cores.{IsKept, kept};
-ghost use Rattle.pt_core.specs.Applying.{IsApplied, IsRefusal, told_of};
+ghost use Rattle.pt_core.specs.Applying.{IsApplied, IsRefusal, told_at_once};
 
 use crate::applied::Applied;
 use crate::settling::{enter, make_room};
@@ -17,7 +17,7 @@ use std::alloc::Allocator;
 
 /// The answer that an event's own call has by now.  [profile]
 pub fn told(entries: &[Entry], event: &Event, first: u64) -> Option<Outcome>
-    ensures { result ≡ told_of event.now (history entries.now) first }
+    ensures { result ≡ told_at_once event.now (history entries.now) first }
 {
     match event {
         Event::Join(_) => Some(Outcome::Done),

@@ -1,6 +1,7 @@
 //! The core.
 #![tactic(auto)]
 
+mod answering;
 mod applied;
 mod applying;
 mod machine;
