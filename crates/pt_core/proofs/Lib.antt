@@ -4,3 +4,4 @@ mod AcceptingLemmas
 mod RoomLemmas
 mod ApplyingLemmas
 mod AnsweringLemmas
+mod DeadlineLemmas

@@ -3,3 +3,4 @@ pub mod Applying
 pub mod Running
 pub mod Settling
 pub mod Replies
+pub mod Deadlines

@@ -4,12 +4,12 @@ ghost use Rattle.std.specs.Prelude.{◌≡◌, ◌++◌, [], ◌∷◌, map, opt
 ghost use Rattle.pt_model.specs.Histories.{history};
 ghost use Rattle.pt_model.specs.Searches.{listed};
 ghost use Rattle.pt_model.specs.Answers.{told as told_by_entry};
-ghost use Rattle.pt_model.specs.Queries.{answers_from as answers_in};
+ghost use Rattle.pt_model.specs.Queries.{answers_from as answers_in, answer_of as answer_in};
 ghost use Rattle.pt_deciding.specs.Telling.{shown_told};
 ghost use Rattle.pt_core.specs.Replies.{told_of};
 
 use crate::applied::Reply;
-use pt_deciding::queries::{Told, client_at, told_at};
+use pt_deciding::queries::{Told, answer_of as latest_answer, client_at, told_at};
 use pt_model::Entry;
 use pt_plain::standing::is_wait_at;
 use pt_types::{ClientId, ObjectId, Outcome, Refusal};
@@ -107,4 +107,14 @@ pub fn answers_from<A: Allocator + Copy>(
         tell(&entries[..at], &entries[at], &mut replies)?;
     }
     Ok(replies)
+}
+
+/// The answer to a living client's latest call.  [profile]
+pub fn answer_of(entries: &[Entry], c: ClientId) -> Option<Reply>
+    ensures { option_map told_of result ≡ answer_in (history entries.now) c }
+{
+    match latest_answer(entries, c) {
+        Some(told) => Some(reply(told)),
+        None => None,
+    }
 }

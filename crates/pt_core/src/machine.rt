@@ -1,20 +1,25 @@
-ghost use Rattle.std.specs.Prelude.{◌≡◌, ◌≤◌, ℕ, [], length, slice_get, option_copied, true, IfOk, IfErr, IsOk, OnOk, OnErr};
+ghost use Rattle.std.specs.Prelude.{◌≡◌, ◌≤◌, ℕ, [], length, slice_get, option_copied, option_map, map, true, IfOk, IfErr, IsOk, OnOk, OnErr};
 ghost use Rattle.pt_types.specs.Limits.{most_entries};
+ghost use Rattle.pt_types.specs.Times.{deadline_nanos};
 ghost use Rattle.pt_model.specs.Histories.{history};
 ghost use Rattle.pt_model.specs.Clients.{is_alive};
 ghost use Rattle.pt_model.specs.Answers.{open_place as open_place_in};
+ghost use Rattle.pt_model.specs.Queries.{answers_from as answers_in, answer_of as answer_in, least_deadline as least_deadline_in};
 ghost use Rattle.pt_model.specs.Room.{refusal_within as refusal_in};
 ghost use Rattle.pt_model.specs.Legal.{Legal, events_of};
 ghost use Rattle.pt_core.specs.Applying.{IsApplied, IsRefusal};
 ghost use Rattle.pt_core.specs.Running.{Runs, IsStopped};
+ghost use Rattle.pt_core.specs.Replies.{told_of};
 
-use crate::applied::{Applied, Stopped};
+use crate::answering;
+use crate::applied::{Applied, Reply, Stopped};
 use crate::applying;
+use crate::deadlines::least_deadline;
 use pt_deciding::room::refusal_within;
 use pt_history::History;
 use pt_model::{Entry, Event};
 use pt_plain::answers::open_place;
-use pt_types::{ClientId, Refusal};
+use pt_types::{ClientId, Deadline, Refusal};
 use std::alloc::{Allocator, Global};
 use std::marker::Model;
 
@@ -100,6 +105,29 @@ impl<A: Allocator + Copy> Core<A> {
         ensures { result ≡ open_place_in (history self.now.entries) c }
     {
         open_place(self.stored.entries(), c)
+    }
+
+    /// The answers that the entries from a place on give, in the order of the entries; of one Trip
+    /// in order of the calls' places. ENOMEM where a growth is refused.  [profile]
+    pub fn answers_from(&self, place: u64) -> Result<Vec<Reply, A>, Refusal>
+        ensures ok { IfOk result (λ replies. map told_of replies.items ≡ answers_in place self.now.entries) }
+        ensures err { IfErr result (λ refusal. refusal ≡ Refusal.Enomem) }
+    {
+        answering::answers_from(self.stored.entries(), place, self.alloc)
+    }
+
+    /// The answer to a living client's latest call, where it has one.
+    pub fn answer_of(&self, c: ClientId) -> Option<Reply>
+        ensures { option_map told_of result ≡ answer_in (history self.now.entries) c }
+    {
+        answering::answer_of(self.stored.entries(), c)
+    }
+
+    /// The least deadline of the open calls that are not moved, as it was written.
+    pub fn least_deadline(&self) -> Option<Deadline>
+        ensures { option_map deadline_nanos result ≡ least_deadline_in (history self.now.entries) }
+    {
+        least_deadline(self.stored.entries())
     }
 
     /// The number of entries, which is the place of the next one.

@@ -1,0 +1,126 @@
+use super::*;
+
+// The two-client row: its events by `run` give its history, entry by entry.
+#[test]
+fn run_row_2(rt: HostRuntime) -> Result<(), Fail> {
+    let mut core = Core::new(rt.alloc())?;
+    let m = name(b"m")?;
+    let (a, b) = (ClientId(0), ClientId(1));
+    let (ten, twenty) = (Priority::new(10).ok_or("ten")?, Priority::new(20).ok_or("twenty")?);
+    let init = Call::MutexInit(m.same(), MutexKind::Normal, false);
+    let events = [
+        Event::Join(ten),
+        Event::Join(twenty),
+        Event::Call(a, init.again()),
+        Event::Call(a, Call::Lock(m.same())),
+        Event::Call(b, Call::Lock(m.same())),
+        Event::Call(a, Call::Unlock(m.same())),
+    ];
+    assert!(rt; core.run(&events).is_ok());
+    let done = Some(Outcome::Done);
+    let history = [
+        Entry::Join(a, ten),
+        Entry::Join(b, twenty),
+        Entry::Call(a, init, done),
+        Entry::Call(a, Call::Lock(m.same()), None),
+        Entry::Grant(3, Outcome::Done),
+        Entry::Call(b, Call::Lock(m.same()), None),
+        Entry::Call(a, Call::Unlock(m), done),
+        Entry::Grant(5, Outcome::Done),
+    ];
+    assert_eq!(rt; core.len(), 8);
+    for (place, entry) in history.iter().enumerate() {
+        assert!(rt; core.entry(place as u64) == Some(entry), "at {place}");
+    }
+    assert!(rt; core.entry(8).is_none());
+    Ok(())
+}
+
+// What a run and the readers tell of an open call, of its answer, and of a refused event.
+#[test]
+fn open_calls_and_answers(rt: HostRuntime) -> Result<(), Fail> {
+    let mut core = with_clients(&rt, &[10, 10])?;
+    let m = name(b"m")?;
+    let init = Call::MutexInit(m.same(), MutexKind::Normal, false);
+    let events = [
+        ask(0, init),
+        ask(0, Call::Lock(m.same())),
+        ask(1, Call::Lock(m.same())),
+        ask(1, Call::Unlock(m.same())),
+    ];
+    let stopped = core.run(&events);
+    assert!(rt; stopped == Err(Stopped { at: 3, refusal: Refusal::Blocked }));
+    assert_eq!(rt; core.open_call(ClientId(1)), Some(5));
+    assert_eq!(rt; core.open_call(ClientId(0)), None);
+    assert!(rt; core.answer_of(ClientId(1)).is_none());
+    let answer = Reply { client: ClientId(0), place: 3, outcome: Outcome::Done };
+    assert!(rt; core.answer_of(ClientId(0)) == Some(answer));
+    assert_eq!(rt; core.would_refuse(&ask(1, Call::Unlock(m.same()))), Some(Refusal::Blocked));
+    assert_eq!(rt; core.would_refuse(&ask(0, Call::Unlock(m))), None);
+    assert_eq!(rt; core.would_refuse(&die(3)), Some(Refusal::Dead));
+    assert_eq!(rt; core.would_refuse(&die(9)), Some(Refusal::Nohello));
+    Ok(())
+}
+
+// An accepted event wrote these places.
+fn writes(rt: &impl Abort, core: &mut Core, event: Event, first: u64, last: u64) -> Result<(), Fail> {
+    let applied = core.apply(event)?;
+    assert_eq!(rt; applied.first, first);
+    assert_eq!(rt; applied.last, last);
+    Ok(())
+}
+
+// An event is refused so, and nothing is written.
+fn refuses(rt: &impl Abort, core: &mut Core, event: Event, refusal: Refusal) {
+    let before = core.len();
+    assert_eq!(rt; core.apply(event), Err(refusal));
+    assert_eq!(rt; core.len(), before);
+}
+
+// A short history: with seven entries at most a lock, a moment and a death have room.
+#[test]
+fn row_23(rt: HostRuntime) -> Result<(), Fail> {
+    let mut core = Core::with_limit(rt.alloc(), 7)?;
+    let m = name(b"m")?;
+    let init = Call::MutexInit(m.same(), MutexKind::Normal, true);
+    writes(&rt, &mut core, join(10)?, 0, 0)?;
+    writes(&rt, &mut core, ask(0, init), 1, 1)?;
+    writes(&rt, &mut core, ask(0, Call::Lock(m.same())), 2, 3)?;
+    writes(&rt, &mut core, ask(0, Call::Unlock(m.same())), 4, 4)?;
+    refuses(&rt, &mut core, ask(0, Call::Lock(m)), Refusal::Full);
+    writes(&rt, &mut core, moment(1, 0)?, 5, 5)?;
+    refuses(&rt, &mut core, moment(2, 0)?, Refusal::Full);
+    writes(&rt, &mut core, die(0), 6, 6)
+}
+
+// The same, where a Yield must still be written; and with six entries at most.
+#[test]
+fn row_23_with_a_yield(rt: HostRuntime) -> Result<(), Fail> {
+    let mut core = Core::with_limit(rt.alloc(), 7)?;
+    let m = name(b"m")?;
+    let init = Call::MutexInit(m.same(), MutexKind::Normal, true);
+    writes(&rt, &mut core, join(10)?, 0, 0)?;
+    writes(&rt, &mut core, ask(0, init.again()), 1, 1)?;
+    writes(&rt, &mut core, ask(0, Call::Lock(m.same())), 2, 3)?;
+    writes(&rt, &mut core, moment(1, 0)?, 4, 4)?;
+    refuses(&rt, &mut core, moment(2, 0)?, Refusal::Full);
+    writes(&rt, &mut core, die(0), 5, 6)?;
+    assert!(rt; matches!(core.entry(6), Some(Entry::Yield(ObjectId(1)))));
+    let mut six = Core::with_limit(rt.alloc(), 6)?;
+    writes(&rt, &mut six, join(10)?, 0, 0)?;
+    writes(&rt, &mut six, ask(0, init), 1, 1)?;
+    refuses(&rt, &mut six, ask(0, Call::Lock(m)), Refusal::Full);
+    Ok(())
+}
+
+// A history of one entry, and one of none.
+#[test]
+fn row_35(rt: HostRuntime) -> Result<(), Fail> {
+    let mut core = Core::with_limit(rt.alloc(), 1)?;
+    refuses(&rt, &mut core, join(10)?, Refusal::Full);
+    writes(&rt, &mut core, moment(1, 0)?, 0, 0)?;
+    refuses(&rt, &mut core, moment(2, 0)?, Refusal::Full);
+    let mut none = Core::with_limit(rt.alloc(), 0)?;
+    refuses(&rt, &mut none, moment(1, 0)?, Refusal::Full);
+    Ok(())
+}
