@@ -1,12 +1,12 @@
 -- GrammarLemmas: a text is read as just the line that it spells.
-use Rattle.std.proofs.Common.{◌≡◌, ◌≤◌, ◌∙◌, ℕ, Bool, List, [], ◌∷◌, length, refl, ap, sym, subst, arith, Option, None, Some, Result, IfOk, decimal, length-append}
+use Rattle.std.proofs.Common.{◌≡◌, ◌≤◌, ◌∙◌, ℕ, Bool, List, [], ◌∷◌, length, refl, ap, sym, subst, arith, Option, None, Some, Result, Ok, Err, IfOk, false, cond, nat_lt, decimal, length-append}
 use Rattle.std.specs.Option.{option_and_then, ok_or}
 use Rattle.std.specs.Str.{bytes_eq}
 use Rattle.pt_types.specs.Times.{Timespec}
 use Rattle.pt_types.specs.declared.call.MutexKind.{MutexKind}
 use Rattle.pt_types.specs.declared.call.Call.TheVariants as call
 use Rattle.pt_types.specs.declared.outcome.Refusal.{Refusal}
-use Rattle.pt_types.specs.declared.outcome.Refusal.TheVariants.{Syntax}
+use Rattle.pt_types.specs.declared.outcome.Refusal.TheVariants.{Syntax, Long}
 use Rattle.pt_lines.specs.declared.call_line.CallLine.{CallLine}
 use Rattle.pt_lines.specs.declared.call_line.CallLine.TheVariants as line
 use Rattle.pt_lines.specs.declared.verb.TheConstants.{VERBS}
@@ -16,7 +16,7 @@ use Rattle.pt_lines.specs.Arguments.{name_of, kind_of, robust_of, alone, first_t
 use Rattle.pt_lines.specs.Fields.{fields, spaced, behind_spaces}
 use Rattle.pt_lines.specs.Grammar.{Spells, robust_word}
 use Rattle.pt_lines.specs.Numbers.{number_of}
-use Rattle.pt_lines.specs.Reading.{line_of, line_of_fields, line_read}
+use Rattle.pt_lines.specs.Reading.{line_of, line_of_fields, line_read, call_read}
 use Rattle.pt_lines.specs.Verbs.{word_of, verb_of, call_on, call_until}
 use Rattle.pt_lines.proofs.ArgumentLemmas.{bytes_are, alone-some, first_then-some, name_found, kind_found, robust_found, priority_found, moment_found, one_number_found, two_numbers_found, one_deadline_found}
 use Rattle.pt_lines.proofs.CallLemmas.{spells-call_on, spells-call_until, spelled_call}
@@ -208,3 +208,12 @@ found_by text o r e f = subst (λ q. IfOk q (Spells text)) (sym f) (by o e)
     by : (o : Option CallLine) → o ≡ line_read text → IfOk (ok_or o Syntax) (Spells text)
     by None e = tt
     by (Some read) e = spells-line_read text read (sym e)
+
+-- and as a line of a connection, since it is not too long
+pub call_read-spelled :
+    (text : List ℕ) (read : CallLine) → Spells text read → call_read text ≡ Ok read
+call_read-spelled text read h =
+    let short = length-spelled text read h in
+    let test : nat_lt 128 (length text) ≡ false = grind arith in
+    ap (λ b. cond b (Err Long) (ok_or (line_read text) Syntax)) test
+    ∙ ap (λ o. ok_or o Syntax) (line_read-spelled text read h)

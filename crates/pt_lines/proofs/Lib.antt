@@ -7,3 +7,5 @@ pub mod ArgumentLemmas
 pub mod SpelledLemmas
 pub mod CallLemmas
 pub mod GrammarLemmas
+pub mod ClientLemmas
+pub mod ScriptLemmas

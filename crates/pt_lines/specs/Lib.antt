@@ -6,3 +6,7 @@ pub mod Verbs
 pub mod Arguments
 pub mod Grammar
 pub mod Reading
+pub mod ClientNames
+pub mod Clients
+pub mod Script
+pub mod Replies

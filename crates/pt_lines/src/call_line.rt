@@ -77,3 +77,6 @@ pub fn read_call(text: &[u8]) -> Result<CallLine, Refusal>
     }
     read_text(text).ok_or(Refusal::Syntax)
 }
+
+#[cfg(test)]
+mod tests;

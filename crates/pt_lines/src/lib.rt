@@ -8,10 +8,16 @@
 
 mod arguments;
 mod call_line;
+mod client;
 mod cutter;
 mod fields;
 mod number;
+mod reply;
+mod script_line;
 mod verb;
 
 pub use call_line::{CallLine, read_call};
+pub use client::{ClientName, Who};
 pub use cutter::{Cut, Cutter, cut_all, lines_of_texts};
+pub use reply::{Word, write_reply};
+pub use script_line::{ScriptBody, ScriptLine, read_script_line};

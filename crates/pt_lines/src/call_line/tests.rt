@@ -1,0 +1,194 @@
+use super::*;
+use pt_types::{Deadline, MutexKind, Name};
+use std::test::Fail;
+
+fn object(name: &[u8]) -> Result<Name, Fail> {
+    Ok(Name::new(name).ok_or("name")?)
+}
+
+fn asks(text: &[u8], call: Call) -> bool {
+    read_call(text) == Ok(CallLine::Ask(call))
+}
+
+#[test]
+fn calls_on_mutexes(rt: HostRuntime) -> Result<(), Fail> {
+    let m = object(b"m")?;
+    let late = Deadline::new(5, 9_999_999_999).ok_or("deadline")?;
+    assert!(rt; asks(b"lock m", Call::Lock(m.same())));
+    assert!(rt; asks(b"trylock m", Call::Trylock(m.same())));
+    assert!(rt; asks(b"timedlock m 5 9999999999", Call::Timedlock(m.same(), late)));
+    assert!(rt; asks(b"unlock m", Call::Unlock(m.same())));
+    assert!(rt; asks(b"consistent m", Call::Consistent(m.same())));
+    assert!(rt; asks(b"mutex-destroy m", Call::MutexDestroy(m.same())));
+    Ok(())
+}
+
+#[test]
+fn new_mutexes(rt: HostRuntime) -> Result<(), Fail> {
+    let table: [(&[u8], MutexKind, bool); 5] = [
+        (b"mutex-init m normal stalled", MutexKind::Normal, false),
+        (b"mutex-init m default stalled", MutexKind::Normal, false),
+        (b"mutex-init m default robust", MutexKind::Normal, true),
+        (
+            b"mutex-init m errorcheck robust",
+            MutexKind::Errorcheck,
+            true,
+        ),
+        (
+            b"mutex-init m recursive stalled",
+            MutexKind::Recursive,
+            false,
+        ),
+    ];
+    for (text, kind, robust) in table {
+        assert!(rt; asks(text, Call::MutexInit(object(b"m")?, kind, robust)));
+    }
+    Ok(())
+}
+
+#[test]
+fn calls_on_read_write_locks(rt: HostRuntime) -> Result<(), Fail> {
+    let r = object(b"r")?;
+    let due = Deadline::new(0, 1_000_000_000).ok_or("deadline")?;
+    assert!(rt; asks(b"rwlock-init r", Call::RwlockInit(r.same())));
+    assert!(rt; asks(b"rdlock r", Call::Rdlock(r.same())));
+    assert!(rt; asks(b"tryrdlock r", Call::Tryrdlock(r.same())));
+    assert!(rt;
+        asks(
+            b"timedrdlock r 0 1000000000",
+            Call::Timedrdlock(r.same(), due)
+        )
+    );
+    assert!(rt; asks(b"wrlock r", Call::Wrlock(r.same())));
+    assert!(rt; asks(b"trywrlock r", Call::Trywrlock(r.same())));
+    assert!(rt;
+        asks(
+            b"timedwrlock r 0 1000000000",
+            Call::Timedwrlock(r.same(), due)
+        )
+    );
+    assert!(rt; asks(b"rwunlock r", Call::Rwunlock(r.same())));
+    assert!(rt; asks(b"rwlock-destroy r", Call::RwlockDestroy(r.same())));
+    Ok(())
+}
+
+#[test]
+fn calls_on_conditions_and_barriers(rt: HostRuntime) -> Result<(), Fail> {
+    let c = object(b"c")?;
+    let m = object(b"m")?;
+    let due = Deadline::new(9_999_999_999, 7).ok_or("deadline")?;
+    assert!(rt; asks(b"cond-init c", Call::CondInit(c.same())));
+    assert!(rt; asks(b"cond-destroy c", Call::CondDestroy(c.same())));
+    assert!(rt; asks(b"wait c m", Call::Wait(c.same(), m.same())));
+    assert!(rt;
+        asks(
+            b"timedwait c m 9999999999 7",
+            Call::Timedwait(c.same(), m.same(), due)
+        )
+    );
+    assert!(rt; asks(b"signal c", Call::Signal(c.same())));
+    assert!(rt; asks(b"broadcast c", Call::Broadcast(c.same())));
+    assert!(rt;
+        asks(
+            b"barrier-init c 9999999999",
+            Call::BarrierInit(c.same(), 9_999_999_999)
+        )
+    );
+    assert!(rt; asks(b"barrier-init c 0", Call::BarrierInit(c.same(), 0)));
+    assert!(rt; asks(b"bwait c", Call::Bwait(c.same())));
+    assert!(rt; asks(b"barrier-destroy c", Call::BarrierDestroy(c.same())));
+    Ok(())
+}
+
+#[test]
+fn hellos_and_moments(rt: HostRuntime) -> Result<(), Fail> {
+    for level in [1, 32] {
+        let text = format!(in rt.alloc(); "hello {level}")?;
+        let priority = Priority::new(level).ok_or("priority")?;
+        assert!(rt; read_call(text.as_str().as_bytes()) == Ok(CallLine::Hello(priority)));
+    }
+    let moment = Moment::new(9_999_999_999, 999_999_999).ok_or("moment")?;
+    assert!(rt; read_call(b"moment 9999999999 999999999") == Ok(CallLine::Tick(moment)));
+    Ok(())
+}
+
+#[test]
+fn names_of_1_to_32_bytes(rt: HostRuntime) -> Result<(), Fail> {
+    let alloc = rt.alloc();
+    for (count, known) in [(0, false), (1, true), (32, true), (33, false)] {
+        let mut text = Vec::from_slice(alloc, b"lock ")?;
+        let name = vec![in alloc; b'x'; count]?;
+        text.extend_from_slice(name.as_slice())?;
+        assert_eq!(rt; read_call(text.as_slice()).is_ok(), known, "{count}");
+    }
+    Ok(())
+}
+
+#[test]
+fn lines_that_no_connection_may_send(rt: HostRuntime) {
+    let table: [&[u8]; 48] = [
+        b"",
+        b" ",
+        b"lock",
+        b"lock ",
+        b"lock  m",
+        b"lock m ",
+        b" lock m",
+        b"lock m n",
+        b"lokc m",
+        b"Lock m",
+        b"lock M",
+        b"lock m\r",
+        b"lock\tm",
+        b"lo\x00ck m",
+        b"lock m\x00",
+        b"lock \xff",
+        b"lock m/",
+        b"locks m",
+        b"loc m",
+        b"die",
+        b"die ",
+        b"moment",
+        b"moment 1",
+        b"moment 01 0",
+        b"moment 1 1000000000",
+        b"moment 1 10000000000",
+        b"moment 10000000000 0",
+        b"moment 1 2 3",
+        b"moment -1 0",
+        b"moment +1 0",
+        b"moment 1 0x1",
+        b"hello",
+        b"hello 0",
+        b"hello 33",
+        b"hello 01",
+        b"hello 1 ",
+        b"hello 4294967297",
+        b"mutex-init m",
+        b"mutex-init m normal",
+        b"mutex-init m normal robust x",
+        b"mutex-init m Normal robust",
+        b"mutex-init m robust normal",
+        b"barrier-init b",
+        b"barrier-init b 10000000000",
+        b"wait c",
+        b"wait c m 1 0",
+        b"timedwait c m 1",
+        b"timedlock m 1 00",
+    ];
+    for text in table {
+        assert!(rt; read_call(text) == Err(Refusal::Syntax), "{text:?}");
+    }
+}
+
+#[test]
+fn lines_past_128_bytes_are_long(rt: HostRuntime) {
+    for (count, refusal) in [
+        (128, Refusal::Syntax),
+        (129, Refusal::Long),
+        (200, Refusal::Long),
+    ] {
+        let bytes = [b'x'; 200];
+        assert!(rt; read_call(&bytes[..count]) == Err(refusal), "{count}");
+    }
+}

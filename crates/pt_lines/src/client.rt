@@ -1,0 +1,117 @@
+ghost use Rattle.std.specs.Prelude.{◌≡◌};
+ghost use Rattle.std.specs.List.{list_all};
+ghost use Rattle.pt_lines.specs.ClientNames.{is_client_byte};
+
+use arrayvec::ArrayVec;
+use std::marker::Model;
+
+/// The name of a client in a script: 1 to 8 ASCII letters or digits.  [profile]
+///
+/// Contracts see it as its bytes.
+#[derive(Clone, Debug, PartialEq, Eq, Hash, Drop)]
+pub struct ClientName {
+    text: ArrayVec<u8, 8>,
+}
+
+impl Model for ClientName {
+    ghost use Rattle.std.specs.Prelude.{List, ℕ};
+    ghost use Rattle.pt_lines.specs.ClientNames.{IsClientName};
+
+    ghost Value = { List ℕ };
+
+    ghost view = { λ n. n.text.items };
+
+    ghost invariant = { λ n. IsClientName n.text.items };
+
+    ghost inverse = { λ xs. record { text = record { items = xs } } };
+}
+
+fn all_may_stand(bytes: &[u8]) -> bool
+    ensures { result ≡ list_all is_client_byte bytes.now }
+{
+    bytes.iter().all(|byte| matches!(byte, b'a'..=b'z' | b'A'..=b'Z' | b'0'..=b'9'))
+}
+
+impl ClientName {
+    ghost use Rattle.std.specs.Prelude.{◌↔◌, IsSome, IfSome};
+    ghost use Rattle.pt_lines.specs.ClientNames.{IsClientName};
+
+    /// The name of these bytes; None where they are no name.  [profile]
+    pub fn new(bytes: &[u8]) -> Option<ClientName>
+        ensures valid { IsSome result ↔ IsClientName bytes.now }
+        ensures value { IfSome result (λ name. name ≡ bytes.now) }
+    {
+        if bytes.is_empty() || !all_may_stand(bytes) {
+            return None;
+        }
+        let text = ArrayVec::try_from(bytes).ok()?;
+        Some(ClientName { text })
+    }
+
+    /// The bytes of the name.
+    pub fn as_bytes(&self) -> &[u8]
+        ensures bytes { result.now ≡ self.now }
+        ensures name { IsClientName result.now }
+    {
+        self.text.as_slice()
+    }
+
+    /// A second name of the same bytes. It takes no memory.
+    pub fn same(&self) -> ClientName
+        ensures { result ≡ self.now }
+    {
+        self.clone().unwrap()
+    }
+}
+
+/// Whose a line of a script is.  [profile]
+#[derive(Clone, Debug, PartialEq, Eq, Hash, Drop)]
+pub enum Who {
+    /// A client's.
+    Named(ClientName),
+    /// The clock's, written `*`.
+    Star,
+    /// That of no client that can be read, written `?`.
+    Unknown,
+}
+
+impl Who {
+    ghost use Rattle.std.specs.Prelude.{◌≤◌, length};
+    ghost use Rattle.pt_lines.specs.Clients.{who_text, who_named};
+
+    /// Whose this name is: `*`, a client's name, or neither.
+    pub fn named(name: &[u8]) -> Who
+        ensures { result ≡ who_named name.now }
+    {
+        if name == b"*".as_slice() {
+            return Who::Star;
+        }
+        match ClientName::new(name) {
+            Some(name) => Who::Named(name),
+            None => Who::Unknown,
+        }
+    }
+
+    /// The bytes that are printed for it.
+    pub fn as_bytes(&self) -> &[u8]
+        ensures bytes { result.now ≡ who_text self.now }
+        ensures short { length result.now ≤ 8 }
+    {
+        match self {
+            Who::Named(name) => name.as_bytes(),
+            Who::Star => b"*",
+            Who::Unknown => b"?",
+        }
+    }
+
+    /// The same client again. It takes no memory.
+    pub fn same(&self) -> Who
+        ensures { result ≡ self.now }
+    {
+        match self {
+            Who::Named(name) => Who::Named(name.same()),
+            Who::Star => Who::Star,
+            Who::Unknown => Who::Unknown,
+        }
+    }
+}

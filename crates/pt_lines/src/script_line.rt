@@ -1,0 +1,115 @@
+ghost use Rattle.std.specs.Prelude.{◌≡◌};
+ghost use Rattle.std.specs.Option.{option_copied};
+ghost use Rattle.pt_lines.specs.Clients.{before_space, behind_space};
+ghost use Rattle.pt_lines.specs.Script.{body_of, body_read, IsReadAs, short_read, script_read};
+
+use crate::call_line::{CallLine, read_call};
+use crate::client::Who;
+use crate::cutter::Cut;
+use memchr::memchr;
+use pt_types::{Call, Moment, Priority, Refusal};
+
+/// What a line of a script says.  [profile]
+#[derive(Debug, PartialEq, Eq, Drop)]
+pub enum ScriptBody {
+    Hello(Priority),
+    Ask(Call),
+    /// The client's process ends.
+    Die,
+    Tick(Moment),
+}
+
+/// A line of a script: whose it is, and what it says, or SYNTAX or LONG.  [profile]
+#[derive(Debug, PartialEq, Eq, Drop)]
+pub struct ScriptLine {
+    pub who: Who,
+    pub body: Result<ScriptBody, Refusal>,
+}
+
+// What is before the first space, and what is behind it.
+fn split_at_space(text: &[u8]) -> (&[u8], Option<&[u8]>)
+    ensures before { result.0.now ≡ before_space text.now }
+    ensures behind { option_copied result.1 ≡ behind_space text.now }
+{
+    match memchr(b' ', text) {
+        Some(end) => (&text[..end], Some(&text[end + 1..])),
+        None => (text, None),
+    }
+}
+
+// What a client may say of what could stand on a connection.
+fn body_of(who: &Who, line: CallLine) -> Result<ScriptBody, Refusal>
+    ensures { result ≡ body_of who.now line }
+{
+    match (who, line) {
+        (Who::Named(_), CallLine::Hello(priority)) => Ok(ScriptBody::Hello(priority)),
+        (Who::Named(_), CallLine::Ask(call)) => Ok(ScriptBody::Ask(call)),
+        (Who::Star, CallLine::Tick(moment)) => Ok(ScriptBody::Tick(moment)),
+        _ => Err(Refusal::Syntax),
+    }
+}
+
+// What is said behind a client and a space.
+fn read_body(who: &Who, rest: &[u8]) -> Result<ScriptBody, Refusal>
+    ensures { result ≡ body_read who.now rest.now }
+{
+    match who {
+        Who::Unknown => return Err(Refusal::Syntax),
+        Who::Named(_) if rest == b"die".as_slice() => return Ok(ScriptBody::Die),
+        _ => {}
+    }
+    let line = read_call(rest)?;
+    body_of(who, line)
+}
+
+// A line that is not too long.
+fn read_short(text: &[u8]) -> ScriptLine
+    ensures { result ≡ short_read text.now }
+{
+    let (name, rest) = split_at_space(text);
+    let who = Who::named(name);
+    let body = match rest {
+        Some(rest) => read_body(&who, rest),
+        None => Err(Refusal::Syntax),
+    };
+    ScriptLine { who, body }
+}
+
+/// Reads a line of a script. It takes no memory.  [profile]
+pub fn read_script_line(text: &[u8]) -> ScriptLine
+    ensures value { result ≡ script_read text.now }
+    ensures read { IsReadAs text.now result }
+{
+    if text.len() > 128 {
+        return ScriptLine::long();
+    }
+    read_short(text)
+}
+
+impl ScriptLine {
+    ghost use Rattle.pt_lines.specs.Script.{IsReadOf, script_of, long_line};
+
+    /// A line that is too long: nobody's, and LONG.  [profile]
+    pub fn long() -> ScriptLine
+        ensures { result ≡ long_line }
+    {
+        ScriptLine {
+            who: Who::Unknown,
+            body: Err(Refusal::Long),
+        }
+    }
+
+    /// Reads what a cutter gave. It takes no memory.
+    pub fn of(cut: &Cut) -> ScriptLine
+        ensures value { result ≡ script_of cut.now }
+        ensures read { IsReadOf cut.now result }
+    {
+        match cut {
+            Cut::Line(text) => read_script_line(text.as_slice()),
+            Cut::Long => ScriptLine::long(),
+        }
+    }
+}
+
+#[cfg(test)]
+mod tests;

@@ -1,0 +1,86 @@
+use super::*;
+use crate::client::ClientName;
+use crate::cutter::Cutter;
+use pt_types::Name;
+use std::test::Fail;
+
+// Whether a line of a script is this client's, and is refused for this.
+fn is_refused(text: &[u8], who: &[u8], refusal: Refusal) -> bool {
+    let line = read_script_line(text);
+    line.who.as_bytes() == who && line.body == Err(refusal)
+}
+
+#[test]
+fn script_lines_with_faults(rt: HostRuntime) {
+    let table: [(&[u8], &[u8]); 22] = [
+        (b"", b"?"),
+        (b" ", b"?"),
+        (b" A lock m", b"?"),
+        (b"A", b"A"),
+        (b"A ", b"A"),
+        (b"A  lock m", b"A"),
+        (b"A lock m ", b"A"),
+        (b"A lokc m", b"A"),
+        (b"A lock m\r", b"A"),
+        (b"A\tlock m", b"?"),
+        (b"A\x00 lock m", b"?"),
+        (b"A\r", b"?"),
+        (b"*", b"*"),
+        (b"* ", b"*"),
+        (b"* lock m", b"*"),
+        (b"* hello 1", b"*"),
+        (b"* die", b"*"),
+        (b"* moment 1 1000000000", b"*"),
+        (b"A moment 1 0", b"A"),
+        (b"A die now", b"A"),
+        (b"abcdefghi lock m", b"?"),
+        (b"? lock m", b"?"),
+    ];
+    for (text, who) in table {
+        assert!(rt; is_refused(text, who, Refusal::Syntax), "{text:?}");
+    }
+    assert!(rt; is_refused(&[b'A'; 128], b"?", Refusal::Syntax));
+    assert!(rt; is_refused(&[b'A'; 129], b"?", Refusal::Long));
+    assert!(rt; ScriptLine::of(&Cut::Long) == ScriptLine::long());
+}
+
+#[test]
+fn script_lines_of_clients_and_the_clock(rt: HostRuntime) -> Result<(), Fail> {
+    let line = read_script_line(b"abcdEF90 lock m");
+    assert!(rt; line.who.as_bytes() == b"abcdEF90".as_slice());
+    assert!(rt; line.body == Ok(ScriptBody::Ask(Call::Lock(Name::new(b"m").ok_or("name")?))));
+    let line = read_script_line(b"0 hello 32");
+    assert!(rt; line.who == Who::Named(ClientName::new(b"0").ok_or("client")?));
+    assert!(rt; line.body == Ok(ScriptBody::Hello(Priority::new(32).ok_or("priority")?)));
+    assert!(rt; read_script_line(b"A die").body == Ok(ScriptBody::Die));
+    let line = read_script_line(b"* moment 1 0");
+    assert!(rt; line.who.same() == Who::Star);
+    assert!(rt; line.body == Ok(ScriptBody::Tick(Moment::new(1, 0).ok_or("moment")?)));
+    Ok(())
+}
+
+#[test]
+fn clients_of_1_to_8_letters_or_digits(rt: HostRuntime) {
+    let table: [(&[u8], bool); 8] = [
+        (b"", false),
+        (b"Z", true),
+        (b"abcdefgh", true),
+        (b"abcdefghi", false),
+        (b"a_b", false),
+        (b"a-b", false),
+        (b"*", false),
+        (b"\xc3\xa4", false),
+    ];
+    for (name, known) in table {
+        assert_eq!(rt; ClientName::new(name).is_some(), known, "{name:?}");
+    }
+}
+
+#[test]
+fn a_cut_line_is_read(rt: HostRuntime) -> Result<(), Fail> {
+    let mut cutter = Cutter::new(rt.alloc());
+    cutter.feed(b"A die\n")?;
+    let cut = cutter.next_line().ok_or("line")?;
+    assert!(rt; ScriptLine::of(&cut).body == Ok(ScriptBody::Die));
+    Ok(())
+}
