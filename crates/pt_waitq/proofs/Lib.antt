@@ -1,0 +1,3 @@
+mod RemovalLemmas
+mod ChangeLemmas
+pub mod CallerLemmas

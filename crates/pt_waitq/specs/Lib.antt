@@ -1,0 +1,10 @@
+-- Queues: lists of waiters in key order
+pub mod Queues
+-- Waits: clients, objects and waiters in any order, and the queues that they make
+pub mod Waits
+-- WaitLaws: what holds of all queues at once, with the lemmas that it stands on below
+pub mod WaitLaws
+pub mod ListLemmas
+pub mod OrderLemmas
+pub mod QueueLemmas
+pub mod StandingLemmas
