@@ -1,0 +1,2 @@
+mod RemovalLemmas
+mod TimerLemmas

@@ -1,0 +1,2 @@
+-- Deadlines: a finite map from places to deadlines in nanoseconds
+pub mod Deadlines

@@ -1,0 +1,13 @@
+//! The deadlines of open calls.
+//!
+//! Contracts see a finite map from places to nanoseconds, by what is set at each place.
+//! Only tests show that room which is asked for is found.
+#![tactic(auto)]
+
+mod timer;
+mod timers;
+
+pub use timers::Timers;
+
+#[cfg(test)]
+mod tests;
