@@ -1,0 +1,6 @@
+mod Lookups
+mod Listed
+mod Added
+mod Written
+mod Removed
+mod Named

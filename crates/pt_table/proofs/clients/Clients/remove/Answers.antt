@@ -1,0 +1,40 @@
+use Rattle.std.proofs.Common.{◌∙◌, ap, sym}
+use Rattle.std.specs.Option.{option_map}
+use Rattle.pt_table.proofs.Listed.{slot_has_row, row_absent}
+use Rattle.pt_table.proofs.Removed.{view_absent, row_removed, numbered_removed, view_removed}
+use Rattle.pt_table.proofs.clients.Clients.remove.Goals as goal
+
+pub take_out-requires : goal.take_out-requires
+take_out-requires g c = slot_has_row c.self.invariant c.args.number
+
+pub returns-in_err-row-clause-value : goal.returns-in_err-row-clause-value
+returns-in_err-row-clause-value g c =
+    c.from_residual.ensures
+    ∙ sym (ap (option_map (λ row. row.value))
+    (row_absent c.self.invariant c.args.self.now c.self.view_is c.args.number
+    c.in_err-row.ensures.absent))
+
+pub returns-in_err-row-clause-rows : goal.returns-in_err-row-clause-rows
+returns-in_err-row-clause-rows g c =
+    view_absent c.self.invariant c.args.self.now c.self.view_is c.args.number
+    c.take_out.new.rows.slots c.take_out.new.numbers.entries c.in_err-row.ensures.absent
+    c.in_err-row.ensures.rows_kept c.in_err-row.ensures.numbers_kept
+
+pub invariant_of-self-2 : goal.invariant_of-self-2
+invariant_of-self-2 g c =
+    numbered_removed c.self.invariant c.args.self.now c.self.view_is c.args.number
+    c.take_out.new.rows.slots c.take_out.new.numbers.entries c.in_ok-row.row
+    c.in_ok-row.ensures.row c.in_ok-row.ensures.left
+
+pub returns-clause-value : goal.returns-clause-value
+returns-clause-value g c =
+    sym (ap (option_map (λ row. row.value))
+    (row_removed c.self.invariant c.args.self.now c.self.view_is c.args.number
+    c.take_out.new.rows.slots c.take_out.new.numbers.entries c.in_ok-row.row
+    c.in_ok-row.ensures.row c.in_ok-row.ensures.left))
+
+pub returns-clause-rows : goal.returns-clause-rows
+returns-clause-rows g c =
+    view_removed c.self.invariant c.args.self.now c.self.view_is c.args.number
+    c.take_out.new.rows.slots c.take_out.new.numbers.entries c.in_ok-row.row
+    c.in_ok-row.ensures.row c.in_ok-row.ensures.left

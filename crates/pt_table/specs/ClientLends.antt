@@ -1,0 +1,23 @@
+-- Lends: what the table of clients ends as where a `&mut` into one of its rows is handed out.
+use Rattle.std.specs.Prelude.{ℕ, List, Option}
+use Rattle.std.specs.Borrow.{Lends, LendsIf, Fml, RattleType, MutBor}
+use Rattle.std.specs.declared.alloc.Allocator.{Ghosts}
+use Rattle.pt_table.specs.declared.clients.ClientRow.{ClientRow}
+use Rattle.pt_table.specs.contracts.clients.ClientRow.{the_row as row_of_type}
+use Rattle.pt_table.specs.contracts.clients.Clients.{the_row}
+use Rattle.pt_table.specs.ClientRows.{with_client}
+
+module _ (T : RattleType) where
+  -- once the borrow r ends, the row has the last value written through r
+  abbrev pub lends_value : MutBor (ClientRow T.Denot) → MutBor T.Denot → Fml
+  lends_value s r = Lends (row_of_type T) T s r (λ w. record s.now { value = w })
+
+module _ (T A : RattleType) (alloc : Ghosts A.Denot)
+    (s : MutBor (List (ClientRow T.Denot))) (number : ℕ) where
+  -- the same of the row of a client
+  abbrev pub lends_at : MutBor T.Denot → Fml
+  lends_at r = Lends (the_row T A alloc) T s r (with_client s.now number)
+
+  -- the same where there is such a client, and else the rows stay
+  abbrev pub lends_if_at : Option (MutBor T.Denot) → Fml
+  lends_if_at r = LendsIf (the_row T A alloc) T s r (with_client s.now number) s.now

@@ -1,0 +1,48 @@
+-- Clients: the rows of the table of clients as a map from their numbers.
+use Rattle.std.specs.Prelude.{◌≡◌, ℕ, Bool, false, List, [], ◌∷◌, ◌++◌, Option, is_some, length, slice_get}
+use Rattle.std.specs.Option.{option_map}
+use Rattle.pt_types.specs.Limits.{most_clients}
+use Rattle.pt_table.specs.declared.clients.ClientRow.{ClientRow}
+use Rattle.pt_table.specs.Rows.{row_at, without, changed_at}
+use Rattle.pt_table.specs.Slots.{IsNumbered}
+
+module _ {T : Type 0} where
+  -- the row of this client
+  abbrev pub client_at : List (ClientRow T) → ℕ → Option (ClientRow T)
+  client_at rows number = row_at (λ row. row.number) rows number
+
+  -- what is kept of this client
+  abbrev pub client_value : List (ClientRow T) → ℕ → Option T
+  client_value rows number = option_map (λ row. row.value) (client_at rows number)
+
+  -- whether the number stands for a client
+  abbrev pub has_client : List (ClientRow T) → ℕ → Bool
+  has_client rows number = is_some (client_at rows number)
+
+  -- the number is new, and there are as many clients as there may be  [profile]
+  abbrev pub IsFullFor : List (ClientRow T) → ℕ → Type 0
+  IsFullFor rows number = (has_client rows number ≡ false) × (length rows ≡ most_clients)
+
+  -- the number of the row at an index, and what is kept there
+  abbrev pub nth_number : List (ClientRow T) → ℕ → Option ℕ
+  nth_number rows index = option_map (λ row. row.number) (slice_get rows index)
+
+  abbrev pub nth_value : List (ClientRow T) → ℕ → Option T
+  nth_value rows index = option_map (λ row. row.value) (slice_get rows index)
+
+  -- the rows, and this one last
+  abbrev pub and_client : List (ClientRow T) → ℕ → T → List (ClientRow T)
+  and_client rows number value = rows ++ record { number = number; value = value } ∷ []
+
+  -- the rows, with this value in the row of the client
+  abbrev pub with_client : List (ClientRow T) → ℕ → T → List (ClientRow T)
+  with_client rows number value =
+      changed_at (λ row. row.number) (λ row. record row { value = value }) rows number
+
+  -- the rows but the one of this client
+  abbrev pub without_client : List (ClientRow T) → ℕ → List (ClientRow T)
+  without_client rows number = without (λ row. row.number) rows number
+
+  -- the numbers list each client once, and there are at most 1,024  [profile]
+  abbrev pub AreClients : List (Option (ClientRow T)) → List (ℕ × ℕ) → Type 0
+  AreClients slots numbers = IsNumbered (λ row. row.number) slots numbers most_clients

@@ -1,0 +1,64 @@
+-- Objects: the rows of the table of objects as a map from their numbers and from their names.
+use Rattle.std.specs.Prelude.{◌≡◌, ℕ, ◌||◌, Bool, false, List, [], ◌∷◌, ◌++◌, Option, find, is_some, length, slice_get}
+use Rattle.std.specs.Option.{option_map}
+use Rattle.pt_types.specs.Limits.{most_objects}
+use Rattle.pt_types.specs.Names.{same_name}
+use Rattle.pt_table.specs.declared.objects.ObjectRow.{ObjectRow}
+use Rattle.pt_table.specs.Rows.{row_at, without, changed_at}
+use Rattle.pt_table.specs.Slots.{IsNumbered}
+use Rattle.pt_table.specs.NameSlots.{IsNamed}
+
+module _ {T : Type 0} where
+  -- the row of the object with this number
+  abbrev pub object_at : List (ObjectRow T) → ℕ → Option (ObjectRow T)
+  object_at rows number = row_at (λ row. row.number) rows number
+
+  -- what is kept of this object
+  abbrev pub object_value : List (ObjectRow T) → ℕ → Option T
+  object_value rows number = option_map (λ row. row.value) (object_at rows number)
+
+  -- the row of the object with this name
+  abbrev pub object_named : List (ObjectRow T) → List ℕ → Option (ObjectRow T)
+  object_named rows name = find (λ row. same_name name row.name) rows
+
+  -- the number of the object with this name
+  abbrev pub number_of : List (ObjectRow T) → List ℕ → Option ℕ
+  number_of rows name = option_map (λ row. row.number) (object_named rows name)
+
+  -- whether the number stands for an object
+  abbrev pub has_object : List (ObjectRow T) → ℕ → Bool
+  has_object rows number = is_some (object_at rows number)
+
+  -- whether the number or the name stands for an object
+  abbrev pub is_taken : List (ObjectRow T) → ℕ → List ℕ → Bool
+  is_taken rows number name = has_object rows number || is_some (object_named rows name)
+
+  -- number and name are new, and there are as many objects as there may be  [profile]
+  abbrev pub IsFullFor : List (ObjectRow T) → ℕ → List ℕ → Type 0
+  IsFullFor rows number name = (is_taken rows number name ≡ false) × (length rows ≡ most_objects)
+
+  -- the number of the row at an index, and what is kept there
+  abbrev pub nth_number : List (ObjectRow T) → ℕ → Option ℕ
+  nth_number rows index = option_map (λ row. row.number) (slice_get rows index)
+
+  abbrev pub nth_value : List (ObjectRow T) → ℕ → Option T
+  nth_value rows index = option_map (λ row. row.value) (slice_get rows index)
+
+  -- the rows, and this one last
+  abbrev pub and_object : List (ObjectRow T) → ℕ → List ℕ → T → List (ObjectRow T)
+  and_object rows number name value =
+      rows ++ record { number = number; name = name; value = value } ∷ []
+
+  -- the rows, with this value in the row of the object
+  abbrev pub with_object : List (ObjectRow T) → ℕ → T → List (ObjectRow T)
+  with_object rows number value =
+      changed_at (λ row. row.number) (λ row. record row { value = value }) rows number
+
+  -- the rows but the one of this object
+  abbrev pub without_object : List (ObjectRow T) → ℕ → List (ObjectRow T)
+  without_object rows number = without (λ row. row.number) rows number
+
+  -- numbers and names list each object once, and there are at most 4,096  [profile]
+  abbrev pub AreObjects : List (Option (ObjectRow T)) → List (ℕ × ℕ) → List (List ℕ × ℕ) → Type 0
+  AreObjects slots numbers names =
+      IsNumbered (λ row. row.number) slots numbers most_objects × IsNamed slots names

@@ -1,0 +1,71 @@
+-- Slots: where rows lie, and the list of rows that they stand for.
+use Rattle.std.specs.Prelude.{◌≡◌, ◌≢◌, ◌≤◌, ℕ, List, [], ◌∷◌, Option, Some, None, IsSome, length, nat_eq, filter_map, slice_get, slice_index_or, slice_set}
+use Rattle.std.specs.Option.{option_and_then, option_map}
+use Rattle.std.specs.Map.{lookup, remove_entry}
+
+-- the entries but the one of this number
+abbrev pub without_number : List (ℕ × ℕ) → ℕ → List (ℕ × ℕ)
+without_number entries number = remove_entry (nat_eq number) entries
+
+-- no number is listed twice
+abbrev pub Distinct : List (ℕ × ℕ) → Type 0
+Distinct [] = Unit {0}
+Distinct (e ∷ es) = (lookup (nat_eq e.0) es ≡ None) × Distinct es
+
+module _ {R : Type 0} where
+  -- the row in a slot, if there is one
+  abbrev pub row_in_slot : List (Option R) → ℕ → Option R
+  row_in_slot slots slot = slice_index_or slots slot None
+
+  -- the same where there may be no slot
+  abbrev pub row_in_any : List (Option R) → Option ℕ → Option R
+  row_in_any slots slot = option_and_then (row_in_slot slots) slot
+
+  -- the rows in the slots that are listed, in the order of the list
+  abbrev pub rows_listed : List (Option R) → List (ℕ × ℕ) → List R
+  rows_listed slots numbers = filter_map (λ entry. row_in_slot slots entry.1) numbers
+
+  -- the row of the number at an index of the list
+  abbrev pub nth_listed : List (Option R) → List (ℕ × ℕ) → ℕ → Option R
+  nth_listed slots numbers index =
+      option_and_then (λ entry. row_in_slot slots entry.1) (slice_get numbers index)
+
+  -- the number has a slot, and there is a row in it
+  abbrev pub HasRow : List (Option R) → List (ℕ × ℕ) → ℕ → Type 0
+  HasRow slots numbers n =
+      (slot : ℕ) × (lookup (nat_eq n) numbers ≡ Some slot) × IsSome (row_in_slot slots slot)
+
+  -- if the number has a slot, there is a row in it
+  abbrev pub HasRowIfListed : List (Option R) → List (ℕ × ℕ) → ℕ → Type 0
+  HasRowIfListed slots numbers n =
+      (slot : ℕ) → lookup (nat_eq n) numbers ≡ Some slot → IsSome (row_in_slot slots slot)
+
+  -- the other slots have what they had
+  abbrev pub SameBut : List (Option R) → List (Option R) → ℕ → Type 0
+  SameBut old new slot =
+      (other : ℕ) → other ≢ slot → row_in_slot new other ≡ row_in_slot old other
+
+  -- the row leaves the slot of the number, which is empty then
+  abbrev pub Leaves : List (Option R) → List (ℕ × ℕ) → ℕ → List (Option R) → R → Type 0
+  Leaves old numbers n new row =
+      (slot : ℕ) × (lookup (nat_eq n) numbers ≡ Some slot) × (row_in_slot old slot ≡ Some row)
+      × (new ≡ slice_set old slot None)
+
+module _ {R : Type 0} (number : R → ℕ) where
+  -- the number of the row in a slot
+  abbrev pub number_in : List (Option R) → ℕ → Option ℕ
+  number_in slots slot = option_map number (row_in_slot slots slot)
+
+  -- each listed slot has the row of its number
+  abbrev pub Listed : List (Option R) → List (ℕ × ℕ) → Type 0
+  Listed slots [] = Unit {0}
+  Listed slots (e ∷ es) = (number_in slots e.1 ≡ Some e.0) × Listed slots es
+
+  -- the numbers list each row once, and are at most so many
+  pub record IsNumbered (slots : List (Option R)) (numbers : List (ℕ × ℕ)) (most : ℕ) :
+      Type 0 where
+    pub listed : Listed slots numbers
+    pub numbered : (slot n : ℕ) → number_in slots slot ≡ Some n
+        → lookup (nat_eq n) numbers ≡ Some slot
+    pub distinct : Distinct numbers
+    pub within : length numbers ≤ most

@@ -1,0 +1,173 @@
+ghost use Rattle.std.specs.Prelude.{◌≡◌, ◌↔◌, ◌≤◌, [], Some, IsSome, IfErr, OnOk, OnErr, IsTrue, length};
+ghost use Rattle.std.specs.Option.{option_map, option_copied, option_copied_mut};
+ghost use Rattle.std.specs.Borrow.{sem};
+ghost use Rattle.pt_types.specs.Limits.{most_clients};
+ghost use Rattle.pt_table.specs.ClientRows.{client_at, client_value, has_client, nth_number, nth_value, and_client, without_client, IsFullFor};
+ghost use Rattle.pt_table.specs.Faults.{IsFault};
+
+use crate::fault::TableFault;
+use crate::rows::{Numbers, make_room, nth_row, put, row_in, slot_of, take_out};
+use indexmap::IndexMap;
+use slab::Slab;
+use std::alloc::{Allocator, Global};
+use std::marker::Model;
+
+/// How many clients may live at one time.  [profile]
+pub const MOST_CLIENTS: usize = 1024;
+
+/// A row of the table of clients, as its contracts see it.
+#[derive(Debug, Drop)]
+pub struct ClientRow<T> {
+    pub number: u64,
+    pub value: T,
+}
+
+impl<T> ClientRow<T> {
+    ghost use Rattle.pt_table.specs.ClientLends.{lends_value};
+
+    fn value_mut(&mut self) -> &mut T
+        ensures* lends { sem 𝓛 (lends_value T.row self.entry result) }
+        ensures value { result.now ≡ self.old.value }
+    {
+        &mut self.value
+    }
+}
+
+/// The living clients, each found by its number.
+///
+/// Contracts see the rows in the order in which they were added.
+#[derive(Drop)]
+pub struct Clients<T, A: Allocator + Copy = Global> {
+    rows: Slab<ClientRow<T>, A>,
+    numbers: Numbers<A>,
+}
+
+impl<T, A: Allocator + Copy> Model for Clients<T, A> {
+    ghost use Rattle.std.specs.Prelude.{List};
+    ghost use Rattle.pt_table.specs.declared.clients.ClientRow.{ClientRow};
+    ghost use Rattle.pt_table.specs.ClientRows.{AreClients};
+    ghost use Rattle.pt_table.specs.Slots.{rows_listed};
+
+    ghost Value = { List (ClientRow T) };
+
+    ghost view = { λ c. rows_listed c.rows.slots c.numbers.entries };
+
+    ghost invariant = { λ c. AreClients c.rows.slots c.numbers.entries };
+}
+
+impl<T, A: Allocator + Copy> Clients<T, A> {
+    /// A table with no client. It takes no memory.
+    pub fn new(alloc: A) -> Self
+        ensures { result ≡ [] }
+    {
+        Clients {
+            rows: Slab::new(alloc),
+            numbers: IndexMap::new(alloc),
+        }
+    }
+
+    /// How many clients there are.
+    pub fn len(&self) -> usize
+        ensures len { result ≡ length self.now }
+        ensures within { length self.now ≤ most_clients }
+    {
+        self.numbers.len()
+    }
+
+    /// What is kept of the client with this number.
+    pub fn at(&self, number: u64) -> Option<&T>
+        ensures { option_copied result ≡ client_value self.now number }
+    {
+        match row_in(&self.rows, self.numbers.get(&number)) {
+            Some(row) => Some(&row.value),
+            None => None,
+        }
+    }
+
+    /// The number of the client at this index, and what is kept of it.
+    ///
+    /// The clients stand in the order in which they were added, from index 0 on.
+    pub fn nth(&self, index: usize) -> Option<(u64, &T)>
+        ensures number { option_map (λ p. p.0) result ≡ nth_number self.now index }
+        ensures value { option_map (λ p. p.1.now) result ≡ nth_value self.now index }
+    {
+        match nth_row(&self.rows, &self.numbers, index) {
+            Some(row) => Some((row.number, &row.value)),
+            None => None,
+        }
+    }
+
+    fn has(&self, number: u64) -> bool
+        ensures { result ≡ has_client self.now number }
+    {
+        self.at(number).is_some()
+    }
+
+    ghost use Rattle.pt_table.specs.ClientLends.{lends_at};
+
+    fn value_mut(&mut self, number: u64) -> &mut T
+        requires { IsSome (client_at self.old number) }
+        ensures* lends { sem 𝓛 (lends_at T.row A.row A.Allocator self.entry number result) }
+        ensures value { client_value self.old number ≡ Some result.now }
+    {
+        let slot = slot_of(&self.rows, &self.numbers, number);
+        self.rows[slot].value_mut()
+    }
+
+    ghost use Rattle.pt_table.specs.ClientLends.{lends_if_at};
+
+    /// What is kept of the client with this number, to be changed.
+    pub fn at_mut(&mut self, number: u64) -> Option<&mut T>
+        ensures* lends { sem 𝓛 (lends_if_at T.row A.row A.Allocator self.entry number result) }
+        ensures value { option_copied_mut result ≡ client_value self.old number }
+    {
+        if self.has(number) {
+            Some(self.value_mut(number))
+        } else {
+            None
+        }
+    }
+
+    /// Takes the client with this number out.
+    pub fn remove(&mut self, number: u64) -> Option<T>
+        ensures value { result ≡ client_value self.old number }
+        ensures rows { self.new ≡ without_client self.old number }
+    {
+        let row = take_out(&mut self.rows, &mut self.numbers, number)?;
+        let ClientRow { number: _, value } = row;
+        Some(value)
+    }
+
+    /// Adds a client, or hands back what was to be kept of it.
+    ///
+    /// # Errors
+    ///
+    /// Taken where the number stands for a client already, else AtLimit at 1,024 clients, else
+    /// Memory where a growth was refused. The table stays as it was.
+    pub fn add(&mut self, number: u64, value: T) -> Result<(), (T, TableFault)>
+        ensures ok { OnOk result (self.new ≡ and_client self.old number value) }
+
+        // Refused: for the first reason that applies, and nothing moved.
+        ensures taken { IsFault TableFault.Taken result ↔ IsTrue (has_client self.old number) }
+        ensures at_limit { IsFault TableFault.AtLimit result ↔ IsFullFor self.old number }
+        ensures err { OnErr result (self.new ≡ self.old) }
+        ensures handed { IfErr result (λ e. e.0 ≡ value) }
+    {
+        if self.has(number) {
+            return Err((value, TableFault::Taken));
+        }
+        if self.len() >= MOST_CLIENTS {
+            return Err((value, TableFault::AtLimit));
+        }
+        if make_room(&mut self.rows, &mut self.numbers).is_err() {
+            return Err((value, TableFault::Memory));
+        }
+        put(
+            &mut self.rows,
+            &mut self.numbers,
+            number,
+            ClientRow { number, value },
+        );
+        Ok(())
+    }
+}

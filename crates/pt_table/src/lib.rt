@@ -1,0 +1,20 @@
+//! The tables of clients and of objects: rows found by their number, and objects by their name too,
+//! over `slab` and `indexmap`.
+//!
+//! Contracts see a table as the list of its rows in the order in which they were added, as a finite
+//! map from numbers, and for objects from names, that has a limit. They pin the answer and the
+//! rows after each call. Only tests show that want of memory is told only where a growth was
+//! refused, that an empty table takes no memory, and the texts that `Display` writes.
+#![tactic(auto)]
+
+mod clients;
+mod fault;
+mod objects;
+mod rows;
+
+pub use clients::{ClientRow, Clients, MOST_CLIENTS};
+pub use fault::TableFault;
+pub use objects::{MOST_OBJECTS, ObjectRow, Objects};
+
+#[cfg(test)]
+mod tests;

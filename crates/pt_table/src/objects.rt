@@ -1,0 +1,257 @@
+ghost use Rattle.std.specs.Prelude.{◌≡◌, ◌↔◌, ◌≤◌, ◌<◌, ◌++◌, [], ◌∷◌, Some, None, IsSome, IfErr, OnOk, OnErr, IsTrue, nat_eq, length};
+ghost use Rattle.std.specs.Option.{option_map, option_copied, option_copied_mut};
+ghost use Rattle.std.specs.Borrow.{sem};
+ghost use Rattle.std.specs.Map.{lookup};
+ghost use Rattle.slab.specs.Slab.{HasRoomFor};
+ghost use Rattle.indexmap.specs.IndexMap.{spare};
+ghost use Rattle.pt_types.specs.Limits.{most_objects};
+ghost use Rattle.pt_types.specs.Names.{same_name};
+ghost use Rattle.pt_table.specs.Faults.{IsFault};
+ghost use Rattle.pt_table.specs.ObjectRows.{object_at, object_value, has_object, number_of, is_taken, nth_number, nth_value, and_object, without_object, IsFullFor};
+ghost use Rattle.pt_table.specs.Slots.{row_in_slot, SameBut};
+ghost use Rattle.pt_table.specs.NameSlots.{IsForgotten};
+
+use crate::fault::TableFault;
+use crate::rows::{Numbers, make_room, nth_row, put, row_in, slot_of, take_out};
+use indexmap::IndexMap;
+use pt_types::Name;
+use slab::Slab;
+use std::alloc::{AllocError, Allocator, Global};
+use std::hash::{BuildHasherDefault, FoldHasher};
+use std::marker::Model;
+
+/// How many objects there may be at one time.  [profile]
+pub const MOST_OBJECTS: usize = 4096;
+
+/// A row of the table of objects, as its contracts see it.
+#[derive(Debug, Drop)]
+pub struct ObjectRow<T> {
+    pub number: u64,
+    pub name: Name,
+    pub value: T,
+}
+
+impl<T> ObjectRow<T> {
+    ghost use Rattle.pt_table.specs.ObjectLends.{lends_value};
+
+    fn value_mut(&mut self) -> &mut T
+        ensures* lends { sem 𝓛 (lends_value T.row self.entry result) }
+        ensures value { result.now ≡ self.old.value }
+    {
+        &mut self.value
+    }
+}
+
+// The slot of each name.
+type Names<A> = IndexMap<Name, usize, BuildHasherDefault<FoldHasher>, A>;
+
+/// The objects, each found by its number and by its name.
+///
+/// Contracts see the rows in the order in which they were added. The server adds objects by rising
+/// number, so this is the order of their numbers too.
+#[derive(Drop)]
+pub struct Objects<T, A: Allocator + Copy = Global> {
+    rows: Slab<ObjectRow<T>, A>,
+    numbers: Numbers<A>,
+    names: Names<A>,
+}
+
+impl<T, A: Allocator + Copy> Model for Objects<T, A> {
+    ghost use Rattle.std.specs.Prelude.{List};
+    ghost use Rattle.pt_table.specs.declared.objects.ObjectRow.{ObjectRow};
+    ghost use Rattle.pt_table.specs.ObjectRows.{AreObjects};
+    ghost use Rattle.pt_table.specs.Slots.{rows_listed};
+
+    ghost Value = { List (ObjectRow T) };
+
+    ghost view = { λ o. rows_listed o.rows.slots o.numbers.entries };
+
+    ghost invariant = { λ o. AreObjects o.rows.slots o.numbers.entries o.names.entries };
+}
+
+// Makes room for one more row with its name.
+fn make_room_named<T, A: Allocator + Copy>(
+    rows: &mut Slab<ObjectRow<T>, A>,
+    numbers: &mut Numbers<A>,
+    names: &mut Names<A>,
+) -> Result<(), AllocError>
+    ensures rows { rows.new.slots ≡ rows.old.slots }
+    ensures numbers { numbers.new.entries ≡ numbers.old.entries }
+    ensures names { names.new.entries ≡ names.old.entries }
+    ensures row_room { OnOk result (HasRoomFor rows.new 1) }
+    ensures number_room { OnOk result (0 < spare numbers.new) }
+    ensures name_room { OnOk result (0 < spare names.new) }
+{
+    make_room(rows, numbers)?;
+    names.reserve(1)
+}
+
+// Puts a row with a new number and a new name in, where there is room, and answers its slot.
+fn put_named<T, A: Allocator + Copy>(
+    rows: &mut Slab<ObjectRow<T>, A>,
+    numbers: &mut Numbers<A>,
+    names: &mut Names<A>,
+    row: ObjectRow<T>,
+) -> usize
+    requires row_room { HasRoomFor rows.old 1 }
+    requires number_room { 0 < spare numbers.old }
+    requires name_room { 0 < spare names.old }
+    requires number_new { lookup (nat_eq row.number) numbers.old.entries ≡ None }
+    requires name_new { lookup (same_name row.name) names.old.entries ≡ None }
+    ensures vacant { row_in_slot rows.old.slots result ≡ None }
+    ensures row { row_in_slot rows.new.slots result ≡ Some row }
+    ensures others { SameBut rows.old.slots rows.new.slots result }
+    ensures numbers { numbers.new.entries ≡ numbers.old.entries ++ (row.number, result) ∷ [] }
+    ensures names { names.new.entries ≡ names.old.entries ++ (row.name, result) ∷ [] }
+{
+    let name = row.name.same();
+    let slot = put(rows, numbers, row.number, row);
+    names.insert(name, slot).unwrap();
+    slot
+}
+
+// Takes a name out.
+fn forget<A: Allocator + Copy>(names: &mut Names<A>, name: &Name)
+    ensures { IsForgotten names.old.entries name.now names.new.entries }
+{
+    let _ = names.swap_remove(name);
+}
+
+impl<T, A: Allocator + Copy> Objects<T, A> {
+    /// A table with no object. It takes no memory.
+    pub fn new(alloc: A) -> Self
+        ensures { result ≡ [] }
+    {
+        Objects {
+            rows: Slab::new(alloc),
+            numbers: IndexMap::new(alloc),
+            names: IndexMap::new(alloc),
+        }
+    }
+
+    /// How many objects there are.
+    pub fn len(&self) -> usize
+        ensures len { result ≡ length self.now }
+        ensures within { length self.now ≤ most_objects }
+    {
+        self.numbers.len()
+    }
+
+    /// What is kept of the object with this number.
+    pub fn at(&self, number: u64) -> Option<&T>
+        ensures { option_copied result ≡ object_value self.now number }
+    {
+        match row_in(&self.rows, self.numbers.get(&number)) {
+            Some(row) => Some(&row.value),
+            None => None,
+        }
+    }
+
+    /// The number of the object with this name.
+    pub fn find(&self, name: &Name) -> Option<u64>
+        ensures { result ≡ number_of self.now name.now }
+    {
+        match row_in(&self.rows, self.names.get(name)) {
+            Some(row) => Some(row.number),
+            None => None,
+        }
+    }
+
+    /// The number of the object at this index, and what is kept of it.
+    ///
+    /// The objects stand in the order in which they were added, from index 0 on.
+    pub fn nth(&self, index: usize) -> Option<(u64, &T)>
+        ensures number { option_map (λ p. p.0) result ≡ nth_number self.now index }
+        ensures value { option_map (λ p. p.1.now) result ≡ nth_value self.now index }
+    {
+        match nth_row(&self.rows, &self.numbers, index) {
+            Some(row) => Some((row.number, &row.value)),
+            None => None,
+        }
+    }
+
+    fn has(&self, number: u64) -> bool
+        ensures { result ≡ has_object self.now number }
+    {
+        self.at(number).is_some()
+    }
+
+    fn is_taken(&self, number: u64, name: &Name) -> bool
+        ensures { result ≡ is_taken self.now number name.now }
+    {
+        self.has(number) || self.find(name).is_some()
+    }
+
+    ghost use Rattle.pt_table.specs.ObjectLends.{lends_at};
+
+    fn value_mut(&mut self, number: u64) -> &mut T
+        requires { IsSome (object_at self.old number) }
+        ensures* lends { sem 𝓛 (lends_at T.row A.row A.Allocator self.entry number result) }
+        ensures value { object_value self.old number ≡ Some result.now }
+    {
+        let slot = slot_of(&self.rows, &self.numbers, number);
+        self.rows[slot].value_mut()
+    }
+
+    ghost use Rattle.pt_table.specs.ObjectLends.{lends_if_at};
+
+    /// What is kept of the object with this number, to be changed.
+    pub fn at_mut(&mut self, number: u64) -> Option<&mut T>
+        ensures* lends { sem 𝓛 (lends_if_at T.row A.row A.Allocator self.entry number result) }
+        ensures value { option_copied_mut result ≡ object_value self.old number }
+    {
+        if self.has(number) {
+            Some(self.value_mut(number))
+        } else {
+            None
+        }
+    }
+
+    /// Takes the object with this number out. Its name is free from then on.
+    pub fn remove(&mut self, number: u64) -> Option<T>
+        ensures value { result ≡ object_value self.old number }
+        ensures rows { self.new ≡ without_object self.old number }
+    {
+        let row = take_out(&mut self.rows, &mut self.numbers, number)?;
+        forget(&mut self.names, &row.name);
+        let ObjectRow {
+            number: _,
+            name: _,
+            value,
+        } = row;
+        Some(value)
+    }
+
+    /// Adds an object, or hands back what was to be kept of it.
+    ///
+    /// # Errors
+    ///
+    /// Taken where the number or the name stands for an object already, else AtLimit at 4,096
+    /// objects, else Memory where a growth was refused. The table stays as it was.
+    pub fn add(&mut self, number: u64, name: Name, value: T) -> Result<(), (T, TableFault)>
+        ensures ok { OnOk result (self.new ≡ and_object self.old number name value) }
+
+        // Refused: for the first reason that applies, and nothing moved.
+        ensures taken { IsFault TableFault.Taken result ↔ IsTrue (is_taken self.old number name) }
+        ensures at_limit { IsFault TableFault.AtLimit result ↔ IsFullFor self.old number name }
+        ensures err { OnErr result (self.new ≡ self.old) }
+        ensures handed { IfErr result (λ e. e.0 ≡ value) }
+    {
+        if self.is_taken(number, &name) {
+            return Err((value, TableFault::Taken));
+        }
+        if self.len() >= MOST_OBJECTS {
+            return Err((value, TableFault::AtLimit));
+        }
+        if make_room_named(&mut self.rows, &mut self.numbers, &mut self.names).is_err() {
+            return Err((value, TableFault::Memory));
+        }
+        let row = ObjectRow {
+            number,
+            name,
+            value,
+        };
+        put_named(&mut self.rows, &mut self.numbers, &mut self.names, row);
+        Ok(())
+    }
+}
