@@ -1,0 +1,123 @@
+-- RwlockState: a read-write lock with its rows of read locks and its waiting writers.
+use Rattle.std.specs.Prelude.{ℕ, ◌≡◌, ◌<◌, ◌≤◌, length, Bool, true, false, not, ◌&&◌, ◌-◌, ◌==◌, ◌↔◌, nat_lt, IsTrue, List, [], Option, Some, None, is_some, is_none, unwrap_or, if◌then◌else◌, replicate, slice_index, slice_set}
+use Rattle.std.specs.List.{list_any}
+use Rattle.std.specs.Ordering.{nat_cmp}
+use Rattle.std.specs.Map.{lookup, set_value, keys_of}
+use Rattle.std.specs.BTreeMap.{is_at, insert_entry}
+use Rattle.pt_lanes.specs.Counts.{AnyFrom}
+use Rattle.pt_types.specs.Limits.{most_reads}
+use Rattle.pt_types.specs.MutexTable.{is_number}
+use Rattle.pt_types.specs.RwlockTable.{RwlockView, may_read, may_write}
+use Rattle.pt_waitq.specs.declared.waiter.Waiter.{Waiter}
+use Rattle.pt_rwlock.specs.declared.object.Held.{Held}
+use Rattle.pt_rwlock.specs.declared.object.Held.TheVariants.{Nothing, Read, Write}
+
+-- the writer; the clients that have a row, in order, each with its read locks; and how many writers
+-- wait at each priority, that of priority p at index p - 1  [XSH pthread_rwlock_rdlock]
+pub record RwlockState : Type 0 where
+  pub writer : Option ℕ
+  pub rows : List (ℕ × ℕ)
+  pub waiting : List ℕ
+
+-- a lock as it is made: nobody holds it, and none of the 32 priorities has a waiting writer
+-- [XSH pthread_rwlock_init]
+abbrev pub made : RwlockState
+made = record { writer = None; rows = []; waiting = replicate 32 0 }
+
+-- the read locks in the client's row, if it has one  [XSH pthread_rwlock_rdlock]
+abbrev pub row_of : RwlockState → (client : ℕ) → Option ℕ
+row_of r c = lookup (is_at (nat_cmp c)) r.rows
+
+-- the client's read locks  [XSH pthread_rwlock_rdlock]
+abbrev pub reads_of : RwlockState → (client : ℕ) → ℕ
+reads_of r c = unwrap_or (row_of r c) 0
+
+-- whether anybody has a read lock  [XSH pthread_rwlock_wrlock]
+abbrev pub is_read : RwlockState → Bool
+is_read r = list_any (λ c. nat_lt 0 (reads_of r c)) (keys_of r.rows)
+
+-- a lock is read exactly where a client has read locks  [XSH pthread_rwlock_wrlock]
+abbrev pub ReadBySomebody : Type 0
+ReadBySomebody = (r : RwlockState) → IsTrue (is_read r) ↔ ((c : ℕ) × (0 < reads_of r c))
+
+-- whether nobody holds the lock  [XSH pthread_rwlock_wrlock]
+abbrev pub nobody_holds : RwlockState → Bool
+nobody_holds r = not (is_some r.writer) && not (is_read r)
+
+-- the lock as one client sees it  [XSH 2.9]
+abbrev pub seen_by : RwlockState → (client : ℕ) → RwlockView
+seen_by r c = record {
+  writes = is_number r.writer c;
+  reads = reads_of r c;
+  is_written = is_some r.writer;
+  is_read = is_read r;
+}
+
+-- the truth value says whether a writer of this priority or a higher one waits
+-- [XSH pthread_rwlock_rdlock]
+abbrev pub SaysBlocked : RwlockState → (priority : ℕ) → Bool → Type 0
+SaysBlocked r p blocked = IsTrue blocked ↔ AnyFrom r.waiting (p - 1)
+
+-- how many writers of this priority wait  [XSH pthread_rwlock_rdlock]
+abbrev pub writers_at : RwlockState → (priority : ℕ) → ℕ
+writers_at r p = slice_index r.waiting (p - 1)
+
+-- a writer waits that is of this priority or a higher one exactly where their counts say so
+-- [XSH pthread_rwlock_rdlock]
+abbrev pub BlockedByCounts : Type 0
+BlockedByCounts = (r : RwlockState) (p : ℕ) → length r.waiting ≡ 32 → 1 ≤ p
+    → AnyFrom r.waiting (p - 1) ↔ ((q : ℕ) × (p ≤ q) × (q ≤ 32) × (0 < writers_at r q))
+
+-- so many writers of this priority wait, and of each other one as many as before  [profile]
+abbrev pub with_writers : RwlockState → (priority : ℕ) → ℕ → RwlockState
+with_writers r p n = record r { waiting = slice_set r.waiting (p - 1) n }
+
+-- so many writers of this priority wait, and each other priority has its count  [profile]
+abbrev pub ChangesCount : (old new : RwlockState) (priority count : ℕ) → Type 0
+ChangesCount old new p n =
+    (other : ℕ) → 1 ≤ other → other ≤ 32
+    → writers_at new other ≡ (if p == other then n else writers_at old other)
+
+-- the client has a row: its own as it was, or a new one without read locks  [profile]
+abbrev pub with_row : RwlockState → (client : ℕ) → RwlockState
+with_row r c =
+    if is_some (row_of r c) then r
+    else record r { rows = insert_entry nat_cmp r.rows c 0 }
+
+-- the client has so many read locks in its row, and each other one as many as before
+-- [XSH pthread_rwlock_rdlock]
+abbrev pub with_reads : RwlockState → (client : ℕ) → ℕ → RwlockState
+with_reads r c n = record r { rows = set_value (is_at (nat_cmp c)) r.rows n }
+
+-- whether it is a row that takes one read lock more: it has fewer than 255
+-- [XSH pthread_rwlock_rdlock, the number is profile]
+abbrev pub has_room : Option ℕ → Bool
+has_room None = false
+has_room (Some reads) = nat_lt reads most_reads
+
+-- whether a client can be given a read lock: no writer holds the lock, and its row has room
+-- [XSH pthread_rwlock_rdlock]
+abbrev pub can_acquire_read : RwlockState → (client : ℕ) → Bool
+can_acquire_read r c = is_none r.writer && has_room (row_of r c)
+
+-- this is the client's row, and each other client has the row that it had  [profile]
+abbrev pub ChangesRow : (old new : RwlockState) (client : ℕ) → Option ℕ → Type 0
+ChangesRow old new c row =
+    (other : ℕ) → row_of new other ≡ (if c == other then row else row_of old other)
+
+-- the client gave back the write lock, or one read lock  [XSH pthread_rwlock_unlock]
+abbrev pub released : RwlockState → (client : ℕ) → RwlockState
+released r c =
+    if is_number r.writer c then record r { writer = None }
+    else with_reads r c (reads_of r c - 1)
+
+-- whether the first waiter can have the lock now, where writers of its priority or a higher one
+-- wait or don't  [XSH pthread_rwlock_unlock, pthread_rwlock_rdlock]
+abbrev pub may_have : RwlockState → Waiter → (blocked : Bool) → Bool
+may_have r w blocked =
+    if w.writer then may_write (seen_by r w.client) true
+    else may_read (seen_by r w.client) blocked
+
+-- how a client holds the lock  [XSH pthread_rwlock_unlock]
+abbrev pub held : RwlockView → Held
+held r = if r.writes then Write else if r.reads == 0 then Nothing else Read r.reads
