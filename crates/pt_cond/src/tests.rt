@@ -1,0 +1,81 @@
+ghost use Rattle.std.specs.Prelude.{◌≡◌, Some};
+
+use super::*;
+use pt_types::{ClientId, Deadline, ObjectId, Outcome, Priority, Verdict};
+use pt_waitq::{PlainList, WaitList, Waiter};
+use std::test::Fail;
+
+const M: ObjectId = ObjectId(3);
+
+const N: ObjectId = ObjectId(4);
+
+// A condition at which calls stand with this mutex.
+fn bound_to(mutex: ObjectId) -> CondObj
+    ensures { result ≡ record { bound = Some mutex } }
+{
+    let mut cond = CondObj::new();
+    cond.bind(mutex);
+    cond
+}
+
+#[test]
+fn a_wait_line_by_line(rt: HostRuntime) -> Result<(), Fail> {
+    let good = Deadline::new(9, 999_999_999);
+    let bad = Deadline::new(9, 1_000_000_000);
+    assert!(rt; good.is_some() && bad.is_some());
+    let [einval, eperm] = [Outcome::Einval, Outcome::Eperm].map(Verdict::Reply);
+    for (mutex, owns, deadline, verdict) in [
+        (M, true, bad, einval),
+        (N, false, bad, einval),
+        (N, true, None, einval),
+        (N, false, good, einval),
+        (M, false, None, eperm),
+        (M, false, good, eperm),
+        (M, true, None, Verdict::Stands),
+        (M, true, good, Verdict::Stands),
+    ] {
+        assert_eq!(rt; bound_to(M).verdict_wait(mutex, owns, deadline), verdict);
+    }
+    for (mutex, owns, deadline, verdict) in [
+        (N, true, None, Verdict::Stands),
+        (N, false, None, eperm),
+        (N, false, bad, einval),
+    ] {
+        assert_eq!(rt; CondObj::new().verdict_wait(mutex, owns, deadline), verdict);
+    }
+    Ok(())
+}
+
+#[test]
+fn bound_while_calls_stand(rt: HostRuntime) {
+    let mut cond = bound_to(M);
+    assert_eq!(rt; cond.bound(), Some(M));
+    assert!(rt; !cond.is_elsewhere(M) && cond.is_elsewhere(N));
+    cond.bind(M);
+    cond.unbind();
+    assert_eq!(rt; cond.bound(), None);
+    cond.bind(N);
+    assert_eq!(rt; cond.bound(), Some(N));
+}
+
+#[test]
+fn the_least_is_the_first_of_its_queue(rt: HostRuntime) -> Result<(), Fail> {
+    let prio = Priority::new(10).ok_or("priority")?;
+    let cond = bound_to(M);
+    let mut list = PlainList::new(rt.alloc());
+    list.make(N).ok().ok_or("queue")?;
+    list.admit(ClientId(7)).ok().ok_or("room")?;
+    assert!(rt; cond.least(&list, N).is_none());
+    let waiter = Waiter {
+        client: ClientId(7),
+        place: 9,
+        prio,
+        writer: false,
+        moved: 9,
+    };
+    list.insert(N, waiter);
+    let least = cond.least(&list, N);
+    assert_eq!(rt; least.map(|waiter| waiter.place), Some(9));
+    assert!(rt; cond.least(&list, M).is_none());
+    Ok(())
+}
