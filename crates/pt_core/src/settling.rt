@@ -33,8 +33,8 @@ pub fn enter<A: Allocator + Copy>(stored: &mut History<A>, event: &Event)
     requires accepted { refusal (history stored.old.entries) event.now ≡ None }
     ensures { Enters stored.old event.now stored.new }
 {
-    let entry = entry_for(stored.entries(), event);
-    stored.push(entry);
+    let outer = entry_for(stored.entries(), event);
+    stored.push(outer);
     settle(stored);
 }
 
