@@ -26,7 +26,9 @@ alone-some read (field ∷ []) x h = (field, refl, h)
 alone-some read (field ∷ other ∷ more) x h = cc
 
 -- a field and more
-pub record IsFirstThen {X Y : Type 0} (first : List ℕ → Option X) (rest : List (List ℕ) → Option Y) (args : List (List ℕ)) (p : X × Y) : Type 0 where
+pub record IsFirstThen
+    {X Y : Type 0} (first : List ℕ → Option X) (rest : List (List ℕ) → Option Y)
+    (args : List (List ℕ)) (p : X × Y) : Type 0 where
   pub field : List ℕ
   pub more : List (List ℕ)
   pub args_are : args ≡ field ∷ more

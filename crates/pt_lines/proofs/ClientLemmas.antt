@@ -9,11 +9,8 @@ use Rattle.pt_lines.specs.declared.client.Who.TheVariants.{Named, Star, Unknown}
 use Rattle.pt_lines.specs.ClientNames.{is_client_byte, IsClientName, is_client_name}
 use Rattle.pt_lines.specs.Clients.{who_named, before_space, behind_space}
 use Rattle.pt_lines.proofs.ArgumentLemmas.{bytes_are}
-use Rattle.pt_lines.proofs.FieldLemmas.{is_no_space, is_word}
+use Rattle.pt_lines.proofs.FieldLemmas.{not_space, no_space_is, is_no_space, is_word}
 use Rattle.pt_lines.proofs.TestLemmas.{and_parts, and_true}
-
-not_space : (x : ℕ) → x ≢ 32 → (x == 32) ≡ false
-not_space x ne = grind arith
 
 before-other :
     (x : ℕ) (xs : List ℕ) → (x == 32) ≡ false → before_space (x ∷ xs) ≡ x ∷ before_space xs
@@ -84,13 +81,6 @@ before-missing xs h = before-none xs (λ k lt e. h k (omega arith) lt (eq-eqb (g
 pub behind-missing :
     (xs : List ℕ) → IsFirstByte (is_byte 32) xs None → behind_space xs ≡ None
 behind-missing xs h = behind-none xs (λ k lt e. h k (omega arith) lt (eq-eqb (get_or xs k 0) 32 e))
-
-no_space_is : (x : ℕ) → is_no_space x ≡ true → (x == 32) ≡ false
-no_space_is x h = by (x == 32) h
-  where
-    by : (b : Bool) → not b ≡ true → b ≡ false
-    by true h = sym h
-    by false h = refl
 
 -- a word and a space
 pub before-word :

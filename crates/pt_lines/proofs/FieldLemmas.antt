@@ -6,7 +6,7 @@ use Rattle.memchr.specs.Find.{IsFirstByte, is_byte}
 use Rattle.pt_lines.specs.Fields.{fields, push_first, spaced, behind_spaces}
 use Rattle.pt_lines.proofs.TestLemmas.{and_parts}
 
-not_space : (x : ℕ) → x ≢ 32 → (x == 32) ≡ false
+pub not_space : (x : ℕ) → x ≢ 32 → (x == 32) ≡ false
 not_space x ne = grind arith
 
 -- a byte that is no space goes into the first field
@@ -71,7 +71,7 @@ abbrev pub AreWords : List (List ℕ) → Type 0
 AreWords [] = Unit {0}
 AreWords (word ∷ words) = (is_word word ≡ true) × AreWords words
 
-no_space_is : (x : ℕ) → is_no_space x ≡ true → (x == 32) ≡ false
+pub no_space_is : (x : ℕ) → is_no_space x ≡ true → (x == 32) ≡ false
 no_space_is x h = by (x == 32) h
   where
     by : (b : Bool) → not b ≡ true → b ≡ false

@@ -36,7 +36,8 @@ longer :
     → length (behind_spaces (word ∷ words)) ≡ 1 + length word + length (behind_spaces words)
 longer word words = omega (arith, length-append word (behind_spaces words))
 
-pub short_word : (word : List ℕ) → is_short_word word ≡ true → (length word ≤ 15) × (is_word word ≡ true)
+pub short_word :
+    (word : List ℕ) → is_short_word word ≡ true → (length word ≤ 15) × (is_word word ≡ true)
 short_word word h =
     let parts = and_parts (nat_le (length word) 15) (is_word word) h in
     let short : nat_le (length word) 15 ≡ true = parts.0 in

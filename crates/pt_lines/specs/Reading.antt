@@ -1,15 +1,18 @@
 -- Reading: what a text is read as, if it is read.
-use Rattle.std.specs.Prelude.{ℕ, List, [], ◌∷◌, Option, None, Result, Err, length, nat_lt, if◌then◌else◌}
+use Rattle.std.specs.Prelude.{◌≡◌, ℕ, List, [], ◌∷◌, Option, None, Result, Ok, Err, IfOk, IfErr, length, nat_lt, if◌then◌else◌}
 use Rattle.std.specs.Option.{option_map, option_and_then, ok_or}
 use Rattle.pt_types.specs.declared.call.Call.TheVariants as call
 use Rattle.pt_types.specs.declared.outcome.Refusal.{Refusal}
 use Rattle.pt_types.specs.declared.outcome.Refusal.TheVariants.{Syntax, Long}
 use Rattle.pt_lines.specs.declared.call_line.CallLine.{CallLine}
 use Rattle.pt_lines.specs.declared.call_line.CallLine.TheVariants as line
+use Rattle.pt_lines.specs.declared.cutter.Cut.{Cut}
+use Rattle.pt_lines.specs.declared.cutter.Cut.TheVariants as cut
 use Rattle.pt_lines.specs.declared.verb.Verb.{Verb}
 use Rattle.pt_lines.specs.declared.verb.Verb.TheVariants.{Hello, Moment, MutexInit, BarrierInit, Wait, Timedwait, Named, Timed}
 use Rattle.pt_lines.specs.Verbs.{verb_of, call_on, call_until}
 use Rattle.pt_lines.specs.Fields.{fields}
+use Rattle.pt_lines.specs.Grammar.{Spells}
 use Rattle.pt_lines.specs.Numbers.{number_of}
 use Rattle.pt_lines.specs.Arguments.{name_of, kind_of, robust_of, alone, first_then, priority_of, moment_of, two_numbers, name_and_deadline}
 
@@ -45,3 +48,20 @@ line_read text = line_of_fields (fields text)
 -- what a line of a connection is read as, or why it is not read  [profile]
 abbrev pub call_read : List ℕ → Result CallLine Refusal
 call_read text = if nat_lt 128 (length text) then Err Long else ok_or (line_read text) Syntax
+
+-- how a text is read as a line of a connection: just what it spells, or else LONG past 128 bytes
+-- and SYNTAX up to them  [profile]
+pub record IsCallReadAs (text : List ℕ) (read : Result CallLine Refusal) : Type 0 where
+  pub found : IfOk read (Spells text)
+  pub exact : (asked : CallLine) → Spells text asked → read ≡ Ok asked
+  pub err : IfErr read (λ why. why ≡ (if nat_lt 128 (length text) then Long else Syntax))
+
+-- the same of what a cutter gives: a line that is too long is LONG  [profile]
+abbrev pub IsCallReadOf : Cut → Result CallLine Refusal → Type 0
+IsCallReadOf (cut.Line text) read = IsCallReadAs text.items read
+IsCallReadOf cut.Long read = read ≡ Err Long
+
+-- what is read of what a cutter gives
+abbrev pub call_of : Cut → Result CallLine Refusal
+call_of (cut.Line text) = call_read text.items
+call_of cut.Long = Err Long

@@ -7,6 +7,7 @@ use crate::arguments::{
     name_and_count, name_and_deadline, name_and_kind, only_moment, only_name, only_priority,
     two_names, two_names_and_deadline,
 };
+use crate::cutter::Cut;
 use crate::fields::Fields;
 use crate::verb::Verb;
 use pt_types::{Call, Moment, Priority, Refusal};
@@ -76,6 +77,21 @@ pub fn read_call(text: &[u8]) -> Result<CallLine, Refusal>
         return Err(Refusal::Long);
     }
     read_text(text).ok_or(Refusal::Syntax)
+}
+
+impl CallLine {
+    ghost use Rattle.pt_lines.specs.Reading.{call_of, IsCallReadOf};
+
+    /// Reads what a cutter gave. It takes no memory.
+    pub fn of(cut: &Cut) -> Result<CallLine, Refusal>
+        ensures value { result ≡ call_of cut.now }
+        ensures read { IsCallReadOf cut.now result }
+    {
+        match cut {
+            Cut::Line(text) => read_call(text.as_slice()),
+            Cut::Long => Err(Refusal::Long),
+        }
+    }
 }
 
 #[cfg(test)]

@@ -1,9 +1,10 @@
 //! Bytes to lines, lines to calls, and answers to bytes.
 //!
 //! Contracts see a cutter as the bytes that it has not given yet, a line as the bytes between two
-//! newlines, and a call as the one text, or one of two, that spells it.
-//! Only tests show that a call succeeds where memory is left, and that a cutter's memory stays
-//! below a bound.
+//! newlines, and a call as the text that spells it (two texts, where `default` means `normal`).
+//! Once it has no line to give, a cutter holds at most 128 bytes, and none of a line that was too
+//! long. Only tests show that its buffer stays small too, and that a call succeeds where memory
+//! is left.
 #![tactic(auto)]
 
 mod arguments;

@@ -1,4 +1,5 @@
 use super::*;
+use crate::cutter::Cutter;
 use pt_types::{Deadline, MutexKind, Name};
 use std::test::Fail;
 
@@ -179,6 +180,17 @@ fn lines_that_no_connection_may_send(rt: HostRuntime) {
     for text in table {
         assert!(rt; read_call(text) == Err(Refusal::Syntax), "{text:?}");
     }
+}
+
+#[test]
+fn a_cut_line_is_read(rt: HostRuntime) -> Result<(), Fail> {
+    let mut cutter = Cutter::new(rt.alloc());
+    cutter.feed(b"hello 5\n")?;
+    let cut = cutter.next_line().ok_or("line")?;
+    let priority = Priority::new(5).ok_or("priority")?;
+    assert!(rt; CallLine::of(&cut) == Ok(CallLine::Hello(priority)));
+    assert!(rt; CallLine::of(&Cut::Long) == Err(Refusal::Long));
+    Ok(())
 }
 
 #[test]
