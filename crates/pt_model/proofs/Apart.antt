@@ -1,13 +1,11 @@
 -- No two calls that stood have one place, and nobody has locks on what isn't made.
-use Rattle.std.proofs.Common.{◌≡◌, ℕ, suc, ◌+◌, ◌-◌, ◌<◌, ◌≤◌, ◌==◌, nat_lt, Bool, true, false, cond, ◌&&◌, ◌||◌, inl, inr, List, [], ◌∷◌, ◌++◌, length, Option, Some, None, is_some, refl, sym, ap, ◌∙◌, subst, arith, filter, append-nil}
+use Rattle.std.proofs.Common.{◌≡◌, ℕ, suc, ◌+◌, ◌<◌, ◌≤◌, ◌==◌, nat_lt, Bool, true, false, cond, ◌||◌, inl, inr, List, [], ◌∷◌, ◌++◌, length, Some, None, refl, sym, ap, ◌∙◌, subst, arith, filter, append-nil}
 use Rattle.std.proofs.lemmas.Bool.Decides.{nat_tests}
-use Rattle.std.proofs.lemmas.Bool.{and_parts, false≢true}
-use Rattle.pt_types.specs.declared.call.ObjectKind.{ObjectKind}
+use Rattle.std.proofs.lemmas.Bool.{false≢true}
 use Rattle.pt_types.specs.Deeds.{MutexSort}
 use Rattle.pt_types.specs.MutexTable.{is_number, is_acquired}
 use Rattle.pt_types.specs.Tables.{reply}
 use Rattle.pt_model.specs.declared.entry.Entry.{Entry}
-use Rattle.pt_model.specs.declared.entry.Entry.TheVariants.{Call}
 use Rattle.pt_model.specs.Searches.{In, Each}
 use Rattle.pt_model.specs.Histories.{History, Begin, ◌▷◌, place}
 use Rattle.pt_model.specs.Objects.{kind_of}
@@ -15,13 +13,13 @@ use Rattle.pt_model.specs.Records.{Role, ForMutex, ForRead, ForWrite, ForBarrier
 use Rattle.pt_model.specs.Standing.{stood_by, stood, mutex_of}
 use Rattle.pt_model.specs.Answers.{is_open_by, outcome, open_calls}
 use Rattle.pt_model.specs.Moves.{has_place, moved}
-use Rattle.pt_model.specs.Mutexes.{gained, lost, count, owner}
+use Rattle.pt_model.specs.Mutexes.{gained, count, owner}
 use Rattle.pt_model.specs.Grants.{grant_outcome}
 use Rattle.pt_model.specs.Verdicts.{verdict}
 use Rattle.pt_model.specs.Steps.{Step, joins, calls, dies, ticks, grants, trips, yields, expires, Follows}
-use Rattle.pt_model.proofs.Lists.{Each-in, In-filter, none-any, any-false, false_by}
+use Rattle.pt_model.proofs.Lists.{In-filter, none-any, any-false, false_by}
 use Rattle.pt_model.proofs.Leasts.{first_below-nowhere}
-use Rattle.pt_model.proofs.Counting.{total, total-same}
+use Rattle.pt_model.proofs.Counting.{total}
 use Rattle.pt_model.proofs.Effects.{Effect, Idle, Creates, Removes, Relocks, Frees, Mends, Returns, Wakes, Waits, effect, Allowed}
 use Rattle.pt_model.proofs.Allowances.{allowed}
 use Rattle.pt_model.proofs.Changes.{takes_more, left_by}
@@ -31,7 +29,6 @@ use Rattle.pt_model.proofs.Found.{found_open}
 use Rattle.pt_model.proofs.Unheld.{has, and_false}
 use Rattle.pt_model.proofs.Counts.{owning-has}
 use Rattle.pt_model.proofs.Owners.{takes_owns, for_mutex}
-use Rattle.pt_model.proofs.Named.{is_sort}
 use Rattle.pt_model.proofs.Seats.{exists_as, HousedBy, housed}
 use Rattle.pt_model.proofs.Partition.{sort_exists}
 
@@ -47,8 +44,8 @@ Apart-filter p (w ∷ ws) a = go (p w) (Apart-filter p ws a.1)
     fewer : has_place (filter p ws) w.place ≡ false
     fewer =
         none-any (λ (v : Standing). v.place == w.place) (filter p ws)
-            (λ v i. any-false (λ (u : Standing). u.place == w.place) ws v a.0
-            (In-filter p ws v i).0)
+        (λ v i. any-false (λ (u : Standing). u.place == w.place) ws v a.0
+        (In-filter p ws v i).0)
 
     go : (b : Bool) → Apart (filter p ws) → Apart (cond b (w ∷ filter p ws) (filter p ws))
     go true ih = (fewer, ih)
@@ -93,8 +90,8 @@ apart_step : (h : History) (e : Entry) → Follows h → Apart (stood h) → Ste
     → Apart (stood h ++ stood_by h e)
 apart_step h _ f a (calls c call n l o) =
     subst (λ ws. Apart (stood h ++ ws)) (sym (stood-call h c call (reply (verdict h c call))))
-        (apart_left h c (effect h c call (reply (verdict h c call))) (allowed h c call) a
-        (Fresh-follows h f).stood)
+    (apart_left h c (effect h c call (reply (verdict h c call))) (allowed h c call) a
+    (Fresh-follows h f).stood)
 apart_step h _ f a (joins p n lt) = Apart-nil (stood h) a
 apart_step h _ f a (dies c n l) = Apart-nil (stood h) a
 apart_step h _ f a (ticks t n) = Apart-nil (stood h) a
@@ -119,10 +116,10 @@ total-one f g (x ∷ xs) u (inl i) a e same =
     let gx : g u ≡ g x = ap g i in
     let fx : f u ≡ f x = ap f i in
     let rest : total g xs ≡ total f xs =
-        totals xs (λ w j. same w (inr j) (let k : (w.place == x.place)
-            ≡ false = any-false (λ (v : Standing). v.place == x.place) xs w a.0 j in
-            let at : u.place ≡ x.place = ap (λ (v : Standing). v.place) i in grind
-            (arith, nat_tests))) in
+    totals xs (λ w j. same w (inr j) (let k : (w.place == x.place)
+    ≡ false = any-false (λ (v : Standing). v.place == x.place) xs w a.0 j in
+    let at : u.place ≡ x.place = ap (λ (v : Standing). v.place) i in grind
+    (arith, nat_tests))) in
     omega (arith, gx, fx, rest, e)
   where
     totals : (ws : List Standing) → ((w : Standing) → In w ws → g w ≡ f w) → total g ws ≡ total f ws
@@ -130,7 +127,7 @@ total-one f g (x ∷ xs) u (inl i) a e same =
     totals (w ∷ ws) s = omega (arith, s w (inl refl), totals ws (λ v j. s v (inr j)))
 total-one f g (x ∷ xs) u (inr i) a e same =
     let k : (u.place == x.place) ≡ false =
-        any-false (λ (v : Standing). v.place == x.place) xs u a.0 i in
+    any-false (λ (v : Standing). v.place == x.place) xs u a.0 i in
     omega (arith, same x (inl refl) k, total-one f g xs u i a.1 e (λ w j. same w (inr j)))
 
 -- where each call that passes counts for one less, the sum is less by as many
@@ -166,7 +163,7 @@ Unmade h = (m c : ℕ) → place h ≤ m → gained h m c ≡ 0
 unmade_step : (h : History) (e : Entry) → Follows h → Unmade h → Step h e → Unmade (h ▷ e)
 unmade_step h _ f u (calls c call n l o) = λ m d le.
     gained-call h c call (reply (verdict h c call)) m d (gained h m d)
-        ∙ rw (untaken m (omega arith)) (u m d (omega arith))
+    ∙ rw (untaken m (omega arith)) (u m d (omega arith))
   where
     untaken : (m : ℕ) → place h ≤ m → takes_more (effect h c call (reply (verdict h c call))) m
         ≡ false
@@ -174,19 +171,23 @@ unmade_step h _ f u (calls c call n l o) = λ m d le.
         let zero' : gained h m c ≡ 0 = u m c le in
         let none : count h m c ≡ 0 = omega (arith, zero') in
         false_by (takes_more (effect h c call (reply (verdict h c call))) m)
-            (λ t. false≢true (sym (ap (nat_lt 0) none)
-            ∙ owning-has h m c (takes_owns h c (effect h c call (reply (verdict h c call))) m
-            (allowed h c call) t)))
+        (λ t. false≢true (sym (ap (nat_lt 0) none)
+        ∙ owning-has h m c (takes_owns h c (effect h c call (reply (verdict h c call))) m
+        (allowed h c call) t)))
 unmade_step h _ f u (grants w s i g) = λ m d le.
-    rw (found_open h f w i, other m (omega arith), and_false (is_acquired (grant_outcome h w)) false
-        refl) (u m d (omega arith))
+    rw (
+      found_open h f w i,
+      other m (omega arith),
+      and_false (is_acquired (grant_outcome h w)) false
+          refl,
+    ) (u m d (omega arith))
   where
     other : (m : ℕ) → place h ≤ m → is_number (mutex_of w.role w.object) m ≡ false
     other m le =
         false_by (is_number (mutex_of w.role w.object) m)
-            (λ t. let lt : m < place h = kind_below h m (Fresh-follows h f)
-            (sort_exists (kind_of h m) MutexSort
-            (mutex-exists h f w i m (for_mutex w.role w.object m t))) in omega (arith, le, lt))
+        (λ t. let lt : m < place h = kind_below h m (Fresh-follows h f)
+        (sort_exists (kind_of h m) MutexSort
+        (mutex-exists h f w i m (for_mutex w.role w.object m t))) in omega (arith, le, lt))
 unmade_step h _ f u (yields k s t) = λ m c le. go (k == m) (gained h m c) (u m c (omega arith))
   where
     go : (b : Bool) (n : ℕ) → n ≡ 0 → cond b 0 n ≡ 0
@@ -206,5 +207,5 @@ unmade (h ▷ e) f = unmade_step h e f.0 (unmade h f.0) f.1
 pub owner-unmade : (h : History) → Follows h → (m : ℕ) → place h ≤ m → owner h m ≡ None
 owner-unmade h f m le =
     first_below-nowhere (place h) (λ c. has h m c)
-        (λ c lt. let zero' : gained h m c ≡ 0 = unmade h f m c le in let none : count h m c
-        ≡ 0 = omega (arith, zero') in ap (nat_lt 0) none)
+    (λ c lt. let zero' : gained h m c ≡ 0 = unmade h f m c le in let none : count h m c
+    ≡ 0 = omega (arith, zero') in ap (nat_lt 0) none)

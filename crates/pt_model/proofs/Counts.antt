@@ -1,7 +1,7 @@
 -- How the counts of locks on a mutex change with one entry.
-use Rattle.std.proofs.Common.{◌≡◌, ℕ, suc, ◌-◌, ◌+◌, ◌<◌, ◌≤◌, nat_lt, Bool, true, false, cond, ◌&&◌, ◌==◌, Option, Some, None, refl, sym, ap, ◌∙◌, arith}
+use Rattle.std.proofs.Common.{◌≡◌, ℕ, suc, ◌-◌, ◌<◌, ◌≤◌, Bool, true, false, cond, ◌&&◌, ◌==◌, Option, Some, None, refl, sym, ap, ◌∙◌, arith}
 use Rattle.std.proofs.lemmas.Bool.Decides.{nat_tests}
-use Rattle.std.proofs.lemmas.Bool.{ltb-true, and_parts}
+use Rattle.std.proofs.lemmas.Bool.{ltb-true}
 use Rattle.pt_types.specs.declared.call.Call.{Call as Asked}
 use Rattle.pt_types.specs.declared.outcome.Outcome.{Outcome}
 use Rattle.pt_types.specs.MutexTable.{is_number, is_acquired}
@@ -75,10 +75,12 @@ not_both (Wakes n all) m t = refl
 
 pub Balanced-step : (h : History) (e : Entry) → Balanced h → Step h e → Balanced (h ▷ e)
 Balanced-step h _ b (calls c call n a o) =
-    λ m d. rw (lost-call h c call (reply (verdict h c call)) (resolved h c call) m d (lost h m d),
-        gained-call h c call (reply (verdict h c call)) m d (gained h m d))
-        (go m d (gives_up (effect h c call (reply (verdict h c call))) m) (c == d)
-        (takes_more (effect h c call (reply (verdict h c call))) m) refl refl)
+    λ m d. rw (
+      lost-call h c call (reply (verdict h c call)) (resolved h c call) m d (lost h m d),
+      gained-call h c call (reply (verdict h c call)) m d (gained h m d),
+    )
+    (go m d (gives_up (effect h c call (reply (verdict h c call))) m) (c == d)
+    (takes_more (effect h c call (reply (verdict h c call))) m) refl refl)
   where
     go : (m d : ℕ) (x y z : Bool) → gives_up (effect h c call (reply (verdict h c call))) m ≡ x
         → (c == d) ≡ y → cond (x && y) (suc (lost h m d)) (lost h m d) ≤ cond (z && y)
@@ -86,8 +88,8 @@ Balanced-step h _ b (calls c call n a o) =
     go m d true true z ex ey =
         let same : c ≡ d = grind (arith, nat_tests) in
         let own : has h m c ≡ true =
-            owning-has h m c (gives_up-owns h c (effect h c call (reply (verdict h c call))) m
-                (allowed h c call) ex) in
+        owning-has h m c (gives_up-owns h c (effect h c call (reply (verdict h c call))) m
+        (allowed h c call) ex) in
         let own' : has h m d ≡ true = ap (has h m) (sym same) ∙ own in
         let some : 0 < gained h m d - lost h m d = ltb-true 0 (count h m d) own' in
         more z (omega arith)
@@ -127,15 +129,15 @@ Balanced-follows (h ▷ e) f = Balanced-step h e (Balanced-follows h f.0) f.1
 abbrev pub counted : ℕ → Effect → ℕ → ℕ → ℕ → ℕ
 counted c E m d before =
     cond (takes_more E m && (c == d)) (suc before)
-        (cond (gives_up E m && (c == d)) (before - 1) before)
+    (cond (gives_up E m && (c == d)) (before - 1) before)
 
 pub count-call : (h : History) (c : ℕ) (call : Asked) (r : Option Outcome) (m d : ℕ)
     → Resolved h call r → Balanced h → count (h ▷ Call c call r) m d
     ≡ counted c (effect h c call r) m d (count h m d)
 count-call h c call r m d s b =
     rw (lost-call h c call r s m d (lost h m d), gained-call h c call r m d (gained h m d))
-        (go (takes_more (effect h c call r) m) (gives_up (effect h c call r) m) (c == d)
-        (not_both (effect h c call r) m))
+    (go (takes_more (effect h c call r) m) (gives_up (effect h c call r) m) (c == d)
+    (not_both (effect h c call r) m))
   where
     go : (x y z : Bool) → (y ≡ true → x ≡ false)
         → cond (x && z) (suc (gained h m d)) (gained h m d) - cond (y && z) (suc (lost h m d))
@@ -152,11 +154,11 @@ count-call h c call r m d s b =
 pub count-grant : (h : History) (w : Standing) (x : Outcome) (m d : ℕ) → Follows h
     → In w (open_calls h)
     → count (h ▷ Grant w.place x) m d ≡ cond (is_acquired x
-        && (is_number (mutex_of w.role w.object) m && (w.client == d))) (suc (count h m d))
-        (count h m d)
+    && (is_number (mutex_of w.role w.object) m && (w.client == d))) (suc (count h m d))
+    (count h m d)
 count-grant h w x m d f i =
     rw (found_open h f w i) (go (is_acquired x
-        && (is_number (mutex_of w.role w.object) m && (w.client == d))))
+    && (is_number (mutex_of w.role w.object) m && (w.client == d))))
   where
     go : (t : Bool) → cond t (suc (gained h m d)) (gained h m d) - lost h m d
         ≡ cond t (suc (count h m d)) (count h m d)

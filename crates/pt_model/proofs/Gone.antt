@@ -1,12 +1,12 @@
 -- Nothing is said to the dead, and nothing happens at the destroyed.
-use Rattle.std.proofs.Common.{◌≡◌, ◌≢◌, ℕ, suc, ◌<◌, ◌≤◌, Bool, true, false, cond, not, ◌&&◌, ◌==◌, List, [], ◌∷◌, ◌++◌, Option, Some, None, is_some, is_none, inl, inr, refl, sym, ap, ◌∙◌, subst, arith, filter}
+use Rattle.std.proofs.Common.{◌≡◌, ◌≢◌, ℕ, ◌<◌, Bool, true, false, cond, ◌==◌, List, [], ◌∷◌, Option, Some, None, is_some, inl, inr, refl, sym, ap, ◌∙◌, arith, filter}
 use Rattle.std.proofs.lemmas.Bool.Decides.{nat_tests}
 use Rattle.std.proofs.lemmas.Bool.{and_parts, false≢true}
 use Rattle.pt_types.specs.declared.call.Call.{Call as Asked}
 use Rattle.pt_types.specs.declared.call.ObjectKind.{ObjectKind}
 use Rattle.pt_types.specs.declared.outcome.Outcome.{Outcome}
 use Rattle.pt_types.specs.declared.outcome.Outcome.TheVariants.{Done}
-use Rattle.pt_types.specs.Deeds.{Deed, Makes, Ends, Acquires, Unlocks, Restores, Rwunlocks, Awaits, Signals, Broadcasts, Arrives, deed, Sort}
+use Rattle.pt_types.specs.Deeds.{Deed, Makes, Ends, Acquires, Unlocks, Restores, Rwunlocks, Awaits, Signals, Broadcasts, Arrives, deed}
 use Rattle.pt_types.specs.MutexTable.{is_number}
 use Rattle.pt_types.specs.Tables.{reply}
 use Rattle.pt_model.specs.declared.entry.Entry.{Entry}
@@ -16,17 +16,16 @@ use Rattle.pt_model.specs.Histories.{History, ◌▷◌, place, onto, history}
 use Rattle.pt_model.specs.Clients.{client, is_alive}
 use Rattle.pt_model.specs.Objects.{find, ends, kind_by_deed, kind_of, is_robust}
 use Rattle.pt_model.specs.Records.{Role, ForMutex, ForRead, ForWrite, ForBarrier, ForCond, Standing, Told}
-use Rattle.pt_model.specs.Standing.{stood, at_place, is_arrival, is_wait_if}
+use Rattle.pt_model.specs.Standing.{is_arrival}
 use Rattle.pt_model.specs.Answers.{at_barrier, told_by_trip, told_by_expiry, told, open_calls, replies_from}
-use Rattle.pt_model.specs.Moves.{moved, at_object, standing_at}
+use Rattle.pt_model.specs.Moves.{moved, at_object}
 use Rattle.pt_model.specs.Mutexes.{owner}
 use Rattle.pt_model.specs.Forced.{is_dead_if}
 use Rattle.pt_model.specs.Verdicts.{verdict}
-use Rattle.pt_model.specs.Legal.{Legal}
 use Rattle.pt_model.specs.Steps.{Step, joins, calls, dies, ticks, grants, trips, yields, expires, Follows}
 use Rattle.pt_model.specs.EndLaws.{DeadUntold, is_of_call, is_of, StaysEmpty, EndedStill, Gone}
-use Rattle.pt_model.proofs.Lists.{Each-append, Each-weaker, Each-from_in, In-filter}
-use Rattle.pt_model.proofs.Histories.{onto-append, follows-part}
+use Rattle.pt_model.proofs.Lists.{Each-append, Each-weaker, In-filter}
+use Rattle.pt_model.proofs.Histories.{follows-part}
 use Rattle.pt_model.proofs.Legality.{legal-part}
 use Rattle.pt_model.proofs.Effects.{Effect, Idle, Creates, Removes, Relocks, Frees, Mends, Returns, Wakes, Waits, effect}
 use Rattle.pt_model.proofs.Changes.{kind_effect}
@@ -63,7 +62,7 @@ told-alive h _ f (calls c call n a o) = told_call h c call (reply (verdict h c c
 told-alive h _ f (grants w s i g) = (rw (found_open h f w i) (open_alive h w i), tt)
 told-alive h _ f (trips w s i t) =
     told_trip h (at_barrier w.object (open_calls h))
-        (λ v j. open_alive h v (In-filter (stands_at_barrier w.object) (open_calls h) v j).0)
+    (λ v j. open_alive h v (In-filter (stands_at_barrier w.object) (open_calls h) v j).0)
 told-alive h _ f (expires w s i t) = rw (found_open h f w i) (told_expiry h w _ (open_alive h w i))
 told-alive h _ f (joins p n lt) = tt
 told-alive h _ f (dies c n a) = tt
@@ -93,11 +92,11 @@ dead_untold_from h [] c f lt d = tt
 dead_untold_from h (e ∷ es) c f lt d =
     let s = follows-part (h ▷ e) es f in
     let here =
-        Each-weaker (ToLiving h) (λ (t : Told). t.client ≢ c)
-            (λ t a same. false≢true (sym (ap is_some d) ∙ (ap (is_alive h) (sym same) ∙ a)))
-            (told h e) (told-alive h e s.0 s.1) in
+    Each-weaker (ToLiving h) (λ (t : Told). t.client ≢ c)
+    (λ t a same. false≢true (sym (ap is_some d) ∙ (ap (is_alive h) (sym same) ∙ a)))
+    (told h e) (told-alive h e s.0 s.1) in
     Each-append (λ (t : Told). t.client ≢ c) (told h e) (replies_from (h ▷ e) es) here
-        (dead_untold_from (h ▷ e) es c f (omega (arith, lt)) (dead_stays h e c s.1 lt d))
+    (dead_untold_from (h ▷ e) es c f (omega (arith, lt)) (dead_stays h e c s.1 lt d))
 
 -- who dies lived, and so joined
 died_alive : (h : History) (e : Entry) (c : ℕ) → Step h e → e ≡ Death c → is_alive h c ≡ true
@@ -141,7 +140,7 @@ gone_stays : (h : History) (e : Entry) (o : ℕ) → Step h e → o < place h �
     → kind_of (h ▷ e) o ≡ None
 gone_stays h _ o (calls c call n a p) lt d =
     kind-call h c call (reply (verdict h c call)) (kind_of h o) o
-        ∙ gone_effect (place h) (effect h c call (reply (verdict h c call))) (kind_of h o) o lt d
+    ∙ gone_effect (place h) (effect h c call (reply (verdict h c call))) (kind_of h o) o lt d
 gone_stays h _ o (joins p n l) lt d = d
 gone_stays h _ o (dies c n a) lt d = d
 gone_stays h _ o (ticks t n) lt d = d
@@ -165,7 +164,7 @@ pub vacant : (h : History) → Follows h → (o : ℕ) → kind_of h o ≡ None 
     → In w (open_calls h) → (at_object h w == o) ≡ false
 vacant h f o e w i =
     elsewhere h (at_object h w) o (sort_exists (kind_of h (at_object h w))
-        (seat w.role (moved h w.place)) (housed h f w i).0) e
+    (seat w.role (moved h w.place)) (housed h f w i).0) e
 
 none_pass : (p : Standing → Bool) (ws : List Standing) → ((w : Standing) → In w ws → p w ≡ false)
     → filter p ws ≡ []
@@ -187,10 +186,10 @@ untouched h _ o f (grants w s i g) e =
     ap (λ x. is_of_call h x o) (found_open h f w i) ∙ vacant h f o e w i
 untouched h _ o f (trips w s i t) e =
     ap (λ k. k == o) (sym (arrival_object h w w.role refl (and_parts (is_arrival w.role) _ t).0))
-        ∙ vacant h f o e w i
+    ∙ vacant h f o e w i
 untouched h _ o f (yields m s t) e =
     elsewhere h m o (robust_made (kind_of h m)
-        (and_parts (is_robust (kind_of h m)) (is_dead_if h (owner h m)) t).0) e
+    (and_parts (is_robust (kind_of h m)) (is_dead_if h (owner h m)) t).0) e
   where
     robust_made : (k : Option ObjectKind) → is_robust k ≡ true → is_some k ≡ true
     robust_made None r = absurd cc
@@ -205,9 +204,12 @@ pub stays_empty_from : (h : History) (es : List Entry) (o : ℕ) → Follows (on
     → kind_of h o ≡ None → StaysEmpty o h es
 stays_empty_from h [] o f lt e = none_pass (λ w. at_object h w == o) (open_calls h) (vacant h f o e)
 stays_empty_from h (x ∷ xs) o f lt e =
-    let s = follows-part (h ▷ x) xs f in
-    (none_pass (λ w. at_object h w == o) (open_calls h) (vacant h s.0 o e), untouched h x o s.0 s.1
-        e, stays_empty_from (h ▷ x) xs o f (omega (arith, lt)) (gone_stays h x o s.1 lt e))
+    let s = follows-part (h ▷ x) xs f in (
+      none_pass (λ w. at_object h w == o) (open_calls h) (vacant h s.0 o e),
+      untouched h x o s.0 s.1
+          e,
+      stays_empty_from (h ▷ x) xs o f (omega (arith, lt)) (gone_stays h x o s.1 lt e),
+    )
 
 -- what a call ends was there, and then isn't
 ended_was : (h : History) (d : Deed) (o : ℕ) → Follows h → ends h d o ≡ true → (o < place h)
@@ -221,7 +223,7 @@ ended_was h (Ends n s) o f t = (go (find h n s) refl t, rw t refl)
         let u = found_object h n s q ex in
         let there : kind_of h u.0.number ≡ Some u.0.kind = (Named-follows h f).made n u.0 u.1.0 in
         let lt : u.0.number < place h =
-            kind_below h u.0.number (Fresh-follows h f) (ap is_some there) in
+        kind_below h u.0.number (Fresh-follows h f) (ap is_some there) in
         let at : u.0.number ≡ o = u.1.1.0 ∙ same in
         omega (arith, lt, at)
 ended_was h (Makes n kind) o f t = absurd cc
@@ -240,7 +242,7 @@ ended_still events older newer c call o l t =
     let s = follows-part (history older ▷ Call c call (Some Done)) newer whole in
     let e = ended_was (history older) (deed call) o s.0 t in
     stays_empty_from (history older ▷ Call c call (Some Done)) newer o whole (omega (arith, e.0))
-        e.1
+    e.1
 
 pub gone : Gone
 gone = (dead_untold, ended_still)

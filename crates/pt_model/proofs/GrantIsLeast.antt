@@ -1,8 +1,7 @@
 -- Each Grant is of the least grantable call of its object, with its outcome.
-use Rattle.std.proofs.Common.{◌≡◌, List, true}
 use Rattle.pt_model.specs.Histories.{history}
 use Rattle.pt_model.specs.Grants.{is_grantable, is_complete}
-use Rattle.pt_model.specs.GrantLaws.{IsLeastGrant, GrantIsLeast}
+use Rattle.pt_model.specs.GrantLaws.{GrantIsLeast}
 use Rattle.pt_model.proofs.Legality.{legal-step}
 use Rattle.pt_model.proofs.Services.{granted, served-first, or_left_true}
 

@@ -1,5 +1,5 @@
 -- A history that goes on by a list of entries.
-use Rattle.std.proofs.Common.{◌≡◌, ◌+◌, List, [], ◌∷◌, ◌++◌, length, refl, sym, subst, arith}
+use Rattle.std.proofs.Common.{◌≡◌, ◌+◌, List, [], ◌∷◌, ◌++◌, length, refl, arith}
 use Rattle.pt_model.specs.declared.entry.Entry.{Entry}
 use Rattle.pt_model.specs.Histories.{History, Begin, ◌▷◌, place, onto, history}
 use Rattle.pt_model.specs.Steps.{Follows}

@@ -35,3 +35,6 @@ pub mod Rwlocks
 pub mod Forcing
 pub mod Holders
 pub mod Apart
+pub mod KeptCalls
+pub mod KeptYields
+pub mod Needs

@@ -1,7 +1,6 @@
 -- How moves change with one entry: where a call stands, and its arrival.
-use Rattle.std.proofs.Common.{◌≡◌, ℕ, Bool, true, false, cond, ◌&&◌, ◌||◌, ◌==◌, List, [], ◌∷◌, Option, Some, None, refl, sym, ap, ◌∙◌, inl, inr, arith, filter}
+use Rattle.std.proofs.Common.{◌≡◌, ℕ, Bool, true, false, ◌&&◌, ◌||◌, ◌==◌, List, [], ◌∷◌, Option, Some, None, refl, ap, ◌∙◌, arith, filter}
 use Rattle.std.proofs.lemmas.Bool.Decides.{nat_tests}
-use Rattle.std.proofs.lemmas.Bool.{and_parts}
 use Rattle.std.specs.List.{list_any}
 use Rattle.pt_types.specs.declared.call.Call.{Call as Asked}
 use Rattle.pt_types.specs.declared.outcome.Outcome.{Outcome}
@@ -10,11 +9,11 @@ use Rattle.pt_model.specs.declared.entry.Cause.{Cause}
 use Rattle.pt_model.specs.Searches.{In, least, listed}
 use Rattle.pt_model.specs.Histories.{History, ◌▷◌, place}
 use Rattle.pt_model.specs.Records.{Role, ForMutex, ForRead, ForWrite, ForBarrier, ForCond, Standing, Move}
-use Rattle.pt_model.specs.Standing.{stood, at_place, is_wait, is_wait_if}
+use Rattle.pt_model.specs.Standing.{stood, is_wait}
 use Rattle.pt_model.specs.Answers.{outcome, is_open_by, open_calls}
-use Rattle.pt_model.specs.Moves.{arrival_by, precedes_by, waits_at, waiting_at, first_waiting, has_place, cause_by_expiry, move_or, moved, object_by, at_object}
+use Rattle.pt_model.specs.Moves.{arrival_by, precedes_by, waits_at, waiting_at, first_waiting, has_place, cause_by_expiry, move_or, moved, object_by}
 use Rattle.pt_model.specs.Steps.{Follows}
-use Rattle.pt_model.proofs.Lists.{In-filter, filter-filter, in-any}
+use Rattle.pt_model.proofs.Lists.{In-filter, filter-filter}
 use Rattle.pt_model.proofs.Leasts.{least-in}
 use Rattle.pt_model.proofs.Effects.{effect}
 use Rattle.pt_model.proofs.Changes.{cause_effect}

@@ -1,5 +1,5 @@
 -- A name means an object that exists, and each object has one name.
-use Rattle.std.proofs.Common.{◌≡◌, ℕ, ◌<◌, ◌≤◌, Bool, true, false, cond, ◌==◌, List, Option, Some, None, is_some, refl, sym, ap, ◌∙◌, arith}
+use Rattle.std.proofs.Common.{◌≡◌, ℕ, ◌<◌, Bool, true, false, cond, ◌==◌, List, Option, Some, None, is_some, refl, sym, ap, ◌∙◌, arith}
 use Rattle.std.proofs.lemmas.Bool.Decides.{nat_tests}
 use Rattle.std.proofs.lemmas.Bool.{false≢true}
 use Rattle.std.specs.Cmp.Lexicographic.{same_text, other_text}
@@ -8,7 +8,6 @@ use Rattle.pt_types.specs.Names.{same_name}
 use Rattle.pt_types.specs.Deeds.{Sort, sort_of, same_sort}
 use Rattle.pt_types.specs.Tables.{reply}
 use Rattle.pt_model.specs.declared.entry.Entry.{Entry}
-use Rattle.pt_model.specs.declared.entry.Entry.TheVariants.{Call}
 use Rattle.pt_model.specs.Histories.{History, Begin, ◌▷◌, place}
 use Rattle.pt_model.specs.Objects.{object_named, number_of, find, kind_of}
 use Rattle.pt_model.specs.Records.{Object}

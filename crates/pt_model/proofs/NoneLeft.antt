@@ -1,5 +1,5 @@
 -- Where no entry is forced, nothing that must follow is left.
-use Rattle.std.proofs.Common.{◌≡◌, ◌≢◌, ℕ, ◌<◌, ◌≤◌, nat_lt, Bool, true, false, cond, ◌&&◌, ◌||◌, ◌==◌, List, [], ◌∷◌, length, Option, Some, None, is_some, inl, inr, refl, sym, ap, ◌∙◌, subst, arith, filter}
+use Rattle.std.proofs.Common.{◌≡◌, ℕ, ◌<◌, Bool, true, false, cond, ◌==◌, List, [], ◌∷◌, length, Option, Some, None, is_some, inl, refl, sym, ap, ◌∙◌, subst, arith}
 use Rattle.std.proofs.lemmas.Bool.Decides.{nat_tests}
 use Rattle.std.proofs.lemmas.Bool.{and_parts, and_from, false≢true}
 use Rattle.pt_types.specs.declared.call.ObjectKind.{ObjectKind}
@@ -15,7 +15,7 @@ use Rattle.pt_model.specs.Standing.{is_arrival}
 use Rattle.pt_model.specs.Answers.{open_calls, at_barrier}
 use Rattle.pt_model.specs.Mutexes.{owner}
 use Rattle.pt_model.specs.Grants.{is_grantable, is_complete}
-use Rattle.pt_model.specs.Forced.{is_served, is_orphan, is_dead_if, forced}
+use Rattle.pt_model.specs.Forced.{is_orphan, is_dead_if, forced}
 use Rattle.pt_model.specs.Verdicts.{verdict}
 use Rattle.pt_model.specs.Steps.{Step, joins, calls, dies, ticks, grants, trips, yields, expires, Follows}
 use Rattle.pt_model.specs.GrantLaws.{IsSettled, NoneLeft}

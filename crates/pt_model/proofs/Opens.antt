@@ -1,5 +1,5 @@
 -- How the open calls change with one entry.
-use Rattle.std.proofs.Common.{◌≡◌, ℕ, Bool, true, false, not, cond, ◌&&◌, ◌||◌, ◌==◌, List, [], ◌∷◌, ◌++◌, Option, Some, None, is_some, is_none, refl, ap, sym, ◌∙◌, ◌⊎◌, inl, inr, subst, arith, filter, append-nil}
+use Rattle.std.proofs.Common.{◌≡◌, ℕ, Bool, true, false, not, cond, ◌&&◌, ◌||◌, ◌==◌, List, [], ◌∷◌, ◌++◌, Option, Some, None, is_some, is_none, refl, ap, ◌∙◌, ◌⊎◌, inl, subst, arith, filter, append-nil}
 use Rattle.std.proofs.lemmas.Bool.Decides.{nat_tests}
 use Rattle.std.proofs.lemmas.List.Elements.{filter-append, filter_agree}
 use Rattle.std.specs.List.{list_any}
@@ -10,15 +10,15 @@ use Rattle.pt_types.specs.declared.outcome.Outcome.TheVariants.{Etimedout}
 use Rattle.pt_types.specs.Tables.{reply}
 use Rattle.pt_model.specs.declared.entry.Entry.{Entry}
 use Rattle.pt_model.specs.declared.entry.Entry.TheVariants.{Join, Call, Death, Moment, Grant, Trip, Yield, Expire}
-use Rattle.pt_model.specs.Searches.{In, Each}
-use Rattle.pt_model.specs.Records.{Standing, Told}
+use Rattle.pt_model.specs.Searches.{In}
+use Rattle.pt_model.specs.Records.{Standing}
 use Rattle.pt_model.specs.Histories.{History, ◌▷◌, place}
 use Rattle.pt_model.specs.Clients.{client, is_alive}
-use Rattle.pt_model.specs.Standing.{stood, stood_by, at_place, is_arrival, is_wait, is_wait_if}
+use Rattle.pt_model.specs.Standing.{stood, is_arrival, is_wait}
 use Rattle.pt_model.specs.Answers.{at_barrier, trip_outcome, told_by_trip, told_by_expiry, outcome_in, outcome, is_open_by, open_calls}
 use Rattle.pt_model.specs.Verdicts.{verdict}
 use Rattle.pt_model.specs.Steps.{Step, joins, calls, dies, ticks, grants, trips, yields, expires, Follows}
-use Rattle.pt_model.proofs.Lists.{Each-weaker, Each-from_in, In-filter, In-append_cases, filter-agree_on, filter-filter, filter-all}
+use Rattle.pt_model.proofs.Lists.{Each-weaker, Each-from_in, In-filter, In-append_cases, filter-agree_on, filter-filter}
 use Rattle.pt_model.proofs.Effects.{Effect, Idle, Creates, Removes, Relocks, Frees, Mends, Returns, Wakes, Waits, effect, Allowed}
 use Rattle.pt_model.proofs.Allowances.{allowed}
 use Rattle.pt_model.proofs.Changes.{left_by}

@@ -1,17 +1,17 @@
 -- EOWNERDEAD is told where the mutex is inconsistent, and to one client.
-use Rattle.std.proofs.Common.{◌≡◌, ◌↔◌, ◌⊎◌, inl, inr, ℕ, suc, ◌-◌, Bool, true, false, cond, ◌&&◌, ◌||◌, ◌==◌, nat_lt, List, ◌∷◌, ◌++◌, Option, Some, None, refl, sym, ap, ◌∙◌, subst, arith}
+use Rattle.std.proofs.Common.{◌≡◌, ◌⊎◌, inl, inr, ℕ, suc, ◌-◌, Bool, true, false, cond, ◌&&◌, ◌||◌, ◌==◌, nat_lt, Some, refl, sym, ap, ◌∙◌, arith}
 use Rattle.std.proofs.lemmas.Bool.Decides.{nat_tests}
-use Rattle.std.proofs.lemmas.Bool.{and_parts, and_from, false≢true}
+use Rattle.std.proofs.lemmas.Bool.{and_parts, false≢true}
 use Rattle.pt_types.specs.declared.outcome.Condition.{Condition}
 use Rattle.pt_types.specs.declared.outcome.Condition.TheVariants.{Consistent, Inconsistent, NotRecoverable}
 use Rattle.pt_types.specs.declared.outcome.Outcome.{Outcome}
 use Rattle.pt_types.specs.declared.outcome.Outcome.TheVariants.{Done, Serial, Eperm, Einval, Ebusy, Eagain, Edeadlk, Etimedout, Eownerdead, Enotrecoverable}
-use Rattle.pt_types.specs.MutexTable.{is_number, after_yield, after_release, lock_outcome, is_acquired}
+use Rattle.pt_types.specs.MutexTable.{is_number, after_yield, lock_outcome, is_acquired}
 use Rattle.pt_types.specs.Tables.{reply}
 use Rattle.pt_model.specs.declared.entry.Entry.{Entry}
 use Rattle.pt_model.specs.declared.entry.Entry.TheVariants.{Call, Grant, Yield}
 use Rattle.pt_model.specs.Searches.{In}
-use Rattle.pt_model.specs.Histories.{History, Begin, ◌▷◌, onto, history}
+use Rattle.pt_model.specs.Histories.{History, Begin, ◌▷◌, history}
 use Rattle.pt_model.specs.Records.{Standing}
 use Rattle.pt_model.specs.Standing.{stood, at_place, mutex_of}
 use Rattle.pt_model.specs.Answers.{open_calls}
@@ -19,7 +19,6 @@ use Rattle.pt_model.specs.Moves.{moved}
 use Rattle.pt_model.specs.Mutexes.{is_for, count, frees, condition_by_deed, condition}
 use Rattle.pt_model.specs.Grants.{is_expired, is_grantable, grant_outcome}
 use Rattle.pt_model.specs.Verdicts.{verdict}
-use Rattle.pt_model.specs.Legal.{Legal}
 use Rattle.pt_model.specs.Steps.{Step, joins, calls, dies, ticks, grants, trips, yields, expires, Follows}
 use Rattle.pt_model.specs.EndLaws.{is_heir_by, is_heir, DeathTold, OneHeir, OwnerDead}
 use Rattle.pt_model.proofs.Histories.{follows-part}
@@ -60,7 +59,7 @@ pub told_inconsistent : (h : History) (w : Standing) (m : ℕ) → mutex_of w.ro
     → grant_outcome h w ≡ Eownerdead → condition h m ≡ Inconsistent
 told_inconsistent h w m e x =
     told_where (condition h m) (is_expired (moved h w.place))
-        (sym (outcome-mutex h w w.role m e) ∙ x)
+    (sym (outcome-mutex h w w.role m e) ∙ x)
 
 pub inconsistent_told : (h : History) (w : Standing) (m : ℕ) → mutex_of w.role w.object ≡ Some m
     → condition h m ≡ Inconsistent → grant_outcome h w ≡ Eownerdead
@@ -74,15 +73,17 @@ death_told events older newer j x w m l i at role =
     let g = granted (history older) j x s.0 s.1 in
     let same : g.call ≡ w = one_open (history older) s.0 g.call w g.stands i (g.came ∙ sym at) in
     let out : x ≡ grant_outcome (history older) w =
-        g.outcome ∙ ap (grant_outcome (history older)) same in
-    (λ e. told_inconsistent (history older) w m role (sym out ∙ e), λ k. out
-        ∙ inconsistent_told (history older) w m role k)
+    g.outcome ∙ ap (grant_outcome (history older)) same in (
+      λ e. told_inconsistent (history older) w m role (sym out ∙ e),
+      λ k. out
+          ∙ inconsistent_told (history older) w m role k,
+    )
 
 -- who was told holds the inconsistent mutex still, or it is lost
 abbrev pub Heirs : History → Type 0
 Heirs h =
     (m c : ℕ) → is_heir h m c ≡ true → (condition h m ≡ NotRecoverable)
-        ⊎ ((condition h m ≡ Inconsistent) × (has h m c ≡ true))
+    ⊎ ((condition h m ≡ Inconsistent) × (has h m c ≡ true))
 
 heir_grant : (h : History) (j : ℕ) (x : Outcome) (m c : ℕ) (before : Bool)
     → is_heir_by h (Grant j x) m c before ≡ ((is_death_told x && is_for (at_place j (stood h)) m c)
@@ -111,16 +112,16 @@ module _ (h : History) (w : Standing) (f : Follows h) (i : In w (open_calls h)) 
   abbrev pub told_this : ℕ → ℕ → Bool
   told_this m c =
       is_death_told (grant_outcome h w) && (is_number (mutex_of w.role w.object) m
-          && (w.client == c))
+      && (w.client == c))
 
   -- who is an heir behind a Grant was told by it, or was one before
   pub grant_heir : (m c : ℕ) → is_heir (h ▷ Grant w.place (grant_outcome h w)) m c ≡ true
       → (told_this m c ≡ true) ⊎ (is_heir h m c ≡ true)
   grant_heir m c t =
       let e : is_heir (h ▷ Grant w.place (grant_outcome h w)) m c
-          ≡ (told_this m c || is_heir h m c) = heir_grant h w.place (grant_outcome h w) m c
-          (is_heir h m c) ∙ ap (λ o. (is_death_told (grant_outcome h w) && is_for o m c) || is_heir
-          h m c) (found_open h f w i) in
+      ≡ (told_this m c || is_heir h m c) = heir_grant h w.place (grant_outcome h w) m c
+      (is_heir h m c) ∙ ap (λ o. (is_death_told (grant_outcome h w) && is_for o m c) || is_heir
+      h m c) (found_open h f w i) in
       go (or_cases (told_this m c) (is_heir h m c) (sym e ∙ t))
     where
       go : (told_this m c ≡ true) ⊎ ((told_this m c ≡ false) × (is_heir h m c ≡ true))
@@ -133,8 +134,8 @@ module _ (h : History) (w : Standing) (f : Follows h) (i : In w (open_calls h)) 
       × ((mutex_of w.role w.object ≡ Some m) × (w.client ≡ c))
   told_parts m c t =
       let p =
-          and_parts (is_death_told (grant_outcome h w))
-              (is_number (mutex_of w.role w.object) m && (w.client == c)) t in
+      and_parts (is_death_told (grant_outcome h w))
+      (is_number (mutex_of w.role w.object) m && (w.client == c)) t in
       let q = and_parts (is_number (mutex_of w.role w.object) m) (w.client == c) p.1 in
       let by : w.client ≡ c = let k : (w.client == c) ≡ true = q.1 in grind (arith, nat_tests) in
       (told_dead (grant_outcome h w) p.0, (for_mutex w.role w.object m q.0, by))
@@ -156,9 +157,12 @@ module _ (h : History) (w : Standing) (f : Follows h) (i : In w (open_calls h)) 
           ≡ true))
       held (inl k) = inl k
       held (inr k) =
-          inr (k.0, now (more_has (count h m c)
-              (is_acquired (grant_outcome h w)
-              && (is_number (mutex_of w.role w.object) m && (w.client == c))) k.1))
+          inr (
+            k.0,
+            now (more_has (count h m c)
+                (is_acquired (grant_outcome h w)
+                && (is_number (mutex_of w.role w.object) m && (w.client == c))) k.1),
+          )
 
       go : (told_this m c ≡ true) ⊎ (is_heir h m c ≡ true) → (condition h m ≡ NotRecoverable)
           ⊎ ((condition h m ≡ Inconsistent) × (has (h ▷ Grant w.place (grant_outcome h w)) m c
@@ -166,11 +170,14 @@ module _ (h : History) (w : Standing) (f : Follows h) (i : In w (open_calls h)) 
       go (inl b) =
           let p = told_parts m c b in
           let here : (w.client == c) ≡ true =
-              let k : w.client ≡ c = p.1.1 in grind (arith, nat_tests) in
+          let k : w.client ≡ c = p.1.1 in grind (arith, nat_tests) in
           let this : is_number (mutex_of w.role w.object) m ≡ true =
-              rw p.1.0 (grind (arith, nat_tests)) in
-          inr (told_inconsistent h w m p.1.0 p.0, now
-              (rw (ap is_acquired p.0, this, here) (some_more (count h m c))))
+          rw p.1.0 (grind (arith, nat_tests)) in
+          inr (
+            told_inconsistent h w m p.1.0 p.0,
+            now
+                (rw (ap is_acquired p.0, this, here) (some_more (count h m c))),
+          )
       go (inr b) = held (a m c b)
 
 -- who has locks and doesn't give back the last has some still
@@ -194,8 +201,8 @@ keeps c d n takes gives t last = go takes gives (c == d) refl refl
 heirs_call : (h : History) (c : ℕ) (E : Effect) (m d : ℕ) → mends E m ≡ false
     → (condition h m ≡ NotRecoverable) ⊎ ((condition h m ≡ Inconsistent) × (has h m d ≡ true))
     → (condition_effect h c E m (condition h m) ≡ NotRecoverable)
-        ⊎ ((condition_effect h c E m (condition h m) ≡ Inconsistent)
-        × (nat_lt 0 (counted c E m d (count h m d)) ≡ true))
+    ⊎ ((condition_effect h c E m (condition h m) ≡ Inconsistent)
+    × (nat_lt 0 (counted c E m d (count h m d)) ≡ true))
 heirs_call h c E m d nm (inl k) = inl (rw (nm, k) (lost (frees h m c (gives_up E m))))
   where
     lost : (b : Bool) → condition_by_deed false b NotRecoverable ≡ NotRecoverable
@@ -209,8 +216,11 @@ heirs_call h c E m d nm (inr k) = go (frees h m c (gives_up E m)) refl
         × (nat_lt 0 (counted c E m d (count h m d)) ≡ true))
     go true eb = inl (rw (nm, eb, k.0) refl)
     go false eb =
-        inr (rw (nm, eb, k.0) refl, keeps c d (count h m d) (takes_more E m) (gives_up E m) k.1
-            (λ g same. rw (← same) (not_one g eb)))
+        inr (
+          rw (nm, eb, k.0) refl,
+          keeps c d (count h m d) (takes_more E m) (gives_up E m) k.1
+              (λ g same. rw (← same) (not_one g eb)),
+        )
       where
         not_one : gives_up E m ≡ true → (gives_up E m && (count h m c == 1)) ≡ false
             → (count h m c == 1) ≡ false
@@ -222,31 +232,31 @@ Heirs-step h _ f a (yields k s o) = λ m c t. go m c (k == m) refl t
   where
     go : (m c : ℕ) (b : Bool) → (k == m) ≡ b → cond b false (is_heir h m c) ≡ true
         → (cond (k == m) (after_yield (condition h m)) (condition h m) ≡ NotRecoverable)
-            ⊎ ((cond (k == m) (after_yield (condition h m)) (condition h m) ≡ Inconsistent)
-            × (has (h ▷ Yield k) m c ≡ true))
+        ⊎ ((cond (k == m) (after_yield (condition h m)) (condition h m) ≡ Inconsistent)
+        × (has (h ▷ Yield k) m c ≡ true))
     go m c true eb t = absurd cc
     go m c false eb t = old (a m c t)
       where
         old : (condition h m ≡ NotRecoverable)
             ⊎ ((condition h m ≡ Inconsistent) × (has h m c ≡ true))
             → (cond (k == m) (after_yield (condition h m)) (condition h m) ≡ NotRecoverable)
-                ⊎ ((cond (k == m) (after_yield (condition h m)) (condition h m) ≡ Inconsistent)
-                × (has (h ▷ Yield k) m c ≡ true))
+            ⊎ ((cond (k == m) (after_yield (condition h m)) (condition h m) ≡ Inconsistent)
+            × (has (h ▷ Yield k) m c ≡ true))
         old (inl x) = inl (rw eb x)
         old (inr x) = inr (rw eb x.0, ap (nat_lt 0) (count-yield h k m c) ∙ rw eb x.1)
 Heirs-step h _ f a (calls c call n l o) =
     λ m d t. go m d (mends (effect h c call (reply (verdict h c call))) m) refl
-        (sym (heir-call h c call (reply (verdict h c call)) m d (is_heir h m d)) ∙ t)
+    (sym (heir-call h c call (reply (verdict h c call)) m d (is_heir h m d)) ∙ t)
   where
     go : (m d : ℕ) (b : Bool) → mends (effect h c call (reply (verdict h c call))) m ≡ b
         → cond (mends (effect h c call (reply (verdict h c call))) m) false (is_heir h m d) ≡ true
         → (condition (h ▷ Call c call (reply (verdict h c call))) m ≡ NotRecoverable)
-            ⊎ ((condition (h ▷ Call c call (reply (verdict h c call))) m ≡ Inconsistent)
-            × (has (h ▷ Call c call (reply (verdict h c call))) m d ≡ true))
+        ⊎ ((condition (h ▷ Call c call (reply (verdict h c call))) m ≡ Inconsistent)
+        × (has (h ▷ Call c call (reply (verdict h c call))) m d ≡ true))
     go m d true eb t = absurd (false≢true (sym (ap (λ b. cond b false (is_heir h m d)) eb) ∙ t))
     go m d false eb t =
         after (heirs_call h c (effect h c call (reply (verdict h c call))) m d eb
-            (a m d (sym (ap (λ b. cond b false (is_heir h m d)) eb) ∙ t)))
+        (a m d (sym (ap (λ b. cond b false (is_heir h m d)) eb) ∙ t)))
       where
         k : condition (h ▷ Call c call (reply (verdict h c call))) m
             ≡ condition_effect h c (effect h c call (reply (verdict h c call))) m (condition h m)
@@ -258,12 +268,15 @@ Heirs-step h _ f a (calls c call n l o) =
             × (nat_lt 0 (counted c (effect h c call (reply (verdict h c call))) m d (count h m d))
             ≡ true))
             → (condition (h ▷ Call c call (reply (verdict h c call))) m ≡ NotRecoverable)
-                ⊎ ((condition (h ▷ Call c call (reply (verdict h c call))) m ≡ Inconsistent)
-                × (has (h ▷ Call c call (reply (verdict h c call))) m d ≡ true))
+            ⊎ ((condition (h ▷ Call c call (reply (verdict h c call))) m ≡ Inconsistent)
+            × (has (h ▷ Call c call (reply (verdict h c call))) m d ≡ true))
         after (inl x) = inl (k ∙ x)
         after (inr x) =
-            inr (k ∙ x.0, ap (nat_lt 0) (count-call h c call (reply (verdict h c call)) m d
-                (resolved h c call) (Balanced-follows h f)) ∙ x.1)
+            inr (
+              k ∙ x.0,
+              ap (nat_lt 0) (count-call h c call (reply (verdict h c call)) m d
+                  (resolved h c call) (Balanced-follows h f)) ∙ x.1,
+            )
 Heirs-step h _ f a (joins p n lt) = λ m c t. a m c t
 Heirs-step h _ f a (dies c n l) = λ m d t. a m d t
 Heirs-step h _ f a (ticks k n) = λ m c t. a m c t
@@ -308,14 +321,14 @@ one_heir_step h _ f o (grants w s i g) =
     go m c d (inr x) (inr y) = o m c d x y
 one_heir_step h _ f o (yields k s t) =
     λ m c d x y. o m c d (kept_heir (k == m) (is_heir h m c) x)
-        (kept_heir (k == m) (is_heir h m d) y)
+    (kept_heir (k == m) (is_heir h m d) y)
 one_heir_step h _ f o (calls c call n l p) = λ m d e x y. o m d e (kept m d x) (kept m e y)
   where
     kept : (m d : ℕ) → is_heir (h ▷ Call c call (reply (verdict h c call))) m d ≡ true
         → is_heir h m d ≡ true
     kept m d x =
         kept_heir (mends (effect h c call (reply (verdict h c call))) m) (is_heir h m d)
-            (sym (heir-call h c call (reply (verdict h c call)) m d (is_heir h m d)) ∙ x)
+        (sym (heir-call h c call (reply (verdict h c call)) m d (is_heir h m d)) ∙ x)
 one_heir_step h _ f o (joins p n lt) = λ m c d x y. o m c d x y
 one_heir_step h _ f o (dies b n l) = λ m c d x y. o m c d x y
 one_heir_step h _ f o (ticks k n) = λ m c d x y. o m c d x y
@@ -329,7 +342,7 @@ one_heir_of (h ▷ e) f = one_heir_step h e f.0 (one_heir_of h f.0) f.1
 pub one_heir : OneHeir
 one_heir events older newer m c d l x y =
     one_heir_of (history older) (follows-part (history older) newer
-        (legal-part older newer events l)) m c d x y
+    (legal-part older newer events l)) m c d x y
 
 pub owner_dead : OwnerDead
 owner_dead = (death_told, one_heir)

@@ -1,13 +1,13 @@
 -- A mutex has one owner at most.
-use Rattle.std.proofs.Common.{◌≡◌, ℕ, suc, ◌-◌, ◌<◌, ◌≤◌, Bool, true, false, cond, ◌&&◌, ◌||◌, ◌==◌, nat_lt, Option, Some, None, is_some, is_none, refl, sym, ap, ◌∙◌, arith}
+use Rattle.std.proofs.Common.{◌≡◌, ℕ, suc, ◌-◌, Bool, true, false, cond, ◌&&◌, ◌||◌, ◌==◌, nat_lt, Some, is_none, refl, sym, ap, ◌∙◌, arith}
 use Rattle.std.proofs.lemmas.Bool.Decides.{nat_tests}
 use Rattle.std.proofs.lemmas.Bool.{and_parts, false≢true}
 use Rattle.pt_types.specs.declared.outcome.Condition.{Condition}
 use Rattle.pt_types.specs.declared.outcome.Condition.TheVariants.{Consistent, Inconsistent, NotRecoverable}
-use Rattle.pt_types.specs.MutexTable.{is_number, is_recursive, is_lost, may_lock, may_relock, told_in_time, lock_outcome, is_acquired}
+use Rattle.pt_types.specs.MutexTable.{is_number, is_recursive, is_lost, may_lock, may_relock, lock_outcome, is_acquired}
 use Rattle.pt_types.specs.Tables.{reply}
 use Rattle.pt_model.specs.declared.entry.Entry.{Entry}
-use Rattle.pt_model.specs.declared.entry.Entry.TheVariants.{Call, Grant, Yield}
+use Rattle.pt_model.specs.declared.entry.Entry.TheVariants.{Call, Yield}
 use Rattle.pt_model.specs.Histories.{History, Begin, ◌▷◌, place}
 use Rattle.pt_model.specs.Objects.{kind_of, mutex_kind}
 use Rattle.pt_model.specs.Records.{Role, ForMutex, ForRead, ForWrite, ForBarrier, ForCond, Standing}
@@ -40,11 +40,11 @@ pub grantable-mutex : (h : History) (w : Standing) (role : Role) (m : ℕ) → m
 grantable-mutex h w ForMutex m e t =
     let same : w.object ≡ m = cc in
     ap (λ b. b || may_relock (mutex_view h m) w.client)
-        (ap (λ k. may_lock (mutex_view h k) (is_least h w)) (sym same) ∙ t)
+    (ap (λ k. may_lock (mutex_view h k) (is_least h w)) (sym same) ∙ t)
 grantable-mutex h w (ForCond k) m e t =
     let same : k ≡ m = cc in
     rw (← same) (and_parts (is_moved h w) (may_lock (mutex_view h k) (is_least h w) || may_relock
-        (mutex_view h k) w.client) t).1
+    (mutex_view h k) w.client) t).1
 grantable-mutex h w ForRead m e t = absurd cc
 grantable-mutex h w ForWrite m e t = absurd cc
 grantable-mutex h w ForBarrier m e t = absurd cc
@@ -71,14 +71,14 @@ OneOwner h = (m c d : ℕ) → has h m c ≡ true → has h m d ≡ true → c �
 pub grants-owner : (h : History) (w : Standing) (m : ℕ) → Follows h → is_grantable h w ≡ true
     → mutex_of w.role w.object ≡ Some m → is_acquired (grant_outcome h w) ≡ true
     → ((c d : ℕ) → has h m c ≡ true → has h m d ≡ true → c ≡ d) → (d : ℕ) → has h m d ≡ true → d
-        ≡ w.client
+    ≡ w.client
 grants-owner h w m f g e x one d t =
     let can = grantable-mutex h w w.role m e g in
     let live : is_lost (condition h m) ≡ false =
-        acquired_lost (condition h m) (is_expired (moved h w.place))
-            (ap is_acquired (sym (outcome-mutex h w w.role m e)) ∙ x) in
+    acquired_lost (condition h m) (is_expired (moved h w.place))
+    (ap is_acquired (sym (outcome-mutex h w w.role m e)) ∙ x) in
     go (is_none (owner h m)) refl (sym (ap (λ b. (b || (is_none (owner h m) && is_least h w))
-        || may_relock (mutex_view h m) w.client) live) ∙ can)
+    || may_relock (mutex_view h m) w.client) live) ∙ can)
   where
     go : (b : Bool) → is_none (owner h m) ≡ b
         → ((is_none (owner h m) && is_least h w) || may_relock (mutex_view h m) w.client) ≡ true → d
@@ -86,9 +86,9 @@ grants-owner h w m f g e x one d t =
     go true eb r = absurd (false≢true (sym (none_has h f m eb d) ∙ t))
     go false eb r =
         let back : may_relock (mutex_view h m) w.client ≡ true =
-            sym (ap (λ b. (b && is_least h w) || may_relock (mutex_view h m) w.client) eb) ∙ r in
+        sym (ap (λ b. (b && is_least h w) || may_relock (mutex_view h m) w.client) eb) ∙ r in
         let own : owning h m w.client ≡ true =
-            (and_parts (is_recursive (mutex_kind (kind_of h m))) (owning h m w.client) back).1 in
+        (and_parts (is_recursive (mutex_kind (kind_of h m))) (owning h m w.client) back).1 in
         one d w.client t (owning-has h m w.client own)
 
 less_has : (n : ℕ) (b : Bool) → nat_lt 0 (cond b (n - 1) n) ≡ true → nat_lt 0 n ≡ true
@@ -141,34 +141,34 @@ OneOwner-step h _ f o (calls c call n a p) = λ m d e x y. o m d e (kept m d x) 
         ≡ true
     kept m d x =
         call_had h c (effect h c call (reply (verdict h c call))) m d (allowed h c call)
-            (sym (ap (nat_lt 0) (count-call h c call (reply (verdict h c call)) m d
-            (resolved h c call) (Balanced-follows h f))) ∙ x)
+        (sym (ap (nat_lt 0) (count-call h c call (reply (verdict h c call)) m d
+        (resolved h c call) (Balanced-follows h f))) ∙ x)
 OneOwner-step h _ f o (grants w s i g) =
     λ m c d x y. go m c d (more m c) (more m d) refl refl
-        (sym (ap (nat_lt 0) (count-grant h w (grant_outcome h w) m c f i)) ∙ x)
-        (sym (ap (nat_lt 0) (count-grant h w (grant_outcome h w) m d f i)) ∙ y)
+    (sym (ap (nat_lt 0) (count-grant h w (grant_outcome h w) m c f i)) ∙ x)
+    (sym (ap (nat_lt 0) (count-grant h w (grant_outcome h w) m d f i)) ∙ y)
   where
     more : ℕ → ℕ → Bool
     more m c =
         is_acquired (grant_outcome h w) && (is_number (mutex_of w.role w.object) m
-            && (w.client == c))
+        && (w.client == c))
 
     is_client : (m c : ℕ) → more m c ≡ true → w.client ≡ c
     is_client m c e =
         let t : (w.client == c) ≡ true =
-            (and_parts (is_number (mutex_of w.role w.object) m) (w.client == c)
-                (and_parts (is_acquired (grant_outcome h w))
-                (is_number (mutex_of w.role w.object) m && (w.client == c)) e).1).1 in
+        (and_parts (is_number (mutex_of w.role w.object) m) (w.client == c)
+        (and_parts (is_acquired (grant_outcome h w))
+        (is_number (mutex_of w.role w.object) m && (w.client == c)) e).1).1 in
         grind (arith, nat_tests)
 
     sole : (m c d : ℕ) → more m c ≡ true → has h m d ≡ true → d ≡ w.client
     sole m c d e t =
         let p =
-            and_parts (is_acquired (grant_outcome h w))
-                (is_number (mutex_of w.role w.object) m && (w.client == c)) e in
+        and_parts (is_acquired (grant_outcome h w))
+        (is_number (mutex_of w.role w.object) m && (w.client == c)) e in
         let role =
-            for_mutex w.role w.object m (and_parts (is_number (mutex_of w.role w.object) m)
-                (w.client == c) p.1).0 in
+        for_mutex w.role w.object m (and_parts (is_number (mutex_of w.role w.object) m)
+        (w.client == c) p.1).0 in
         grants-owner h w m f g role p.0 (o m) d t
 
     go : (m c d : ℕ) (a b : Bool) → more m c ≡ a → more m d ≡ b
@@ -187,4 +187,4 @@ one_owner (h ▷ e) f = OneOwner-step h e f.0 (one_owner h f.0) f.1
 pub has-owner : (h : History) → Follows h → (m c : ℕ) → has h m c ≡ true → owner h m ≡ Some c
 has-owner h f m c t =
     first_below-one (place h) (λ d. has h m d) c (has_below h f m c t) t
-        (λ j e. one_owner h f m j c e t)
+    (λ j e. one_owner h f m j c e t)

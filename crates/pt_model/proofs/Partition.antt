@@ -1,8 +1,7 @@
 -- Each call is answered, open, or left behind by its client's death.
-use Rattle.std.proofs.Common.{◌≡◌, ℕ, ◌⊎◌, inl, inr, Bool, true, false, cond, not, ◌&&◌, ◌||◌, ◌==◌, List, [], ◌∷◌, ◌++◌, Option, Some, None, is_some, is_none, refl, sym, ap, ◌∙◌, subst, arith, filter}
+use Rattle.std.proofs.Common.{◌≡◌, ℕ, ◌⊎◌, inl, inr, Bool, true, false, cond, not, ◌&&◌, ◌==◌, Option, Some, None, is_some, is_none, refl, sym, ap, ◌∙◌, subst, arith}
 use Rattle.std.proofs.lemmas.Bool.Decides.{nat_tests}
 use Rattle.std.proofs.lemmas.Bool.{false≢true}
-use Rattle.std.specs.List.{list_any}
 use Rattle.std.specs.Option.{option_or}
 use Rattle.pt_types.specs.declared.call.Call.{Call as Asked}
 use Rattle.pt_types.specs.declared.call.ObjectKind.{ObjectKind}
@@ -23,7 +22,7 @@ use Rattle.pt_model.specs.Moves.{has_place, moved, at_object}
 use Rattle.pt_model.specs.Verdicts.{verdict}
 use Rattle.pt_model.specs.Queries.{caller}
 use Rattle.pt_model.specs.Steps.{Step, joins, calls, dies, ticks, grants, trips, yields, expires, Follows}
-use Rattle.pt_model.specs.AnswerLaws.{is_one_of_three, is_left_behind, is_in_one_part, IsParted, Partition}
+use Rattle.pt_model.specs.AnswerLaws.{is_one_of_three, is_in_one_part, IsParted, Partition}
 use Rattle.pt_model.proofs.Lists.{In-append_left, In-append_right, none-any, false_by}
 use Rattle.pt_model.proofs.Legality.{legal-follows}
 use Rattle.pt_model.proofs.Found.{picks}

@@ -1,5 +1,5 @@
 -- The room: each forced entry lowers what must still be written, and so does a Death.
-use Rattle.std.proofs.Common.{◌≡◌, ℕ, suc, ◌+◌, ◌-◌, ◌<◌, ◌≤◌, ◌==◌, nat_lt, Bool, true, false, cond, not, ◌&&◌, ◌||◌, ◌⊎◌, inl, inr, List, ◌∷◌, ◌++◌, Option, Some, None, is_some, is_none, unwrap_or, sum, map, refl, sym, ap, ◌∙◌, subst, arith, filter}
+use Rattle.std.proofs.Common.{◌≡◌, ℕ, suc, ◌+◌, ◌-◌, ◌<◌, ◌≤◌, ◌==◌, nat_lt, Bool, true, false, cond, not, ◌&&◌, ◌||◌, ◌⊎◌, inl, inr, Option, Some, None, is_some, unwrap_or, refl, sym, ap, ◌∙◌, arith}
 use Rattle.std.proofs.lemmas.Bool.Decides.{nat_tests}
 use Rattle.std.proofs.lemmas.Bool.{and_parts, and_from, false≢true}
 use Rattle.pt_types.specs.declared.outcome.Outcome.{Outcome}
@@ -13,13 +13,12 @@ use Rattle.pt_model.specs.Clients.{is_alive, living}
 use Rattle.pt_model.specs.Objects.{kind_of, is_robust}
 use Rattle.pt_model.specs.Records.{Standing, Move}
 use Rattle.pt_model.specs.Standing.{stood, at_place, mutex_of, is_arrival, is_wait, is_wait_if}
-use Rattle.pt_model.specs.Answers.{open_calls, at_barrier}
+use Rattle.pt_model.specs.Answers.{open_calls}
 use Rattle.pt_model.specs.Moves.{move_or, cause_by_expiry, moved, is_moved}
-use Rattle.pt_model.specs.Mutexes.{gained, lost, count, owner}
+use Rattle.pt_model.specs.Mutexes.{gained, lost, owner}
 use Rattle.pt_model.specs.Grants.{is_complete, grant_outcome}
 use Rattle.pt_model.specs.Forced.{is_orphan, is_dead_if, is_overdue}
 use Rattle.pt_model.specs.Room.{kept_for, is_robust_owned, need}
-use Rattle.pt_model.specs.Legal.{Legal}
 use Rattle.pt_model.specs.Steps.{Step, joins, calls, dies, ticks, grants, trips, yields, expires, Follows}
 use Rattle.pt_model.specs.EndLaws.{KeepsRoom, Room}
 use Rattle.pt_model.proofs.Lists.{filter-all}

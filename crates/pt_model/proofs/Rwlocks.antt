@@ -1,5 +1,5 @@
 -- Read-write locks: what an entry changes, and who can hold one beside whom.
-use Rattle.std.proofs.Common.{◌≡◌, ℕ, suc, ◌-◌, ◌<◌, Bool, true, false, cond, not, ◌&&◌, ◌||◌, ◌==◌, nat_lt, Option, Some, None, is_some, is_none, refl, sym, ap, ◌∙◌, arith}
+use Rattle.std.proofs.Common.{◌≡◌, ℕ, suc, Bool, true, false, cond, not, ◌&&◌, ◌||◌, ◌==◌, nat_lt, Option, Some, None, is_some, is_none, refl, sym, ap, ◌∙◌, arith}
 use Rattle.std.proofs.lemmas.Bool.Decides.{nat_tests}
 use Rattle.std.proofs.lemmas.Bool.{and_parts, false≢true}
 use Rattle.pt_types.specs.declared.outcome.Outcome.{Outcome}
@@ -57,8 +57,8 @@ alone_grant : (h : History) (w : Standing) (role : Role) → Follows h → Alone
     → is_grantable_as h w role ≡ true → (r c d : ℕ)
     → cond (writes_there role ((w.object == r) && (w.client == c))) true (writes h r c) ≡ true
     → (cond (writes_there role ((w.object == r) && (w.client == d))) true (writes h r d) ≡ true → c
-        ≡ d) × (nat_lt 0 (cond (reads_there role ((w.object == r) && (w.client == d)))
-        (suc (reads h r d)) (reads h r d)) ≡ false)
+    ≡ d) × (nat_lt 0 (cond (reads_there role ((w.object == r) && (w.client == d)))
+    (suc (reads h r d)) (reads h r d)) ≡ false)
 alone_grant h w ForMutex f a g r c d x = a r c d x
 alone_grant h w ForBarrier f a g r c d x = a r c d x
 alone_grant h w (ForCond m) f a g r c d x = a r c d x
@@ -70,10 +70,10 @@ alone_grant h w ForRead f a g r c d x = go (w.object == r) (w.client == d) refl
     go true k eb =
         let same : w.object ≡ r = grind (arith, nat_tests) in
         let none =
-            none_writes h f w.object (unsome (writer h w.object)
-                (and_parts (not (is_some (writer h w.object)))
-                (not (is_blocked h w.object w.priority) || nat_lt 0 (reads h w.object w.client))
-                g).0) c in
+        none_writes h f w.object (unsome (writer h w.object)
+        (and_parts (not (is_some (writer h w.object)))
+        (not (is_blocked h w.object w.priority) || nat_lt 0 (reads h w.object w.client))
+        g).0) c in
         absurd (false≢true (sym none ∙ (ap (λ q. writes h q c) same ∙ x)))
 alone_grant h w ForWrite f a g r c d x =
     go (w.object == r) refl (w.client == c) (w.client == d) refl refl x
@@ -81,15 +81,17 @@ alone_grant h w ForWrite f a g r c d x =
     free : (not (is_some (writer h w.object)) ≡ true) × (not (is_some (reader h w.object)) ≡ true)
     free =
         and_parts (not (is_some (writer h w.object))) (not (is_some (reader h w.object)))
-            (and_parts (is_free (rwlock_view h w.object w.client)) (is_least h w) g).0
+        (and_parts (is_free (rwlock_view h w.object w.client)) (is_least h w) g).0
 
     go : (b : Bool) → (w.object == r) ≡ b → (k l : Bool) → (w.client == c) ≡ k → (w.client == d) ≡ l
         → cond (b && k) true (writes h r c) ≡ true
         → (cond (b && l) true (writes h r d) ≡ true → c ≡ d) × (nat_lt 0 (reads h r d) ≡ false)
     go false eb k l ek el y = a r c d y
-    go true eb k l ek el y =
-        (λ z. one k l ek el y z, ap (λ q. has_read h q d) (sym same)
-            ∙ none_reads h f w.object (unsome (reader h w.object) free.1) d)
+    go true eb k l ek el y = (
+      λ z. one k l ek el y z,
+      ap (λ q. has_read h q d) (sym same)
+          ∙ none_reads h f w.object (unsome (reader h w.object) free.1) d,
+    )
       where
         same : w.object ≡ r
         same = grind (arith, nat_tests)
@@ -97,7 +99,7 @@ alone_grant h w ForWrite f a g r c d x =
         none : (e : ℕ) → writes h r e ≡ false
         none e =
             ap (λ q. writes h q e) (sym same)
-                ∙ none_writes h f w.object (unsome (writer h w.object) free.0) e
+            ∙ none_writes h f w.object (unsome (writer h w.object) free.0) e
 
         one : (k l : Bool) → (w.client == c) ≡ k → (w.client == d) ≡ l → cond k true (writes h r c)
             ≡ true → cond l true (writes h r d) ≡ true → c ≡ d
@@ -113,23 +115,27 @@ Alone-step h _ f a (trips w s i t) = a
 Alone-step h _ f a (yields k s t) = a
 Alone-step h _ f a (expires w s i t) = a
 Alone-step h _ f a (calls c call n l o) = λ r d e x.
-    let old = a r d e (wrote r d x) in
-    (λ y. old.0 (wrote r e y), ap (nat_lt 0) (reads-call h c call (reply (verdict h c call)) r e
-        (reads h r e)) ∙ fewer (reads h r e) (returns_it
-        (effect h c call (reply (verdict h c call))) r && (c == e)) (writes h r e) old.1)
+    let old = a r d e (wrote r d x) in (
+      λ y. old.0 (wrote r e y),
+      ap (nat_lt 0) (reads-call h c call (reply (verdict h c call)) r e
+          (reads h r e)) ∙ fewer (reads h r e) (returns_it
+          (effect h c call (reply (verdict h c call))) r && (c == e)) (writes h r e) old.1,
+    )
   where
     wrote : (r d : ℕ) → writes (h ▷ Call c call (reply (verdict h c call))) r d ≡ true
         → writes h r d ≡ true
     wrote r d x =
         kept_writer (returns_it (effect h c call (reply (verdict h c call))) r && (c == d))
-            (writes h r d) (sym (writes-call h c call (reply (verdict h c call)) r d (writes h r d))
-            ∙ x)
+        (writes h r d) (sym (writes-call h c call (reply (verdict h c call)) r d (writes h r d))
+        ∙ x)
 Alone-step h _ f a (grants w s i g) = λ r c d x.
     let p =
-        alone_grant h w w.role f a g r c d (sym (writes-grant h w (grant_outcome h w) r c f i)
-            ∙ x) in
-    (λ y. p.0 (sym (writes-grant h w (grant_outcome h w) r d f i) ∙ y), ap (nat_lt 0)
-        (reads-grant h w (grant_outcome h w) r d f i) ∙ p.1)
+    alone_grant h w w.role f a g r c d (sym (writes-grant h w (grant_outcome h w) r c f i)
+    ∙ x) in (
+      λ y. p.0 (sym (writes-grant h w (grant_outcome h w) r d f i) ∙ y),
+      ap (nat_lt 0)
+          (reads-grant h w (grant_outcome h w) r d f i) ∙ p.1,
+    )
 
 pub alone : (h : History) → Follows h → Alone h
 alone Begin f = λ r c d x. absurd cc
@@ -140,4 +146,4 @@ pub writes-writer : (h : History) → Follows h → (r c : ℕ) → writes h r c
     ≡ Some c
 writes-writer h f r c t =
     first_below-one (place h) (λ d. writes h r d) c (writes_below h f r c t) t
-        (λ j e. sym ((alone h f r c j t).0 e))
+    (λ j e. sym ((alone h f r c j t).0 e))

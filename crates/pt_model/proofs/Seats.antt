@@ -1,7 +1,6 @@
 -- Where calls stand there are objects of their kind.
-use Rattle.std.proofs.Common.{◌≡◌, ℕ, ◌≤◌, ◌<◌, ◌⊎◌, inl, inr, Bool, true, false, cond, not, ◌&&◌, ◌||◌, ◌==◌, nat_lt, List, [], Option, Some, None, is_some, is_none, refl, sym, ap, ◌∙◌, subst, arith}
+use Rattle.std.proofs.Common.{◌≡◌, ℕ, ◌<◌, ◌⊎◌, inl, inr, Bool, true, false, not, ◌&&◌, ◌||◌, ◌==◌, Option, Some, None, is_some, refl, sym, ap, ◌∙◌, subst, arith}
 use Rattle.std.proofs.lemmas.Bool.Decides.{nat_tests}
-use Rattle.std.proofs.lemmas.Bool.{false≢true}
 use Rattle.std.specs.List.{list_any}
 use Rattle.pt_types.specs.declared.call.Call.{Call as Asked}
 use Rattle.pt_types.specs.declared.call.ObjectKind.{ObjectKind}
@@ -14,16 +13,16 @@ use Rattle.pt_model.specs.declared.entry.Entry.TheVariants.{Call}
 use Rattle.pt_model.specs.declared.entry.Cause.{Cause}
 use Rattle.pt_model.specs.Searches.{In}
 use Rattle.pt_model.specs.Histories.{History, Begin, ◌▷◌, place}
-use Rattle.pt_model.specs.Objects.{find, kind_of}
+use Rattle.pt_model.specs.Objects.{kind_of}
 use Rattle.pt_model.specs.Records.{Role, ForMutex, ForRead, ForWrite, ForBarrier, ForCond, Standing, Move}
 use Rattle.pt_model.specs.Standing.{is_wait}
 use Rattle.pt_model.specs.Answers.{open_calls}
-use Rattle.pt_model.specs.Moves.{cause_by_expiry, move_or, moved, is_moved, object_by, at_object}
+use Rattle.pt_model.specs.Moves.{cause_by_expiry, move_or, moved, object_by, at_object}
 use Rattle.pt_model.specs.Mutexes.{owner}
 use Rattle.pt_model.specs.Verdicts.{mutex_awaited, is_alive_if, is_awaited, will_return, is_busy, verdict}
 use Rattle.pt_model.specs.Steps.{Step, joins, calls, dies, ticks, grants, trips, yields, expires, Follows}
 use Rattle.pt_model.proofs.Lists.{any-false}
-use Rattle.pt_model.proofs.Effects.{Effect, Idle, Creates, Removes, Relocks, Frees, Mends, Returns, Wakes, Waits, effect, Known, Seated, Allowed}
+use Rattle.pt_model.proofs.Effects.{Effect, Idle, Creates, Removes, Relocks, Frees, Mends, Returns, Wakes, Waits, effect, Seated, Allowed}
 use Rattle.pt_model.proofs.Allowances.{allowed}
 use Rattle.pt_model.proofs.Changes.{left_by, kind_effect, cause_effect}
 use Rattle.pt_model.proofs.Readings.{kind-call}

@@ -1,17 +1,13 @@
 -- What holds of each history whose entries follow: nothing is known of what comes later.
-use Rattle.std.proofs.Common.{◌≡◌, ℕ, suc, ◌<◌, ◌≤◌, Bool, true, false, cond, ◌&&◌, ◌==◌, nat_lt, List, [], ◌∷◌, ◌++◌, Option, Some, None, is_some, refl, ap, ◌∙◌, inl, inr, sym, subst, arith}
+use Rattle.std.proofs.Common.{◌≡◌, ℕ, suc, ◌<◌, ◌≤◌, Bool, true, false, cond, ◌&&◌, ◌==◌, nat_lt, List, [], ◌∷◌, ◌++◌, Option, Some, None, is_some, refl, ap, ◌∙◌, sym, subst, arith}
 use Rattle.std.proofs.lemmas.Bool.Decides.{nat_tests}
 use Rattle.std.proofs.lemmas.Bool.{false≢true}
-use Rattle.std.specs.Option.{option_or}
-use Rattle.std.specs.List.{list_any}
 use Rattle.pt_types.specs.declared.call.Call.{Call as Asked}
 use Rattle.pt_types.specs.declared.call.ObjectKind.{ObjectKind}
 use Rattle.pt_types.specs.declared.outcome.Outcome.{Outcome}
 use Rattle.pt_types.specs.Tables.{reply}
 use Rattle.pt_model.specs.declared.entry.Entry.{Entry}
 use Rattle.pt_model.specs.declared.entry.Entry.TheVariants.{Call}
-use Rattle.pt_model.specs.declared.entry.Cause.{Cause}
-use Rattle.pt_model.specs.declared.entry.Cause.TheVariants.{Signalled, Broadcasted, Expired}
 use Rattle.pt_model.specs.Searches.{In, Each, least, listed}
 use Rattle.pt_model.specs.Histories.{History, Begin, ◌▷◌, place}
 use Rattle.pt_model.specs.Clients.{client, is_alive}
@@ -19,10 +15,10 @@ use Rattle.pt_model.specs.Objects.{kind_of}
 use Rattle.pt_model.specs.Records.{Standing, Move, Told}
 use Rattle.pt_model.specs.Standing.{stood, stood_by, at_place, is_arrival, is_wait_if}
 use Rattle.pt_model.specs.Answers.{at_barrier, told_by_trip, told_by_expiry, outcome_in, is_open_by, outcome, open_calls, told}
-use Rattle.pt_model.specs.Moves.{precedes_by, waits_at, waiting_at, first_waiting, has_place, woken, cause_by_expiry, move_or, moved}
+use Rattle.pt_model.specs.Moves.{precedes_by, waits_at, waiting_at, first_waiting, has_place, cause_by_expiry, move_or, moved}
 use Rattle.pt_model.specs.Verdicts.{verdict}
 use Rattle.pt_model.specs.Steps.{Step, joins, calls, dies, ticks, grants, trips, yields, expires, Follows}
-use Rattle.pt_model.proofs.Lists.{Each-in, Each-append, Each-weaker, Each-filter, In-filter, none-any}
+use Rattle.pt_model.proofs.Lists.{Each-in, Each-append, Each-weaker, Each-filter, none-any}
 use Rattle.pt_model.proofs.Leasts.{least-in}
 use Rattle.pt_model.proofs.Effects.{Effect, Idle, Creates, Removes, Relocks, Frees, Mends, Returns, Wakes, Waits, effect, Allowed}
 use Rattle.pt_model.proofs.Allowances.{allowed}

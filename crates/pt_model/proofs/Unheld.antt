@@ -1,19 +1,14 @@
 -- Nobody who hasn't joined holds anything.
-use Rattle.std.proofs.Common.{◌≡◌, ℕ, suc, ◌-◌, ◌<◌, ◌≤◌, Bool, true, false, cond, ◌&&◌, ◌==◌, nat_lt, Option, Some, None, is_some, is_none, refl, sym, ap, ◌∙◌, arith}
+use Rattle.std.proofs.Common.{◌≡◌, ℕ, suc, ◌<◌, ◌≤◌, Bool, true, false, cond, ◌&&◌, ◌==◌, nat_lt, Option, Some, None, is_some, is_none, refl, ap, ◌∙◌, arith}
 use Rattle.std.proofs.lemmas.Bool.Decides.{nat_tests}
-use Rattle.std.proofs.lemmas.Bool.{false≢true}
-use Rattle.pt_types.specs.declared.outcome.Outcome.{Outcome}
 use Rattle.pt_types.specs.Tables.{reply}
 use Rattle.pt_types.specs.MutexTable.{is_number, is_acquired}
 use Rattle.pt_model.specs.declared.entry.Entry.{Entry}
-use Rattle.pt_model.specs.declared.entry.Entry.TheVariants.{Call, Grant}
-use Rattle.pt_model.specs.Searches.{In, first_below}
 use Rattle.pt_model.specs.Histories.{History, Begin, ◌▷◌, place}
-use Rattle.pt_model.specs.Records.{Role, ForMutex, ForRead, ForWrite, ForBarrier, ForCond, Standing}
+use Rattle.pt_model.specs.Records.{Role, ForMutex, ForRead, ForWrite, ForBarrier, ForCond}
 use Rattle.pt_model.specs.Standing.{mutex_of}
-use Rattle.pt_model.specs.Answers.{open_calls}
-use Rattle.pt_model.specs.Mutexes.{is_for, gained, lost, count, owner}
-use Rattle.pt_model.specs.Rwlocks.{reads_there, writes_there, is_for_read, is_for_write, read_given_back, writes, reads, writer, reader}
+use Rattle.pt_model.specs.Mutexes.{gained, count, owner}
+use Rattle.pt_model.specs.Rwlocks.{reads_there, writes_there, read_given_back, writes, reads, writer, reader}
 use Rattle.pt_model.specs.Grants.{grant_outcome}
 use Rattle.pt_model.specs.Verdicts.{verdict}
 use Rattle.pt_model.specs.Steps.{Step, joins, calls, dies, ticks, grants, trips, yields, expires, Follows}
@@ -183,7 +178,7 @@ writes_below h f r c t = below_by (place h) c (writes h r c) ((Unheld-follows h 
 pub reads_below : (h : History) → Follows h → (r c : ℕ) → has_read h r c ≡ true → c < place h
 reads_below h f r c t =
     below_by (place h) c (has_read h r c) (λ le. ap (nat_lt 0)
-        ((Unheld-follows h f).readers r c le)) t
+    ((Unheld-follows h f).readers r c le)) t
 
 -- who reads makes that there is a reader
 pub reads-read : (h : History) → Follows h → (r c : ℕ) → has_read h r c ≡ true
