@@ -1,5 +1,5 @@
 -- Stood: the calls left standing are in order of their places, and each entry leaves one at most.
-use Rattle.std.proofs.Common.{◌≡◌, ℕ, suc, ◌+◌, ◌<◌, ◌≤◌, List, [], ◌∷◌, ◌++◌, length, get_or, take, drop, Option, Some, None, refl, sym, ap, ◌∙◌, arith, subst, length-take-le}
+use Rattle.std.proofs.Common.{◌≡◌, ℕ, suc, ◌<◌, ◌≤◌, List, [], ◌∷◌, ◌++◌, length, get_or, take, drop, Option, Some, None, refl, sym, ap, ◌∙◌, arith, subst}
 use Rattle.std.proofs.lemmas.Bool.{eq-eqb}
 use Rattle.pt_types.specs.Deeds.{Deed, Acquires, Awaits, Arrives, Makes, Ends, Unlocks, Restores, Rwunlocks, Signals, Broadcasts, deed}
 use Rattle.pt_model.specs.declared.entry.Entry.{Entry}
@@ -51,7 +51,8 @@ pub stood-below : (h : History) → Each (λ w. w.place < place h) (stood h)
 stood-below Begin = tt
 stood-below (h ▷ e) =
     Each-append _ (stood h) (stood_by h e)
-    (Each-weaker (λ w. w.place < place h) (λ w. w.place < suc (place h)) (λ w lt. omega arith) (stood h) (stood-below h))
+    (Each-weaker (λ w. w.place < place h) (λ w. w.place < suc (place h)) (λ w lt. omega arith)
+    (stood h) (stood-below h))
     (newest-below (place h) (newest h e))
 
 ascends-newest :
@@ -114,9 +115,9 @@ standing_here es i e o lt same is =
     let rest = drop (suc i) es in
     let at : place h ≡ i = place_below es i (omega arith) in
     let whole : history es ≡ onto (h ▷ e) rest =
-        ap history (split_at es i e lt)
-        ∙ onto-append Begin (take i es) (get_or es i e ∷ rest)
-        ∙ ap (λ x. onto (h ▷ x) rest) (sym same)
+    ap history (split_at es i e lt)
+    ∙ onto-append Begin (take i es) (get_or es i e ∷ rest)
+    ∙ ap (λ x. onto (h ▷ x) rest) (sym same)
     in
     at_place-here h e rest o is ∙ ap (λ k. at_place k (stood (onto (h ▷ e) rest))) at
     ∙ ap (λ g. at_place i (stood g)) (sym whole)

@@ -2,19 +2,19 @@ ghost use Rattle.std.specs.Prelude.{◌≡◌, ◌≤◌, ◌<◌, ◌+◌, ◌&
 ghost use Rattle.std.specs.List.{list_any};
 ghost use Rattle.pt_model.specs.Histories.{history};
 ghost use Rattle.pt_model.specs.Standing.{at_place, stood, is_arrival as is_arrival_role};
-ghost use Rattle.pt_model.specs.Answers.{outcome as outcome_at, open_calls, open_place as open_place_in, is_open_by, at_barrier, told_by_trip, told, outcome_in, place_of};
+ghost use Rattle.pt_model.specs.Answers.{outcome as said, open_calls as opens, open_place as open_place_in, is_open_by, at_barrier as standing, told_by_trip, told, outcome_in, place_of};
 ghost use Rattle.pt_plain.specs.Found.{passes, place_or, is_alive_at};
 ghost use Rattle.pt_plain.specs.Shown.{shown};
 
 use crate::clients::is_alive;
-use crate::standing::{is_arrival, is_wait_at, standing_at, Standing};
+use crate::standing::{Standing, is_arrival, is_wait_at, standing_at};
 use pt_model::Entry;
 use pt_types::{ClientId, ObjectId, Outcome};
 
 /// Whether a standing call is open: it has no answer, and its client lives.  [profile]
 #[cycle(answers)]
 pub fn is_open(entries: &[Entry], w: &Standing) -> bool
-    ensures { result ≡ is_open_by (history entries.now) (outcome_at (history entries.now)) (shown w.now) }
+    ensures { result ≡ is_open_by (history entries.now) (said (history entries.now)) (shown w.now) }
 {
     is_alive(entries, ClientId(w.client)) && outcome(entries, w.place).is_none()
 }
@@ -23,7 +23,9 @@ pub fn is_open(entries: &[Entry], w: &Standing) -> bool
 #[cycle(answers)]
 #[tactic(auto, using(crate::proofs::Opens::passes_open))]
 pub fn is_open_at_barrier(entries: &[Entry], b: ObjectId, i: u64) -> bool
-    ensures { result ≡ passes (λ w. is_arrival_role w.role && (w.object == b)) (at_place i (open_calls (history entries.now))) }
+    ensures { result
+        ≡ passes (λ w. is_arrival_role w.role && (w.object == b))
+        (at_place i (opens (history entries.now))) }
 {
     match standing_at(entries, i) {
         Some(w) => is_arrival(w.role) && w.object == b.0 && is_open(entries, &w),
@@ -35,7 +37,9 @@ pub fn is_open_at_barrier(entries: &[Entry], b: ObjectId, i: u64) -> bool
 #[cycle(answers)]
 #[tactic(auto, using(crate::proofs::Lists::passes_place))]
 pub fn is_later_at_barrier(entries: &[Entry], b: ObjectId, j: u64, i: u64) -> bool
-    ensures { result ≡ passes (λ w. (is_arrival_role w.role && (w.object == b)) && nat_lt j w.place) (at_place i (open_calls (history entries.now))) }
+    ensures { result
+        ≡ passes (λ w. (is_arrival_role w.role && (w.object == b)) && nat_lt j w.place)
+        (at_place i (opens (history entries.now))) }
 {
     j < i && is_open_at_barrier(entries, b, i)
 }
@@ -43,7 +47,7 @@ pub fn is_later_at_barrier(entries: &[Entry], b: ObjectId, j: u64, i: u64) -> bo
 /// Whether an open call that came behind place j stands at the barrier.  [profile]
 #[cycle(answers)]
 pub fn has_later(entries: &[Entry], b: ObjectId, j: u64) -> bool
-    ensures { result ≡ list_any (λ w. nat_lt j w.place) (at_barrier b (open_calls (history entries.now))) }
+    ensures { result ≡ list_any (λ w. nat_lt j w.place) (standing b (opens (history entries.now))) }
 {
     for i in 0..entries.len() {
         if is_later_at_barrier(entries, b, j, i as u64) {
@@ -55,7 +59,9 @@ pub fn has_later(entries: &[Entry], b: ObjectId, j: u64) -> bool
 
 /// Whether the call at a place stands at the barrier, if it has no answer.  [profile]
 pub fn is_living_at_barrier(entries: &[Entry], b: ObjectId, j: u64) -> bool
-    ensures { result ≡ passes (is_alive_at (history entries.now) b) (at_place j (stood (history entries.now))) }
+    ensures { result
+        ≡ passes (is_alive_at (history entries.now) b)
+        (at_place j (stood (history entries.now))) }
 {
     match standing_at(entries, j) {
         Some(w) => {
@@ -74,8 +80,8 @@ pub fn answer_in_trip(
     before: Option<Outcome>,
     j: u64,
 ) -> Option<Outcome>
-    requires { before ≡ outcome_at (history entries.now) j }
-    ensures { result ≡ outcome_in (told_by_trip (at_barrier b (open_calls (history entries.now)))) j }
+    requires { before ≡ said (history entries.now) j }
+    ensures { result ≡ outcome_in (told_by_trip (standing b (opens (history entries.now)))) j }
 {
     if before.is_some() || !is_living_at_barrier(entries, b, j) {
         return None;
@@ -96,7 +102,7 @@ pub fn answer_by(
     before: Option<Outcome>,
     j: u64,
 ) -> Option<Outcome>
-    requires { before ≡ outcome_at (history entries.now) j }
+    requires { before ≡ said (history entries.now) j }
     ensures { result ≡ outcome_in (told (history entries.now) entry.now) j }
 {
     match entry {
@@ -112,7 +118,7 @@ pub fn answer_by(
 #[cycle(answers)]
 #[tactic(auto, using(crate::proofs::Past::history_more))]
 pub fn outcome(entries: &[Entry], j: u64) -> Option<Outcome>
-    ensures { result ≡ outcome_at (history entries.now) j }
+    ensures { result ≡ said (history entries.now) j }
 {
     let mut found = None;
     for (i, entry) in entries.iter().enumerate() {
@@ -124,7 +130,7 @@ pub fn outcome(entries: &[Entry], j: u64) -> Option<Outcome>
 /// The call at a place, if it is open.  [profile]
 #[tactic(auto, using(crate::proofs::Opens::at_place_open))]
 pub fn open_at(entries: &[Entry], i: u64) -> Option<Standing>
-    ensures { option_map shown result ≡ at_place i (open_calls (history entries.now)) }
+    ensures { option_map shown result ≡ at_place i (opens (history entries.now)) }
 {
     match standing_at(entries, i) {
         Some(w) if is_open(entries, &w) => Some(w),

@@ -6,14 +6,14 @@ ghost use Rattle.pt_model.specs.Histories.{history};
 ghost use Rattle.pt_model.specs.Objects.{means as means_in};
 ghost use Rattle.pt_model.specs.Standing.{at_place, is_wait as is_wait_role};
 ghost use Rattle.pt_model.specs.Answers.{open_calls};
-ghost use Rattle.pt_model.specs.Moves.{moved as moved_in, key_by, precedes_by, waits_at, waiting_at, first_waiting, has_place, cause_by as cause_after, move_or as move_after, is_moved as is_moved_in, at_object as at_object_in, key as key_in, precedes as precedes_in, is_least as is_least_in, object_by as object_meant};
+ghost use Rattle.pt_model.specs.Moves.{moved as moved_in, key_by, precedes_by, waits_at, waiting_at, first_waiting, has_place, cause_by as cause, move_or as move_after, is_moved as is_moved_in, at_object as at_object_in, key as key_in, precedes as precedes_in, is_least as is_least_in, object_by as object_meant};
 ghost use Rattle.pt_plain.specs.Found.{passes, unmoved};
 ghost use Rattle.pt_plain.specs.Shown.{shown, shown_key, shown_move, shown_role};
 
 use crate::answers::open_at;
-use crate::deeds::{deed_of, Deed, Sort};
+use crate::deeds::{Deed, Sort, deed_of};
 use crate::objects::means;
-use crate::standing::{is_wait, is_wait_at, is_write, Role, Standing};
+use crate::standing::{Role, Standing, is_wait, is_wait_at, is_write};
 use pt_model::{Cause, Entry};
 use pt_types::{Name, ObjectId, Outcome};
 
@@ -63,7 +63,10 @@ pub fn goes_before(a: Key, b: Key) -> bool
 /// Whether the open call at a place is a wait that came to the condition of this name.
 /// [XSH pthread_cond_wait]
 pub fn came_to(entries: &[Entry], n: &Name, i: u64) -> bool
-    ensures { result ≡ passes (λ w. is_wait_role w.role && means_in (history entries.now) n.now CondSort w.object) (at_place i (open_calls (history entries.now))) }
+    ensures { result
+        ≡ passes
+        (λ w. is_wait_role w.role && means_in (history entries.now) n.now CondSort w.object)
+        (at_place i (open_calls (history entries.now))) }
 {
     match open_at(entries, i) {
         Some(w) => is_wait(w.role) && means(entries, n, Sort::Cond, ObjectId(w.object)),
@@ -75,7 +78,11 @@ pub fn came_to(entries: &[Entry], n: &Name, i: u64) -> bool
 /// this wait, which isn't moved.  [XSH 2.8.4]
 #[cycle(moves)]
 pub fn waits_before(entries: &[Entry], n: &Name, w: &Standing, i: u64) -> bool
-    ensures { result ≡ passes (λ v. waits_at (history entries.now) (moved_in (history entries.now)) n.now v && precedes_by unmoved v (shown w.now)) (at_place i (open_calls (history entries.now))) }
+    ensures { result
+        ≡ passes
+        (λ v. waits_at (history entries.now) (moved_in (history entries.now)) n.now v &&
+        precedes_by unmoved v (shown w.now))
+        (at_place i (open_calls (history entries.now))) }
 {
     let Some(v) = open_at(entries, i) else {
         return false;
@@ -89,7 +96,9 @@ pub fn waits_before(entries: &[Entry], n: &Name, w: &Standing, i: u64) -> bool
 /// Whether one does.  [XSH 2.8.4]
 #[cycle(moves)]
 pub fn is_preceded(entries: &[Entry], n: &Name, w: &Standing) -> bool
-    ensures { result ≡ list_any (λ v. precedes_by unmoved v (shown w.now)) (waiting_at (history entries.now) (moved_in (history entries.now)) n.now) }
+    ensures { result
+        ≡ list_any (λ v. precedes_by unmoved v (shown w.now))
+        (waiting_at (history entries.now) (moved_in (history entries.now)) n.now) }
 {
     for i in 0..entries.len() {
         if waits_before(entries, n, w, i as u64) {
@@ -105,7 +114,9 @@ pub fn is_preceded(entries: &[Entry], n: &Name, w: &Standing) -> bool
 #[tactic(auto, using(crate::proofs::Waiting::first_is))]
 pub fn is_first_waiting(entries: &[Entry], n: &Name, before: Option<Move>, j: u64) -> bool
     requires { option_map shown_move before ≡ moved_in (history entries.now) j }
-    ensures { result ≡ has_place (first_waiting (history entries.now) (moved_in (history entries.now)) n.now) j }
+    ensures { result
+        ≡ has_place (first_waiting (history entries.now) (moved_in (history entries.now)) n.now)
+        j }
 {
     if before.is_some() || !came_to(entries, n, j) {
         return false;
@@ -121,7 +132,7 @@ pub fn is_first_waiting(entries: &[Entry], n: &Name, before: Option<Move>, j: u6
 #[tactic(auto, using(crate::proofs::Waiting::waiting_is))]
 pub fn cause_by(entries: &[Entry], entry: &Entry, before: Option<Move>, j: u64) -> Option<Cause>
     requires { option_map shown_move before ≡ moved_in (history entries.now) j }
-    ensures { result ≡ cause_after (history entries.now) (moved_in (history entries.now)) entry.now j }
+    ensures { result ≡ cause (history entries.now) (moved_in (history entries.now)) entry.now j }
 {
     match entry {
         Entry::Expire(i) if *i == j && is_wait_at(entries, j) => Some(Cause::Expired),
@@ -187,7 +198,11 @@ pub fn precedes(entries: &[Entry], v: &Standing, w: &Standing) -> bool
 
 /// Whether the open call at a place stands at this object and goes before this call.  [XSH 2.8.4]
 pub fn is_ahead(entries: &[Entry], o: ObjectId, w: &Standing, i: u64) -> bool
-    ensures { result ≡ passes (λ v. (at_object_in (history entries.now) v == o) && precedes_in (history entries.now) v (shown w.now)) (at_place i (open_calls (history entries.now))) }
+    ensures { result
+        ≡ passes
+        (λ v. (at_object_in (history entries.now) v == o) && precedes_in
+        (history entries.now) v (shown w.now))
+        (at_place i (open_calls (history entries.now))) }
 {
     match open_at(entries, i) {
         Some(v) => at_object(entries, &v) == o && precedes(entries, &v, w),

@@ -5,7 +5,7 @@ ghost use Rattle.pt_model.specs.Histories.{history};
 ghost use Rattle.pt_model.specs.Objects.{object_named as object_with, named_by as named_after, find as find_in, means as means_in, kind_of as kind_in, kind_by as kind_after, objects as objects_in, objects_by as objects_after, mutex_kind as kind_as_mutex, is_robust as is_robust_kind, barrier_count as count_of_barrier, number_of as number_if};
 ghost use Rattle.pt_plain.specs.Shown.{shown_object, shown_sort};
 
-use crate::deeds::{deed_of, is_same, sort_of, Deed, Sort};
+use crate::deeds::{Deed, Sort, deed_of, is_same, sort_of};
 use pt_model::Entry;
 use pt_types::{MutexKind, Name, ObjectId, ObjectKind, Outcome};
 
@@ -25,7 +25,8 @@ pub fn is_name(one: &Name, other: &Name) -> bool
 
 /// What an entry at a place does to a name.  [profile]
 pub fn named_by(entry: &Entry, at: u64, before: Option<Object>, n: &Name) -> Option<Object>
-    ensures { option_map shown_object result ≡ named_after entry.now at (option_map shown_object before) n.now }
+    ensures { option_map shown_object result
+        ≡ named_after entry.now at (option_map shown_object before) n.now }
 {
     let Entry::Call(_, call, Some(Outcome::Done)) = entry else {
         return before;

@@ -6,7 +6,7 @@ ghost use Rattle.pt_types.specs.Deeds.{deadline_of as deadline_meant};
 ghost use Rattle.pt_plain.specs.Shown.{shown, shown_role, shown_sort, shown_want};
 
 use crate::clients::client;
-use crate::deeds::{deed_of, sort_wanted, Deed, Sort, Want};
+use crate::deeds::{Deed, Sort, Want, deed_of, sort_wanted};
 use crate::objects::find;
 use pt_model::Entry;
 use pt_types::{ClientId, Deadline, How, Name, ObjectId};
