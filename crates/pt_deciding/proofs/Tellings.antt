@@ -1,5 +1,5 @@
 -- Tellings: the answers that an entry gives are in order of their places, and each is the outcome.
-use Rattle.std.proofs.Common.{◌≡◌, ℕ, suc, ◌+◌, ◌<◌, ◌≤◌, Bool, true, false, cond, eqb, ltb, List, [], ◌∷◌, ◌++◌, Option, Some, None, refl, sym, ap, ◌∙◌, arith, filter, inl, inr}
+use Rattle.std.proofs.Common.{◌≡◌, ℕ, suc, ◌+◌, ◌<◌, ◌≤◌, Bool, true, false, cond, eqb, ltb, List, [], ◌∷◌, ◌++◌, Option, Some, None, refl, sym, ap, ◌∙◌, arith, filter, inl, inr, subst}
 use Rattle.std.specs.Prelude.{◌&&◌, ◌==◌}
 use Rattle.std.proofs.lemmas.Bool.{eq-eqb, ne_eqb, cases_eq, cases_order, lt-ltb, le-ltb}
 use Rattle.pt_types.specs.declared.outcome.Outcome.{Outcome}
@@ -7,14 +7,17 @@ use Rattle.pt_types.specs.declared.outcome.Outcome.TheVariants.{Etimedout}
 use Rattle.pt_model.specs.declared.entry.Entry.{Entry}
 use Rattle.pt_model.specs.declared.entry.Entry.TheVariants.{Join, Call, Death, Moment, Grant, Trip, Yield, Expire}
 use Rattle.pt_model.specs.Histories.{History, place}
-use Rattle.pt_model.specs.Searches.{listed}
+use Rattle.pt_types.specs.Tables.{reply}
+use Rattle.pt_model.specs.Searches.{In, Each, listed}
+use Rattle.pt_model.specs.Verdicts.{verdict}
+use Rattle.pt_model.specs.Steps.{Step, joins, calls, dies, ticks, grants, trips, yields, expires}
 use Rattle.pt_model.specs.Records.{Standing, Told}
 use Rattle.pt_model.specs.Standing.{stood, at_place, is_arrival, is_wait_if}
 use Rattle.pt_model.specs.Answers.{told, told_by_trip, told_by_expiry, at_barrier, trip_outcome, outcome_in, open_calls, client_if, is_open_by, outcome}
 use Rattle.pt_model.specs.Queries.{told_if}
 use Rattle.pt_plain.specs.Found.{keep}
-use Rattle.pt_plain.proofs.Lists.{Ascends, Ascends-filter, at_place-filter, at_place-before, at_place-place}
-use Rattle.pt_plain.proofs.Opens.{open-ascends, at_place_open}
+use Rattle.pt_plain.proofs.Lists.{Ascends, Ascends-filter, Each-filter, at_place-filter}
+use Rattle.pt_plain.proofs.Opens.{open-ascends, open-below, at_place_open}
 use Rattle.pt_deciding.specs.Telling.{told_to, client_told}
 
 -- each place is greater than those before it, and at least n
@@ -68,17 +71,22 @@ told-more j n [] a = refl
 told-more j n (t ∷ ts) a =
     elim (cases_order t.place j) [
       | inl same ↦
-        rw (lt-ltb t.place (j + 1) (omega (arith, same)), le-ltb t.place j (omega (arith, same)))
-        (rw (eq-eqb t.place j same,
-        before-before (j + 1) (suc t.place) ts a.1 (omega (arith, same)),
-        before-before j (suc t.place) ts a.1 (omega (arith, same))) refl)
+          rw (lt-ltb t.place (j + 1) (omega (arith, same)), le-ltb t.place j (omega (arith, same)))
+          (rw (
+            eq-eqb t.place j same,
+            before-before (j + 1) (suc t.place) ts a.1 (omega (arith, same)),
+            before-before j (suc t.place) ts a.1 (omega (arith, same)),
+          ) refl)
       | inr (inl before) ↦
-        rw (lt-ltb t.place (j + 1) (omega (arith, before)), lt-ltb t.place j before)
-        (rw (ne_eqb t.place j (λ e. omega (arith, before)))
-        (ap (λ us. t ∷ us) (told-more j (suc t.place) ts a.1)))
+          rw (lt-ltb t.place (j + 1) (omega (arith, before)), lt-ltb t.place j before)
+          (rw (ne_eqb t.place j (λ e. omega (arith, before)))
+          (ap (λ us. t ∷ us) (told-more j (suc t.place) ts a.1)))
       | inr (inr behind) ↦
-        rw (le-ltb t.place (j + 1) (omega (arith, behind)), le-ltb t.place j (omega (arith, behind)))
-        (rw (ne_eqb t.place j (λ e. omega (arith, behind))) (told-more j (suc t.place) ts a.1))
+          rw (
+            le-ltb t.place (j + 1) (omega (arith, behind)),
+            le-ltb t.place j (omega (arith, behind)),
+          )
+          (rw (ne_eqb t.place j (λ e. omega (arith, behind))) (told-more j (suc t.place) ts a.1))
     ]
 
 one-place :
@@ -190,5 +198,55 @@ told_at_place h (Expire i) j = go (is_wait_if (at_place i (stood h)))
         (outcome_in (told_by_expiry i (at_place i (stood h)) b) j)
     go true = refl
     go false =
-        one-place (client_if (at_place i (stood h))) (client_if (at_place j (stood h))) i j Etimedout
+        one-place (client_if (at_place i (stood h))) (client_if (at_place j (stood h))) i j
+        Etimedout
         (λ e. ap (λ k. client_if (at_place k (stood h))) e)
+
+-- the answers before a place that is behind all of them are all
+pub told_all :
+    (n : ℕ) (ts : List Told) → Each (λ t. t.place < n) ts → told_before n ts ≡ ts
+told_all n [] e = refl
+told_all n (t ∷ ts) e = rw (lt-ltb t.place n e.0) (ap (λ us. t ∷ us) (told_all n ts e.1))
+
+trip-told :
+    (n : ℕ) (ws : List Standing) → Each (λ w. w.place < n) ws
+    → Each (λ t. t.place < n) (told_by_trip ws)
+trip-told n [] e = tt
+trip-told n (w ∷ ws) e = (e.0, trip-told n ws e.1)
+
+each-in : (n : ℕ) (ws : List Standing) (w : Standing) → Each (λ v. v.place < n) ws → In w ws
+    → w.place < n
+each-in n [] w e i = absurd i
+each-in n (v ∷ vs) w e (inl same) = subst (λ u. u.place < n) (sym same) e.0
+each-in n (v ∷ vs) w e (inr i) = each-in n vs w e.1 i
+
+more : (n : ℕ) (ts : List Told) → Each (λ t. t.place < n) ts → Each (λ t. t.place < suc n) ts
+more n [] e = tt
+more n (t ∷ ts) e = (omega (arith, e.0), more n ts e.1)
+
+-- a step answers no call behind it
+pub told_step :
+    (h : History) (e : Entry) → Step h e → Each (λ t. t.place < suc (place h)) (told h e)
+told_step h e (joins p f l) = tt
+told_step h e (calls c call f a o) = go (reply (verdict h c call))
+  where
+    go : (x : Option Outcome) → Each (λ t. t.place < suc (place h)) (told h (Call c call x))
+    go None = tt
+    go (Some x) = (omega arith, tt)
+told_step h e (dies c f a) = tt
+told_step h e (ticks t f) = tt
+told_step h e (grants w f i g) =
+    (omega (arith, each-in (place h) (open_calls h) w (open-below h) i), tt)
+told_step h e (trips w f i g) =
+    more (place h) (told_by_trip (at_barrier w.object (open_calls h)))
+    (trip-told (place h) (at_barrier w.object (open_calls h))
+    (Each-filter (λ v. v.place < place h) (λ v. is_arrival v.role && (v.object == w.object))
+    (open_calls h) (open-below h)))
+told_step h e (yields m f o) = tt
+told_step h e (expires w f i o) = go (is_wait_if (at_place w.place (stood h)))
+  where
+    go : (b : Bool)
+        → Each (λ t. t.place < suc (place h))
+        (told_by_expiry w.place (at_place w.place (stood h)) b)
+    go true = tt
+    go false = (omega (arith, each-in (place h) (open_calls h) w (open-below h) i), tt)

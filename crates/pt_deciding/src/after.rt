@@ -14,10 +14,10 @@ ghost use Rattle.pt_deciding.specs.Best.{kept_of};
 use pt_model::Entry;
 use pt_plain::answers::{answer_by, outcome};
 use pt_plain::clients::{client, client_by, living, living_by};
-use pt_plain::moves::{cause_by, move_or, moved, Move};
+use pt_plain::moves::{Move, cause_by, move_or, moved};
 use pt_plain::mutexes::{gained, gained_by, lost, lost_by};
 use pt_plain::objects::{is_robust, kind_by, kind_of};
-use pt_plain::standing::{standing_at, stood_by, Standing};
+use pt_plain::standing::{Standing, standing_at, stood_by};
 use pt_types::{ClientId, ObjectId, ObjectKind, Outcome};
 
 /// Whether a client lives behind one entry more.  [profile]
@@ -48,7 +48,9 @@ pub fn answer(entries: &[Entry], entry: &Entry, j: u64) -> Option<Outcome>
 
 /// Whether a standing call is open behind one entry more.  [profile]
 pub fn is_open(entries: &[Entry], entry: &Entry, w: &Standing) -> bool
-    ensures { result ≡ is_open_by (history entries.now ▷ entry.now) (outcome_in (history entries.now ▷ entry.now)) (shown w.now) }
+    ensures { result
+        ≡ is_open_by (history entries.now ▷ entry.now)
+        (outcome_in (history entries.now ▷ entry.now)) (shown w.now) }
 {
     is_alive(entries, entry, ClientId(w.client)) && answer(entries, entry, w.place).is_none()
 }
@@ -84,7 +86,9 @@ pub fn move_of(entries: &[Entry], entry: &Entry, j: u64) -> Option<Move>
 
 /// The entries kept for the open call at a place, behind one entry more.  [profile]
 pub fn kept_at(entries: &[Entry], entry: &Entry, i: u64) -> u64
-    ensures value { result ≡ kept_of (history entries.now ▷ entry.now) (at_place i (open_calls (history entries.now ▷ entry.now))) }
+    ensures value { result
+        ≡ kept_of (history entries.now ▷ entry.now)
+        (at_place i (open_calls (history entries.now ▷ entry.now))) }
     ensures small { result ≤ 3 }
 {
     match open_at(entries, entry, i) {
@@ -96,7 +100,10 @@ pub fn kept_at(entries: &[Entry], entry: &Entry, i: u64) -> u64
 
 /// The entries kept for all open calls, behind one entry more.  [profile]
 pub fn kept(entries: &[Entry], entry: &Entry) -> u64
-    ensures value { result ≡ sum (map (kept_for (history entries.now ▷ entry.now)) (open_calls (history entries.now ▷ entry.now))) }
+    ensures value { result
+        ≡ sum
+        (map (kept_for (history entries.now ▷ entry.now))
+        (open_calls (history entries.now ▷ entry.now))) }
     ensures small { result ≤ 3 * length entries.now + 3 }
 {
     let mut total = 0;
@@ -142,9 +149,11 @@ pub fn is_robust_owned(entries: &[Entry], entry: &Entry, m: ObjectId) -> bool
 }
 
 /// How many robust mutexes have an owner, behind one entry more.  [profile]
-#[tactic(auto, using(crate::proofs::Rooms::count_yes, crate::proofs::Rooms::count_no, crate::proofs::Rooms::count_end))]
+#[tactic(auto, using(crate::proofs::Rooms::count_yes, crate::proofs::Rooms::count_no))]
 pub fn robust_owned(entries: &[Entry], entry: &Entry) -> u64
-    ensures value { result ≡ count_below (place (history entries.now ▷ entry.now)) (is_robust_owned_in (history entries.now ▷ entry.now)) }
+    ensures value { result
+        ≡ count_below (place (history entries.now ▷ entry.now))
+        (is_robust_owned_in (history entries.now ▷ entry.now)) }
     ensures small { result ≤ length entries.now + 1 }
 {
     let mut total = 0;

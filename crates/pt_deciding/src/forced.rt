@@ -15,7 +15,7 @@ use pt_plain::clients::{clock, is_alive, is_due};
 use pt_plain::moves::{at_object, is_moved, precedes};
 use pt_plain::mutexes::owner;
 use pt_plain::objects::{is_robust, kind_of};
-use pt_plain::standing::{is_arrival, Standing};
+use pt_plain::standing::{Standing, is_arrival};
 use pt_types::ObjectId;
 
 /// The lower object first, and there the order of its calls.  [profile]
@@ -36,7 +36,9 @@ pub fn is_served(entries: &[Entry], w: &Standing) -> bool
 
 /// The open call at a place, if it may be served.  [profile]
 pub fn served_at(entries: &[Entry], i: u64) -> Option<Standing>
-    ensures { option_map shown result ≡ keep (is_served_in (history entries.now)) (at_place i (open_calls (history entries.now))) }
+    ensures { option_map shown result
+        ≡ keep (is_served_in (history entries.now))
+        (at_place i (open_calls (history entries.now))) }
 {
     match open_at(entries, i) {
         Some(w) if is_served(entries, &w) => Some(w),
@@ -50,7 +52,9 @@ pub fn better_served(
     w: Option<Standing>,
     best: Option<Standing>,
 ) -> Option<Standing>
-    ensures { option_map shown result ≡ best_of (is_served_before_in (history entries.now)) (option_map shown w) (option_map shown best) }
+    ensures { option_map shown result
+        ≡ best_of (is_served_before_in (history entries.now)) (option_map shown w)
+        (option_map shown best) }
 {
     match (w, best) {
         (Some(w), Some(v)) if !is_served_before(entries, &v, &w) => Some(w),
@@ -61,7 +65,9 @@ pub fn better_served(
 
 /// The call to serve first.  [profile]
 pub fn first_served(entries: &[Entry]) -> Option<Standing>
-    ensures { option_map shown result ≡ least (is_served_before_in (history entries.now)) (filter (is_served_in (history entries.now)) (open_calls (history entries.now))) }
+    ensures { option_map shown result
+        ≡ least (is_served_before_in (history entries.now))
+        (filter (is_served_in (history entries.now)) (open_calls (history entries.now))) }
 {
     let mut best = None;
     let mut i = entries.len();
@@ -126,7 +132,9 @@ pub fn is_overdue(entries: &[Entry], w: &Standing) -> bool
 
 /// The open call at a place, if it is overdue.  [profile]
 pub fn overdue_at(entries: &[Entry], i: u64) -> Option<Standing>
-    ensures { option_map shown result ≡ keep (is_overdue_in (history entries.now)) (at_place i (open_calls (history entries.now))) }
+    ensures { option_map shown result
+        ≡ keep (is_overdue_in (history entries.now))
+        (at_place i (open_calls (history entries.now))) }
 {
     match open_at(entries, i) {
         Some(w) if is_overdue(entries, &w) => Some(w),
@@ -145,7 +153,8 @@ pub fn expires_before(v: &Standing, w: &Standing) -> bool
 
 /// The one to expire first, of a call and the first behind it.  [profile]
 pub fn sooner(w: Option<Standing>, best: Option<Standing>) -> Option<Standing>
-    ensures { option_map shown result ≡ best_of expires_before_it (option_map shown w) (option_map shown best) }
+    ensures { option_map shown result
+        ≡ best_of expires_before_it (option_map shown w) (option_map shown best) }
 {
     match (w, best) {
         (Some(w), Some(v)) if !expires_before(&v, &w) => Some(w),
@@ -156,7 +165,9 @@ pub fn sooner(w: Option<Standing>, best: Option<Standing>) -> Option<Standing>
 
 /// The call to expire first.  [profile]
 pub fn first_overdue(entries: &[Entry]) -> Option<Standing>
-    ensures { option_map shown result ≡ least expires_before_it (filter (is_overdue_in (history entries.now)) (open_calls (history entries.now))) }
+    ensures { option_map shown result
+        ≡ least expires_before_it
+        (filter (is_overdue_in (history entries.now)) (open_calls (history entries.now))) }
 {
     let mut best = None;
     let mut i = entries.len();

@@ -14,7 +14,7 @@ use pt_model::Entry;
 use pt_plain::answers::{answer_by, open_at, outcome};
 use pt_plain::clients::is_alive;
 use pt_plain::moves::is_moved;
-use pt_plain::standing::{standing_at, Standing};
+use pt_plain::standing::{Standing, standing_at};
 use pt_types::{ClientId, Outcome};
 
 /// An answer: who gets it, to the call at which place, and what it says.  [profile]
@@ -57,12 +57,7 @@ pub fn caller(entries: &[Entry], j: u64) -> Option<ClientId>
 
 /// What an entry does to a client's latest call.  [profile]
 #[tactic(auto, using(crate::proofs::Ends::place_of_all))]
-pub fn latest_by(
-    entries: &[Entry],
-    entry: &Entry,
-    before: Option<u64>,
-    c: ClientId,
-) -> Option<u64>
+pub fn latest_by(entries: &[Entry], entry: &Entry, before: Option<u64>, c: ClientId) -> Option<u64>
     ensures { result ≡ latest_after (history entries.now) entry.now before c }
 {
     match entry {
@@ -153,7 +148,9 @@ pub fn has_deadline(entries: &[Entry], w: &Standing) -> bool
 
 /// The open call at a place, if it has a deadline.  [profile]
 pub fn timed_at(entries: &[Entry], i: u64) -> Option<Standing>
-    ensures { option_map shown result ≡ keep (has_deadline_in (history entries.now)) (at_place i (open_calls (history entries.now))) }
+    ensures { option_map shown result
+        ≡ keep (has_deadline_in (history entries.now))
+        (at_place i (open_calls (history entries.now))) }
 {
     match open_at(entries, i) {
         Some(w) if has_deadline(entries, &w) => Some(w),
@@ -163,7 +160,9 @@ pub fn timed_at(entries: &[Entry], i: u64) -> Option<Standing>
 
 /// The call with the least deadline.  [profile]
 pub fn first_timed(entries: &[Entry]) -> Option<Standing>
-    ensures { option_map shown result ≡ least expires_before_it (filter (has_deadline_in (history entries.now)) (open_calls (history entries.now))) }
+    ensures { option_map shown result
+        ≡ least expires_before_it
+        (filter (has_deadline_in (history entries.now)) (open_calls (history entries.now))) }
 {
     let mut best = None;
     let mut i = entries.len();

@@ -8,7 +8,7 @@ ghost use Rattle.pt_types.specs.Deeds.{Ends, Acquires, Unlocks, Restores, Rwunlo
 ghost use Rattle.pt_model.specs.Clients.{client as client_in};
 ghost use Rattle.pt_model.specs.Objects.{find as find_in};
 ghost use Rattle.pt_deciding.specs.Best.{awaited_or};
-ghost use Rattle.pt_model.specs.Verdicts.{on, bound_by, mutex_awaited as mutex_awaited_by, is_awaited as is_awaited_in, will_return as will_return_in, is_busy as is_busy_in, want_verdict as want_verdict_in, deed_verdict as deed_verdict_in, verdict as verdict_in, is_alive_if as is_alive_if_in};
+ghost use Rattle.pt_model.specs.Verdicts.{on, bound_by, mutex_awaited as mutex_awaited_by, is_awaited as is_awaited_in, will_return as will_return_in, is_busy as is_busy_in, want_verdict as want_verdict_in, deed_verdict as said_of, verdict as verdict_in, is_alive_if as is_alive_if_in};
 ghost use Rattle.pt_plain.specs.Found.{keep, passes};
 ghost use Rattle.pt_plain.specs.Shown.{shown_role, shown_sort, shown_want};
 
@@ -20,7 +20,7 @@ use crate::tables::{
 use pt_model::Entry;
 use pt_plain::answers::open_at;
 use pt_plain::clients::{client, is_alive};
-use pt_plain::deeds::{deed_of, sort_wanted, Deed, Sort, Want};
+use pt_plain::deeds::{Deed, Sort, Want, deed_of, sort_wanted};
 use pt_plain::moves::{at_object, is_moved};
 use pt_plain::mutexes::{mutex_view, owner};
 use pt_plain::objects::{find, object_named, objects};
@@ -46,7 +46,11 @@ pub fn awaited_at(
     i: u64,
     found: Option<ObjectId>,
 ) -> Option<ObjectId>
-    ensures { result ≡ awaited_or (keep (λ w. at_object_in (history entries.now) w == q) (at_place i (open_calls (history entries.now)))) found }
+    ensures { result
+        ≡ awaited_or
+        (keep (λ w. at_object_in (history entries.now) w == q)
+        (at_place i (open_calls (history entries.now))))
+        found }
 {
     match open_at(entries, i) {
         Some(w) if at_object(entries, &w) == q => mutex_awaited(w.role),
@@ -69,7 +73,9 @@ pub fn bound(entries: &[Entry], q: ObjectId) -> Option<ObjectId>
 
 /// Whether the open call at a place stands at the object.  [XSH pthread_mutex_destroy]
 pub fn stands_at(entries: &[Entry], o: ObjectId, i: u64) -> bool
-    ensures { result ≡ passes (λ w. at_object_in (history entries.now) w == o) (at_place i (open_calls (history entries.now))) }
+    ensures { result
+        ≡ passes (λ w. at_object_in (history entries.now) w == o)
+        (at_place i (open_calls (history entries.now))) }
 {
     match open_at(entries, i) {
         Some(w) => at_object(entries, &w) == o,
@@ -92,7 +98,9 @@ pub fn is_awaited(entries: &[Entry], o: ObjectId) -> bool
 /// Whether the open call at a place is a wait that isn't moved and will come back to the mutex.
 /// [XSH pthread_mutex_destroy]
 pub fn returns_from(entries: &[Entry], m: ObjectId, i: u64) -> bool
-    ensures { result ≡ passes (will_return_in (history entries.now) m) (at_place i (open_calls (history entries.now))) }
+    ensures { result
+        ≡ passes (will_return_in (history entries.now) m)
+        (at_place i (open_calls (history entries.now))) }
 {
     match open_at(entries, i) {
         Some(w) => mutex_awaited(w.role) == Some(m) && !is_moved(entries, &w),
@@ -102,7 +110,8 @@ pub fn returns_from(entries: &[Entry], m: ObjectId, i: u64) -> bool
 
 /// Whether a wait that isn't moved will come back to the mutex.  [XSH pthread_mutex_destroy]
 pub fn will_return(entries: &[Entry], m: ObjectId) -> bool
-    ensures { result ≡ list_any (will_return_in (history entries.now) m) (open_calls (history entries.now)) }
+    ensures { result
+        ≡ list_any (will_return_in (history entries.now) m) (open_calls (history entries.now)) }
 {
     for i in 0..entries.len() {
         if returns_from(entries, m, i as u64) {
@@ -162,14 +171,8 @@ pub fn want_verdict(entries: &[Entry], c: ClientId, o: ObjectId, want: Want, how
 }
 
 /// A client's call for a lock.  [XSH pthread_mutex_lock, pthread_rwlock_rdlock]
-pub fn acquires_verdict(
-    entries: &[Entry],
-    c: ClientId,
-    n: &Name,
-    want: Want,
-    how: &How,
-) -> Verdict
-    ensures { result ≡ deed_verdict_in (history entries.now) c (Acquires n.now (shown_want want) how.now) }
+pub fn acquires_verdict(entries: &[Entry], c: ClientId, n: &Name, want: Want, how: &How) -> Verdict
+    ensures { result ≡ said_of (history entries.now) c (Acquires n.now (shown_want want) how.now) }
 {
     match find(entries, n, sort_wanted(want)) {
         Some(o) => want_verdict(entries, c, o, want, how),
@@ -185,7 +188,7 @@ pub fn awaits_verdict(
     k: &Name,
     deadline: Option<Deadline>,
 ) -> Verdict
-    ensures { result ≡ deed_verdict_in (history entries.now) c (Awaits n.now k.now deadline) }
+    ensures { result ≡ said_of (history entries.now) c (Awaits n.now k.now deadline) }
 {
     let Some(q) = find(entries, n, Sort::Cond) else {
         return Verdict::Reply(Outcome::Einval);
@@ -199,7 +202,7 @@ pub fn awaits_verdict(
 
 /// A client's call that ends an object.  [XSH pthread_mutex_destroy]
 pub fn ends_verdict(entries: &[Entry], c: ClientId, n: &Name, sort: Sort) -> Verdict
-    ensures { result ≡ deed_verdict_in (history entries.now) c (Ends n.now (shown_sort sort)) }
+    ensures { result ≡ said_of (history entries.now) c (Ends n.now (shown_sort sort)) }
 {
     match find(entries, n, sort) {
         Some(o) => destroy_verdict(is_busy(entries, sort, o)),
@@ -209,7 +212,7 @@ pub fn ends_verdict(entries: &[Entry], c: ClientId, n: &Name, sort: Sort) -> Ver
 
 /// A client's call on a mutex that it may own.  [XSH pthread_mutex_unlock]
 pub fn unlocks_verdict(entries: &[Entry], c: ClientId, n: &Name) -> Verdict
-    ensures { result ≡ deed_verdict_in (history entries.now) c (Unlocks n.now) }
+    ensures { result ≡ said_of (history entries.now) c (Unlocks n.now) }
 {
     match find(entries, n, Sort::Mutex) {
         Some(m) => unlock_verdict(&mutex_view(entries, m), c),
@@ -219,7 +222,7 @@ pub fn unlocks_verdict(entries: &[Entry], c: ClientId, n: &Name) -> Verdict
 
 /// A client's call to make a mutex consistent.  [XSH pthread_mutex_consistent]
 pub fn restores_verdict(entries: &[Entry], c: ClientId, n: &Name) -> Verdict
-    ensures { result ≡ deed_verdict_in (history entries.now) c (Restores n.now) }
+    ensures { result ≡ said_of (history entries.now) c (Restores n.now) }
 {
     match find(entries, n, Sort::Mutex) {
         Some(m) => consistent_verdict(&mutex_view(entries, m), c),
@@ -229,7 +232,7 @@ pub fn restores_verdict(entries: &[Entry], c: ClientId, n: &Name) -> Verdict
 
 /// A client's call to give a read-write lock back.  [XSH pthread_rwlock_unlock]
 pub fn rwunlocks_verdict(entries: &[Entry], c: ClientId, n: &Name) -> Verdict
-    ensures { result ≡ deed_verdict_in (history entries.now) c (Rwunlocks n.now) }
+    ensures { result ≡ said_of (history entries.now) c (Rwunlocks n.now) }
 {
     match find(entries, n, Sort::Rwlock) {
         Some(r) => rwunlock_verdict(rwlock_view(entries, r, c)),

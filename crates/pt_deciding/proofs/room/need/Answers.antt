@@ -8,7 +8,7 @@ pub returns : goal.returns
 returns c =
     let es = c.args.entries.now in
     let some : length es ≡ 0 → ⊥ =
-        eqb-false (length es) 0 (sym c.is_empty.ensures ∙ c.if-is_empty.false) in
+    eqb-false (length es) 0 (sym c.is_empty.ensures ∙ c.if-is_empty.false) in
     c.need.ensures.value
     ∙ ap need (history_last es (length es - 1) c.index-entries-last.result (omega (arith, some))
     c.index-entries-last.is)
