@@ -23,7 +23,8 @@ module _ (limit : ℕ) (h : History) (v : Event) where
       → (refusal h v ≡ None) × (is_over limit (h ▷ entry_for h v) ≡ false)
   unrefused e = go (refusal h v) refl (is_over limit (h ▷ entry_for h v)) refl e
     where
-      go : (o : Option Refusal) → refusal h v ≡ o → (b : Bool) → is_over limit (h ▷ entry_for h v) ≡ b
+      go : (o : Option Refusal) → refusal h v ≡ o → (b : Bool) → is_over limit (h ▷ entry_for h
+          v) ≡ b
           → option_or o (cond b (Some Full) None) ≡ None
           → (refusal h v ≡ None) × (is_over limit (h ▷ entry_for h v) ≡ false)
       go (Some r) eo b eb e = absurd cc
@@ -54,7 +55,8 @@ unrefused-alive h c e = go (is_alive h c) refl e
 module _ (s : Stored) (k : IsKept s) (c : ℕ) (alive : is_alive (history s.entries) c ≡ true) where
   death_keeps : place (history s.entries ▷ Death c) + need (history s.entries ▷ Death c)
       ≤ place (history s.entries) + need (history s.entries)
-  death_keeps = room-death (history s.entries) c (legal-follows s.entries (events_of s.entries) k.legal) alive
+  death_keeps = room-death (history s.entries) c (legal-follows s.entries (events_of s.entries)
+      k.legal) alive
 
   -- the room that is kept is enough for the Death of a living client
   pub death-fits : 1 + need (history s.entries ▷ Death c) ≤ s.room
@@ -65,13 +67,14 @@ module _ (s : Stored) (k : IsKept s) (c : ℕ) (alive : is_alive (history s.entr
 
   -- so it is never refused
   pub death-unrefused : refusal_within s.limit (history s.entries) (event.Death c) ≡ None
-  death-unrefused = go (is_alive (history s.entries) c) alive (is_over s.limit (history s.entries ▷ Death c)) refl death_within
+  death-unrefused = go (is_alive (history s.entries) c) alive (is_over s.limit (history s.entries
+      ▷ Death c)) refl death_within
     where
       go : (a : Bool) → a ≡ true → (b : Bool) → is_over s.limit (history s.entries ▷ Death c) ≡ b
           → place (history s.entries ▷ Death c) + need (history s.entries ▷ Death c) ≤ s.limit
           → option_or (cond a None (Some (refusal_of_stranger (history s.entries) c)))
-            (cond b (Some Full) None)
-            ≡ None
+          (cond b (Some Full) None)
+          ≡ None
       go false ea b eb lt = absurd cc
       go true ea false eb lt = refl
       go true ea true eb lt = absurd (grind (arith, nat_tests))

@@ -36,10 +36,10 @@ trip-more h e old now next i o en eo ex =
     ∙ (ap (λ us. us ++ listed o) en
     ∙ (append_assoc old (told_before i (told h e)) (listed o)
     ∙ ap (λ us. old ++ us)
-      (
-        ap (λ x. told_before i (told h e) ++ listed x) eo
-        ∙ sym (told-more i 0 (told h e) (told-climbs h e))
-      )))
+    (
+    ap (λ x. told_before i (told h e) ++ listed x) eo
+    ∙ sym (told-more i 0 (told h e) (told-climbs h e))
+    )))
 
 abbrev first : Standing → List Standing → Told
 first w ws = record { client = w.client; place = w.place; outcome = trip_outcome ws }
@@ -82,8 +82,8 @@ told-start es k from e =
       | inl same ↦ ap (λ n. told_with [] es n) (e ∙ min-eq_left (omega (arith, same)))
       | inr (inl before) ↦ ap (λ n. told_with [] es n) (e ∙ min-eq_left (omega (arith, before)))
       | inr (inr behind) ↦
-        told_past es from (omega (arith, e ∙ min-eq_right (past behind)))
-        ∙ sym (told_past es k (past behind))
+          told_past es from (omega (arith, e ∙ min-eq_right (past behind)))
+          ∙ sym (told_past es k (past behind))
     ]
   where
     past : length es < k → length es ≤ k
@@ -95,18 +95,20 @@ pub told-more_entry : (es : List Entry) (at : ℕ) (e : Entry) (now next : List 
     → told_with next es (at + 1) ≡ told_with now es at
 told-more_entry es at e now next lt is en =
     let one : take (at + 1) es ≡ take at es ++ e ∷ [] =
-        take_more es at e lt ∙ ap (λ x. take at es ++ x ∷ []) (sym is) in
+    take_more es at e lt ∙ ap (λ x. take at es ++ x ∷ []) (sym is) in
     let rest : drop at es ≡ e ∷ drop (at + 1) es =
-        drop-cons es at e lt
-        ∙ (ap (λ k. get_or es at e ∷ drop k es) (sym (add-one at)) ∙ ap (λ x. x ∷ drop (at + 1) es) (sym is)) in
+    drop-cons es at e lt
+    ∙ (ap (λ k. get_or es at e ∷ drop k es) (sym (add-one at)) ∙ ap (λ x. x ∷ drop (at + 1) es)
+    (sym is)) in
     ap (λ us. us ++ replies_from (history (take (at + 1) es)) (drop (at + 1) es)) en
-    ∙ (append_assoc now (told (history (take at es)) e) (replies_from (history (take (at + 1) es)) (drop (at + 1) es))
+    ∙ (append_assoc now (told (history (take at es)) e) (replies_from (history (take (at + 1)
+    es)) (drop (at + 1) es))
     ∙ ap (λ us. now ++ us)
-      (
-        ap (λ h. told (history (take at es)) e ++ replies_from h (drop (at + 1) es))
-        (ap history one ∙ history-push (take at es) e)
-        ∙ ap (λ us. replies_from (history (take at es)) us) (sym rest)
-      ))
+    (
+    ap (λ h. told (history (take at es)) e ++ replies_from h (drop (at + 1) es))
+    (ap history one ∙ history-push (take at es) e)
+    ∙ ap (λ us. replies_from (history (take at es)) us) (sym rest)
+    ))
 
 -- all entries have told
 pub told-end : (es : List Entry) (at k : ℕ) (xs : List Told) → length es ≤ at

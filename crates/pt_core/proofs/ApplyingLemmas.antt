@@ -22,7 +22,7 @@ pub death-told : (s : Stored) (v : Event) (read : Option Refusal) (r : Refusal) 
     → (c : ℕ) → v ≡ event.Death c → is_alive (history s.entries) c ≡ true → false ≡ true
 death-told s v read r k told is c e alive =
     let none : refusal_within s.limit (history s.entries) v ≡ None =
-        ap (refusal_within s.limit (history s.entries)) e ∙ death-unrefused s k c alive in
+    ap (refusal_within s.limit (history s.entries)) e ∙ death-unrefused s k c alive in
     absurd (let no : Some r ≡ None = sym is ∙ (told ∙ none) in cc)
 
 -- the same verdict over the entries that were made room for
@@ -44,20 +44,19 @@ module _ (old made new : Stored) (v : Event) (m : IsMade old v made) (e : Enters
   entered_extends =
       subst
       (λ (es : List Entry).
-        (fs : List Entry) × (new.entries ≡ es ++ entry_for (history es) v ∷ fs))
-      m.same_entries
-      (
+      (fs : List Entry) × (new.entries ≡ es ++ entry_for (history es) v ∷ fs))
+      m.same_entries (
         e.added.0,
         applied-extends made.entries new.entries v m.ready.legal accepted e.added.0 e.added.1
-        e.added.2 e.settled
+            e.added.2 e.settled,
       )
 
   entered_legal : Legal new.entries (events_of old.entries ++ v ∷ [])
   entered_legal =
       subst (λ (es : List Entry). Legal new.entries (events_of es ++ v ∷ [])) m.same_entries
       (
-        applied-legal made.entries new.entries v m.ready.legal accepted e.added.0 e.added.1
-        e.added.2 e.settled
+      applied-legal made.entries new.entries v m.ready.legal accepted e.added.0 e.added.1
+      e.added.2 e.settled
       )
 
   entered_bounded :
@@ -66,7 +65,7 @@ module _ (old made new : Stored) (v : Event) (m : IsMade old v made) (e : Enters
   entered_bounded =
       subst
       (λ (es : List Entry).
-        length new.entries ≤ length es + 1 + need (history es ▷ entry_for (history es) v))
+      length new.entries ≤ length es + 1 + need (history es ▷ entry_for (history es) v))
       m.same_entries e.bounded
 
   entered_applies : Applies (kept old) v (kept new)

@@ -25,7 +25,11 @@ pub record IsWritten (h : History) (w : Standing) : Type 0 where
 
 written_later : (h : History) (e : Entry) (w : Standing) → IsWritten h w → IsWritten (h ▷ e) w
 written_later h e w r =
-    record { below = omega (arith, r.below); same = r.same ∙ ap (option_map deadline_nanos) (go (place h == w.place) refl) }
+    record {
+      below = omega (arith, r.below);
+      same = r.same ∙ ap (option_map deadline_nanos) (go
+          (place h == w.place) refl);
+    }
   where
     go : (b : Bool) → (place h == w.place) ≡ b
         → deadline_at h w.place ≡ cond b (deadline_by e) (deadline_at h w.place)
@@ -36,15 +40,36 @@ newest_same : (h : History) (e : Entry) (o : Option Timespec) → deadline_by e 
     → option_map deadline_nanos o ≡ option_map deadline_nanos (deadline_at (h ▷ e) (place h))
 newest_same h e o is = ap (option_map deadline_nanos) (go (place h == place h) refl)
   where
-    go : (b : Bool) → (place h == place h) ≡ b → o ≡ cond b (deadline_by e) (deadline_at h (place h))
+    go : (b : Bool) → (place h == place h) ≡ b → o ≡ cond b (deadline_by e) (deadline_at h (place
+        h))
     go true eb = sym is
     go false eb = absurd (grind (arith, nat_tests, eb))
 
 newest_written : (h : History) (c : ℕ) (e : Entry) (d : Deed) → deadline_by e ≡ deadline_by_deed d
     → Each (IsWritten (h ▷ e)) (stood_by_deed h c d)
-newest_written h c e (Acquires n want how) is = (record { below = omega arith; same = newest_same h e _ is }, tt)
-newest_written h c e (Awaits n m deadline) is = (record { below = omega arith; same = newest_same h e _ is }, tt)
-newest_written h c e (Arrives n) is = (record { below = omega arith; same = newest_same h e _ is }, tt)
+newest_written h c e (Acquires n want how) is = (
+  record {
+    below = omega arith;
+    same = newest_same
+        h e _ is;
+  },
+  tt,
+)
+newest_written h c e (Awaits n m deadline) is = (
+  record {
+    below = omega arith;
+    same = newest_same
+        h e _ is;
+  },
+  tt,
+)
+newest_written h c e (Arrives n) is = (
+  record {
+    below = omega arith;
+    same = newest_same h e _ is;
+  },
+  tt,
+)
 newest_written h c e (Makes n kind) is = tt
 newest_written h c e (Ends n sort) is = tt
 newest_written h c e (Unlocks n) is = tt
@@ -73,7 +98,8 @@ stood-written (h ▷ e) =
 
 -- the call with the least deadline has the deadline that was written
 pub timed-written : (h : History) (o : Option Standing)
-    → o ≡ least expires_before (filter (has_deadline h) (open_calls h)) → (w : Standing) → o ≡ Some w
+    → o ≡ least expires_before (filter (has_deadline h) (open_calls h)) → (w : Standing) → o ≡
+    Some w
     → option_map deadline_nanos (deadline_at h w.place) ≡ w.deadline
 timed-written h o is w e =
     let found = least-in expires_before (filter (has_deadline h) (open_calls h)) w (sym is ∙ e) in
@@ -88,7 +114,7 @@ pub deadline-more : (es : List Entry) (i j : ℕ) (e : Entry) (old new : Option 
     → new ≡ cond (i == j) (deadline_by e) old → new ≡ deadline_at (history (take (i + 1) es)) j
 deadline-more es i j e old new lt is known step =
     let one : history (take (i + 1) es) ≡ history (take i es) ▷ e =
-        history_more es i e lt ∙ ap (λ x. history (take i es) ▷ x) (sym is) in
+    history_more es i e lt ∙ ap (λ x. history (take i es) ▷ x) (sym is) in
     step
     ∙ (ap (λ k. cond (k == j) (deadline_by e) old) (sym (place_below es i (omega (arith, lt))))
     ∙ (ap (λ o. cond (place (history (take i es)) == j) (deadline_by e) o) known

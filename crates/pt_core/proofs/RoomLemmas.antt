@@ -18,7 +18,8 @@ use Rattle.pt_core.proofs.AcceptingLemmas.{unrefused-itself, unrefused-fits, unr
 pub made-death : (s : Stored) (v : Event) → IsKept s → is_death v ≡ true
     → refusal_within s.limit (history s.entries) v ≡ None → IsMade s v s
 made-death s (event.Death c) k d ok =
-    let alive = unrefused-alive (history s.entries) c (unrefused-itself s.limit (history s.entries) (event.Death c) ok) in
+    let alive = unrefused-alive (history s.entries) c (unrefused-itself s.limit (history
+    s.entries) (event.Death c) ok) in
     record {
       same_entries = refl;
       same_limit = refl;
@@ -66,11 +67,14 @@ module _ (s : Stored) (v : Event) (n : ℕ) (k : IsKept s)
       → ((answer ≡ Err Full) ↔ (s.limit < length s.entries + n))
       → IfErr answer (λ r. r ≢ Full → r ≡ Enomem) → IfErr answer (IsWantOfMemory v)
   reserved-memory (Ok x) d full memory = memory
-  reserved-memory (Err r) d full memory =
-      (
-        memory (λ e. absurd (let lt = full.0 (ap Err e) in let le = reserved-fits in omega (arith, lt, le))),
-        d,
-      )
+  reserved-memory (Err r) d full memory = (
+    memory (λ e. absurd (let lt = full.0 (ap Err e) in let le = reserved-fits in omega (
+      arith,
+      lt,
+      le,
+    ))),
+    d,
+  )
 
 -- the need that was computed, with one entry more
 pub needed : (s : Stored) (read again : List Entry) (v : Event) (e : Entry) (n : ℕ)
@@ -80,7 +84,7 @@ pub needed : (s : Stored) (read again : List Entry) (v : Event) (e : Entry) (n :
 needed s read again v e n er ea ee en =
     ap (λ k. 1 + k)
     (
-      en
-      ∙ (ap (λ es. need (history es ▷ e)) ea
-      ∙ ap (λ x. need (history s.entries ▷ x)) (ee ∙ ap (λ es. entry_for (history es) v) er))
+    en
+    ∙ (ap (λ es. need (history es ▷ e)) ea
+    ∙ ap (λ x. need (history s.entries ▷ x)) (ee ∙ ap (λ es. entry_for (history es) v) er))
     )

@@ -31,7 +31,7 @@ module _ (old now next : Kept) (vs : List Event) (i : ℕ) (read again : Event)
   pub runs-more : Applies now again next → Runs old (take (i + 1) vs) next
   runs-more a =
       let one : take (i + 1) vs ≡ take i vs ++ again ∷ [] =
-          take_more vs i read lt ∙ ap (λ x. take i vs ++ x ∷ []) (sym at ∙ sym same) in
+      take_more vs i read lt ∙ ap (λ x. take i vs ++ x ∷ []) (sym at ∙ sym same) in
       subst (λ (us : List Event). Runs old us next) (sym one)
       (runs-push old now next (take i vs) again r a)
 
@@ -43,9 +43,9 @@ module _ (old now next : Kept) (vs : List Event) (i : ℕ) (read again : Event)
         within = lt;
         runs = subst (λ (k : Kept). Runs old (take i vs) k) (sym unchanged) r;
         refused = λ other.
-          subst (λ (k : Kept). IsRefusal k (get_or vs i other) why) (sym unchanged)
-          (
+            subst (λ (k : Kept). IsRefusal k (get_or vs i other) why) (sym unchanged)
+            (
             subst (λ (v : Event). IsRefusal now v why)
             (same ∙ (at ∙ get_or_default vs i read other lt)) refused
-          );
+            );
       }

@@ -49,7 +49,8 @@ legal-entered h v fs quiet ok a n =
 
 -- a forced entry is a step that keeps the room
 pub keeps-forced : (h : History) (f : Entry) → Follows h → forced h ≡ Some f → KeepsRoom h f
-keeps-forced h f follows is = room-step h f follows (step-forced h f is) (go f (step-forced h f is) is)
+keeps-forced h f follows is = room-step h f follows (step-forced h f is) (go f (step-forced h f
+    is) is)
   where
     go : (e : Entry) → Step h e → forced h ≡ Some e → is_forced e ≡ true
     go _ (joins p n lt) f = absurd (let no = sym n ∙ f in cc)
@@ -77,7 +78,8 @@ added-more : (start now : List Entry) (f : Entry)
     → (fs : List Entry) × (now ++ f ∷ [] ≡ start ++ fs) × Forces (history start) fs
 added-more start now f a e =
     let at : forced (onto (history start) a.0) ≡ Some f =
-        ap forced (sym (onto-append Begin start a.0)) ∙ (ap (λ es. forced (history es)) (sym a.1) ∙ e) in (
+    ap forced (sym (onto-append Begin start a.0)) ∙ (ap (λ es. forced (history es)) (sym a.1) ∙
+    e) in (
       a.0 ++ f ∷ [],
       ap (λ es. es ++ f ∷ []) a.1 ∙ append_assoc start a.0 (f ∷ []),
       forces-push (history start) a.0 f a.2 at,
@@ -128,7 +130,8 @@ module _ (old new : List Entry) (v : Event) (l : Legal old (events_of old))
     (is : new ≡ (old ++ entry_for (history old) v ∷ []) ++ fs)
     (a : Forces (history (old ++ entry_for (history old) v ∷ [])) fs)
     (n : forced (history new) ≡ None) where
-  entered_at : history (old ++ entry_for (history old) v ∷ []) ≡ history old ▷ entry_for (history old) v
+  entered_at : history (old ++ entry_for (history old) v ∷ []) ≡ history old ▷ entry_for (history
+      old) v
   entered_at = history-push old (entry_for (history old) v)
 
   pub applied-extends : new ≡ old ++ entry_for (history old) v ∷ fs
@@ -136,17 +139,18 @@ module _ (old new : List Entry) (v : Event) (l : Legal old (events_of old))
 
   quiet_at_end : forced (onto (history old ▷ entry_for (history old) v) fs) ≡ None
   quiet_at_end =
-      ap forced (sym (ap history applied-extends ∙ onto-append Begin old (entry_for (history old) v ∷ fs))) ∙ n
+      ap forced (sym (ap history applied-extends ∙ onto-append Begin old (entry_for (history old)
+      v ∷ fs))) ∙ n
 
   pub applied-legal : Legal new (events_of old ++ v ∷ [])
   applied-legal =
       subst (λ (es : List Entry). Legal es (events_of old ++ v ∷ [])) (sym applied-extends)
       (
-        legal-more Begin old (entry_for (history old) v ∷ fs) (events_of old) (v ∷ []) l
-        (
-          legal-entered (history old) v fs (legal-settled old (events_of old) l) ok
-          (subst (λ (g : History). Forces g fs) entered_at a) quiet_at_end
-        )
+      legal-more Begin old (entry_for (history old) v ∷ fs) (events_of old) (v ∷ []) l
+      (
+      legal-entered (history old) v fs (legal-settled old (events_of old) l) ok
+      (subst (λ (g : History). Forces g fs) entered_at a) quiet_at_end
+      )
       )
 
   pub applied-kept : Legal new (events_of new)
@@ -187,33 +191,35 @@ pub kept-entered : (old new : Stored) (v : Event) → IsReady old v
     → refusal (history old.entries) v ≡ None → Enters old v new → IsKept new
 kept-entered old new v k ok e =
     record {
-      legal = applied-kept old.entries new.entries v k.legal ok e.added.0 e.added.1 e.added.2 e.settled;
+      legal = applied-kept old.entries new.entries v k.legal ok e.added.0 e.added.1 e.added.2
+          e.settled;
       room = e.room;
       fits = omega (arith, e.same_end, k.fits, e.same_limit);
       limit = omega (arith, k.limit, e.same_limit);
     }
 
 -- behind the entry of an accepted event, where there was room for it
-module _ (s : Stored) (v : Event) (r : IsReady s v) (ok : refusal (history s.entries) v ≡ None) where
-  pub ready-room : 0 < s.room
-  ready-room = omega (arith, r.room)
+module _ (s : Stored) (v : Event) (r : IsReady s v) (ok : refusal (history s.entries) v ≡ None)
+  where
+    pub ready-room : 0 < s.room
+    ready-room = omega (arith, r.room)
 
-  pub ready-follows : Follows (history (s.entries ++ entry_for (history s.entries) v ∷ []))
-  ready-follows =
-      subst Follows (sym (history-push s.entries (entry_for (history s.entries) v)))
-      (
-        legal-follows s.entries (events_of s.entries) r.legal,
-        step-event (history s.entries) v (legal-settled s.entries (events_of s.entries) r.legal) ok,
-      )
+    pub ready-follows : Follows (history (s.entries ++ entry_for (history s.entries) v ∷ []))
+    ready-follows =
+        subst Follows (sym (history-push s.entries (entry_for (history s.entries) v))) (
+          legal-follows s.entries (events_of s.entries) r.legal,
+          step-event (history s.entries) v
+              (legal-settled s.entries (events_of s.entries) r.legal) ok,
+        )
 
-  pub ready-need :
-      need (history (s.entries ++ entry_for (history s.entries) v ∷ [])) ≤ s.room - 1
-  ready-need =
-      omega (
-        arith,
-        r.room,
-        ap need (history-push s.entries (entry_for (history s.entries) v)),
-      )
+    pub ready-need :
+        need (history (s.entries ++ entry_for (history s.entries) v ∷ [])) ≤ s.room - 1
+    ready-need =
+        omega (
+          arith,
+          r.room,
+          ap need (history-push s.entries (entry_for (history s.entries) v)),
+        )
 
 -- what a push of an event's entry makes of a stored history
 pub pushed-entry : (s : Stored) (read : List Entry) (v : Event) (e : Entry) (next : Stored)

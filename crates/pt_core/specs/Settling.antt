@@ -21,7 +21,8 @@ reach es = length es + need (history es)
 
 -- forced entries were added so far, and there is room for the rest
 pub record IsSettling (old new : Stored) : Type 0 where
-  pub added : (fs : List Entry) × (new.entries ≡ old.entries ++ fs) × Forces (history old.entries) fs
+  pub added : (fs : List Entry) × (new.entries ≡ old.entries ++ fs) × Forces (history
+      old.entries) fs
   pub follows : Follows (history new.entries)
   pub room : need (history new.entries) ≤ new.room
   pub same_limit : new.limit ≡ old.limit

@@ -38,11 +38,9 @@ fn reply(told: Told) -> Reply
 }
 
 // Adds an answer, if there is one.
-fn add<A: Allocator + Copy>(
-    replies: &mut Vec<Reply, A>,
-    told: Option<Told>,
-) -> Result<(), Refusal>
-    ensures ok { OnOk result (map told_of replies.new.items ≡ map told_of replies.old.items ++ listed (option_map shown_told told)) }
+fn add<A: Allocator + Copy>(replies: &mut Vec<Reply, A>, told: Option<Told>) -> Result<(), Refusal>
+    ensures ok { OnOk result (map told_of replies.new.items
+        ≡ map told_of replies.old.items ++ listed (option_map shown_told told)) }
     ensures err { IfErr result (λ refusal. refusal ≡ Refusal.Enomem) }
 {
     match told {
@@ -57,7 +55,8 @@ fn tell_trip<A: Allocator + Copy>(
     b: ObjectId,
     replies: &mut Vec<Reply, A>,
 ) -> Result<(), Refusal>
-    ensures ok { OnOk result (map told_of replies.new.items ≡ map told_of replies.old.items ++ told_by_entry (history entries.now) (Entry.Trip b)) }
+    ensures ok { OnOk result (map told_of replies.new.items
+        ≡ map told_of replies.old.items ++ told_by_entry (history entries.now) (Entry.Trip b)) }
     ensures err { IfErr result (λ refusal. refusal ≡ Refusal.Enomem) }
 {
     let trip = Entry::Trip(b);
@@ -74,7 +73,8 @@ fn tell<A: Allocator + Copy>(
     entry: &Entry,
     replies: &mut Vec<Reply, A>,
 ) -> Result<(), Refusal>
-    ensures ok { OnOk result (map told_of replies.new.items ≡ map told_of replies.old.items ++ told_by_entry (history entries.now) entry.now) }
+    ensures ok { OnOk result (map told_of replies.new.items
+        ≡ map told_of replies.old.items ++ told_by_entry (history entries.now) entry.now) }
     ensures err { IfErr result (λ refusal. refusal ≡ Refusal.Enomem) }
 {
     match entry {
@@ -86,7 +86,10 @@ fn tell<A: Allocator + Copy>(
             add(replies, Some(told(client_at(entries, *j), *j, *outcome)))
         }
         Entry::Expire(j) if !is_wait_at(entries, *j) => {
-            add(replies, Some(told(client_at(entries, *j), *j, Outcome::Etimedout)))
+            add(
+                replies,
+                Some(told(client_at(entries, *j), *j, Outcome::Etimedout)),
+            )
         }
         _ => Ok(()),
     }

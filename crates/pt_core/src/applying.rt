@@ -33,12 +33,14 @@ pub fn apply<A: Allocator + Copy>(
 ) -> Result<Applied, Refusal>
     requires { IsKept stored.old }
     ensures kept { IsKept stored.new }
-    ensures ok { IfOk result (λ applied. IsApplied (kept stored.old) event.now (kept stored.new) applied) }
+    ensures ok { IfOk result (λ applied.
+        IsApplied (kept stored.old) event.now (kept stored.new) applied) }
     ensures err { IfErr result (λ refusal. IsRefusal (kept stored.old) event.now refusal) }
     ensures unchanged { OnErr result (stored.new ≡ stored.old) }
 
     // The Death of a living client is never refused.
-    ensures death { (c : ℕ) → event.now ≡ Event.Death c → is_alive (history stored.old.entries) c ≡ true → IsOk result }
+    ensures death { (c : ℕ) → event.now ≡ Event.Death c
+        → is_alive (history stored.old.entries) c ≡ true → IsOk result }
 {
     let limit = stored.limit() as u64;
     if let Some(refusal) = refusal_within(stored.entries(), limit, event) {

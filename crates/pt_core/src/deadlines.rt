@@ -35,12 +35,7 @@ fn deadline_by(entry: &Entry) -> Option<Deadline>
 }
 
 // The deadline of an entry at a place, where it is the one that is looked for.
-fn deadline_or(
-    entry: &Entry,
-    at: u64,
-    place: u64,
-    before: Option<Deadline>,
-) -> Option<Deadline>
+fn deadline_or(entry: &Entry, at: u64, place: u64, before: Option<Deadline>) -> Option<Deadline>
     ensures { result ≡ (if at == place then deadline_of_entry entry.now else before) }
 {
     if at == place {

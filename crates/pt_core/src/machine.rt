@@ -11,10 +11,9 @@ ghost use Rattle.pt_core.specs.Applying.{IsApplied, IsRefusal};
 ghost use Rattle.pt_core.specs.Running.{Runs, IsStopped};
 ghost use Rattle.pt_core.specs.Replies.{told_of};
 
-use crate::answering;
 use crate::applied::{Applied, Reply, Stopped};
-use crate::applying;
 use crate::deadlines::least_deadline;
+use crate::{answering, applying};
 use pt_deciding::room::refusal_within;
 use pt_history::History;
 use pt_model::{Entry, Event};
@@ -74,7 +73,8 @@ impl<A: Allocator + Copy> Core<A> {
         ensures unchanged { OnErr result (self.new ≡ self.old) }
 
         // The Death of a living client is never refused.
-        ensures death { (c : ℕ) → event ≡ Event.Death c → is_alive (history self.old.entries) c ≡ true → IsOk result }
+        ensures death { (c : ℕ) → event ≡ Event.Death c
+            → is_alive (history self.old.entries) c ≡ true → IsOk result }
     {
         applying::apply(&mut self.stored, &event)
     }
@@ -110,7 +110,8 @@ impl<A: Allocator + Copy> Core<A> {
     /// The answers that the entries from a place on give, in the order of the entries; of one Trip
     /// in order of the calls' places. ENOMEM where a growth is refused.  [profile]
     pub fn answers_from(&self, place: u64) -> Result<Vec<Reply, A>, Refusal>
-        ensures ok { IfOk result (λ replies. map told_of replies.items ≡ answers_in place self.now.entries) }
+        ensures ok { IfOk result (λ replies.
+            map told_of replies.items ≡ answers_in place self.now.entries) }
         ensures err { IfErr result (λ refusal. refusal ≡ Refusal.Enomem) }
     {
         answering::answers_from(self.stored.entries(), place, self.alloc)

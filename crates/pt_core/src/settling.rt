@@ -8,11 +8,11 @@ ghost use Rattle.pt_core.specs.Cores.{IsKept};
 ghost use Rattle.pt_core.specs.Applying.{IsWantOfMemory, is_death as is_death_of};
 ghost use Rattle.pt_core.specs.Settling.{Settles, Enters, IsReady, IsMade};
 
-use pt_history::History;
-use pt_model::Event;
 use pt_deciding::after;
 use pt_deciding::forced::forced;
 use pt_deciding::room::entry_for;
+use pt_history::History;
+use pt_model::Event;
 use pt_types::Refusal;
 use std::alloc::Allocator;
 
@@ -48,7 +48,8 @@ pub fn is_death(event: &Event) -> bool
 /// Room for an accepted event's entry and all that must follow it. A Death has its room.  [profile]
 pub fn make_room<A: Allocator + Copy>(stored: &mut History<A>, event: &Event) -> Result<(), Refusal>
     requires kept { IsKept stored.old }
-    requires accepted { refusal_within stored.old.limit (history stored.old.entries) event.now ≡ None }
+    requires accepted { refusal_within stored.old.limit (history stored.old.entries) event.now
+        ≡ None }
     ensures ok { OnOk result (IsMade stored.old event.now stored.new) }
     ensures err { OnErr result (stored.new ≡ stored.old) }
     ensures memory { IfErr result (IsWantOfMemory event.now) }

@@ -1,6 +1,8 @@
 use super::*;
 use pt_model::{Entry, Event};
-use pt_types::{Call, ClientId, Deadline, Moment, MutexKind, Name, ObjectId, Outcome, Priority, Refusal};
+use pt_types::{
+    Call, ClientId, Deadline, Moment, MutexKind, Name, ObjectId, Outcome, Priority, Refusal,
+};
 use std::process::Abort;
 use std::test::Fail;
 

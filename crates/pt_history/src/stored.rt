@@ -41,7 +41,8 @@ impl<A: Allocator + Copy> History<A> {
     /// with them; else ENOMEM where the growth is refused. A refusal changes nothing.  [profile]
     pub fn reserve_for(&mut self, room: u64) -> Result<(), Refusal>
         ensures ok { OnOk result (self.new ≡ record self.old { room = room }) }
-        ensures full { (result ≡ Err Refusal.Full) ↔ (self.old.limit < length self.old.entries + room) }
+        ensures full { (result ≡ Err Refusal.Full)
+            ↔ (self.old.limit < length self.old.entries + room) }
         ensures err { OnErr result (self.new ≡ self.old) }
         ensures memory { IfErr result (λ r. r ≢ Refusal.Full → r ≡ Refusal.Enomem) }
     {
@@ -58,7 +59,8 @@ impl<A: Allocator + Copy> History<A> {
     /// Appends an entry, in room that was made for it. It takes no memory.
     pub fn push(&mut self, entry: Entry)
         requires { 0 < self.old.room }
-        ensures { self.new ≡ record self.old { entries = self.old.entries ++ entry ∷ []; room = self.old.room - 1 } }
+        ensures { self.new
+            ≡ record self.old { entries = self.old.entries ++ entry ∷ []; room = self.old.room - 1 } }
     {
         self.entries.push_reserved(entry);
         self.room -= 1;

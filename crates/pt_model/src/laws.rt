@@ -14,7 +14,8 @@ pub fn law_once()
     ensures { Once }
 {}
 
-/// Partition: each call is answered, open, or unanswered with its client dead, and just one of these.
+/// Partition: each call is answered, open, or unanswered with its client dead, and just one of
+/// these.
 /// A client has one open call at most, and open calls stand at objects that exist.
 /// [XSH, the call's page]
 pub fn law_partition()
@@ -27,8 +28,8 @@ pub fn law_grant()
     ensures { GrantIsLeast }
 {}
 
-/// None left: where a legal list ends, no call is grantable, no barrier is full, no robust mutex has
-/// a dead owner, and no deadline is due.  [XSH 2.9]
+/// None left: where a legal list ends, no call is grantable, no barrier is full, no robust mutex
+/// has a dead owner, and no deadline is due.  [XSH 2.9]
 pub fn law_none_left()
     ensures { NoneLeft }
 {}

@@ -1,8 +1,8 @@
 //! The history of a server of shared pthread objects, and what is legal in it.
 //!
 //! `specs/` says what a legal history is, and states the laws over all legal histories. Each law is
-//! the contract of a function with an empty body. `proofs/` has, for each reading of a history, what
-//! one more entry makes of it: a crate above cites these lemmas.
+//! the contract of a function with an empty body. `proofs/` has, for each reading of a history,
+//! what one more entry makes of it: a crate above cites these lemmas.
 //! Contracts see all that there is here; tests show nothing more.
 #![tactic(auto)]
 

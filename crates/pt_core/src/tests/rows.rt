@@ -12,9 +12,24 @@ fn row_3(rt: HostRuntime) -> Result<(), Fail> {
     tells(&rt, &mut core, ask(1, Call::Lock(m.same())), &[])?;
     tells(&rt, &mut core, ask(2, Call::Lock(m.same())), &[])?;
     tells(&rt, &mut core, ask(3, Call::Lock(m.same())), &[])?;
-    tells(&rt, &mut core, ask(0, Call::Unlock(m.same())), &[(0, Done), (2, Done)])?;
-    tells(&rt, &mut core, ask(2, Call::Unlock(m.same())), &[(2, Done), (3, Done)])?;
-    tells(&rt, &mut core, ask(3, Call::Unlock(m)), &[(3, Done), (1, Done)])
+    tells(
+        &rt,
+        &mut core,
+        ask(0, Call::Unlock(m.same())),
+        &[(0, Done), (2, Done)],
+    )?;
+    tells(
+        &rt,
+        &mut core,
+        ask(2, Call::Unlock(m.same())),
+        &[(2, Done), (3, Done)],
+    )?;
+    tells(
+        &rt,
+        &mut core,
+        ask(3, Call::Unlock(m)),
+        &[(3, Done), (1, Done)],
+    )
 }
 
 // An owner dies, and its heir gives the mutex up for lost.
@@ -30,7 +45,12 @@ fn row_5(rt: HostRuntime) -> Result<(), Fail> {
     tells(&rt, &mut core, die(0), &[(1, Eownerdead)])?;
     let lost = [(1, Done), (2, Enotrecoverable)];
     tells(&rt, &mut core, ask(1, Call::Unlock(m.same())), &lost)?;
-    tells(&rt, &mut core, ask(2, Call::Lock(m.same())), &[(2, Enotrecoverable)])?;
+    tells(
+        &rt,
+        &mut core,
+        ask(2, Call::Lock(m.same())),
+        &[(2, Enotrecoverable)],
+    )?;
     tells(&rt, &mut core, ask(2, Call::MutexDestroy(m)), &[(2, Done)])?;
     assert_eq!(rt; core.len(), 16);
     Ok(())
@@ -41,12 +61,27 @@ fn row_5(rt: HostRuntime) -> Result<(), Fail> {
 fn row_9(rt: HostRuntime) -> Result<(), Fail> {
     let mut core = with_clients(&rt, &[10, 5, 5])?;
     let r = name(b"r")?;
-    tells(&rt, &mut core, ask(0, Call::RwlockInit(r.same())), &[(0, Done)])?;
+    tells(
+        &rt,
+        &mut core,
+        ask(0, Call::RwlockInit(r.same())),
+        &[(0, Done)],
+    )?;
     tells(&rt, &mut core, ask(0, Call::Wrlock(r.same())), &[(0, Done)])?;
     tells(&rt, &mut core, ask(2, Call::Rdlock(r.same())), &[])?;
     tells(&rt, &mut core, ask(1, Call::Wrlock(r.same())), &[])?;
-    tells(&rt, &mut core, ask(0, Call::Rwunlock(r.same())), &[(0, Done), (1, Done)])?;
-    tells(&rt, &mut core, ask(1, Call::Rwunlock(r)), &[(1, Done), (2, Done)])
+    tells(
+        &rt,
+        &mut core,
+        ask(0, Call::Rwunlock(r.same())),
+        &[(0, Done), (1, Done)],
+    )?;
+    tells(
+        &rt,
+        &mut core,
+        ask(1, Call::Rwunlock(r)),
+        &[(1, Done), (2, Done)],
+    )
 }
 
 // A writer's deadline passes and lets a reader in.
@@ -55,9 +90,19 @@ fn row_12(rt: HostRuntime) -> Result<(), Fail> {
     let mut core = with_clients(&rt, &[10, 10, 10])?;
     let r = name(b"r")?;
     let until = deadline(5, 0)?;
-    tells(&rt, &mut core, ask(0, Call::RwlockInit(r.same())), &[(0, Done)])?;
+    tells(
+        &rt,
+        &mut core,
+        ask(0, Call::RwlockInit(r.same())),
+        &[(0, Done)],
+    )?;
     tells(&rt, &mut core, ask(0, Call::Rdlock(r.same())), &[(0, Done)])?;
-    tells(&rt, &mut core, ask(1, Call::Timedwrlock(r.same(), until)), &[])?;
+    tells(
+        &rt,
+        &mut core,
+        ask(1, Call::Timedwrlock(r.same(), until)),
+        &[],
+    )?;
     tells(&rt, &mut core, ask(2, Call::Timedrdlock(r, until)), &[])?;
     assert!(rt; core.least_deadline() == Some(until));
     tells(&rt, &mut core, moment(4, 999_999_999)?, &[])?;
@@ -71,7 +116,12 @@ fn row_12(rt: HostRuntime) -> Result<(), Fail> {
 fn row_14(rt: HostRuntime) -> Result<(), Fail> {
     let mut core = with_clients(&rt, &[10, 10, 10, 10])?;
     let b = name(b"b")?;
-    tells(&rt, &mut core, ask(0, Call::BarrierInit(b.same(), 3)), &[(0, Done)])?;
+    tells(
+        &rt,
+        &mut core,
+        ask(0, Call::BarrierInit(b.same(), 3)),
+        &[(0, Done)],
+    )?;
     tells(&rt, &mut core, ask(0, Call::Bwait(b.same())), &[])?;
     tells(&rt, &mut core, ask(1, Call::Bwait(b.same())), &[])?;
     tells(&rt, &mut core, die(1), &[])?;
@@ -79,7 +129,12 @@ fn row_14(rt: HostRuntime) -> Result<(), Fail> {
     let tripped = [(0, Done), (2, Done), (3, Serial)];
     tells(&rt, &mut core, ask(3, Call::Bwait(b)), &tripped)?;
     let d = name(b"d")?;
-    tells(&rt, &mut core, ask(0, Call::BarrierInit(d.same(), 1)), &[(0, Done)])?;
+    tells(
+        &rt,
+        &mut core,
+        ask(0, Call::BarrierInit(d.same(), 1)),
+        &[(0, Done)],
+    )?;
     tells(&rt, &mut core, ask(0, Call::Bwait(d)), &[(0, Serial)])
 }
 
@@ -91,16 +146,36 @@ fn row_18(rt: HostRuntime) -> Result<(), Fail> {
     let c = name(b"c")?;
     let init = Call::MutexInit(m.same(), MutexKind::Normal, false);
     tells(&rt, &mut core, ask(0, init), &[(0, Done)])?;
-    tells(&rt, &mut core, ask(0, Call::CondInit(c.same())), &[(0, Done)])?;
+    tells(
+        &rt,
+        &mut core,
+        ask(0, Call::CondInit(c.same())),
+        &[(0, Done)],
+    )?;
     for client in 0..3 {
-        tells(&rt, &mut core, ask(client, Call::Lock(m.same())), &[(client, Done)])?;
-        tells(&rt, &mut core, ask(client, Call::Wait(c.same(), m.same())), &[])?;
+        tells(
+            &rt,
+            &mut core,
+            ask(client, Call::Lock(m.same())),
+            &[(client, Done)],
+        )?;
+        tells(
+            &rt,
+            &mut core,
+            ask(client, Call::Wait(c.same(), m.same())),
+            &[],
+        )?;
     }
     tells(&rt, &mut core, ask(3, Call::Lock(m.same())), &[(3, Done)])?;
     tells(&rt, &mut core, ask(4, Call::Lock(m.same())), &[])?;
     tells(&rt, &mut core, ask(3, Call::Broadcast(c)), &[(3, Done)])?;
     for (from, to) in [(3, 2), (2, 4), (4, 0), (0, 1)] {
-        tells(&rt, &mut core, ask(from, Call::Unlock(m.same())), &[(from, Done), (to, Done)])?;
+        tells(
+            &rt,
+            &mut core,
+            ask(from, Call::Unlock(m.same())),
+            &[(from, Done), (to, Done)],
+        )?;
     }
     Ok(())
 }

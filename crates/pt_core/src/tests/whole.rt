@@ -6,7 +6,10 @@ fn run_row_2(rt: HostRuntime) -> Result<(), Fail> {
     let mut core = Core::new(rt.alloc())?;
     let m = name(b"m")?;
     let (a, b) = (ClientId(0), ClientId(1));
-    let (ten, twenty) = (Priority::new(10).ok_or("ten")?, Priority::new(20).ok_or("twenty")?);
+    let (ten, twenty) = (
+        Priority::new(10).ok_or("ten")?,
+        Priority::new(20).ok_or("twenty")?,
+    );
     let init = Call::MutexInit(m.same(), MutexKind::Normal, false);
     let events = [
         Event::Join(ten),
@@ -49,13 +52,26 @@ fn open_calls_and_answers(rt: HostRuntime) -> Result<(), Fail> {
         ask(1, Call::Unlock(m.same())),
     ];
     let stopped = core.run(&events);
-    assert!(rt; stopped == Err(Stopped { at: 3, refusal: Refusal::Blocked }));
+    assert!(rt;
+        stopped
+            == Err(Stopped {
+                at: 3,
+                refusal: Refusal::Blocked
+            })
+    );
     assert_eq!(rt; core.open_call(ClientId(1)), Some(5));
     assert_eq!(rt; core.open_call(ClientId(0)), None);
     assert!(rt; core.answer_of(ClientId(1)).is_none());
-    let answer = Reply { client: ClientId(0), place: 3, outcome: Outcome::Done };
+    let answer = Reply {
+        client: ClientId(0),
+        place: 3,
+        outcome: Outcome::Done,
+    };
     assert!(rt; core.answer_of(ClientId(0)) == Some(answer));
-    assert_eq!(rt; core.would_refuse(&ask(1, Call::Unlock(m.same()))), Some(Refusal::Blocked));
+    assert_eq!(rt;
+        core.would_refuse(&ask(1, Call::Unlock(m.same()))),
+        Some(Refusal::Blocked)
+    );
     assert_eq!(rt; core.would_refuse(&ask(0, Call::Unlock(m))), None);
     assert_eq!(rt; core.would_refuse(&die(3)), Some(Refusal::Dead));
     assert_eq!(rt; core.would_refuse(&die(9)), Some(Refusal::Nohello));
@@ -63,7 +79,13 @@ fn open_calls_and_answers(rt: HostRuntime) -> Result<(), Fail> {
 }
 
 // An accepted event wrote these places.
-fn writes(rt: &impl Abort, core: &mut Core, event: Event, first: u64, last: u64) -> Result<(), Fail> {
+fn writes(
+    rt: &impl Abort,
+    core: &mut Core,
+    event: Event,
+    first: u64,
+    last: u64,
+) -> Result<(), Fail> {
     let applied = core.apply(event)?;
     assert_eq!(rt; applied.first, first);
     assert_eq!(rt; applied.last, last);
@@ -105,7 +127,7 @@ fn row_23_with_a_yield(rt: HostRuntime) -> Result<(), Fail> {
     writes(&rt, &mut core, moment(1, 0)?, 4, 4)?;
     refuses(&rt, &mut core, moment(2, 0)?, Refusal::Full);
     writes(&rt, &mut core, die(0), 5, 6)?;
-    assert!(rt; matches!(core.entry(6), Some(Entry::Yield(ObjectId(1)))));
+    assert!(rt; core.entry(6) == Some(&Entry::Yield(ObjectId(1))));
     let mut six = Core::with_limit(rt.alloc(), 6)?;
     writes(&rt, &mut six, join(10)?, 0, 0)?;
     writes(&rt, &mut six, ask(0, init), 1, 1)?;

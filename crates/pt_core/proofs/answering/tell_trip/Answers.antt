@@ -9,16 +9,19 @@ use Rattle.pt_core.proofs.answering.tell_trip.Goals as goal
 
 pub loop-place-init : goal.loop-place-init
 loop-place-init g c =
-    trip-none (map told_of c.args.replies.now.items) (told (history c.args.entries.now) (Trip c.args.b))
+    trip-none (map told_of c.args.replies.now.items) (told (history c.args.entries.now) (Trip
+    c.args.b))
 
 pub loop-place-preserved : goal.loop-place-preserved
 loop-place-preserved g c =
     trip-more (history c.args.entries.now) (Trip c.args.b)
-    (map told_of c.args.replies.now.items) (map told_of c.loop-place.replies.items) (map told_of c.add.new.replies.items)
-    c.loop-place.place (option_map shown_told c.told_at.result) c.loop-place.invariant c.told_at.ensures c.in_ok-add.ensures.ok
+    (map told_of c.args.replies.now.items) (map told_of c.loop-place.replies.items) (map told_of
+    c.add.new.replies.items)
+    c.loop-place.place (option_map shown_told c.told_at.result) c.loop-place.invariant
+    c.told_at.ensures c.in_ok-add.ensures.ok
 
 pub returns-clause-ok : goal.returns-clause-ok
 returns-clause-ok g c =
     c.loop-place.invariant
     ∙ ap (λ us. map told_of c.args.replies.now.items ++ us)
-      (trip-all c.args.entries.now c.args.b c.loop-place.place c.loop-place-test.false)
+    (trip-all c.args.entries.now c.args.b c.loop-place.place c.loop-place-test.false)

@@ -9,5 +9,7 @@ use Rattle.pt_core.proofs.deadlines.least_deadline.Goals as goal
 pub returns-in-Some : goal.returns-in-Some
 returns-in-Some c =
     ap (option_map deadline_nanos) c.deadline_at.ensures
-    ∙ (timed-written (history c.args.entries.now) (option_map shown c.first_timed.result) c.first_timed.ensures (shown c.in-Some.call) (ap (option_map shown) c.in-Some.is)
-    ∙ (ap deadline_if (sym (ap (option_map shown) c.in-Some.is)) ∙ ap deadline_if c.first_timed.ensures))
+    ∙ (timed-written (history c.args.entries.now) (option_map shown c.first_timed.result)
+    c.first_timed.ensures (shown c.in-Some.call) (ap (option_map shown) c.in-Some.is)
+    ∙ (ap deadline_if (sym (ap (option_map shown) c.in-Some.is)) ∙ ap deadline_if
+    c.first_timed.ensures))

@@ -17,14 +17,14 @@ loop-entry-smaller g c =
     subst (λ (s : Stored). need (history s.entries) < need (history c.loop-entry.stored.entries))
     (sym c.push.ensures)
     (
-      settling-smaller c.args.stored.now c.loop-entry.stored c.in-Some.entry c.loop-entry.invariant
-      (ap (λ es. forced (history es)) (sym c.entries.ensures) ∙ sym c.in-Some.ensures)
+    settling-smaller c.args.stored.now c.loop-entry.stored c.in-Some.entry c.loop-entry.invariant
+    (ap (λ es. forced (history es)) (sym c.entries.ensures) ∙ sym c.in-Some.ensures)
     )
 
 pub loop-entry-preserved : goal.loop-entry-preserved
 loop-entry-preserved g c =
     subst (λ (s : Stored). IsSettling c.args.stored.now s) (sym c.push.ensures)
     (
-      settling-more c.args.stored.now c.loop-entry.stored c.in-Some.entry c.loop-entry.invariant
-      (ap (λ es. forced (history es)) (sym c.entries.ensures) ∙ sym c.in-Some.ensures)
+    settling-more c.args.stored.now c.loop-entry.stored c.in-Some.entry c.loop-entry.invariant
+    (ap (λ es. forced (history es)) (sym c.entries.ensures) ∙ sym c.in-Some.ensures)
     )
