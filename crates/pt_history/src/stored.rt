@@ -60,7 +60,10 @@ impl<A: Allocator + Copy> History<A> {
     pub fn push(&mut self, entry: Entry)
         requires { 0 < self.old.room }
         ensures { self.new
-            ≡ record self.old { entries = self.old.entries ++ entry ∷ []; room = self.old.room - 1 } }
+            ≡ record self.old {
+              entries = self.old.entries ++ entry ∷ [];
+              room = self.old.room - 1;
+            } }
     {
         self.entries.push_reserved(entry);
         self.room -= 1;
