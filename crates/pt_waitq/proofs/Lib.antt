@@ -1,3 +1,4 @@
 mod RemovalLemmas
 mod ChangeLemmas
 pub mod CallerLemmas
+pub mod MemberLemmas

@@ -2,6 +2,8 @@
 pub mod Queues
 -- Waits: clients, objects and waiters in any order, and the queues that they make
 pub mod Waits
+-- Members: queues by who stands where
+pub mod Members
 -- WaitLaws: what holds of all queues at once, with the lemmas that it stands on below
 pub mod WaitLaws
 pub mod ListLemmas
