@@ -10,10 +10,10 @@ ghost use Rattle.pt_model.specs.Moves.{moved as moved_in, key_by, precedes_by, w
 ghost use Rattle.pt_plain.specs.Found.{passes, unmoved};
 ghost use Rattle.pt_plain.specs.Shown.{shown, shown_key, shown_move, shown_role};
 
-use crate::answers::open_at;
+use crate::answers::{is_open, open_at};
 use crate::deeds::{Deed, Sort, deed_of};
 use crate::objects::means;
-use crate::standing::{Role, Standing, is_wait, is_wait_at, is_write};
+use crate::standing::{Role, Standing, is_wait, is_wait_at, is_write, standing_at};
 use pt_model::{Cause, Entry};
 use pt_types::{Name, ObjectId, Outcome};
 
@@ -62,14 +62,19 @@ pub fn goes_before(a: Key, b: Key) -> bool
 
 /// Whether the open call at a place is a wait that came to the condition of this name.
 /// [XSH pthread_cond_wait]
+#[tactic(auto, using(crate::proofs::Opens::passes_open))]
 pub fn came_to(entries: &[Entry], n: &Name, i: u64) -> bool
     ensures { result
         ≡ passes
         (λ w. is_wait_role w.role && means_in (history entries.now) n.now CondSort w.object)
         (at_place i (open_calls (history entries.now))) }
 {
-    match open_at(entries, i) {
-        Some(w) => is_wait(w.role) && means(entries, n, Sort::Cond, ObjectId(w.object)),
+    match standing_at(entries, i) {
+        Some(w) => {
+            is_wait(w.role)
+                && means(entries, n, Sort::Cond, ObjectId(w.object))
+                && is_open(entries, &w)
+        }
         None => false,
     }
 }
@@ -77,6 +82,7 @@ pub fn came_to(entries: &[Entry], n: &Name, i: u64) -> bool
 /// Whether the open call at a place waits at the condition of this name still, and goes before
 /// this wait, which isn't moved.  [XSH 2.8.4]
 #[cycle(moves)]
+#[tactic(auto, using(crate::proofs::Opens::passes_open))]
 pub fn waits_before(entries: &[Entry], n: &Name, w: &Standing, i: u64) -> bool
     ensures { result
         ≡ passes
@@ -84,13 +90,16 @@ pub fn waits_before(entries: &[Entry], n: &Name, w: &Standing, i: u64) -> bool
         precedes_by unmoved v (shown w.now))
         (at_place i (open_calls (history entries.now))) }
 {
-    let Some(v) = open_at(entries, i) else {
+    let Some(v) = standing_at(entries, i) else {
         return false;
     };
-    is_wait(v.role)
-        && goes_before(key_with(&v, None), key_with(w, None))
-        && means(entries, n, Sort::Cond, ObjectId(v.object))
-        && moved(entries, v.place).is_none()
+    if !is_wait(v.role) || !goes_before(key_with(&v, None), key_with(w, None)) {
+        return false;
+    }
+    if !means(entries, n, Sort::Cond, ObjectId(v.object)) {
+        return false;
+    }
+    is_open(entries, &v) && moved(entries, v.place).is_none()
 }
 
 /// Whether one does.  [XSH 2.8.4]
