@@ -10,13 +10,13 @@ use Rattle.pt_types.specs.declared.call.MutexKind.{MutexKind}
 use Rattle.pt_types.specs.declared.call.MutexKind.TheVariants.{Normal, Errorcheck, Recursive}
 use Rattle.pt_lines.specs.Numbers.{number_of}
 
--- the name that a field is
+-- the name that a field is  [profile]
 abbrev pub name_of : List ℕ → Option (List ℕ)
 name_of field =
     if nat_le 1 (length field) && nat_le (length field) 32 && list_all is_name_byte field
     then Some field else None
 
--- the kind that a field is
+-- the kind that a field is  [profile]
 abbrev pub kind_of : List ℕ → Option MutexKind
 kind_of field =
     if bytes_eq field (codes "normal") then Some Normal
@@ -25,20 +25,20 @@ kind_of field =
     else if bytes_eq field (codes "recursive") then Some Recursive
     else None
 
--- whether a field says that a mutex is robust
+-- whether a field says that a mutex is robust  [profile]
 abbrev pub robust_of : List ℕ → Option Bool
 robust_of field =
     if bytes_eq field (codes "robust") then Some true
     else if bytes_eq field (codes "stalled") then Some false
     else None
 
--- one field, read in this way, and no more
+-- one field, read in this way, and no more  [profile]
 abbrev pub alone : {X : Type 0} → (List ℕ → Option X) → List (List ℕ) → Option X
 alone read [] = None
 alone read (field ∷ []) = read field
 alone read (field ∷ other ∷ more) = None
 
--- the first field read in one way, and the rest in another
+-- the first field read in one way, and the rest in another  [profile]
 abbrev pub first_then :
     {X Y : Type 0} → (List ℕ → Option X) → (List (List ℕ) → Option Y)
     → List (List ℕ) → Option (X × Y)
@@ -46,26 +46,26 @@ first_then first rest [] = None
 first_then first rest (field ∷ more) =
     option_and_then (λ x. option_map (λ y. (x, y)) (rest more)) (first field)
 
--- a priority
+-- a priority  [profile]
 abbrev pub priority_of : ℕ → Option ℕ
 priority_of n = if nat_le 1 n && nat_le n 32 then Some n else None
 
--- the moment of seconds and nanoseconds
+-- the moment of seconds and nanoseconds  [profile]
 abbrev pub moment_of : ℕ × ℕ → Option ℕ
 moment_of time = if nat_lt time.1 second then Some (nanos time.0 time.1) else None
 
--- the deadline of seconds and nanoseconds
+-- the deadline of seconds and nanoseconds  [profile]
 abbrev pub deadline_of : ℕ × ℕ → Timespec
 deadline_of time = record { sec = time.0; nsec = time.1 }
 
--- seconds and nanoseconds
+-- seconds and nanoseconds  [profile]
 abbrev pub two_numbers : List (List ℕ) → Option (ℕ × ℕ)
 two_numbers args = first_then number_of (alone number_of) args
 
--- a deadline
+-- a deadline  [profile]
 abbrev pub one_deadline : List (List ℕ) → Option Timespec
 one_deadline args = option_map deadline_of (two_numbers args)
 
--- a name and a deadline
+-- a name and a deadline  [profile]
 abbrev pub name_and_deadline : List (List ℕ) → Option (List ℕ × Timespec)
 name_and_deadline args = first_then name_of one_deadline args

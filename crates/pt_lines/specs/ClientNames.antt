@@ -13,7 +13,7 @@ pub record IsClientName (text : List ℕ) : Type 0 where
   pub fits : length text ≤ 8
   pub bytes : IsTrue (list_all is_client_byte text)
 
--- whether a text is a client's name
+-- whether a text is a client's name  [profile]
 abbrev pub is_client_name : List ℕ → Bool
 is_client_name text =
     nat_le 1 (length text) && nat_le (length text) 8 && list_all is_client_byte text

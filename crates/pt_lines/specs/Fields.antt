@@ -11,17 +11,18 @@ behind_spaces (word ∷ words) = 32 ∷ word ++ behind_spaces words
 abbrev pub spaced : List ℕ → List (List ℕ) → List ℕ
 spaced word words = word ++ behind_spaces words
 
--- a byte before the first of these fields
+-- a byte before the first of these fields  [profile]
 abbrev pub push_first : ℕ → List (List ℕ) → List (List ℕ)
 push_first b [] = (b ∷ []) ∷ []
 push_first b (field ∷ fields) = (b ∷ field) ∷ fields
 
 -- the parts of a text between its spaces; two spaces, or one at an end, have an empty part
+-- [profile]
 abbrev pub fields : List ℕ → List (List ℕ)
 fields [] = [] ∷ []
 fields (b ∷ bytes) = if b == 32 then [] ∷ fields bytes else push_first b (fields bytes)
 
--- the fields of what is left of a text, if anything is
+-- the fields of what is left of a text, if anything is  [profile]
 abbrev pub fields_left : Option (Bor (List ℕ)) → List (List ℕ)
 fields_left None = []
 fields_left (Some rest) = fields rest.now

@@ -7,7 +7,7 @@ use Rattle.std.specs.Str.Parse.{digits_value}
 abbrev pub IsNumber : ℕ → Type 0
 IsNumber n = n < 10 ^ 10
 
--- a digit
+-- a digit  [profile]
 abbrev pub is_digit : ℕ → Bool
 is_digit b = nat_le 48 b && nat_le b 57
 
@@ -17,6 +17,6 @@ is_number field =
     nat_le 1 (length field) && nat_le (length field) 10 && list_all is_digit field
     && (length field == 1 || not (slice_index field 0 == 48))
 
--- the number that a field is
+-- the number that a field is  [profile]
 abbrev pub number_of : List ℕ → Option ℕ
 number_of field = if is_number field then Some (digits_value 10 field) else None

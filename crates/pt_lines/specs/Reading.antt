@@ -16,7 +16,7 @@ use Rattle.pt_lines.specs.Grammar.{Spells}
 use Rattle.pt_lines.specs.Numbers.{number_of}
 use Rattle.pt_lines.specs.Arguments.{name_of, kind_of, robust_of, alone, first_then, priority_of, moment_of, two_numbers, name_and_deadline}
 
--- the line of a verb and the fields after it
+-- the line of a verb and the fields after it  [profile]
 abbrev pub line_of : Verb → List (List ℕ) → Option CallLine
 line_of Hello args =
     option_map line.Hello (option_and_then priority_of (alone number_of args))
@@ -36,12 +36,12 @@ line_of (Named verb) args = option_map (λ n. line.Ask (call_on verb n)) (alone 
 line_of (Timed verb) args =
     option_map (λ a. line.Ask (call_until verb a.0 a.1)) (name_and_deadline args)
 
--- the line of these fields
+-- the line of these fields  [profile]
 abbrev pub line_of_fields : List (List ℕ) → Option CallLine
 line_of_fields [] = None
 line_of_fields (word ∷ args) = option_and_then (λ verb. line_of verb args) (verb_of word)
 
--- the line that a text is read as
+-- the line that a text is read as  [profile]
 abbrev pub line_read : List ℕ → Option CallLine
 line_read text = line_of_fields (fields text)
 
@@ -61,7 +61,7 @@ abbrev pub IsCallReadOf : Cut → Result CallLine Refusal → Type 0
 IsCallReadOf (cut.Line text) read = IsCallReadAs text.items read
 IsCallReadOf cut.Long read = read ≡ Err Long
 
--- what is read of what a cutter gives
+-- what is read of what a cutter gives  [profile]
 abbrev pub call_of : Cut → Result CallLine Refusal
 call_of (cut.Line text) = call_read text.items
 call_of cut.Long = Err Long

@@ -52,19 +52,19 @@ abbrev pub IsReadOf : Cut → ScriptLine → Type 0
 IsReadOf (Line text) read = IsReadAs text.items read
 IsReadOf Long read = read ≡ long_line
 
--- what a client's line is, by what it would be on a connection
+-- what a client's line is, by what it would be on a connection  [profile]
 abbrev pub body_of : Who → CallLine → Result ScriptBody Refusal
 body_of (Named name) (line.Hello p) = Ok (Hello p)
 body_of (Named name) (line.Ask asked) = Ok (Ask asked)
 body_of Star (line.Tick t) = Ok (Tick t)
 body_of who read = Err refusal.Syntax
 
--- the same, where it may not be read
+-- the same, where it may not be read  [profile]
 abbrev pub body_from : Who → Result CallLine Refusal → Result ScriptBody Refusal
 body_from who (Ok read) = body_of who read
 body_from who (Err why) = Err why
 
--- what is read behind a client and a space
+-- what is read behind a client and a space  [profile]
 abbrev pub body_read : Who → List ℕ → Result ScriptBody Refusal
 body_read (Named name) rest =
     if bytes_eq rest (codes "die") then Ok Die
@@ -72,23 +72,23 @@ body_read (Named name) rest =
 body_read Star rest = body_from Star (call_read rest)
 body_read Unknown rest = Err refusal.Syntax
 
--- the same, where there may be no space
+-- the same, where there may be no space  [profile]
 abbrev pub body_behind : Who → Option (List ℕ) → Result ScriptBody Refusal
 body_behind who None = Err refusal.Syntax
 body_behind who (Some rest) = body_read who rest
 
--- what a text that is not too long is read as
+-- what a text that is not too long is read as  [profile]
 abbrev pub short_read : List ℕ → ScriptLine
 short_read text = record {
   who = who_named (before_space text);
   body = body_behind (who_named (before_space text)) (behind_space text);
 }
 
--- what a text is read as
+-- what a text is read as  [profile]
 abbrev pub script_read : List ℕ → ScriptLine
 script_read text = if nat_lt 128 (length text) then long_line else short_read text
 
--- what is read of what a cutter gives
+-- what is read of what a cutter gives  [profile]
 abbrev pub script_of : Cut → ScriptLine
 script_of (Line text) = script_read text.items
 script_of Long = long_line

@@ -50,11 +50,11 @@ word_of Timedwait = codes "timedwait"
 word_of (Named verb) = named_word verb
 word_of (Timed verb) = timed_word verb
 
--- the verb with this word
+-- the verb with this word  [profile]
 abbrev pub verb_of : List ℕ → Option Verb
 verb_of text = find (λ verb. bytes_eq (word_of verb) text) VERBS
 
--- the call of a word on one name
+-- the call of a word on one name  [profile]
 abbrev pub call_on : NamedVerb → List ℕ → Call
 call_on Lock name = call.Lock name
 call_on Trylock name = call.Trylock name
@@ -75,7 +75,7 @@ call_on Broadcast name = call.Broadcast name
 call_on Bwait name = call.Bwait name
 call_on BarrierDestroy name = call.BarrierDestroy name
 
--- the call of a word on one name with a deadline
+-- the call of a word on one name with a deadline  [profile]
 abbrev pub call_until : TimedVerb → List ℕ → Timespec → Call
 call_until Timedlock name deadline = call.Timedlock name deadline
 call_until Timedrdlock name deadline = call.Timedrdlock name deadline
