@@ -1,6 +1,66 @@
+ghost use Rattle.std.specs.Prelude.{ℕ, ◌≡◌, ◌+◌, ◌≤◌, false, None, OnOk};
+ghost use Rattle.pt_types.specs.Times.{is_bad_deadline};
+ghost use Rattle.pt_timers.specs.Deadlines.{deadline_at};
+
 use super::*;
-use pt_types::{Deadline, Moment};
+use pt_refusing::{Refusing, refuse_each};
+use pt_types::{Deadline, Moment, Refusal};
+use std::alloc::Global;
 use std::test::Fail;
+
+// What can be seen at the end of second 20.
+fn seen(timers: &Timers<&Refusing<Global>>) -> Result<(Option<Deadline>, Option<u64>), Fail> {
+    let now = Moment::new(20, 999_999_999).ok_or("moment")?;
+    Ok((timers.least(), timers.least_due(now)))
+}
+
+// Sets the deadline of the next place, once more where there was no memory for it.
+fn set_next(
+    timers: &mut Timers<&Refusing<Global>>,
+    place: u64,
+    deadline: Deadline,
+) -> Result<bool, Fail>
+    requires good { is_bad_deadline deadline ≡ false }
+    requires unset { (p : ℕ) → place ≤ p → deadline_at timers.old p ≡ None }
+    ensures { OnOk result ((p : ℕ) → place + 1 ≤ p → deadline_at timers.new p ≡ None) }
+{
+    let before = seen(timers)?;
+    let Err(refusal) = timers.set(place, deadline) else {
+        return Ok(false);
+    };
+    if refusal != Refusal::Enomem || seen(timers)? != before {
+        return Err("a refused deadline changes nothing".into());
+    }
+    timers.set(place, deadline).ok().ok_or("the second time")?;
+    Ok(true)
+}
+
+// Takes the soonest of 20 timers away, one by one.
+fn take_all(timers: &mut Timers<&Refusing<Global>>) -> Result<(), Fail> {
+    for left in 0..20 {
+        let deadline = Deadline::new(left + 1, 0).ok_or("deadline")?;
+        if seen(timers)? != (Some(deadline), Some(19 - left)) {
+            return Err("each is there in its turn".into());
+        }
+        timers.cancel(19 - left);
+    }
+    if seen(timers)? != (None, None) {
+        return Err("there is no other".into());
+    }
+    Ok(())
+}
+
+// Sets 20 timers, each sooner than those before it.
+fn set_timers(heap: &Refusing<Global>) -> Result<bool, Fail> {
+    let mut timers = Timers::new(heap);
+    let mut met = false;
+    for place in 0..20 {
+        let deadline = Deadline::new(20 - place, 0).ok_or("deadline")?;
+        met = set_next(&mut timers, place, deadline)? || met;
+    }
+    take_all(&mut timers)?;
+    Ok(met)
+}
 
 #[test]
 fn due_at_their_nanosecond_by_deadline_then_place(rt: HostRuntime) -> Result<(), Fail> {
@@ -22,5 +82,11 @@ fn due_at_their_nanosecond_by_deadline_then_place(rt: HostRuntime) -> Result<(),
     timers.cancel(7);
     assert_eq!(rt; timers.least_due(at), None);
     assert_eq!(rt; timers.least(), Some(late));
+    Ok(())
+}
+
+#[test]
+fn each_growth_is_refused_in_turn(rt: HostRuntime) -> Result<(), Fail> {
+    assert!(rt; refuse_each(rt.alloc(), 100, set_timers)?.is_some_and(|growths| growths > 1));
     Ok(())
 }
