@@ -1,4 +1,4 @@
-ghost use Rattle.std.specs.Prelude.{◌≡◌, ◌≤◌, ◌+◌, ◌<◌, ◌^◌};
+ghost use Rattle.std.specs.Prelude.{◌≡◌, ◌≤◌, ◌*◌, length};
 ghost use Rattle.pt_model.specs.Histories.{history, ◌▷◌};
 ghost use Rattle.pt_model.specs.Room.{need as need_in, entry_for as entry_for_in, refusal_of_stranger as refusal_of_stranger_in, unless_alive as unless_alive_in, refusal as refusal_in, is_over as is_over_in, refusal_within as refusal_within_in};
 
@@ -12,7 +12,8 @@ use pt_types::{ClientId, Refusal};
 
 /// The entries kept: for the Death of each living client, for open calls, for Yields.  [profile]
 pub fn need(entries: &[Entry]) -> u64
-    ensures { result ≡ need_in (history entries.now) }
+    ensures value { result ≡ need_in (history entries.now) }
+    ensures small { result ≤ 5 * length entries.now }
 {
     if entries.is_empty() {
         return 0;
