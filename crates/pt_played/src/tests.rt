@@ -10,6 +10,10 @@ mod rows;
 mod show;
 
 use play::check;
+use pt_deciding::queries::{answer_of, caller, latest, least_deadline};
+use pt_deciding::room::need;
+use pt_plain::answers::open_place;
+use pt_types::{ClientId, Outcome};
 use std::test::Fail;
 
 /// The events of a script, one a line, and what comes of them: entries, or the word of a refusal.
@@ -22,37 +26,55 @@ pub struct Played {
 #[test]
 fn worked_rows(rt: HostRuntime) -> Result<(), Fail> {
     for played in [rows::ROW_2, rows::ROW_5, rows::ROW_8] {
-        check(&rt, rt.alloc(), &played, 1 << 20)?;
+        let _ = check(&rt, rt.alloc(), &played, 1 << 20)?;
     }
     for played in [rows::ROW_11, rows::ROW_14, rows::ROW_18] {
-        check(&rt, rt.alloc(), &played, 1 << 20)?;
+        let _ = check(&rt, rt.alloc(), &played, 1 << 20)?;
     }
     Ok(())
 }
 
 #[test]
 fn a_full_history(rt: HostRuntime) -> Result<(), Fail> {
-    check(&rt, rt.alloc(), &rows::LIMIT_7, 7)?;
-    check(&rt, rt.alloc(), &rows::LIMIT_7_OWNED, 7)
+    let _ = check(&rt, rt.alloc(), &rows::LIMIT_7, 7)?;
+    let _ = check(&rt, rt.alloc(), &rows::LIMIT_7_OWNED, 7)?;
+    Ok(())
+}
+
+#[test]
+fn queries_of_a_history(rt: HostRuntime) -> Result<(), Fail> {
+    let entries = check(&rt, rt.alloc(), &rows::TIMED, 1 << 20)?;
+    assert_eq!(rt; need(&entries), 6);
+    assert_eq!(rt; least_deadline(&entries), Some(5_000_000_007));
+    assert_eq!(rt; latest(&entries, ClientId(0)), Some(3));
+    assert!(rt; caller(&entries, 5) == Some(ClientId(1)));
+    assert_eq!(rt; open_place(&entries, ClientId(1)), Some(5));
+    assert!(rt; answer_of(&entries, ClientId(1)).is_none());
+    let told = answer_of(&entries, ClientId(0)).ok_or("an answer")?;
+    assert_eq!(rt; (told.client, told.place), (0, 3));
+    assert!(rt; told.outcome == Outcome::Done);
+    Ok(())
 }
 
 #[test]
 fn sixty_entries(rt: HostRuntime) -> Result<(), Fail> {
-    check(&rt, rt.alloc(), &longer::SEED_722, 1 << 20)
+    let _ = check(&rt, rt.alloc(), &longer::SEED_722, 1 << 20)?;
+    Ok(())
 }
 
 #[test]
 fn ninety_entries(rt: HostRuntime) -> Result<(), Fail> {
-    check(&rt, rt.alloc(), &longer::SEED_725, 1 << 20)
+    let _ = check(&rt, rt.alloc(), &longer::SEED_725, 1 << 20)?;
+    Ok(())
 }
 
 #[test]
 fn seeds_701_to_704(rt: HostRuntime) -> Result<(), Fail> {
     for played in [generated_1::SEED_701, generated_1::SEED_702] {
-        check(&rt, rt.alloc(), &played, 1 << 20)?;
+        let _ = check(&rt, rt.alloc(), &played, 1 << 20)?;
     }
     for played in [generated_1::SEED_703, generated_1::SEED_704] {
-        check(&rt, rt.alloc(), &played, 1 << 20)?;
+        let _ = check(&rt, rt.alloc(), &played, 1 << 20)?;
     }
     Ok(())
 }
@@ -60,10 +82,10 @@ fn seeds_701_to_704(rt: HostRuntime) -> Result<(), Fail> {
 #[test]
 fn seeds_705_to_708(rt: HostRuntime) -> Result<(), Fail> {
     for played in [generated_2::SEED_705, generated_2::SEED_706] {
-        check(&rt, rt.alloc(), &played, 1 << 20)?;
+        let _ = check(&rt, rt.alloc(), &played, 1 << 20)?;
     }
     for played in [generated_2::SEED_707, generated_2::SEED_708] {
-        check(&rt, rt.alloc(), &played, 1 << 20)?;
+        let _ = check(&rt, rt.alloc(), &played, 1 << 20)?;
     }
     Ok(())
 }
@@ -71,10 +93,10 @@ fn seeds_705_to_708(rt: HostRuntime) -> Result<(), Fail> {
 #[test]
 fn seeds_709_to_712(rt: HostRuntime) -> Result<(), Fail> {
     for played in [generated_3::SEED_709, generated_3::SEED_710] {
-        check(&rt, rt.alloc(), &played, 1 << 20)?;
+        let _ = check(&rt, rt.alloc(), &played, 1 << 20)?;
     }
     for played in [generated_3::SEED_711, generated_3::SEED_712] {
-        check(&rt, rt.alloc(), &played, 1 << 20)?;
+        let _ = check(&rt, rt.alloc(), &played, 1 << 20)?;
     }
     Ok(())
 }
@@ -82,10 +104,10 @@ fn seeds_709_to_712(rt: HostRuntime) -> Result<(), Fail> {
 #[test]
 fn seeds_713_to_716(rt: HostRuntime) -> Result<(), Fail> {
     for played in [generated_4::SEED_713, generated_4::SEED_714] {
-        check(&rt, rt.alloc(), &played, 1 << 20)?;
+        let _ = check(&rt, rt.alloc(), &played, 1 << 20)?;
     }
     for played in [generated_4::SEED_715, generated_4::SEED_716] {
-        check(&rt, rt.alloc(), &played, 1 << 20)?;
+        let _ = check(&rt, rt.alloc(), &played, 1 << 20)?;
     }
     Ok(())
 }
@@ -93,10 +115,10 @@ fn seeds_713_to_716(rt: HostRuntime) -> Result<(), Fail> {
 #[test]
 fn seeds_717_to_720(rt: HostRuntime) -> Result<(), Fail> {
     for played in [generated_5::SEED_717, generated_5::SEED_718] {
-        check(&rt, rt.alloc(), &played, 1 << 20)?;
+        let _ = check(&rt, rt.alloc(), &played, 1 << 20)?;
     }
     for played in [generated_5::SEED_719, generated_5::SEED_720] {
-        check(&rt, rt.alloc(), &played, 1 << 20)?;
+        let _ = check(&rt, rt.alloc(), &played, 1 << 20)?;
     }
     Ok(())
 }

@@ -34,37 +34,37 @@ die 2
 1 Join(1, 32)
 2 Join(2, 32)
 3 Join(3, 32)
-4 Call(3, mutex-init, 0)
-5 Call(3, barrier-init, 0)
+4 Call(3, mutex-init, 0), 3 4 0
+5 Call(3, barrier-init, 0), 3 5 0
 6 Call(3, bwait, none)
 7 Call(2, bwait, none)
 8 Call(1, bwait, none)
 9 Call(0, bwait, none)
-10 Trip(5)
+10 Trip(5), 3 6 0, 2 7 0, 1 8 0, 0 9 SERIAL
 11 Call(0, trylock, none)
-12 Grant(11, 0)
+12 Grant(11, 0), 0 11 0
 13 Moment(7, 0)
-14 Call(2, mutex-init, 0)
-15 Call(2, cond-init, 0)
+14 Call(2, mutex-init, 0), 2 14 0
+15 Call(2, cond-init, 0), 2 15 0
 16 Call(2, lock, none)
-17 Grant(16, 0)
+17 Grant(16, 0), 2 16 0
 18 Call(2, wait, none)
 19 Call(3, lock, none)
-20 Grant(19, 0)
+20 Grant(19, 0), 3 19 0
 21 Call(3, timedwait, none)
 22 Expire(21)
-23 Grant(21, ETIMEDOUT)
+23 Grant(21, ETIMEDOUT), 3 21 ETIMEDOUT
 24 Call(0, lock, none)
 BLOCKED
 25 Call(1, lock, none)
 BLOCKED
-26 Call(3, unlock, 0)
-27 Grant(24, 0)
+26 Call(3, unlock, 0), 3 26 0
+27 Grant(24, 0), 0 24 0
 BLOCKED
 BLOCKED
 28 Death(2)
-29 Call(3, lock, EINVAL)
-30 Call(3, unlock, EPERM)",
+29 Call(3, lock, EINVAL), 3 29 EINVAL
+30 Call(3, unlock, EPERM), 3 30 EPERM",
 };
 
 /// A generated script, seed 702.
@@ -100,19 +100,19 @@ join 32
 join 32
 21 wait c0 s1",
     history: "0 Join(0, 32)
-1 Call(0, cond-init, 0)
+1 Call(0, cond-init, 0), 0 1 0
 2 Join(2, 32)
 3 Join(3, 32)
-4 Call(2, mutex-init, 0)
-5 Call(0, barrier-init, 0)
+4 Call(2, mutex-init, 0), 2 4 0
+5 Call(0, barrier-init, 0), 0 5 0
 6 Call(2, lock, none)
-7 Grant(6, 0)
-8 Call(3, bwait, EINVAL)
-9 Call(3, mutex-init, 0)
+7 Grant(6, 0), 2 6 0
+8 Call(3, bwait, EINVAL), 3 8 EINVAL
+9 Call(3, mutex-init, 0), 3 9 0
 10 Call(3, lock, none)
-11 Grant(10, 0)
-12 Call(3, lock, 0)
-13 Call(3, lock, 0)
+11 Grant(10, 0), 3 10 0
+12 Call(3, lock, 0), 3 12 0
+13 Call(3, lock, 0), 3 13 0
 14 Call(3, wait, none)
 15 Call(0, lock, none)
 BLOCKED
@@ -130,7 +130,7 @@ BLOCKED
 19 Join(19, 32)
 20 Call(19, bwait, none)
 21 Join(21, 32)
-22 Call(21, wait, EPERM)",
+22 Call(21, wait, EPERM), 21 22 EPERM",
 };
 
 /// A generated script, seed 703.
@@ -165,28 +165,28 @@ die 4
 10 bwait b1
 10 cond-init c0",
     history: "0 Join(0, 32)
-1 Call(0, mutex-init, 0)
+1 Call(0, mutex-init, 0), 0 1 0
 2 Join(2, 1)
 3 Join(3, 1)
 4 Join(4, 32)
-5 Call(0, mutex-init, 0)
-6 Call(0, cond-init, 0)
+5 Call(0, mutex-init, 0), 0 5 0
+6 Call(0, cond-init, 0), 0 6 0
 7 Call(0, lock, none)
-8 Grant(7, 0)
+8 Grant(7, 0), 0 7 0
 9 Call(0, wait, none)
 10 Join(10, 32)
 11 Call(2, lock, none)
-12 Grant(11, 0)
+12 Grant(11, 0), 2 11 0
 13 Call(2, timedwait, none)
 14 Call(4, lock, none)
-15 Grant(14, 0)
+15 Grant(14, 0), 4 14 0
 16 Call(4, timedwait, none)
 17 Call(3, lock, none)
-18 Grant(17, 0)
+18 Grant(17, 0), 3 17 0
 19 Call(3, timedwait, none)
 20 Moment(6, 999999999)
 21 Expire(13)
-22 Grant(13, ETIMEDOUT)
+22 Grant(13, ETIMEDOUT), 2 13 ETIMEDOUT
 23 Expire(16)
 BLOCKED
 BLOCKED
@@ -195,12 +195,12 @@ BLOCKED
 24 Death(2)
 BLOCKED
 25 Call(10, lock, none)
-26 Grant(25, 0)
+26 Grant(25, 0), 10 25 0
 BLOCKED
 27 Death(4)
 BLOCKED
-28 Call(10, bwait, EINVAL)
-29 Call(10, cond-init, 0)",
+28 Call(10, bwait, EINVAL), 10 28 EINVAL
+29 Call(10, cond-init, 0), 10 29 0",
 };
 
 /// A generated script, seed 704.
@@ -236,35 +236,35 @@ die 5
 3 lock m0
 3 wait c0 m0",
     history: "0 Join(0, 2)
-1 Call(0, mutex-init, 0)
-2 Call(0, lock, EINVAL)
+1 Call(0, mutex-init, 0), 0 1 0
+2 Call(0, lock, EINVAL), 0 2 EINVAL
 3 Join(3, 2)
 4 Death(0)
 5 Join(5, 2)
-6 Call(3, cond-init, 0)
+6 Call(3, cond-init, 0), 3 6 0
 7 Call(5, lock, none)
-8 Grant(7, 0)
-9 Call(5, cond-init, 0)
-10 Call(3, broadcast, 0)
+8 Grant(7, 0), 5 7 0
+9 Call(5, cond-init, 0), 5 9 0
+10 Call(3, broadcast, 0), 3 10 0
 11 Join(11, 2)
-12 Call(5, lock, 0)
+12 Call(5, lock, 0), 5 12 0
 13 Join(13, 32)
-14 Call(13, barrier-init, 0)
+14 Call(13, barrier-init, 0), 13 14 0
 15 Call(13, bwait, none)
 16 Call(3, bwait, none)
 17 Call(11, bwait, none)
-18 Trip(14)
+18 Trip(14), 13 15 0, 3 16 0, 11 17 SERIAL
 19 Call(5, bwait, none)
-20 Call(11, mutex-init, 0)
+20 Call(11, mutex-init, 0), 11 20 0
 21 Death(5)
 22 Yield(1)
 23 Call(11, lock, none)
-24 Grant(23, 0)
+24 Grant(23, 0), 11 23 0
 25 Call(13, lock, none)
 BLOCKED
 BLOCKED
-26 Call(11, lock, 0)
-27 Call(11, timedwait, EINVAL)
+26 Call(11, lock, 0), 11 26 0
+27 Call(11, timedwait, EINVAL), 11 27 EINVAL
 28 Call(3, lock, none)
 BLOCKED
 BLOCKED

@@ -29,30 +29,30 @@ moment 3 0
 1 Join(1, 2)
 2 Join(2, 32)
 3 Moment(2, 999999999)
-4 Call(1, mutex-init, 0)
-5 Call(0, cond-init, 0)
+4 Call(1, mutex-init, 0), 1 4 0
+5 Call(0, cond-init, 0), 0 5 0
 6 Call(1, lock, none)
-7 Grant(6, 0)
+7 Grant(6, 0), 1 6 0
 8 Call(2, lock, none)
 9 Call(0, timedlock, none)
 10 Call(1, wait, none)
-11 Grant(8, 0)
-12 Call(2, lock, 0)
+11 Grant(8, 0), 2 8 0
+12 Call(2, lock, 0), 2 12 0
 13 Call(2, wait, none)
 14 Join(14, 32)
-15 Call(14, rwlock-init, 0)
+15 Call(14, rwlock-init, 0), 14 15 0
 16 Join(16, 32)
 17 Join(17, 2)
 18 Call(16, lock, none)
 19 Call(14, trywrlock, none)
-20 Grant(19, 0)
+20 Grant(19, 0), 14 19 0
 21 Call(14, lock, none)
-22 Call(17, trylock, EBUSY)
+22 Call(17, trylock, EBUSY), 17 22 EBUSY
 23 Call(17, timedlock, none)
-24 Expire(23)
+24 Expire(23), 17 23 ETIMEDOUT
 25 Moment(3, 0)
-26 Expire(9)
-27 Call(0, unlock, EPERM)",
+26 Expire(9), 0 9 ETIMEDOUT
+27 Call(0, unlock, EPERM), 0 27 EPERM",
 };
 
 /// A generated script, seed 706.
@@ -90,32 +90,32 @@ moment 10 0",
 1 Join(1, 31)
 2 Join(2, 31)
 3 Death(1)
-4 Call(0, cond-init, 0)
+4 Call(0, cond-init, 0), 0 4 0
 5 Moment(1, 1)
-6 Call(0, rwlock-init, 0)
+6 Call(0, rwlock-init, 0), 0 6 0
 7 Moment(11, 0)
 8 Moment(10, 999999999)
 9 Call(0, rdlock, none)
-10 Grant(9, 0)
-11 Call(0, mutex-init, 0)
-12 Call(0, rwunlock, 0)
+10 Grant(9, 0), 0 9 0
+11 Call(0, mutex-init, 0), 0 11 0
+12 Call(0, rwunlock, 0), 0 12 0
 13 Moment(1, 0)
-14 Call(0, signal, EINVAL)
-15 Call(0, rwlock-destroy, 0)
-16 Call(0, rdlock, EINVAL)
-17 Call(2, barrier-init, EINVAL)
+14 Call(0, signal, EINVAL), 0 14 EINVAL
+15 Call(0, rwlock-destroy, 0), 0 15 0
+16 Call(0, rdlock, EINVAL), 0 16 EINVAL
+17 Call(2, barrier-init, EINVAL), 2 17 EINVAL
 18 Join(18, 31)
-19 Call(18, bwait, EINVAL)
+19 Call(18, bwait, EINVAL), 18 19 EINVAL
 20 Join(20, 31)
 21 Call(20, lock, none)
-22 Grant(21, 0)
-23 Call(20, timedwait, EINVAL)
+22 Grant(21, 0), 20 21 0
+23 Call(20, timedwait, EINVAL), 20 23 EINVAL
 24 Call(0, lock, none)
 BLOCKED
 25 Call(2, lock, none)
 BLOCKED
-26 Call(18, signal, 0)
-27 Call(18, broadcast, 0)
+26 Call(18, signal, 0), 18 26 0
+27 Call(18, broadcast, 0), 18 27 0
 28 Moment(10, 0)",
 };
 
@@ -143,28 +143,28 @@ moment 1 1
 16 cond-init c0
 2 timedlock m0 1 0",
     history: "0 Join(0, 31)
-1 Call(0, barrier-init, 0)
+1 Call(0, barrier-init, 0), 0 1 0
 2 Join(2, 10)
 3 Join(3, 31)
-4 Call(2, mutex-init, 0)
-5 Call(3, lock, EINVAL)
+4 Call(2, mutex-init, 0), 2 4 0
+5 Call(3, lock, EINVAL), 3 5 EINVAL
 6 Moment(2, 0)
 7 Moment(5, 1)
-8 Call(2, mutex-init, EBUSY)
+8 Call(2, mutex-init, EBUSY), 2 8 EBUSY
 9 Moment(3, 0)
 10 Moment(4, 0)
-11 Call(2, timedlock, EINVAL)
-12 Call(0, cond-init, 0)
+11 Call(2, timedlock, EINVAL), 2 11 EINVAL
+12 Call(0, cond-init, 0), 0 12 0
 13 Moment(8, 999999999)
 14 Moment(4, 999999999)
-15 Call(2, mutex-init, 0)
+15 Call(2, mutex-init, 0), 2 15 0
 16 Join(16, 31)
 17 Moment(1, 1)
 18 Call(3, timedlock, none)
-19 Grant(18, 0)
-20 Call(16, cond-init, 0)
+19 Grant(18, 0), 3 18 0
+20 Call(16, cond-init, 0), 16 20 0
 21 Call(2, timedlock, none)
-22 Grant(21, 0)",
+22 Grant(21, 0), 2 21 0",
 };
 
 /// A generated script, seed 708.
@@ -200,35 +200,35 @@ join 2
 9 lock d1",
     history: "0 Join(0, 2)
 1 Join(1, 2)
-2 Call(0, lock, EINVAL)
+2 Call(0, lock, EINVAL), 0 2 EINVAL
 3 Join(3, 2)
 4 Join(4, 2)
 5 Join(5, 2)
-6 Call(0, mutex-init, 0)
+6 Call(0, mutex-init, 0), 0 6 0
 7 Join(7, 2)
 8 Join(8, 2)
 9 Join(9, 2)
 10 Call(4, timedlock, none)
-11 Grant(10, 0)
-12 Call(7, rwlock-init, 0)
+11 Grant(10, 0), 4 10 0
+12 Call(7, rwlock-init, 0), 7 12 0
 13 Moment(8, 999999999)
 14 Call(8, lock, none)
-15 Call(7, mutex-init, 0)
+15 Call(7, mutex-init, 0), 7 15 0
 16 Death(4)
 17 Yield(6)
-18 Grant(14, EOWNERDEAD)
-19 Call(7, mutex-init, 0)
-20 Call(8, unlock, 0)
+18 Grant(14, EOWNERDEAD), 8 14 EOWNERDEAD
+19 Call(7, mutex-init, 0), 7 19 0
+20 Call(8, unlock, 0), 8 20 0
 21 Call(1, lock, none)
-22 Grant(21, 0)
+22 Grant(21, 0), 1 21 0
 23 Call(8, timedlock, none)
-24 Grant(23, ENOTRECOVERABLE)
-25 Call(3, mutex-destroy, 0)
+24 Grant(23, ENOTRECOVERABLE), 8 23 ENOTRECOVERABLE
+25 Call(3, mutex-destroy, 0), 3 25 0
 26 Join(26, 2)
 27 Call(1, lock, none)
-28 Grant(27, 0)
+28 Grant(27, 0), 1 27 0
 29 Call(7, rdlock, none)
-30 Grant(29, 0)
+30 Grant(29, 0), 7 29 0
 31 Call(1, wrlock, none)
 32 Call(5, lock, none)
 33 Call(8, rdlock, none)

@@ -33,37 +33,37 @@ moment 6 0
     history: "0 Join(0, 1)
 1 Join(1, 31)
 2 Join(2, 31)
-3 Call(1, mutex-init, 0)
-4 Call(2, mutex-destroy, 0)
-5 Call(0, mutex-init, 0)
-6 Call(1, tryrdlock, EINVAL)
+3 Call(1, mutex-init, 0), 1 3 0
+4 Call(2, mutex-destroy, 0), 2 4 0
+5 Call(0, mutex-init, 0), 0 5 0
+6 Call(1, tryrdlock, EINVAL), 1 6 EINVAL
 7 Call(1, lock, none)
-8 Grant(7, 0)
-9 Call(0, mutex-init, EBUSY)
+8 Grant(7, 0), 1 7 0
+9 Call(0, mutex-init, EBUSY), 0 9 EBUSY
 10 Call(2, lock, none)
-11 Call(1, unlock, 0)
-12 Grant(10, 0)
+11 Call(1, unlock, 0), 1 11 0
+12 Grant(10, 0), 2 10 0
 13 Call(1, lock, none)
 14 Join(14, 1)
-15 Call(2, unlock, 0)
-16 Grant(13, 0)
-17 Call(14, rdlock, EINVAL)
-18 Call(14, mutex-destroy, EBUSY)
-19 Call(14, mutex-destroy, EBUSY)
-20 Call(0, unlock, EPERM)
-21 Call(14, consistent, EINVAL)
-22 Call(14, trylock, EBUSY)
+15 Call(2, unlock, 0), 2 15 0
+16 Grant(13, 0), 1 13 0
+17 Call(14, rdlock, EINVAL), 14 17 EINVAL
+18 Call(14, mutex-destroy, EBUSY), 14 18 EBUSY
+19 Call(14, mutex-destroy, EBUSY), 14 19 EBUSY
+20 Call(0, unlock, EPERM), 0 20 EPERM
+21 Call(14, consistent, EINVAL), 14 21 EINVAL
+22 Call(14, trylock, EBUSY), 14 22 EBUSY
 23 Call(2, lock, none)
-24 Call(1, unlock, 0)
-25 Grant(23, 0)
-26 Call(2, unlock, 0)
+24 Call(1, unlock, 0), 1 24 0
+25 Grant(23, 0), 2 23 0
+26 Call(2, unlock, 0), 2 26 0
 27 Call(2, trylock, none)
-28 Grant(27, 0)
+28 Grant(27, 0), 2 27 0
 29 Moment(6, 0)
-30 Call(2, unlock, 0)
-31 Call(14, rwlock-init, 0)
+30 Call(2, unlock, 0), 2 30 0
+31 Call(14, rwlock-init, 0), 14 31 0
 32 Call(2, lock, none)
-33 Grant(32, 0)",
+33 Grant(32, 0), 2 32 0",
 };
 
 /// A generated script, seed 710.
@@ -100,40 +100,40 @@ join 31
 die 0",
     history: "0 Join(0, 10)
 1 Join(1, 10)
-2 Call(0, mutex-init, 0)
+2 Call(0, mutex-init, 0), 0 2 0
 3 Moment(2, 999999999)
 4 Call(0, lock, none)
-5 Grant(4, 0)
+5 Grant(4, 0), 0 4 0
 6 Call(1, lock, none)
-7 Call(0, unlock, 0)
-8 Grant(6, 0)
+7 Call(0, unlock, 0), 0 7 0
+8 Grant(6, 0), 1 6 0
 9 Call(0, lock, none)
-10 Call(1, unlock, 0)
-11 Grant(9, 0)
-12 Call(0, unlock, 0)
+10 Call(1, unlock, 0), 1 10 0
+11 Grant(9, 0), 0 9 0
+12 Call(0, unlock, 0), 0 12 0
 13 Call(0, lock, none)
-14 Grant(13, 0)
+14 Grant(13, 0), 0 13 0
 15 Call(1, lock, none)
 16 Moment(3, 0)
-17 Call(0, consistent, EINVAL)
-18 Call(0, unlock, 0)
-19 Grant(15, 0)
+17 Call(0, consistent, EINVAL), 0 17 EINVAL
+18 Call(0, unlock, 0), 0 18 0
+19 Grant(15, 0), 1 15 0
 20 Call(0, lock, none)
-21 Call(1, barrier-init, 0)
-22 Call(1, unlock, 0)
-23 Grant(20, 0)
-24 Call(0, rdlock, EINVAL)
-25 Call(1, unlock, EPERM)
-26 Call(0, rwlock-init, 0)
+21 Call(1, barrier-init, 0), 1 21 0
+22 Call(1, unlock, 0), 1 22 0
+23 Grant(20, 0), 0 20 0
+24 Call(0, rdlock, EINVAL), 0 24 EINVAL
+25 Call(1, unlock, EPERM), 1 25 EPERM
+26 Call(0, rwlock-init, 0), 0 26 0
 27 Call(0, tryrdlock, none)
-28 Grant(27, 0)
-29 Call(0, trylock, EBUSY)
+28 Grant(27, 0), 0 27 0
+29 Call(0, trylock, EBUSY), 0 29 EBUSY
 30 Call(1, lock, none)
 31 Join(31, 31)
-32 Call(0, trylock, EINVAL)
-33 Call(0, rwunlock, 0)
-34 Call(0, unlock, 0)
-35 Grant(30, 0)
+32 Call(0, trylock, EINVAL), 0 32 EINVAL
+33 Call(0, rwunlock, 0), 0 33 0
+34 Call(0, unlock, 0), 0 34 0
+35 Grant(30, 0), 1 30 0
 36 Call(1, lock, none)
 37 Death(0)",
 };
@@ -174,36 +174,36 @@ die 16",
 1 Join(1, 2)
 2 Death(1)
 3 Join(3, 2)
-4 Call(0, cond-init, 0)
-5 Call(0, rwlock-init, 0)
-6 Call(0, mutex-init, 0)
-7 Call(3, barrier-init, 0)
-8 Call(3, rwlock-init, 0)
+4 Call(0, cond-init, 0), 0 4 0
+5 Call(0, rwlock-init, 0), 0 5 0
+6 Call(0, mutex-init, 0), 0 6 0
+7 Call(3, barrier-init, 0), 3 7 0
+8 Call(3, rwlock-init, 0), 3 8 0
 9 Death(3)
 10 Call(0, bwait, none)
 11 Join(11, 2)
 12 Call(11, rdlock, none)
-13 Grant(12, 0)
-14 Call(11, rwunlock, 0)
+13 Grant(12, 0), 11 12 0
+14 Call(11, rwunlock, 0), 11 14 0
 15 Death(11)
 16 Join(16, 2)
 17 Call(16, rdlock, none)
-18 Grant(17, 0)
+18 Grant(17, 0), 16 17 0
 19 Call(16, rdlock, none)
-20 Grant(19, 0)
-21 Call(16, rwunlock, 0)
-22 Call(16, rwunlock, 0)
+20 Grant(19, 0), 16 19 0
+21 Call(16, rwunlock, 0), 16 21 0
+22 Call(16, rwunlock, 0), 16 22 0
 23 Call(16, wrlock, none)
-24 Grant(23, 0)
-25 Call(16, rwunlock, 0)
+24 Grant(23, 0), 16 23 0
+25 Call(16, rwunlock, 0), 16 25 0
 26 Death(0)
 27 Call(16, wrlock, none)
-28 Grant(27, 0)
+28 Grant(27, 0), 16 27 0
 29 Call(16, rdlock, none)
-30 Grant(29, 0)
+30 Grant(29, 0), 16 29 0
 31 Call(16, trylock, none)
-32 Grant(31, 0)
-33 Call(16, rwunlock, 0)
+32 Grant(31, 0), 16 31 0
+33 Call(16, rwunlock, 0), 16 33 0
 34 Call(16, bwait, none)
 35 Moment(6, 0)
 36 Death(16)
@@ -243,40 +243,40 @@ join 10
 2 unlock m1
 2 lock m0",
     history: "0 Join(0, 10)
-1 Call(0, mutex-init, 0)
+1 Call(0, mutex-init, 0), 0 1 0
 2 Join(2, 10)
 3 Call(2, lock, none)
-4 Grant(3, 0)
-5 Call(0, cond-init, 0)
+4 Grant(3, 0), 2 3 0
+5 Call(0, cond-init, 0), 0 5 0
 6 Join(6, 10)
 7 Join(7, 10)
-8 Call(7, mutex-init, 0)
+8 Call(7, mutex-init, 0), 7 8 0
 9 Death(6)
 10 Death(0)
-11 Call(2, unlock, 0)
+11 Call(2, unlock, 0), 2 11 0
 12 Call(2, lock, none)
-13 Grant(12, 0)
+13 Grant(12, 0), 2 12 0
 14 Call(7, trylock, none)
-15 Grant(14, 0)
+15 Grant(14, 0), 7 14 0
 16 Join(16, 5)
 17 Call(7, wait, none)
-18 Call(2, unlock, 0)
+18 Call(2, unlock, 0), 2 18 0
 19 Call(16, lock, none)
-20 Grant(19, 0)
-21 Call(16, unlock, 0)
+20 Grant(19, 0), 16 19 0
+21 Call(16, unlock, 0), 16 21 0
 22 Call(16, lock, none)
-23 Grant(22, 0)
-24 Call(16, lock, 0)
+23 Grant(22, 0), 16 22 0
+24 Call(16, lock, 0), 16 24 0
 25 Call(2, lock, none)
-26 Grant(25, 0)
+26 Grant(25, 0), 2 25 0
 27 Call(16, lock, none)
 28 Join(28, 10)
-29 Call(28, bwait, EINVAL)
+29 Call(28, bwait, EINVAL), 28 29 EINVAL
 30 Call(28, timedlock, none)
-31 Call(2, lock, 0)
-32 Call(2, unlock, 0)
-33 Call(2, signal, EINVAL)
-34 Call(2, unlock, 0)
-35 Grant(27, 0)
+31 Call(2, lock, 0), 2 31 0
+32 Call(2, unlock, 0), 2 32 0
+33 Call(2, signal, EINVAL), 2 33 EINVAL
+34 Call(2, unlock, 0), 2 34 0
+35 Grant(27, 0), 16 27 0
 36 Call(2, lock, none)",
 };

@@ -37,36 +37,36 @@ join 31
 2 Join(2, 31)
 3 Join(3, 31)
 4 Join(4, 32)
-5 Call(0, lock, EINVAL)
+5 Call(0, lock, EINVAL), 0 5 EINVAL
 6 Join(6, 31)
 7 Join(7, 32)
-8 Call(3, mutex-init, 0)
-9 Call(6, barrier-init, 0)
-10 Call(4, rwlock-init, 0)
-11 Call(6, rwunlock, EPERM)
+8 Call(3, mutex-init, 0), 3 8 0
+9 Call(6, barrier-init, 0), 6 9 0
+10 Call(4, rwlock-init, 0), 4 10 0
+11 Call(6, rwunlock, EPERM), 6 11 EPERM
 12 Call(4, lock, none)
-13 Grant(12, 0)
+13 Grant(12, 0), 4 12 0
 14 Moment(2, 1)
 15 Call(2, timedlock, none)
 16 Call(3, lock, none)
 17 Call(7, rdlock, none)
-18 Grant(17, 0)
+18 Grant(17, 0), 7 17 0
 19 Call(0, timedrdlock, none)
-20 Grant(19, 0)
+20 Grant(19, 0), 0 19 0
 21 Call(6, timedwrlock, none)
-22 Expire(21)
-23 Call(7, rwunlock, 0)
+22 Expire(21), 6 21 ETIMEDOUT
+23 Call(7, rwunlock, 0), 7 23 0
 24 Call(6, timedlock, none)
-25 Call(0, rwunlock, 0)
+25 Call(0, rwunlock, 0), 0 25 0
 26 Call(4, tryrdlock, none)
-27 Grant(26, 0)
-28 Call(4, timedwrlock, EDEADLK)
+27 Grant(26, 0), 4 26 0
+28 Call(4, timedwrlock, EDEADLK), 4 28 EDEADLK
 29 Call(1, bwait, none)
 30 Join(30, 31)
-31 Call(0, cond-init, 0)
+31 Call(0, cond-init, 0), 0 31 0
 32 Call(0, lock, none)
 BLOCKED
-33 Call(4, lock, EDEADLK)",
+33 Call(4, lock, EDEADLK), 4 33 EDEADLK",
 };
 
 /// A generated script, seed 718.
@@ -102,38 +102,38 @@ moment 1 0
 28 bwait b1",
     history: "0 Join(0, 32)
 1 Join(1, 2)
-2 Call(1, lock, EINVAL)
+2 Call(1, lock, EINVAL), 1 2 EINVAL
 3 Join(3, 32)
-4 Call(0, cond-init, 0)
+4 Call(0, cond-init, 0), 0 4 0
 5 Join(5, 2)
-6 Call(3, mutex-init, 0)
+6 Call(3, mutex-init, 0), 3 6 0
 7 Call(0, lock, none)
-8 Grant(7, 0)
-9 Call(3, signal, 0)
-10 Call(1, mutex-init, 0)
+8 Grant(7, 0), 0 7 0
+9 Call(3, signal, 0), 3 9 0
+10 Call(1, mutex-init, 0), 1 10 0
 11 Call(5, timedlock, none)
-12 Grant(11, 0)
+12 Grant(11, 0), 5 11 0
 13 Join(13, 2)
-14 Call(5, cond-init, 0)
+14 Call(5, cond-init, 0), 5 14 0
 15 Moment(2, 0)
-16 Call(13, rwlock-init, 0)
+16 Call(13, rwlock-init, 0), 13 16 0
 17 Call(13, timedlock, none)
 18 Call(0, timedlock, none)
 19 Death(0)
-20 Call(3, wait, EINVAL)
+20 Call(3, wait, EINVAL), 3 20 EINVAL
 21 Call(1, timedlock, none)
 22 Call(5, timedwait, none)
-23 Grant(21, 0)
-24 Call(3, trylock, EBUSY)
+23 Grant(21, 0), 1 21 0
+24 Call(3, trylock, EBUSY), 3 24 EBUSY
 25 Call(3, timedlock, none)
-26 Expire(25)
+26 Expire(25), 3 25 ETIMEDOUT
 27 Call(3, timedlock, none)
 28 Join(28, 2)
-29 Call(1, barrier-init, 0)
+29 Call(1, barrier-init, 0), 1 29 0
 30 Moment(1, 0)
-31 Call(28, timedlock, EINVAL)
+31 Call(28, timedlock, EINVAL), 28 31 EINVAL
 32 Call(28, bwait, none)
-33 Trip(29)",
+33 Trip(29), 28 32 SERIAL",
 };
 
 /// A generated script, seed 719.
@@ -171,39 +171,39 @@ join 2
 1 Join(1, 2)
 2 Join(2, 2)
 3 Join(3, 2)
-4 Call(3, mutex-init, 0)
+4 Call(3, mutex-init, 0), 3 4 0
 5 Join(5, 2)
 6 Join(6, 2)
 7 Call(3, lock, none)
-8 Grant(7, 0)
-9 Call(3, unlock, 0)
+8 Grant(7, 0), 3 7 0
+9 Call(3, unlock, 0), 3 9 0
 10 Call(3, lock, none)
-11 Grant(10, 0)
+11 Grant(10, 0), 3 10 0
 12 Call(5, lock, none)
 13 Call(1, lock, none)
-14 Call(3, unlock, 0)
-15 Grant(12, 0)
-16 Call(3, bwait, EINVAL)
-17 Call(5, unlock, 0)
-18 Grant(13, 0)
-19 Call(5, mutex-destroy, EBUSY)
-20 Call(1, unlock, 0)
-21 Call(3, cond-init, 0)
+14 Call(3, unlock, 0), 3 14 0
+15 Grant(12, 0), 5 12 0
+16 Call(3, bwait, EINVAL), 3 16 EINVAL
+17 Call(5, unlock, 0), 5 17 0
+18 Grant(13, 0), 1 13 0
+19 Call(5, mutex-destroy, EBUSY), 5 19 EBUSY
+20 Call(1, unlock, 0), 1 20 0
+21 Call(3, cond-init, 0), 3 21 0
 22 Call(5, lock, none)
-23 Grant(22, 0)
-24 Call(2, consistent, EINVAL)
+23 Grant(22, 0), 5 22 0
+24 Call(2, consistent, EINVAL), 2 24 EINVAL
 25 Call(2, lock, none)
-26 Call(1, rwlock-init, 0)
+26 Call(1, rwlock-init, 0), 1 26 0
 27 Call(1, rdlock, none)
-28 Grant(27, 0)
-29 Call(5, mutex-destroy, EBUSY)
-30 Call(6, rwunlock, EINVAL)
+28 Grant(27, 0), 1 27 0
+29 Call(5, mutex-destroy, EBUSY), 5 29 EBUSY
+30 Call(6, rwunlock, EINVAL), 6 30 EINVAL
 31 Call(6, lock, none)
-32 Call(5, unlock, 0)
-33 Grant(25, 0)
-34 Call(0, cond-destroy, 0)
-35 Call(2, unlock, 0)
-36 Grant(31, 0)",
+32 Call(5, unlock, 0), 5 32 0
+33 Grant(25, 0), 2 25 0
+34 Call(0, cond-destroy, 0), 0 34 0
+35 Call(2, unlock, 0), 2 35 0
+36 Grant(31, 0), 6 31 0",
 };
 
 /// A generated script, seed 720.
@@ -239,38 +239,38 @@ join 32
 25 rwunlock r0",
     history: "0 Join(0, 32)
 1 Join(1, 32)
-2 Call(0, barrier-init, EINVAL)
+2 Call(0, barrier-init, EINVAL), 0 2 EINVAL
 3 Join(3, 32)
-4 Call(1, cond-init, 0)
+4 Call(1, cond-init, 0), 1 4 0
 5 Join(5, 32)
 6 Death(3)
-7 Call(0, mutex-init, 0)
+7 Call(0, mutex-init, 0), 0 7 0
 8 Join(8, 32)
 9 Call(0, timedlock, none)
-10 Grant(9, 0)
+10 Grant(9, 0), 0 9 0
 11 Death(8)
 12 Death(1)
-13 Call(5, rwlock-init, 0)
+13 Call(5, rwlock-init, 0), 5 13 0
 14 Call(5, timedlock, none)
 15 Moment(11, 1)
-16 Expire(14)
+16 Expire(14), 5 14 ETIMEDOUT
 17 Death(0)
-18 Call(5, mutex-init, 0)
+18 Call(5, mutex-init, 0), 5 18 0
 19 Call(5, trylock, none)
-20 Grant(19, 0)
+20 Grant(19, 0), 5 19 0
 21 Join(21, 32)
 22 Call(21, timedrdlock, none)
-23 Grant(22, 0)
+23 Grant(22, 0), 21 22 0
 24 Join(24, 32)
 25 Join(25, 32)
 26 Call(24, wrlock, none)
 27 Call(25, timedwrlock, none)
-28 Expire(27)
+28 Expire(27), 25 27 ETIMEDOUT
 29 Call(21, timedlock, none)
-30 Expire(29)
-31 Call(25, unlock, EPERM)
-32 Call(21, timedwrlock, EDEADLK)
+30 Expire(29), 21 29 ETIMEDOUT
+31 Call(25, unlock, EPERM), 25 31 EPERM
+32 Call(21, timedwrlock, EDEADLK), 21 32 EDEADLK
 33 Call(5, timedrdlock, none)
-34 Expire(33)
-35 Call(25, rwunlock, EPERM)",
+34 Expire(33), 5 33 ETIMEDOUT
+35 Call(25, rwunlock, EPERM), 25 35 EPERM",
 };

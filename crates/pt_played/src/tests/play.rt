@@ -2,6 +2,7 @@ use crate::tests::Played;
 use crate::tests::read::event_of;
 use crate::tests::show::shown;
 use pt_deciding::forced::forced;
+use pt_deciding::queries::told_at;
 use pt_deciding::room::{entry_for, refusal_within};
 use pt_model::{Entry, Event};
 use std::alloc::Global;
@@ -21,8 +22,30 @@ fn enter(entries: &mut Vec<Entry>, event: &Event) -> Result<(), Fail> {
     Err("more must follow")?
 }
 
-/// Plays the events, and compares what comes of them line by line.
-pub fn check(rt: &impl Abort, alloc: Global, played: &Played, limit: u64) -> Result<(), Fail> {
+/// The entry at a place as the tables of histories write it, and behind it each answer that it
+/// gives: the client, the place of the call, and the word.
+fn line_of(alloc: Global, entries: &[Entry], i: usize) -> Result<String, Fail> {
+    let (entry, before) = (
+        entries.get(i).ok_or("entry")?,
+        entries.get(..i).ok_or("entries")?,
+    );
+    let mut text = shown(alloc, i, entry)?;
+    for j in 0..entries.len() {
+        if let Some(told) = told_at(before, entry, j as u64) {
+            let (c, word) = (told.client, told.outcome.word());
+            text = format!(in alloc; "{text}, {c} {j} {word}")?;
+        }
+    }
+    Ok(text)
+}
+
+/// Plays the events, compares what comes of them line by line, and gives the entries.
+pub fn check(
+    rt: &impl Abort,
+    alloc: Global,
+    played: &Played,
+    limit: u64,
+) -> Result<Vec<Entry>, Fail> {
     let mut entries = Vec::new(alloc);
     let mut lines = played.history.lines();
     for line in played.events.lines() {
@@ -34,11 +57,11 @@ pub fn check(rt: &impl Abort, alloc: Global, played: &Played, limit: u64) -> Res
         }
         let first = entries.len();
         enter(&mut entries, &event)?;
-        for (i, entry) in entries.iter().enumerate().skip(first) {
-            let text = shown(alloc, i, entry)?;
+        for i in first..entries.len() {
+            let text = line_of(alloc, &entries, i)?;
             assert_eq!(rt; lines.next().ok_or("line")?, text.as_str());
         }
     }
     assert!(rt; lines.next().is_none());
-    Ok(())
+    Ok(entries)
 }

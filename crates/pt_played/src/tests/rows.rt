@@ -10,12 +10,12 @@ join 20
 0 unlock m",
     history: "0 Join(0, 10)
 1 Join(1, 20)
-2 Call(0, mutex-init, 0)
+2 Call(0, mutex-init, 0), 0 2 0
 3 Call(0, lock, none)
-4 Grant(3, 0)
+4 Grant(3, 0), 0 3 0
 5 Call(1, lock, none)
-6 Call(0, unlock, 0)
-7 Grant(5, 0)",
+6 Call(0, unlock, 0), 0 6 0
+7 Grant(5, 0), 1 5 0",
 };
 
 /// A robust mutex goes on from a dead owner, and is lost.
@@ -34,19 +34,19 @@ die 0
     history: "0 Join(0, 10)
 1 Join(1, 10)
 2 Join(2, 10)
-3 Call(0, mutex-init, 0)
+3 Call(0, mutex-init, 0), 0 3 0
 4 Call(0, lock, none)
-5 Grant(4, 0)
+5 Grant(4, 0), 0 4 0
 6 Call(1, lock, none)
 7 Call(2, lock, none)
 8 Death(0)
 9 Yield(3)
-10 Grant(6, EOWNERDEAD)
-11 Call(1, unlock, 0)
-12 Grant(7, ENOTRECOVERABLE)
+10 Grant(6, EOWNERDEAD), 1 6 EOWNERDEAD
+11 Call(1, unlock, 0), 1 11 0
+12 Grant(7, ENOTRECOVERABLE), 2 7 ENOTRECOVERABLE
 13 Call(2, lock, none)
-14 Grant(13, ENOTRECOVERABLE)
-15 Call(2, mutex-destroy, 0)",
+14 Grant(13, ENOTRECOVERABLE), 2 13 ENOTRECOVERABLE
+15 Call(2, mutex-destroy, 0), 2 15 0",
 };
 
 /// Readers and writers of a read-write lock.
@@ -69,21 +69,21 @@ join 11
 1 Join(1, 10)
 2 Join(2, 10)
 3 Join(3, 11)
-4 Call(0, rwlock-init, 0)
+4 Call(0, rwlock-init, 0), 0 4 0
 5 Call(0, rdlock, none)
-6 Grant(5, 0)
+6 Grant(5, 0), 0 5 0
 7 Call(1, wrlock, none)
 8 Call(2, rdlock, none)
 9 Call(3, rdlock, none)
-10 Grant(9, 0)
+10 Grant(9, 0), 3 9 0
 11 Call(0, rdlock, none)
-12 Grant(11, 0)
-13 Call(0, rwunlock, 0)
-14 Call(0, rwunlock, 0)
-15 Call(3, rwunlock, 0)
-16 Grant(7, 0)
-17 Call(1, rwunlock, 0)
-18 Grant(8, 0)",
+12 Grant(11, 0), 0 11 0
+13 Call(0, rwunlock, 0), 0 13 0
+14 Call(0, rwunlock, 0), 0 14 0
+15 Call(3, rwunlock, 0), 3 15 0
+16 Grant(7, 0), 1 7 0
+17 Call(1, rwunlock, 0), 1 17 0
+18 Grant(8, 0), 2 8 0",
 };
 
 /// A wait whose deadline has passed.
@@ -100,16 +100,16 @@ join 10
     history: "0 Moment(10, 0)
 1 Join(1, 10)
 2 Join(2, 10)
-3 Call(1, mutex-init, 0)
-4 Call(1, cond-init, 0)
+3 Call(1, mutex-init, 0), 1 3 0
+4 Call(1, cond-init, 0), 1 4 0
 5 Call(1, lock, none)
-6 Grant(5, 0)
+6 Grant(5, 0), 1 5 0
 7 Call(2, lock, none)
 8 Call(1, timedwait, none)
-9 Grant(7, 0)
+9 Grant(7, 0), 2 7 0
 10 Expire(8)
-11 Call(2, unlock, 0)
-12 Grant(8, ETIMEDOUT)",
+11 Call(2, unlock, 0), 2 11 0
+12 Grant(8, ETIMEDOUT), 1 8 ETIMEDOUT",
 };
 
 /// Barriers.
@@ -133,19 +133,19 @@ die 1
 1 Join(1, 10)
 2 Join(2, 10)
 3 Join(3, 10)
-4 Call(0, barrier-init, 0)
+4 Call(0, barrier-init, 0), 0 4 0
 5 Call(0, bwait, none)
 6 Call(1, bwait, none)
 7 Death(1)
 8 Call(2, bwait, none)
 9 Call(3, bwait, none)
-10 Trip(4)
-11 Call(0, barrier-init, 0)
+10 Trip(4), 0 5 0, 2 8 0, 3 9 SERIAL
+11 Call(0, barrier-init, 0), 0 11 0
 12 Call(0, bwait, none)
-13 Trip(11)
-14 Call(0, barrier-init, EINVAL)
-15 Call(0, barrier-init, EINVAL)
-16 Call(0, barrier-init, 0)",
+13 Trip(11), 0 12 SERIAL
+14 Call(0, barrier-init, EINVAL), 0 14 EINVAL
+15 Call(0, barrier-init, EINVAL), 0 15 EINVAL
+16 Call(0, barrier-init, 0), 0 16 0",
 };
 
 /// A broadcast wakes waits, which contend for the mutex.
@@ -175,29 +175,29 @@ join 10
 2 Join(2, 20)
 3 Join(3, 10)
 4 Join(4, 10)
-5 Call(0, mutex-init, 0)
-6 Call(0, cond-init, 0)
+5 Call(0, mutex-init, 0), 0 5 0
+6 Call(0, cond-init, 0), 0 6 0
 7 Call(0, lock, none)
-8 Grant(7, 0)
+8 Grant(7, 0), 0 7 0
 9 Call(0, wait, none)
 10 Call(1, lock, none)
-11 Grant(10, 0)
+11 Grant(10, 0), 1 10 0
 12 Call(1, wait, none)
 13 Call(2, lock, none)
-14 Grant(13, 0)
+14 Grant(13, 0), 2 13 0
 15 Call(2, wait, none)
 16 Call(3, lock, none)
-17 Grant(16, 0)
+17 Grant(16, 0), 3 16 0
 18 Call(4, lock, none)
-19 Call(3, broadcast, 0)
-20 Call(3, unlock, 0)
-21 Grant(15, 0)
-22 Call(2, unlock, 0)
-23 Grant(18, 0)
-24 Call(4, unlock, 0)
-25 Grant(9, 0)
-26 Call(0, unlock, 0)
-27 Grant(12, 0)",
+19 Call(3, broadcast, 0), 3 19 0
+20 Call(3, unlock, 0), 3 20 0
+21 Grant(15, 0), 2 15 0
+22 Call(2, unlock, 0), 2 22 0
+23 Grant(18, 0), 4 18 0
+24 Call(4, unlock, 0), 4 24 0
+25 Grant(9, 0), 0 9 0
+26 Call(0, unlock, 0), 0 26 0
+27 Grant(12, 0), 1 12 0",
 };
 
 /// A history of seven entries at most.
@@ -212,10 +212,10 @@ moment 2 0
 die 0
 join 10",
     history: "0 Join(0, 10)
-1 Call(0, mutex-init, 0)
+1 Call(0, mutex-init, 0), 0 1 0
 2 Call(0, lock, none)
-3 Grant(2, 0)
-4 Call(0, unlock, 0)
+3 Grant(2, 0), 0 2 0
+4 Call(0, unlock, 0), 0 4 0
 FULL
 5 Moment(1, 0)
 FULL
@@ -232,11 +232,28 @@ moment 1 0
 moment 2 0
 die 0",
     history: "0 Join(0, 10)
-1 Call(0, mutex-init, 0)
+1 Call(0, mutex-init, 0), 0 1 0
 2 Call(0, lock, none)
-3 Grant(2, 0)
+3 Grant(2, 0), 0 2 0
 4 Moment(1, 0)
 FULL
 5 Death(0)
 6 Yield(1)",
+};
+
+/// A call with a deadline, and the clock.
+pub const TIMED: Played = Played {
+    events: "join 10
+join 20
+0 mutex-init m normal robust
+0 lock m
+1 timedlock m 5 7
+moment 4 0",
+    history: "0 Join(0, 10)
+1 Join(1, 20)
+2 Call(0, mutex-init, 0), 0 2 0
+3 Call(0, lock, none)
+4 Grant(3, 0), 0 3 0
+5 Call(1, timedlock, none)
+6 Moment(4, 0)",
 };
