@@ -1,5 +1,5 @@
 -- MutexState: a mutex with the waits that are bound to it, and each change of it.
-use Rattle.std.specs.Prelude.{ℕ, Bool, ◌+◌, ◌-◌, ◌&&◌, ◌||◌, nat_lt, Some, None, is_none, if◌then◌else◌}
+use Rattle.std.specs.Prelude.{ℕ, Bool, ◌+◌, ◌-◌, ◌&&◌, ◌||◌, nat_lt, Some, None, is_none, is_some, if◌then◌else◌}
 use Rattle.pt_types.specs.Limits.{most_locks}
 use Rattle.pt_types.specs.MutexTable.{MutexView, owns, is_recursive, after_release, after_yield, after_consistent}
 use Rattle.pt_types.specs.declared.call.MutexKind.{MutexKind}
@@ -46,3 +46,9 @@ yielded m = freed m (after_yield m.condition)
 -- what it guards was put in order  [XSH pthread_mutex_consistent]
 abbrev pub restored : MutexView → MutexView
 restored m = record m { condition = after_consistent m.condition }
+
+-- whether it can't be destroyed: a living client owns it, a call stands at it, or a wait is bound
+-- to it  [XSH pthread_mutex_destroy]
+abbrev pub is_busy : MutexState → (owner_lives awaited : Bool) → Bool
+is_busy m owner_lives awaited =
+    (is_some m.seen.owner && owner_lives) || (awaited || nat_lt 0 m.bound_waits)

@@ -1,4 +1,5 @@
 ghost use Rattle.std.specs.Prelude.{◌≡◌, ◌<◌, ◌+◌, ◌-◌, ◌↔◌, IsTrue, IsSome, IsNone};
+ghost use Rattle.pt_types.specs.ObjectTable.{destroy_verdict};
 ghost use Rattle.pt_types.specs.MutexTable.{owns, lock_verdict, unlock_verdict, consistent_verdict};
 
 use pt_types::{ClientId, Condition, Deadline, How, MutexKind, Outcome, Verdict};
@@ -50,7 +51,7 @@ impl Model for MutexObj {
 }
 
 impl MutexObj {
-    ghost use Rattle.pt_mutex.specs.MutexState.{made, can_acquire, acquired, released, yielded, restored, freed};
+    ghost use Rattle.pt_mutex.specs.MutexState.{made, can_acquire, acquired, released, yielded, restored, freed, is_busy};
 
     /// A mutex that nobody holds and that is consistent.  [XSH pthread_mutex_init]
     pub fn new(kind: MutexKind, robust: bool) -> MutexObj
@@ -127,6 +128,21 @@ impl MutexObj {
         }
         if !self.is_owned_by(caller) {
             return Verdict::Reply(Outcome::Eperm);
+        }
+        Verdict::Reply(Outcome::Done)
+    }
+
+    /// What becomes of a `mutex-destroy`: EBUSY while a living client owns the mutex, a call stands
+    /// at it, or a wait is bound to it. What a dead client owns may be destroyed. That EBUSY is
+    /// told is profile.  [XSH pthread_mutex_destroy]
+    ///
+    /// `owner_lives` says of the owner, if there is one, whether it lives, and `awaited` whether a
+    /// call stands at the mutex.
+    pub fn verdict_destroy(&self, owner_lives: bool, awaited: bool) -> Verdict
+        ensures { result ≡ destroy_verdict (is_busy self.now owner_lives awaited) }
+    {
+        if self.owner.is_some() && owner_lives || awaited || 0 < self.bound_waits {
+            return Verdict::Reply(Outcome::Ebusy);
         }
         Verdict::Reply(Outcome::Done)
     }

@@ -146,6 +146,20 @@ fn consistent_line_by_line(rt: HostRuntime) {
 }
 
 #[test]
+fn destroy_line_by_line(rt: HostRuntime) {
+    let done = Verdict::Reply(Outcome::Done);
+    let ebusy = Verdict::Reply(Outcome::Ebusy);
+    let free = MutexObj::new(MutexKind::Normal, false);
+    assert_eq!(rt; free.verdict_destroy(true, false), done);
+    assert_eq!(rt; free.verdict_destroy(true, true), ebusy);
+    let mut owned = held(MutexKind::Normal, 1);
+    assert_eq!(rt; owned.verdict_destroy(true, false), ebusy);
+    assert_eq!(rt; owned.verdict_destroy(false, false), done);
+    owned.bind();
+    assert_eq!(rt; owned.verdict_destroy(false, false), ebusy);
+}
+
+#[test]
 fn the_condition_by_its_events(rt: HostRuntime) {
     let mut mutex = inherited(MutexKind::Recursive);
     assert_eq!(rt; mutex.condition(), Condition::Inconsistent);
