@@ -1,0 +1,233 @@
+-- What is told of an event: it is refused, or accepted.
+use Rattle.std.proofs.Common.{◌≡◌, ℕ, suc, ◌<◌, Bool, true, false, cond, List, [], ◌∷◌, ◌++◌, length, drop, Option, Some, None, Result, Ok, Err, nat_eq, refl, sym, ap, subst, ◌∙◌, append_assoc, length-append, arith}
+use Rattle.std.proofs.Math.Seq.{take-append_seam, drop-append_seam}
+use Rattle.std.specs.Option.{option_or, MatchOption}
+use Rattle.std.proofs.lemmas.Bool.Decides.{Decides-eqb}
+use Rattle.std.proofs.lemmas.Slice.Eq.{bytes_eq-Decides}
+use Rattle.pt_types.specs.Limits.{most_entries}
+use Rattle.pt_types.specs.declared.outcome.Refusal.{Refusal}
+use Rattle.pt_lines.specs.declared.client.Who.{Who}
+use Rattle.pt_lines.specs.declared.client.Who.TheVariants.{Named, Star, Unknown}
+use Rattle.pt_lines.specs.declared.script_line.ScriptBody.{ScriptBody}
+use Rattle.pt_lines.specs.declared.script_line.ScriptBody.TheVariants.{Hello, Ask, Die, Tick}
+use Rattle.pt_model.specs.declared.entry.Entry.{Entry}
+use Rattle.pt_model.specs.declared.entry.Event.{Event}
+use Rattle.pt_model.specs.declared.entry.Event.TheVariants as event
+use Rattle.pt_model.specs.Histories.{history}
+use Rattle.pt_model.specs.Answers.{replies_from}
+use Rattle.pt_model.specs.Queries.{answers_from}
+use Rattle.pt_model.specs.Room.{refusal_within, entry_for}
+use Rattle.pt_core.specs.declared.applied.Applied.{Applied}
+use Rattle.pt_core.specs.Cores.{Kept}
+use Rattle.pt_core.specs.Applying.{Applies, IsApplied, IsRefusal, IsWantOfMemory}
+use Rattle.pt_script.specs.declared.asking.Asking.{Asking}
+use Rattle.pt_script.specs.declared.engine.Mark.{Mark}
+use Rattle.pt_script.specs.declared.engine.Mark.TheVariants as mark
+use Rattle.pt_script.specs.Scripts.{Script, line_at, number_of, number_named, told_text, refusal_text, greeting, clients_with, calls_with, event_of_body, join_for, of_client, same_who, lines_of_who}
+use Rattle.pt_script.specs.Says.{core_of, SaysOf, refuses, lacks, accepts}
+use Rattle.pt_script.specs.Names.{Known}
+use Rattle.pt_script.specs.Engines.{Adds, IsFresh, mark_of, clients_marked, calls_marked, greeting_marked}
+use Rattle.pt_script.proofs.Counted.{lookup_push, count_by_push}
+
+-- what an engine of these parts stands for
+abbrev pub seen_as : Kept → Known → List (ℕ × Asking) → Script
+seen_as core names calls = record {
+  entries = core.entries;
+  seen = names.seen;
+  clients = names.clients;
+  calls = calls;
+}
+
+clients_as : (v : Event) (who : Who) (place : ℕ) (rows : List (List ℕ × ℕ))
+    → clients_marked (mark_of v) who place rows ≡ clients_with v who place rows
+clients_as (event.Join p) who place rows = refl
+clients_as (event.Call c call) who place rows = refl
+clients_as (event.Death c) who place rows = refl
+clients_as (event.Moment t) who place rows = refl
+
+calls_as : (v : Event) (line : Asking) (place : ℕ) (rows : List (ℕ × Asking))
+    → calls_marked (mark_of v) line place rows ≡ calls_with v line place rows
+calls_as (event.Join p) line place rows = refl
+calls_as (event.Call c call) line place rows = refl
+calls_as (event.Death c) line place rows = refl
+calls_as (event.Moment t) line place rows = refl
+
+greeting_as : (v : Event) (line : Asking) → greeting_marked (mark_of v) line ≡ greeting v line
+greeting_as (event.Join p) line = refl
+greeting_as (event.Call c call) line = refl
+greeting_as (event.Death c) line = refl
+greeting_as (event.Moment t) line = refl
+
+-- the answers from the first new place on are those of the new entries
+pub answers_added : (old added : List Entry)
+    → answers_from (length old) (old ++ added) ≡ replies_from (history old) added
+answers_added old added =
+    ap (λ es. replies_from (history es) (drop (length old) (old ++ added))) (take-append_seam old added)
+    ∙ ap (λ es. replies_from (history old) es) (drop-append_seam old added)
+
+limited : (core : Kept) → core.limit ≡ most_entries
+    → core ≡ record { entries = core.entries; limit = most_entries }
+limited core same = ap (λ n. let k : Kept = record { entries = core.entries; limit = n } in k) same
+
+-- an accepted event: its parts were noted, and its answers appended
+pub accepted : (s : Script) (core next : Kept) (names known : Known) (calls noted : List (ℕ × Asking))
+    (v : Event) (line : Asking) (a : Applied) (m : Mark) (out greeted told : List ℕ)
+    → s ≡ seen_as core names calls → core.limit ≡ most_entries → m ≡ mark_of v
+    → IsApplied core v next a
+    → known ≡ record names { clients = clients_marked m line.who a.first names.clients }
+    → noted ≡ calls_marked m line a.first calls
+    → greeted ≡ out ++ greeting_marked m line
+    → told ≡ greeted ++ told_text noted (answers_from a.first next.entries)
+    → Adds (SaysOf s v line (seen_as next known noted)) out told
+accepted s core next names known calls noted v line a m out greeted told is limit marks applied
+    knows notes greets tells =
+    subst (λ t. Adds (SaysOf t v line (seen_as next known noted)) out told) (sym is) (record {
+      text = greeting_marked m line ++ told_text noted (answers_from a.first next.entries);
+      grows =
+          tells
+          ∙ ap (λ xs. xs ++ told_text noted (answers_from a.first next.entries)) greets
+          ∙ append_assoc out (greeting_marked m line) (told_text noted (answers_from a.first next.entries));
+      holds = accepts (record {
+        applies =
+            subst (λ k. Applies k v (core_of (seen_as next known noted))) (limited core limit)
+            (subst (λ k. Applies core v k)
+            (limited next (applied.applies.same_limit ∙ limit)) applied.applies);
+        added = added;
+        extends = applied.applies.extends.1;
+        seen = ap (λ k. k.seen) knows;
+        clients =
+            ap (λ k. k.clients) knows
+            ∙ ap (λ n. clients_marked n line.who a.first names.clients) marks
+            ∙ ap (λ n. clients_marked (mark_of v) line.who n names.clients) applied.first
+            ∙ clients_as v line.who (length core.entries) names.clients;
+        calls =
+            notes
+            ∙ ap (λ n. calls_marked n line a.first calls) marks
+            ∙ ap (λ n. calls_marked (mark_of v) line n calls) applied.first
+            ∙ calls_as v line (length core.entries) calls;
+        written =
+            ap (λ n. greeting_marked n line ++ told_text noted (answers_from a.first next.entries)) marks
+            ∙ ap (λ g. g ++ told_text noted (answers_from a.first next.entries)) (greeting_as v line)
+            ∙ ap (λ n. greeting v line ++ told_text noted (answers_from n next.entries)) applied.first
+            ∙ ap (λ es. greeting v line ++ told_text noted (answers_from (length core.entries) es))
+            applied.applies.extends.1
+            ∙ ap (λ ts. greeting v line ++ told_text noted ts) (answers_added core.entries added);
+      });
+    })
+  where
+    added : List Entry
+    added = entry_for (history core.entries) v ∷ applied.applies.extends.0
+
+-- a refused event: its refusal was appended, and nothing else changed
+pub refused : (s : Script) (core next : Kept) (names : Known) (calls noted : List (ℕ × Asking))
+    (v : Event) (line : Asking) (why : Refusal) (out told : List ℕ)
+    → s ≡ seen_as core names calls → core.limit ≡ most_entries → next ≡ core → noted ≡ calls
+    → IsRefusal core v why → told ≡ out ++ refusal_text line why
+    → Adds (SaysOf s v line (seen_as next names noted)) out told
+refused s core next names calls noted v line why out told is limit stays kept refuses_it tells =
+    subst (λ t. Adds (SaysOf t v line (seen_as next names noted)) out told) (sym is) (record {
+      text = refusal_text line why;
+      grows = tells;
+      holds = by (refusal_within most_entries (history core.entries) v) refl
+          (subst (λ k. IsRefusal k v why) (limited core limit) refuses_it);
+    })
+  where
+    same : seen_as next names noted ≡ seen_as core names calls
+    same = ap (λ k. seen_as k names noted) stays ∙ ap (λ cs. seen_as core names cs) kept
+
+    by : (r : Option Refusal) → refusal_within most_entries (history core.entries) v ≡ r
+        → MatchOption r (IsWantOfMemory v why) (λ x. why ≡ x)
+        → SaysOf (seen_as core names calls) v line (seen_as next names noted) (refusal_text line why)
+    by None none want = lacks (record {
+      accepted = none;
+      lives = want.1;
+      same = same;
+      written = ap (refusal_text line) want.0;
+    })
+    by (Some x) some is_it = refuses (record {
+      why = x;
+      refused = some;
+      same = same;
+      written = ap (refusal_text line) is_it;
+    })
+
+-- no call is noted at a place that comes, also behind an accepted event
+pub fresh_noted : (calls noted : List (ℕ × Asking)) (m : Mark) (line : Asking) (place next : ℕ)
+    → IsFresh calls place → place < next → noted ≡ calls_marked m line place calls → IsFresh noted next
+fresh_noted calls noted m line place next fresh below notes = λ j far.
+    ap (λ cs. line_at cs j) notes ∙ by m j (fresh j (omega arith)) (apart j (omega arith))
+  where
+    apart : (j : ℕ) → place < j → nat_eq j place ≡ false
+    apart j above = tells (nat_eq j place) (Decides-eqb j place).0
+      where
+        tells : (b : Bool) → (b ≡ true → j ≡ place) → b ≡ false
+        tells true same = absurd (omega (arith, same refl))
+        tells false same = refl
+
+    by : (n : Mark) (j : ℕ) → line_at calls j ≡ None → nat_eq j place ≡ false
+        → line_at (calls_marked n line place calls) j ≡ None
+    by mark.Client j none other = none
+    by mark.Call j none other =
+        lookup_push (nat_eq j) calls place line
+        ∙ ap (λ o. option_or o (cond (nat_eq j place) (Some line) None)) none
+        ∙ ap (λ b. cond b (Some line) None) other
+    by mark.Nothing j none other = none
+
+-- a line asks to join only under a name under which no client has joined
+pub joins_first : (s : Script) (who : Who) (body : Result ScriptBody Refusal) (v : Event)
+    → event_of_body s who body ≡ Ok v → mark_of v ≡ mark.Client → number_of s.clients who ≡ None
+joins_first s who (Err r) v asks marks = cc
+joins_first s (Named name) (Ok (Hello p)) v asks marks = by (number_named s.clients name) refl asks
+  where
+    by : (o : Option ℕ) → number_named s.clients name ≡ o → join_for s.entries p o ≡ Ok v
+        → number_named s.clients name ≡ None
+    by None is joins = is
+    by (Some c) is joins = cc
+joins_first s (Named name) (Ok (Ask call)) v asks marks = by (number_named s.clients name) refl asks
+  where
+    by : (o : Option ℕ) → number_named s.clients name ≡ o
+        → of_client (λ c. event.Call c call) o ≡ Ok v → number_named s.clients name ≡ None
+    by None is calls = is
+    by (Some c) is calls =
+        let called : event.Call c call ≡ v = cc in
+        let marked = subst (λ w. mark_of w ≡ mark.Client) (sym called) marks in
+        cc
+joins_first s (Named name) (Ok Die) v asks marks = by (number_named s.clients name) refl asks
+  where
+    by : (o : Option ℕ) → number_named s.clients name ≡ o
+        → of_client (λ c. event.Death c) o ≡ Ok v → number_named s.clients name ≡ None
+    by None is dies = is
+    by (Some c) is dies =
+        let died : event.Death c ≡ v = cc in
+        let marked = subst (λ w. mark_of w ≡ mark.Client) (sym died) marks in
+        cc
+joins_first s (Named name) (Ok (Tick t)) v asks marks = cc
+joins_first s Star body v asks marks = refl
+joins_first s Unknown body v asks marks = refl
+
+same_as_itself : (who : Who) → same_who who who ≡ true
+same_as_itself (Named name) = (bytes_eq-Decides name name).1 refl
+same_as_itself Star = refl
+same_as_itself Unknown = refl
+
+-- a counted line is one
+pub some_seen : (seen : List Who) (who : Who) → 0 < lines_of_who (seen ++ who ∷ []) who
+some_seen seen who =
+    let count = count_by_push (λ w. same_who w who) seen who
+    ∙ ap (λ b. cond b (suc (lines_of_who seen who)) (lines_of_who seen who)) (same_as_itself who) in
+    omega (arith, count)
+
+-- what a core and its calls keep, behind an accepted event
+pub kept_noted : (core next : Kept) (calls noted : List (ℕ × Asking)) (v : Event) (line : Asking)
+    (a : Applied) (m : Mark) → core.limit ≡ most_entries → IsFresh calls (length core.entries)
+    → IsApplied core v next a → noted ≡ calls_marked m line a.first calls
+    → (next.limit ≡ most_entries) × IsFresh noted (length next.entries)
+kept_noted core next calls noted v line a m limit fresh applied notes =
+    let longer = ap length applied.applies.extends.1 ∙ length-append core.entries
+    (entry_for (history core.entries) v ∷ applied.applies.extends.0) in
+    let first = applied.first in
+    let below : a.first < length next.entries = omega (arith, longer, first) in (
+      applied.applies.same_limit ∙ limit,
+      fresh_noted calls noted m line a.first (length next.entries)
+          (subst (λ n. IsFresh calls n) (sym first) fresh) below notes,
+    )

@@ -1,0 +1,12 @@
+-- counts of lines, and look-ups, behind one row more
+mod Counted
+-- rows of names, behind one that was written
+mod Rows
+-- texts of answers, one answer more
+mod Texts
+-- what is told of an event: it is refused, or accepted
+mod Accepted
+-- lines one after the other: what is said of them, and how many they are
+mod Runs
+-- a whole script, as its pieces come
+mod Wholes

@@ -1,0 +1,190 @@
+-- Lines one after the other: what is said of them, and how many they are.
+use Rattle.std.proofs.Common.{◌≡◌, ℕ, ◌+◌, List, [], ◌∷◌, ◌++◌, length, map, Result, Ok, Err, refl, sym, ap, subst, ◌∙◌, append_assoc, append-nil, length-append, arith}
+use Rattle.std.specs.Result.{IsErrAnd, IfOk, IfErr}
+use Rattle.std.proofs.lemmas.List.{map-append}
+use Rattle.std.proofs.Math.ListN.{length-map}
+use Rattle.pt_lines.specs.declared.cutter.Cut.{Cut}
+use Rattle.pt_lines.specs.declared.script_line.ScriptLine.{ScriptLine}
+use Rattle.pt_lines.specs.Lines.{Held, to_come}
+use Rattle.pt_lines.specs.Script.{script_of}
+use Rattle.pt_types.specs.declared.outcome.Refusal.{Refusal}
+use Rattle.pt_model.specs.declared.entry.Event.{Event}
+use Rattle.pt_script.specs.declared.asking.Asking.{Asking}
+use Rattle.pt_script.specs.declared.fault.ScriptFault.{ScriptFault}
+use Rattle.pt_script.specs.Scripts.{Script, asking, event_of_line}
+use Rattle.pt_script.specs.Says.{Says, SaysAll, SaysOf, SaysTo, counted, refuses, lacks, accepts}
+use Rattle.pt_script.specs.Texts.{IsCutShort}
+use Rattle.pt_script.specs.Engines.{Adds, Answers, IsAnswered, IsCutOff}
+
+-- one line
+pub says_one : (s : Script) (line : ScriptLine) (next : Script) (text : List ℕ)
+    → Says s line next text → SaysAll s (line ∷ []) next text
+says_one s line next text says = (next, text, [], says, (refl, refl), sym (append-nil text))
+
+-- some lines, and then more
+pub says_join : (s : Script) (xs : List ScriptLine) (mid : Script) (text : List ℕ)
+    (ys : List ScriptLine) (last : Script) (more : List ℕ)
+    → SaysAll s xs mid text → SaysAll mid ys last more → SaysAll s (xs ++ ys) last (text ++ more)
+says_join s [] mid text ys last more says then =
+    subst (λ t. SaysAll s ys last (t ++ more)) (sym says.1)
+    (subst (λ m. SaysAll m ys last more) says.0 then)
+says_join s (x ∷ xs) mid text ys last more says then = (
+  says.0,
+  says.1,
+  says.2 ++ more,
+  says.3,
+  says_join says.0 xs mid says.2 ys last more says.4 then,
+  ap (λ t. t ++ more) says.5 ∙ append_assoc says.1 says.2 more,
+)
+
+seen_of : (s : Script) (v : Event) (line : Asking) (next : Script) (text : List ℕ)
+    → SaysOf s v line next text → next.seen ≡ s.seen
+seen_of s v line next text (refuses h) = ap (λ n. n.seen) h.same
+seen_of s v line next text (lacks h) = ap (λ n. n.seen) h.same
+seen_of s v line next text (accepts h) = h.seen
+
+seen_to : (s : Script) (line : Asking) (r : Result Event Refusal) (next : Script) (text : List ℕ)
+    → SaysTo s line r next text → next.seen ≡ s.seen
+seen_to s line (Err why) next text says = ap (λ n. n.seen) says.0
+seen_to s line (Ok v) next text says = seen_of s v line next text says
+
+-- one line more was seen
+pub says_seen : (s : Script) (line : ScriptLine) (next : Script) (text : List ℕ)
+    → Says s line next text → length next.seen ≡ length s.seen + 1
+says_seen s line next text says =
+    ap length (seen_to (counted s line.who) (asking s line.who) (event_of_line s line) next text says)
+    ∙ length-append s.seen (line.who ∷ [])
+
+-- as many more as there are
+pub says_all_seen : (s : Script) (xs : List ScriptLine) (last : Script) (text : List ℕ)
+    → SaysAll s xs last text → length last.seen ≡ length s.seen + length xs
+says_all_seen s [] last text says = ap (λ n. length n.seen) says.0 ∙ omega arith
+says_all_seen s (x ∷ xs) last text says =
+    let one = says_seen s x says.0 says.1 says.3 in
+    let rest = says_all_seen says.0 xs last says.2 says.4 in
+    omega (arith, one, rest)
+
+-- no line yet
+pub answers_none : (held : Held) (s : Script) (out : List ℕ) → Answers held s out held s out
+answers_none held s out = record {
+  cuts = [];
+  given = λ more. refl;
+  answered = record { text = []; says = (refl, refl); grows = sym (append-nil out) };
+}
+
+-- one line more
+pub answers_one : (held : Held) (s : Script) (out : List ℕ) (mid : Held) (t : Script) (text : List ℕ)
+    (next : Held) (last : Script) (new : List ℕ) (cut : Cut)
+    → Answers held s out mid t text → ((more : List ℕ) → to_come mid more ≡ cut ∷ to_come next more)
+    → Adds (Says t (script_of cut) last) text new → Answers held s out next last new
+answers_one held s out mid t text next last new cut before gives adds = record {
+  cuts = before.cuts ++ cut ∷ [];
+  given = λ more.
+      before.given more
+      ∙ ap (λ xs. before.cuts ++ xs) (gives more)
+      ∙ sym (append_assoc before.cuts (cut ∷ []) (to_come next more));
+  answered = record {
+    text = before.answered.text ++ adds.text;
+    says =
+        subst (λ xs. SaysAll s xs last (before.answered.text ++ adds.text))
+        (sym (map-append script_of before.cuts (cut ∷ [])))
+        (says_join s (map script_of before.cuts) t before.answered.text (script_of cut ∷ []) last
+        adds.text before.answered.says (says_one t (script_of cut) last adds.text adds.holds));
+    grows =
+        adds.grows
+        ∙ ap (λ xs. xs ++ adds.text) before.answered.grows
+        ∙ append_assoc out before.answered.text adds.text;
+  };
+}
+
+-- how many lines remain
+pub answers_few : (held : Held) (s : Script) (out : List ℕ) (next : Held) (last : Script) (new : List ℕ)
+    → Answers held s out next last new
+    → length last.seen + length (to_come next []) ≡ length s.seen + length (to_come held [])
+answers_few held s out next last new a =
+    let seen = says_all_seen s (map script_of a.cuts) last a.answered.text a.answered.says in
+    let same : length (map script_of a.cuts) ≡ length a.cuts = simp length-map in
+    let all = ap length (a.given []) ∙ length-append a.cuts (to_come next []) in
+    omega (arith, seen, same, all)
+
+-- an answer that not all of was taken
+pub cut_off : (held : Held) (s : Script) (old : List ℕ) (next : Held) (last : Script) (out new : List ℕ)
+    → Answers held s [] next last out → IsCutShort new (old ++ out) → IsCutOff held s old new
+cut_off held s old next last out new a short = record {
+  cuts = a.cuts;
+  later = to_come next [];
+  last = last;
+  whole = old ++ out;
+  given = a.given [];
+  answered = record {
+    text = a.answered.text;
+    says = a.answered.says;
+    grows = ap (λ xs. old ++ xs) a.answered.grows;
+  };
+  short = short;
+}
+
+-- an answer that was taken
+pub put_behind : (held : Held) (s : Script) (old : List ℕ) (next : Held) (last : Script) (out new : List ℕ)
+    → Answers held s [] next last out → new ≡ old ++ out → Answers held s old next last new
+put_behind held s old next last out new a puts = record {
+  cuts = a.cuts;
+  given = a.given;
+  answered = record {
+    text = a.answered.text;
+    says = a.answered.says;
+    grows = puts ∙ ap (λ xs. old ++ xs) a.answered.grows;
+  };
+}
+
+-- a fault that is told is this one
+pub told_fault : {T : Type 0} (r : Result T ScriptFault) (fault : ScriptFault) (P : ScriptFault → Type 0)
+    → IsErrAnd r (λ f. f ≡ fault) → P fault → IfErr r P
+told_fault (Ok done) fault P told holds = absurd told
+told_fault (Err f) fault P told holds = subst P (sym told) holds
+
+-- a last line
+pub last_some : (s : Script) (cuts : List Cut) (cut : Cut) (old : List ℕ) (last : Script) (new : List ℕ)
+    → cuts ≡ cut ∷ [] → Adds (Says s (script_of cut) last) old new → IsAnswered s cuts old last new
+last_some s cuts cut old last new is adds = record {
+  text = adds.text;
+  says =
+      subst (λ xs. SaysAll s (map script_of xs) last adds.text) (sym is)
+      (says_one s (script_of cut) last adds.text adds.holds);
+  grows = adds.grows;
+}
+
+-- no last line
+pub last_none : (s : Script) (cuts : List Cut) (out : List ℕ) → cuts ≡ [] → IsAnswered s cuts out s out
+last_none s cuts out is = record {
+  text = [];
+  says = subst (λ xs. SaysAll s (map script_of xs) s []) (sym is) (refl, refl);
+  grows = sym (append-nil out);
+}
+
+-- the last answer that not all of was taken
+pub last_cut_off : (held : Held) (s : Script) (old : List ℕ) (last : Script) (out new : List ℕ)
+    → IsAnswered s (to_come held []) [] last out → IsCutShort new (old ++ out) → IsCutOff held s old new
+last_cut_off held s old last out new a short = record {
+  cuts = to_come held [];
+  later = [];
+  last = last;
+  whole = old ++ out;
+  given = sym (append-nil (to_come held []));
+  answered = record {
+    text = a.text;
+    says = a.says;
+    grows = ap (λ xs. old ++ xs) a.grows;
+  };
+  short = short;
+}
+
+-- what holds of each good answer
+pub on_ok : {T E : Type 0} (P Q : T → Type 0) (r : Result T E) → ((x : T) → P x → Q x) → IfOk r P → IfOk r Q
+on_ok P Q (Ok x) then holds = then x holds
+on_ok P Q (Err e) then holds = tt
+
+-- what holds of each fault
+pub on_err : {T E : Type 0} (P Q : E → Type 0) (r : Result T E) → ((e : E) → P e → Q e) → IfErr r P → IfErr r Q
+on_err P Q (Ok x) then holds = tt
+on_err P Q (Err e) then holds = then e holds

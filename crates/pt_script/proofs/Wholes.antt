@@ -1,0 +1,218 @@
+-- A whole script, as its pieces come.
+use Rattle.std.proofs.Common.{◌≡◌, ℕ, suc, ◌+◌, ◌<◌, ◌≤◌, ◌==◌, Bool, true, false, ◌||◌, ◌&&◌, nat_lt, cond, List, [], ◌∷◌, ◌++◌, length, map, take, refl, sym, ap, subst, ◌∙◌, append_assoc, append-nil, length-append, arith}
+use Rattle.std.proofs.lemmas.List.{map-append}
+use Rattle.std.proofs.Math.ListN.{length-map}
+use Rattle.std.proofs.Math.Seq.{take-append_seam}
+use Rattle.std.proofs.lemmas.Bool.Decides.{Decides-eqb}
+use mathlib.Core.List.{IsPrefix}
+use Rattle.pt_io.specs.Devices.{is_end}
+use Rattle.pt_lines.specs.declared.cutter.Cut.{Cut}
+use Rattle.pt_lines.specs.Cuts.{cut_of}
+use Rattle.pt_lines.specs.Lines.{Held, IsBegun, lines, lines_after, lines_past_newline, to_come}
+use Rattle.pt_lines.specs.Script.{script_of}
+use Rattle.pt_script.specs.Scripts.{Script, begun}
+use Rattle.pt_script.specs.Says.{SaysAll}
+use Rattle.pt_script.specs.declared.fault.ScriptFault.{ScriptFault}
+use Rattle.pt_script.specs.declared.fault.ScriptFault.TheVariants.{Read, Write, Memory}
+use Rattle.pt_script.specs.Ends.{Course, lines_of, IsScriptText, BeginsScriptText, IsFaultOf}
+use Rattle.pt_script.specs.Engines.{Answers, IsBehind, IsCutOff, IsEnd, IsStopped}
+use Rattle.pt_script.proofs.Runs.{says_join, says_all_seen}
+
+-- each line has a byte of its own, but a begun one
+few_after : (text bytes : List ℕ) → length (lines_after text bytes) ≤ length bytes + length text
+few_after [] [] = omega arith
+few_after (x ∷ text) [] = omega arith
+few_after [] (b ∷ bytes) = by (b == 10) (few_after [] bytes) (few_after (b ∷ []) bytes)
+  where
+    by : (t : Bool) → length (lines_after [] bytes) ≤ length bytes + 0
+        → length (lines_after (b ∷ []) bytes) ≤ length bytes + 1
+        → length (cond t (cut_of [] ∷ lines_after [] bytes) (lines_after (b ∷ []) bytes)) ≤ suc (length bytes) + 0
+    by true ended goes = omega (arith, ended)
+    by false ended goes = omega (arith, goes)
+few_after (x ∷ text) (b ∷ bytes) =
+    by (b == 10) (few_after [] bytes) (few_after (x ∷ (text ++ b ∷ [])) bytes)
+    (length-append text (b ∷ []))
+  where
+    by : (t : Bool) → length (lines_after [] bytes) ≤ length bytes + 0
+        → length (lines_after (x ∷ (text ++ b ∷ [])) bytes) ≤ length bytes + suc (length (text ++ b ∷ []))
+        → length (text ++ b ∷ []) ≡ length text + 1
+        → length (cond t (cut_of (x ∷ text) ∷ lines_after [] bytes) (lines_after (x ∷ (text ++ b ∷ [])) bytes))
+        ≤ suc (length bytes) + suc (length text)
+    by true ended goes longer = omega (arith, ended)
+    by false ended goes longer = omega (arith, goes, longer)
+
+-- there are no more lines than bytes
+pub few_lines : (bytes : List ℕ) → length (lines bytes) ≤ length bytes
+few_lines bytes = let few = few_after [] bytes in omega (arith, few)
+
+-- bytes that are held are as good as bytes that come
+pub fed : (held : Held) (piece more : List ℕ)
+    → to_come (record held { rest = held.rest ++ piece }) more ≡ to_come held (piece ++ more)
+fed held piece more =
+    ap (λ bytes. cond held.dropping (lines_past_newline bytes) (lines bytes))
+    (append_assoc held.rest piece more)
+
+pub fed_end : (held : Held) (piece : List ℕ)
+    → to_come (record held { rest = held.rest ++ piece }) [] ≡ to_come held piece
+fed_end held piece = fed held piece [] ∙ ap (to_come held) (append-nil piece)
+
+-- before the first byte
+pub behind_nothing : IsBehind [] (record { rest = []; dropping = false }) begun []
+behind_nothing = record { cuts = []; given = λ more. refl; says = (refl, refl) }
+
+pub begun_nothing : IsBegun (record { rest = []; dropping = false })
+begun_nothing = record {
+  no_newline = λ i below. absurd (omega (arith, below));
+  short = omega arith;
+  dropped = λ dropping. refl;
+}
+
+-- as many lines were seen as were given, and the rest is still to come
+pub behind_few : (bytes : List ℕ) (held : Held) (s : Script) (text : List ℕ) (more : List ℕ)
+    → IsBehind bytes held s text → length s.seen + length (to_come held more) ≤ length (bytes ++ more)
+behind_few bytes held s text more b =
+    let seen = says_all_seen begun (map script_of b.cuts) s text b.says in
+    let same : length (map script_of b.cuts) ≡ length b.cuts = simp length-map in
+    let all = ap length (b.given more) ∙ length-append b.cuts (to_come held more) in
+    let few = few_lines (bytes ++ more) in
+    omega (arith, seen, same, all, few)
+
+-- a piece more was answered
+pub behind_fed : (bytes piece : List ℕ) (held : Held) (s : Script) (text : List ℕ) (next : Held)
+    (last : Script) (new : List ℕ) → IsBehind bytes held s text
+    → Answers (record held { rest = held.rest ++ piece }) s text next last new
+    → IsBehind (bytes ++ piece) next last new
+behind_fed bytes piece held s text next last new b a = record {
+  cuts = b.cuts ++ a.cuts;
+  given = λ more.
+      ap lines (append_assoc bytes piece more)
+      ∙ b.given (piece ++ more)
+      ∙ ap (λ xs. b.cuts ++ xs) (sym (fed held piece more) ∙ a.given more)
+      ∙ sym (append_assoc b.cuts a.cuts (to_come next more));
+  says =
+      subst (λ t. SaysAll begun (map script_of (b.cuts ++ a.cuts)) last t) (sym a.answered.grows)
+      (subst (λ xs. SaysAll begun xs last (text ++ a.answered.text))
+      (sym (map-append script_of b.cuts a.cuts))
+      (says_join begun (map script_of b.cuts) s text (map script_of a.cuts) last a.answered.text
+      b.says a.answered.says));
+}
+
+-- the first lines of these bytes, and a text for them
+begins_at : (bytes : List ℕ) (xs later : List Cut) (last : Script) (whole text : List ℕ)
+    → lines bytes ≡ xs ++ later → SaysAll begun (map script_of xs) last whole → IsPrefix text whole
+    → (b : BeginsScriptText bytes text) × (b.whole ≡ whole)
+begins_at bytes xs later last whole text all says begins = (
+  record {
+    count = length (map script_of xs);
+    last = last;
+    whole = whole;
+    within =
+        let long = ap length split ∙ length-append (map script_of xs) (map script_of later) in
+        omega (arith, long);
+    says =
+        subst (λ ls. SaysAll begun ls last whole)
+        (sym (ap (take (length (map script_of xs))) split
+        ∙ take-append_seam (map script_of xs) (map script_of later))) says;
+    begins = begins;
+  },
+  refl,
+)
+  where
+    split : lines_of bytes ≡ map script_of xs ++ map script_of later
+    split = ap (map script_of) all ∙ map-append script_of xs later
+
+-- what was written is that for the lines so far
+pub behind_begins : (bytes : List ℕ) (held : Held) (s : Script) (text more : List ℕ)
+    → IsBehind bytes held s text → BeginsScriptText (bytes ++ more) text
+behind_begins bytes held s text more b =
+    (begins_at (bytes ++ more) b.cuts (to_come held more) s text text (b.given more) b.says
+    ([], append-nil text)).0
+
+-- not all that was to be written was taken
+pub behind_cut_off : (bytes : List ℕ) (held next : Held) (s : Script) (text more new : List ℕ)
+    → IsBehind bytes held s text → to_come next [] ≡ to_come held more → IsCutOff next s text new
+    → (b : BeginsScriptText (bytes ++ more) new) × (length new < length b.whole)
+behind_cut_off bytes held next s text more new b same off =
+    let begins = begins_at (bytes ++ more) (b.cuts ++ off.cuts) off.later off.last off.whole new
+    (b.given more
+    ∙ ap (λ xs. b.cuts ++ xs) (sym same ∙ off.given)
+    ∙ sym (append_assoc b.cuts off.cuts off.later))
+    (subst (λ t. SaysAll begun (map script_of (b.cuts ++ off.cuts)) off.last t)
+    (sym off.answered.grows)
+    (subst (λ xs. SaysAll begun xs off.last (text ++ off.answered.text))
+    (sym (map-append script_of b.cuts off.cuts))
+    (says_join begun (map script_of b.cuts) s text (map script_of off.cuts) off.last
+    off.answered.text b.says off.answered.says)))
+    (off.short.rest, off.short.joins) in
+    let long = ap length off.short.joins in
+    let parts = length-append new off.short.rest in
+    let some = off.short.some in
+    let whole = ap length begins.1 in
+    (begins.0, omega (arith, long, parts, some, whole))
+
+-- all was answered
+pub behind_end : (bytes : List ℕ) (held : Held) (s : Script) (text new : List ℕ) (count entries : ℕ)
+    → IsBehind bytes held s text → IsEnd held s text new count entries
+    → IsScriptText bytes new count entries
+behind_end bytes held s text new count entries b end = record {
+  last = end.last;
+  says = said;
+  lines = end.lines ∙ says_all_seen begun (lines_of bytes) end.last new said ∙ omega arith;
+  history = end.history;
+}
+  where
+    all : lines_of bytes ≡ map script_of b.cuts ++ map script_of (to_come held [])
+    all =
+        ap lines_of (sym (append-nil bytes))
+        ∙ ap (map script_of) (b.given [])
+        ∙ map-append script_of b.cuts (to_come held [])
+
+    said : SaysAll begun (lines_of bytes) end.last new
+    said =
+        subst (λ t. SaysAll begun (lines_of bytes) end.last t) (sym end.answered.grows)
+        (subst (λ xs. SaysAll begun xs end.last (text ++ end.answered.text)) (sym all)
+        (says_join begun (map script_of b.cuts) s text (map script_of (to_come held []))
+        end.last end.answered.text b.says end.answered.says))
+
+-- what was written, once more bytes have come
+pub begins_given : (bytes given more : List ℕ) (held : Held) (s : Script) (text : List ℕ)
+    → IsBehind bytes held s text → given ≡ bytes ++ more → BeginsScriptText given text
+begins_given bytes given more held s text b gives =
+    subst (λ bs. BeginsScriptText bs text) (sym gives) (behind_begins bytes held s text more b)
+
+-- what was written, where the answers were stopped
+pub stopped_begins : (bytes given more : List ℕ) (held next : Held) (s : Script) (text new : List ℕ)
+    (failures : ℕ) (fault : ScriptFault) → IsBehind bytes held s text → given ≡ bytes ++ more
+    → to_come next [] ≡ to_come held more → IsStopped fault next s text new failures
+    → BeginsScriptText given new
+stopped_begins bytes given more held next s text new failures Read b gives same stop = absurd stop
+stopped_begins bytes given more held next s text new failures Write b gives same stop =
+    subst (λ bs. BeginsScriptText bs new) (sym gives)
+    (behind_cut_off bytes held next s text more new b same stop).0
+stopped_begins bytes given more held next s text new failures Memory b gives same stop =
+    subst (λ t. BeginsScriptText given t) (sym stop.0)
+    (begins_given bytes given more held s text b gives)
+
+-- why they were
+pub stopped_why : (bytes more : List ℕ) (held next : Held) (s : Script) (text : List ℕ) (c : Course)
+    (fault : ScriptFault) → IsBehind bytes held s text → c.given ≡ bytes ++ more
+    → to_come next [] ≡ to_come held more → c.read_failures ≡ 0
+    → IsStopped fault next s text c.taken c.write_failures → IsFaultOf c fault
+stopped_why bytes more held next s text c Read b gives same read stop = absurd stop
+stopped_why bytes more held next s text c Write b gives same read stop =
+    let off =
+    subst (λ bs. (w : BeginsScriptText bs c.taken) × (length c.taken < length w.whole)) (sym gives)
+    (behind_cut_off bytes held next s text more c.taken b same stop) in
+    record { begins = off.0; short = off.1; read = read }
+stopped_why bytes more held next s text c Memory b gives same read stop =
+    record { read = read; wrote = stop.1 }
+
+-- a read that gave a byte told no end
+pub not_ended : (n : ℕ) (buf : List ℕ) (before after : Bool) → (n ≡ 0 → ⊥)
+    → after ≡ (before || is_end n buf) → after ≡ before
+not_ended n buf before after some says = says ∙ by (n == 0) (Decides-eqb n 0).0 before
+  where
+    by : (b : Bool) → (b ≡ true → n ≡ 0) → (e : Bool) → (e || (b && nat_lt 0 (length buf))) ≡ e
+    by true none e = absurd (some (none refl))
+    by false none true = refl
+    by false none false = refl

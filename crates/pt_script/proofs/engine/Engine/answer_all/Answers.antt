@@ -1,0 +1,9 @@
+use Rattle.std.proofs.Common.{arith}
+use Rattle.pt_script.proofs.Runs.{answers_few}
+use Rattle.pt_script.proofs.engine.Engine.answer_all.Goals as goal
+
+pub answer-requires : goal.answer-requires
+answer-requires g c =
+    let few = answers_few c.args.cutter.now c.args.self.now c.args.out.now.items
+    c.loop-cut.cutter c.loop-cut.self c.loop-cut.out.items c.loop-cut.invariant in
+    omega (arith, few)

@@ -1,0 +1,98 @@
+-- Engines: what the parts of the engine do, one line at a time.
+use Rattle.std.specs.Prelude.{◌≡◌, ℕ, ◌≤◌, ◌++◌, List, [], ◌∷◌, length, map, Option, Some, None, Result, Ok, Err}
+use Rattle.pt_types.specs.declared.outcome.Outcome.TheVariants.{Done}
+use Rattle.pt_types.specs.declared.outcome.Refusal.{Refusal}
+use Rattle.pt_types.specs.declared.outcome.Refusal.TheVariants.{Nohello}
+use Rattle.pt_lines.specs.declared.client.Who.{Who}
+use Rattle.pt_lines.specs.declared.cutter.Cut.{Cut}
+use Rattle.pt_lines.specs.declared.reply.Word.TheVariants as word
+use Rattle.pt_lines.specs.Replies.{reply_line}
+use Rattle.pt_lines.specs.Lines.{Held, lines, to_come}
+use Rattle.pt_lines.specs.Script.{script_of}
+use Rattle.pt_model.specs.declared.entry.Event.{Event}
+use Rattle.pt_model.specs.declared.entry.Event.TheVariants as event
+use Rattle.pt_script.specs.declared.asking.Asking.{Asking}
+use Rattle.pt_script.specs.declared.fault.ScriptFault.{ScriptFault}
+use Rattle.pt_script.specs.declared.fault.ScriptFault.TheVariants.{Read, Write, Memory}
+use Rattle.pt_script.specs.declared.engine.Mark.{Mark}
+use Rattle.pt_script.specs.declared.engine.Mark.TheVariants.{Client, Call, Nothing}
+use Rattle.pt_script.specs.Scripts.{Script, begun, line_at, clients_joined}
+use Rattle.pt_script.specs.Says.{SaysAll}
+use Rattle.pt_script.specs.Texts.{IsCutShort}
+
+-- a text of which this holds was appended
+pub record Adds (Holds : List ℕ → Type 0) (old new : List ℕ) : Type 0 where
+  pub text : List ℕ
+  pub grows : new ≡ old ++ text
+  pub holds : Holds text
+
+-- no call is noted at a place that comes
+abbrev pub IsFresh : List (ℕ × Asking) → ℕ → Type 0
+IsFresh calls next = (j : ℕ) → next ≤ j → line_at calls j ≡ None
+
+-- what is noted of an event, once it is accepted
+abbrev pub mark_of : Event → Mark
+mark_of (event.Join p) = Client
+mark_of (event.Call c call) = Call
+mark_of _ = Nothing
+
+-- the clients behind a line of this mark
+abbrev pub clients_marked : Mark → Who → ℕ → List (List ℕ × ℕ) → List (List ℕ × ℕ)
+clients_marked Client who place rows = clients_joined who place rows
+clients_marked _ who place rows = rows
+
+-- the lines of calls behind it
+abbrev pub calls_marked : Mark → Asking → ℕ → List (ℕ × Asking) → List (ℕ × Asking)
+calls_marked Call line place rows = rows ++ (place, line) ∷ []
+calls_marked _ line place rows = rows
+
+-- its greeting
+abbrev pub greeting_marked : Mark → Asking → List ℕ
+greeting_marked Client line = reply_line (Some line.who) line.number (word.Outcome Done)
+greeting_marked _ line = []
+
+-- the client that a line is of, where hello came first
+abbrev pub client_for : Option ℕ → Result ℕ Refusal
+client_for None = Err Nohello
+client_for (Some c) = Ok c
+
+-- these lines were answered, and what may be written for them was appended
+pub record IsAnswered (s : Script) (cuts : List Cut) (old : List ℕ) (last : Script) (new : List ℕ) : Type 0 where
+  pub text : List ℕ
+  pub says : SaysAll s (map script_of cuts) last text
+  pub grows : new ≡ old ++ text
+
+-- so were all lines that a cutter had whole
+pub record Answers (held : Held) (s : Script) (old : List ℕ) (next : Held) (last : Script) (new : List ℕ) : Type 0 where
+  pub cuts : List Cut
+  pub given : (more : List ℕ) → to_come held more ≡ cuts ++ to_come next more
+  pub answered : IsAnswered s cuts old last new
+
+-- all lines were answered that are whole in these bytes, of which the cutter holds the rest
+pub record IsBehind (bytes : List ℕ) (held : Held) (s : Script) (text : List ℕ) : Type 0 where
+  pub cuts : List Cut
+  pub given : (more : List ℕ) → lines (bytes ++ more) ≡ cuts ++ to_come held more
+  pub says : SaysAll begun (map script_of cuts) s text
+
+-- the first of the lines to come were answered, and not all of it was taken
+pub record IsCutOff (held : Held) (s : Script) (old new : List ℕ) : Type 0 where
+  pub cuts : List Cut
+  pub later : List Cut
+  pub last : Script
+  pub whole : List ℕ
+  pub given : to_come held [] ≡ cuts ++ later
+  pub answered : IsAnswered s cuts old last whole
+  pub short : IsCutShort new whole
+
+-- how the answers to lines to come are stopped; no reader has a part in it
+abbrev pub IsStopped : ScriptFault → Held → Script → List ℕ → List ℕ → ℕ → Type 0
+IsStopped Read held s old new failures = ⊥
+IsStopped Write held s old new failures = IsCutOff held s old new
+IsStopped Memory held s old new failures = (new ≡ old) × (failures ≡ 0)
+
+-- all lines to come were answered, and these are the counts of all lines and all entries
+pub record IsEnd (held : Held) (s : Script) (old new : List ℕ) (count entries : ℕ) : Type 0 where
+  pub last : Script
+  pub answered : IsAnswered s (to_come held []) old last new
+  pub lines : count ≡ length last.seen
+  pub history : entries ≡ length last.entries

@@ -1,0 +1,307 @@
+ghost use Rattle.std.specs.Prelude.{◌≡◌, ◌<◌, ◌+◌, ◌^◌, ◌++◌, [], length, None, OnOk, IfOk, IfErr};
+ghost use Rattle.pt_model.specs.Queries.{answers_from as answers_in};
+ghost use Rattle.indexmap.specs.IndexMap.{spare};
+ghost use Rattle.pt_script.specs.Scripts.{lines_of_who, number_of, line_at, told_text};
+ghost use Rattle.pt_script.specs.Engines.{mark_of, clients_marked, calls_marked, greeting_marked};
+
+use crate::asking::Asking;
+use crate::fault::ScriptFault;
+use crate::names::Names;
+use crate::text::{Calls, tell, tell_all};
+use indexmap::IndexMap;
+use pt_core::Core;
+use pt_lines::{ClientName, Cutter, ScriptBody, ScriptLine, Who, Word};
+use pt_model::Event;
+use pt_types::{ClientId, Outcome, Priority, Refusal};
+use std::alloc::{Allocator, Global};
+use std::marker::Model;
+
+// What is noted of an event, once it is accepted.
+#[derive(Clone, Copy, Debug, PartialEq, Eq)]
+enum Mark {
+    Client,
+    Call,
+    Nothing,
+}
+
+fn mark_of(event: &Event) -> Mark
+    ensures { result ≡ mark_of event.now }
+{
+    match event {
+        Event::Join(_) => Mark::Client,
+        Event::Call(_, _) => Mark::Call,
+        Event::Death(_) | Event::Moment(_) => Mark::Nothing,
+    }
+}
+
+// Notes an accepted line, whose entry stands at this place.
+fn note<A: Allocator + Copy>(
+    names: &mut Names<A>,
+    calls: &mut Calls<A>,
+    mark: Mark,
+    line: Asking,
+    place: u64,
+)
+    requires room { 0 < spare calls.old }
+    requires fresh { line_at calls.old.entries place ≡ None }
+    requires counted { 0 < lines_of_who names.old.seen line.who }
+    requires first { mark ≡ Mark.Client → number_of names.old.clients line.who ≡ None }
+    ensures names { names.new ≡ record names.old {
+      clients = clients_marked mark line.who place names.old.clients;
+    } }
+    ensures calls { calls.new.entries ≡ calls_marked mark line place calls.old.entries }
+{
+    match mark {
+        Mark::Client => names.join(&line.who, ClientId(place)),
+        Mark::Call => {
+            let _ = calls.insert(place, line).unwrap();
+        }
+        Mark::Nothing => {}
+    }
+}
+
+// An accepted hello is answered 0.
+fn greet<A: Allocator + Copy>(
+    out: &mut Vec<u8, A>,
+    mark: Mark,
+    line: &Asking,
+) -> Result<(), ScriptFault>
+    ensures ok { OnOk result (out.new.items ≡ out.old.items ++ greeting_marked mark line.now) }
+    ensures why { IfErr result (λ fault. fault ≡ ScriptFault.Memory) }
+{
+    match mark {
+        Mark::Client => tell(out, line, Word::Outcome(Outcome::Done)),
+        Mark::Call | Mark::Nothing => Ok(()),
+    }
+}
+
+// Appends the answers that the entries from this place on give.
+fn tell_from<A: Allocator + Copy>(
+    out: &mut Vec<u8, A>,
+    core: &Core<A>,
+    calls: &Calls<A>,
+    place: u64,
+) -> Result<(), ScriptFault>
+    ensures ok { OnOk result (out.new.items ≡ out.old.items
+        ++ told_text calls.now.entries (answers_in place core.now.entries)) }
+    ensures why { IfErr result (λ fault. fault ≡ ScriptFault.Memory) }
+{
+    match core.answers_from(place) {
+        Ok(replies) => tell_all(out, calls, &replies),
+        Err(_) => Err(ScriptFault::Memory),
+    }
+}
+
+/// All clients of a script, the lines that they sent, and the core that these asked.
+///
+/// Contracts see what is known behind the lines so far.
+#[derive(Drop)]
+pub struct Engine<A: Allocator + Copy = Global> {
+    core: Core<A>,
+    names: Names<A>,
+    calls: Calls<A>,
+}
+
+impl<A: Allocator + Copy> Model for Engine<A> {
+    ghost use Rattle.std.specs.Prelude.{◌≡◌, length};
+    ghost use Rattle.pt_types.specs.Limits.{most_entries};
+    ghost use Rattle.pt_script.specs.Scripts.{Script};
+    ghost use Rattle.pt_script.specs.Engines.{IsFresh};
+
+    ghost Value = { Script };
+
+    ghost view = { λ e. record {
+      entries = e.core.entries;
+      seen = e.names.seen;
+      clients = e.names.clients;
+      calls = e.calls.entries;
+    } };
+
+    ghost invariant = { λ e.
+        (e.core.limit ≡ most_entries) × IsFresh e.calls.entries (length e.core.entries) };
+}
+
+impl<A: Allocator + Copy> Engine<A> {
+    ghost use Rattle.std.specs.Prelude.{IfOk};
+    ghost use Rattle.pt_model.specs.Histories.{history};
+    ghost use Rattle.pt_model.specs.Clients.{is_alive};
+    ghost use Rattle.pt_lines.specs.Lines.{to_come, IsBegun};
+    ghost use Rattle.pt_script.specs.Scripts.{begun, number_named, join_for, event_for, event_of_body};
+    ghost use Rattle.pt_script.specs.Says.{Says, SaysOf};
+    ghost use Rattle.pt_script.specs.Engines.{Adds, Answers, IsAnswered, client_for};
+
+    /// An engine behind no line. A refused growth is a fault.
+    pub fn new(alloc: A) -> Result<Engine<A>, ScriptFault>
+        ensures ok { IfOk result (λ engine. engine ≡ begun) }
+        ensures why { IfErr result (λ fault. fault ≡ ScriptFault.Memory) }
+    {
+        match Core::new(alloc) {
+            Ok(core) => Ok(Engine {
+                core,
+                names: Names::new(alloc),
+                calls: IndexMap::new(alloc),
+            }),
+            Err(_) => Err(ScriptFault::Memory),
+        }
+    }
+
+    /// How many lines came.
+    pub fn lines(&self) -> u64
+        ensures { result ≡ length self.now.seen }
+    {
+        self.names.total()
+    }
+
+    /// How many entries the history has.
+    pub fn entries(&self) -> u64
+        ensures { result ≡ length self.now.entries }
+    {
+        self.core.len()
+    }
+
+    // Whether this client lives. The Death of one that doesn't is refused for that alone.
+    fn lives(&self, client: ClientId) -> bool
+        ensures { result ≡ is_alive (history self.now.entries) client }
+    {
+        match self.core.would_refuse(&Event::Death(client)) {
+            Some(Refusal::Dead | Refusal::Nohello) => false,
+            _ => true,
+        }
+    }
+
+    // What a hello asks for.
+    fn join_for(&self, name: &ClientName, priority: Priority) -> Result<Event, Refusal>
+        ensures { result
+            ≡ join_for self.now.entries priority (number_named self.now.clients name.now) }
+    {
+        match self.names.client(name) {
+            None => Ok(Event::Join(priority)),
+            Some(client) if self.lives(client) => Err(Refusal::Nohello),
+            Some(_) => Err(Refusal::Dead),
+        }
+    }
+
+    // The client of a name, where one has joined under it.
+    fn client(&self, name: &ClientName) -> Result<ClientId, Refusal>
+        ensures { result ≡ client_for (number_named self.now.clients name.now) }
+    {
+        match self.names.client(name) {
+            Some(client) => Ok(client),
+            None => Err(Refusal::Nohello),
+        }
+    }
+
+    // What a line says, as an event.
+    fn event_for(&self, who: &Who, body: ScriptBody) -> Result<Event, Refusal>
+        ensures { result ≡ event_for self.now who.now body }
+    {
+        match (who, body) {
+            (Who::Named(name), ScriptBody::Hello(priority)) => self.join_for(name, priority),
+            (Who::Named(name), ScriptBody::Ask(call)) => Ok(Event::Call(self.client(name)?, call)),
+            (Who::Named(name), ScriptBody::Die) => Ok(Event::Death(self.client(name)?)),
+            (Who::Star, ScriptBody::Tick(moment)) => Ok(Event::Moment(moment)),
+            _ => Err(Refusal::Syntax),
+        }
+    }
+
+    // The event that a line asks for, or why it asks for none.
+    fn event_of(&self, who: &Who, body: Result<ScriptBody, Refusal>) -> Result<Event, Refusal>
+        ensures { result ≡ event_of_body self.now who.now body }
+    {
+        match body {
+            Ok(body) => self.event_for(who, body),
+            Err(refusal) => Err(refusal),
+        }
+    }
+
+    // Does what a counted line asks for, and appends what is told of it.
+    fn run(&mut self, event: Event, line: Asking, out: &mut Vec<u8, A>) -> Result<(), ScriptFault>
+        requires counted { 0 < lines_of_who self.old.seen line.who }
+        requires first { mark_of event ≡ Mark.Client → number_of self.old.clients line.who ≡ None }
+        ensures ok { OnOk result
+            (Adds (SaysOf self.old event line self.new) out.old.items out.new.items) }
+        ensures why { IfErr result (λ fault. fault ≡ ScriptFault.Memory) }
+    {
+        if self.calls.reserve(1).is_err() {
+            return Err(ScriptFault::Memory);
+        }
+        let mark = mark_of(&event);
+        match self.core.apply(event) {
+            Ok(applied) => {
+                greet(out, mark, &line)?;
+                note(&mut self.names, &mut self.calls, mark, line, applied.first);
+                tell_from(out, &self.core, &self.calls, applied.first)?;
+                Ok(())
+            }
+            Err(refusal) => {
+                tell(out, &line, Word::Refusal(refusal))?;
+                Ok(())
+            }
+        }
+    }
+
+    /// Counts a line, does what it asks for, and appends what is told of it. A refused growth that
+    /// the line is not answered ENOMEM for is a fault.
+    pub fn answer(&mut self, line: ScriptLine, out: &mut Vec<u8, A>) -> Result<(), ScriptFault>
+        requires { length self.old.seen < 2 ^ 53 }
+        ensures ok { OnOk result
+            (Adds (Says self.old line self.new) out.old.items out.new.items) }
+        ensures why { IfErr result (λ fault. fault ≡ ScriptFault.Memory) }
+    {
+        let ScriptLine { who, body } = line;
+        let event = self.event_of(&who, body);
+        let number = self.names.count(&who)?;
+        let line = Asking { who, number };
+        match event {
+            Ok(event) => {
+                self.run(event, line, out)?;
+                Ok(())
+            }
+            Err(refusal) => {
+                tell(out, &line, Word::Refusal(refusal))?;
+                Ok(())
+            }
+        }
+    }
+
+    /// Answers all lines that the cutter has whole.
+    #[tactic(auto, using(crate::proofs::Runs::answers_none, crate::proofs::Runs::answers_one))]
+    pub fn answer_all(
+        &mut self,
+        cutter: &mut Cutter<A>,
+        out: &mut Vec<u8, A>,
+    ) -> Result<(), ScriptFault>
+        requires { length self.old.seen + length (to_come cutter.old []) < 2 ^ 53 }
+        ensures ok { OnOk result
+            (Answers cutter.old self.old out.old.items cutter.new self.new out.new.items) }
+        ensures begun { OnOk result (IsBegun cutter.new) }
+        ensures why { IfErr result (λ fault. fault ≡ ScriptFault.Memory) }
+    {
+        while let Some(cut) = cutter.next_line() {
+            self.answer(ScriptLine::of(&cut), out)?;
+        }
+        Ok(())
+    }
+
+    /// Answers the last line, which no newline ended, if there is one.
+    #[tactic(auto, using(crate::proofs::Runs::last_some, crate::proofs::Runs::last_none))]
+    pub fn answer_last(
+        &mut self,
+        cutter: Cutter<A>,
+        out: &mut Vec<u8, A>,
+    ) -> Result<(), ScriptFault>
+        requires begun { IsBegun cutter }
+        requires few { length self.old.seen < 2 ^ 53 }
+        ensures ok { OnOk result
+            (IsAnswered self.old (to_come cutter []) out.old.items self.new out.new.items) }
+        ensures why { IfErr result (λ fault. fault ≡ ScriptFault.Memory) }
+    {
+        match cutter.finish() {
+            Some(cut) => {
+                self.answer(ScriptLine::of(&cut), out)?;
+                Ok(())
+            }
+            None => Ok(()),
+        }
+    }
+}

@@ -1,0 +1,214 @@
+ghost use Rattle.std.specs.Prelude.{◌≡◌, ◌<◌, ◌++◌, ◌^◌, ◌∷◌, [], suc, length, Some, None, IsSome, OnOk, OnErr, IfOk, IfErr};
+ghost use Rattle.pt_script.specs.Names.{lines_in, row_of, IsRowRaised, IsRowGiven};
+
+use crate::fault::ScriptFault;
+use http_server::Log;
+use indexmap::IndexMap;
+use pt_lines::{ClientName, Who};
+use pt_types::ClientId;
+use std::alloc::{Allocator, Global};
+use std::hash::{BuildHasherDefault, FoldHasher};
+use std::marker::Model;
+
+/// What is kept of a client's name: how many of its lines came, and its number once it joined.
+#[derive(Debug, Drop)]
+pub struct Row {
+    pub lines: u64,
+    pub client: Option<ClientId>,
+}
+
+type Rows<A> = IndexMap<ClientName, Row, BuildHasherDefault<FoldHasher>, A>;
+
+// How many lines came of each client, with the number of each that joined.
+#[derive(Drop)]
+struct Counts<A: Allocator + Copy> {
+    rows: Rows<A>,
+    star: u64,
+    unknown: u64,
+}
+
+impl<A: Allocator + Copy> Model for Counts<A> {
+    ghost use Rattle.pt_script.specs.Names.{Counted};
+
+    ghost Value = { Counted };
+
+    ghost view = { λ k. record { rows = k.rows.entries; star = k.star; unknown = k.unknown } };
+}
+
+/// The clients of a script: how many lines of each came, and the number of each that joined.
+///
+/// Contracts see whose the lines were, and the clients in the order of their joins. These two
+/// lists are for proofs alone and take no memory.
+#[derive(Drop)]
+pub struct Names<A: Allocator + Copy = Global> {
+    counts: Counts<A>,
+    total: u64,
+    seen: Log<Who, ()>,
+    joined: Log<ClientName, ClientId>,
+}
+
+impl<A: Allocator + Copy> Model for Names<A> {
+    ghost use Rattle.std.specs.Prelude.{map};
+    ghost use Rattle.pt_script.specs.Names.{Known, AreCounted};
+
+    ghost Value = { Known };
+
+    ghost view = { λ n. record { seen = map (λ p. p.0) n.seen.items; clients = n.joined.items } };
+
+    ghost invariant = { λ n. AreCounted n.counts n.total
+        (record { seen = map (λ p. p.0) n.seen.items; clients = n.joined.items }) };
+}
+
+// Makes the row of a name's first line.
+fn begin<A: Allocator + Copy>(rows: &mut Rows<A>, name: &ClientName) -> Result<u64, ScriptFault>
+    requires { row_of rows.old.entries name.now ≡ None }
+    ensures number { IfOk result (λ n. n ≡ 1) }
+    ensures ok { OnOk result (IsRowRaised rows.old.entries name.now rows.new.entries) }
+    ensures err { OnErr result (rows.new.entries ≡ rows.old.entries) }
+    ensures why { IfErr result (λ fault. fault ≡ ScriptFault.Memory) }
+{
+    let row = Row {
+        lines: 1,
+        client: None,
+    };
+    match rows.insert(name.same(), row) {
+        Ok(_) => Ok(1),
+        Err(_) => Err(ScriptFault::Memory),
+    }
+}
+
+// Counts a line of this name, and answers its number among them.
+fn count_named<A: Allocator + Copy>(
+    rows: &mut Rows<A>,
+    name: &ClientName,
+) -> Result<u64, ScriptFault>
+    requires { lines_in (row_of rows.old.entries name.now) < 2 ^ 53 }
+    ensures number { IfOk result (λ n. n ≡ suc (lines_in (row_of rows.old.entries name.now))) }
+    ensures ok { OnOk result (IsRowRaised rows.old.entries name.now rows.new.entries) }
+    ensures err { OnErr result (rows.new.entries ≡ rows.old.entries) }
+    ensures why { IfErr result (λ fault. fault ≡ ScriptFault.Memory) }
+{
+    if let Some(row) = rows.get_mut(name) {
+        row.lines += 1;
+        return Ok(row.lines);
+    }
+    begin(rows, name)
+}
+
+// Gives the client of this name its number.
+fn give<A: Allocator + Copy>(rows: &mut Rows<A>, name: &ClientName, client: ClientId)
+    requires { IsSome (row_of rows.old.entries name.now) }
+    ensures { IsRowGiven rows.old.entries name.now client rows.new.entries }
+{
+    if let Some(row) = rows.get_mut(name) {
+        row.client = Some(client);
+    }
+}
+
+impl<A: Allocator + Copy> Counts<A> {
+    ghost use Rattle.pt_script.specs.Names.{lines_counted, client_in, IsRaised, IsGiven};
+
+    // Counts a line of this client, and answers its number among them.
+    fn raise(&mut self, who: &Who) -> Result<u64, ScriptFault>
+        requires { lines_counted self.old who.now < 2 ^ 53 }
+        ensures number { IfOk result (λ n. n ≡ suc (lines_counted self.old who.now)) }
+        ensures ok { OnOk result (IsRaised self.old who.now self.new) }
+        ensures err { OnErr result (self.new ≡ self.old) }
+        ensures why { IfErr result (λ fault. fault ≡ ScriptFault.Memory) }
+    {
+        match who {
+            Who::Named(name) => count_named(&mut self.rows, name),
+            Who::Star => {
+                self.star += 1;
+                Ok(self.star)
+            }
+            Who::Unknown => {
+                self.unknown += 1;
+                Ok(self.unknown)
+            }
+        }
+    }
+
+    // The number of the client that joined under this name.
+    fn client(&self, name: &ClientName) -> Option<ClientId>
+        ensures { result ≡ client_in (row_of self.now.rows name.now) }
+    {
+        match self.rows.get(name) {
+            Some(row) => row.client,
+            None => None,
+        }
+    }
+
+    // Gives the client of this name its number.
+    fn give(&mut self, name: &ClientName, client: ClientId)
+        requires { IsSome (row_of self.old.rows name.now) }
+        ensures { IsGiven self.old name.now client self.new }
+    {
+        give(&mut self.rows, name, client);
+    }
+}
+
+impl<A: Allocator + Copy> Names<A> {
+    ghost use Rattle.pt_script.specs.Scripts.{lines_of_who, number_named, number_of, clients_joined};
+
+    /// No client, and no line. It takes no memory.
+    pub fn new(alloc: A) -> Names<A>
+        ensures { result ≡ record { seen = []; clients = [] } }
+    {
+        let counts = Counts {
+            rows: IndexMap::new(alloc),
+            star: 0,
+            unknown: 0,
+        };
+        Names {
+            counts,
+            total: 0,
+            seen: Log::new(),
+            joined: Log::new(),
+        }
+    }
+
+    /// How many lines came.
+    pub fn total(&self) -> u64
+        ensures { result ≡ length self.now.seen }
+    {
+        self.total
+    }
+
+    /// Counts a line of this client, and answers its number among them, from 1. A refused growth
+    /// is a fault, and changes nothing.
+    pub fn count(&mut self, who: &Who) -> Result<u64, ScriptFault>
+        requires { length self.old.seen < 2 ^ 53 }
+        ensures number { IfOk result (λ n. n ≡ suc (lines_of_who self.old.seen who.now)) }
+        ensures ok { OnOk result
+            (self.new ≡ record self.old { seen = self.old.seen ++ who.now ∷ [] }) }
+        ensures err { OnErr result (self.new ≡ self.old) }
+        ensures why { IfErr result (λ fault. fault ≡ ScriptFault.Memory) }
+    {
+        let number = self.counts.raise(who)?;
+        self.total += 1;
+        self.seen = self.seen.and(who, &());
+        Ok(number)
+    }
+
+    /// The number of the client that joined under this name.
+    pub fn client(&self, name: &ClientName) -> Option<ClientId>
+        ensures { result ≡ number_named self.now.clients name.now }
+    {
+        self.counts.client(name)
+    }
+
+    /// A client of which a line came joins under its name, with this number; `*` and `?` never do.
+    #[tactic(auto, using(crate::proofs::Rows::has_row, crate::proofs::Rows::joined_counted))]
+    pub fn join(&mut self, who: &Who, client: ClientId)
+        requires counted { 0 < lines_of_who self.old.seen who.now }
+        requires first { number_of self.old.clients who.now ≡ None }
+        ensures { self.new
+            ≡ record self.old { clients = clients_joined who.now client self.old.clients } }
+    {
+        if let Who::Named(name) = who {
+            self.counts.give(name, client);
+            self.joined = self.joined.and(name, &client);
+        }
+    }
+}

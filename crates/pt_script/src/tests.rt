@@ -1,0 +1,178 @@
+ghost use Rattle.std.specs.Prelude.{◌≡◌, ◌<◌, [], false, IfOk};
+
+use super::*;
+use pt_io::Faulty;
+use pt_refusing::refuse_each;
+use std::alloc::{Allocator, Global};
+use std::test::Fail;
+
+// Two clients, of which the second waits for a mutex of the first.
+const TWO_CLIENTS: &[u8] = b"A hello 10\nB hello 20\nA mutex-init m normal stalled\n\
+    A lock m\nB lock m\nA unlock m\n";
+
+const TWO_CLIENTS_TOLD: &[u8] = b"A 1 0\nB 1 0\nA 2 0\nA 3 0\nA 4 0\nB 2 0\n";
+
+// A device that gives these bytes, up to `step` of them per call, and fails at a call.
+fn reader<A: Allocator + Copy>(
+    alloc: A,
+    bytes: &[u8],
+    step: usize,
+    fails_at: u64,
+) -> Result<Faulty<A>, Fail>
+    requires { 0 < step }
+    ensures { IfOk result (λ r. (r.given ≡ []) × (r.has_failed ≡ false)) }
+{
+    Ok(Faulty::new(Vec::from_slice(alloc, bytes)?, step, fails_at))
+}
+
+// What is written for this input, which is read to its end.
+fn told(alloc: Global, bytes: &[u8], step: usize) -> Result<(Faulty, ScriptEnd), Fail>
+    requires { 0 < step }
+{
+    let mut reader = reader(alloc, bytes, step, 0)?;
+    let mut writer = Faulty::new(Vec::new(alloc), 4096, 0);
+    let end = script(alloc, &mut reader, &mut writer)?;
+    Ok((writer, end))
+}
+
+#[test]
+fn the_answer_comes_before_the_grant(rt: HostRuntime) -> Result<(), Fail> {
+    for step in [1, 2, 7, 4096] {
+        let (writer, end) = told(rt.alloc(), TWO_CLIENTS, step)?;
+        assert_eq!(rt; writer.written(), TWO_CLIENTS_TOLD, "in pieces of {step}");
+        assert_eq!(rt; end.lines, 6);
+        assert_eq!(rt; end.entries, 8);
+    }
+    Ok(())
+}
+
+#[test]
+fn refused_lines_are_answered_and_counted(rt: HostRuntime) -> Result<(), Fail> {
+    let alloc = rt.alloc();
+    let mut input = Vec::from_slice(alloc, b"A lock m\n")?;
+    input.extend_from_slice(&[b'x'; 129])?;
+    input.extend_from_slice(
+        b"\nA hello 33\nA hello 32\nA hello 32\nA lokc m\nA lock m\nA die\nA lock m\nB die\n\
+        \n* moment 1 1000000000\nB hello 1",
+    )?;
+    for step in [1, 4096] {
+        let (writer, end) = told(alloc, &input, step)?;
+        assert_eq!(rt;
+            writer.written(),
+            b"A 1 NOHELLO\n? 1 LONG\nA 2 SYNTAX\nA 3 0\n\
+            A 4 NOHELLO\nA 5 SYNTAX\nA 6 EINVAL\nA 8 DEAD\nB 1 NOHELLO\n? 2 SYNTAX\n\
+            * 1 SYNTAX\nB 2 0\n"
+                .as_slice()
+        );
+        assert_eq!(rt; end.lines, 13);
+        assert_eq!(rt; end.entries, 4);
+    }
+    Ok(())
+}
+
+#[test]
+fn a_dead_name_stays_dead_and_a_refused_hello_may_come_again(rt: HostRuntime) -> Result<(), Fail> {
+    let (writer, _) = told(
+        rt.alloc(),
+        b"A hello 0\nA hello 1\nA die\nA hello 1\nA\nA die\n* moment 1 0\n* lock m\n",
+        4096,
+    )?;
+    assert_eq!(rt;
+        writer.written(),
+        b"A 1 SYNTAX\nA 2 0\nA 4 DEAD\nA 5 SYNTAX\nA 6 DEAD\n* 2 SYNTAX\n".as_slice()
+    );
+    Ok(())
+}
+
+#[test]
+fn a_failing_read_leaves_the_answers_of_the_lines_before(rt: HostRuntime) -> Result<(), Fail> {
+    let alloc = rt.alloc();
+    for fails_at in 1..=82 {
+        let mut reader = reader(alloc, TWO_CLIENTS, 1, fails_at)?;
+        let mut writer = Faulty::new(Vec::new(alloc), 4096, 0);
+        let ended = script(alloc, &mut reader, &mut writer);
+        assert!(rt; matches!(ended, Err(ScriptFault::Read)), "at {fails_at}");
+        assert!(rt;
+            TWO_CLIENTS_TOLD.starts_with(writer.written()),
+            "at {fails_at}"
+        );
+    }
+    Ok(())
+}
+
+#[test]
+fn a_failing_write_leaves_a_prefix(rt: HostRuntime) -> Result<(), Fail> {
+    let alloc = rt.alloc();
+    for fails_at in 1..=12 {
+        let mut reader = reader(alloc, TWO_CLIENTS, 4096, 0)?;
+        let mut writer = Faulty::new(Vec::new(alloc), 3, fails_at);
+        let ended = script(alloc, &mut reader, &mut writer);
+        assert!(rt; matches!(ended, Err(ScriptFault::Write)), "at {fails_at}");
+        assert!(rt;
+            TWO_CLIENTS_TOLD.starts_with(writer.written()),
+            "at {fails_at}"
+        );
+        assert_eq!(rt; writer.written().len() as u64, 3 * (fails_at - 1));
+    }
+    Ok(())
+}
+
+#[test]
+fn the_read_that_tells_the_end_counts(rt: HostRuntime) -> Result<(), Fail> {
+    let alloc = rt.alloc();
+    for (input, reads, is_ok) in [
+        (b"".as_slice(), 0, false),
+        (b"".as_slice(), 1, true),
+        (b"A hello 10\n".as_slice(), 2, false),
+        (b"A hello 10\n".as_slice(), 3, false),
+        (b"A hello 10\n".as_slice(), 4, true),
+    ] {
+        let mut reader = reader(alloc, input, 4, 0)?;
+        let mut writer = Faulty::new(Vec::new(alloc), 4096, 0);
+        let ended = script_within(alloc, reads, &mut reader, &mut writer);
+        assert_eq!(rt;
+            matches!(ended, Err(ScriptFault::Read)),
+            !is_ok,
+            "with {reads} reads"
+        );
+        assert_eq!(rt; ended.is_ok(), is_ok, "with {reads} reads");
+        assert_eq!(rt;
+            writer.written().is_empty(),
+            reads < 3,
+            "with {reads} reads"
+        );
+    }
+    Ok(())
+}
+
+#[test]
+fn a_refused_growth_is_answered_or_ends_the_script(rt: HostRuntime) -> Result<(), Fail> {
+    let alloc = rt.alloc();
+    let refused = refuse_each(alloc, 1000, |heap| -> Result<bool, Fail> {
+        let mut reader = reader(alloc, TWO_CLIENTS, 4096, 0)?;
+        let mut writer = Faulty::new(Vec::new(alloc), 4096, 0);
+        match script(heap, &mut reader, &mut writer) {
+            Ok(_) => Ok(writer.written() != TWO_CLIENTS_TOLD),
+            Err(fault) => {
+                assert_eq!(rt; fault, ScriptFault::Memory);
+                assert!(rt; writer.written().is_empty());
+                Ok(true)
+            }
+        }
+    })?;
+    assert!(rt; refused.is_some_and(|count| count > 3));
+    Ok(())
+}
+
+#[test]
+fn faults_have_texts(rt: HostRuntime) -> Result<(), Fail> {
+    let alloc = rt.alloc();
+    for (fault, text) in [
+        (ScriptFault::Read, "read failed"),
+        (ScriptFault::Write, "write failed"),
+        (ScriptFault::Memory, "out of memory"),
+    ] {
+        assert_eq!(rt; format!(in alloc; "{fault}")?.as_str(), text);
+    }
+    Ok(())
+}

@@ -1,0 +1,72 @@
+ghost use Rattle.std.specs.Prelude.{◌≡◌, ◌++◌, map, OnOk, OnErr, IfErr, Some};
+ghost use Rattle.pt_lines.specs.Replies.{reply_line};
+ghost use Rattle.pt_core.specs.Replies.{told_of};
+ghost use Rattle.pt_script.specs.Scripts.{told_text};
+ghost use Rattle.pt_script.specs.Texts.{IsCutShort};
+
+use crate::asking::Asking;
+use crate::fault::ScriptFault;
+use indexmap::IndexMap;
+use pt_core::Reply;
+use pt_io::Sink;
+use pt_lines::{Word, write_reply};
+use std::alloc::Allocator;
+use std::hash::{BuildHasherDefault, FoldHasher};
+
+/// The line that made the call at each place.
+pub type Calls<A> = IndexMap<u64, Asking, BuildHasherDefault<FoldHasher>, A>;
+
+/// Appends the answer to a line.
+pub fn tell<A: Allocator + Copy>(
+    out: &mut Vec<u8, A>,
+    line: &Asking,
+    word: Word,
+) -> Result<(), ScriptFault>
+    ensures ok { OnOk result (out.new.items
+        ≡ out.old.items ++ reply_line (Some line.now.who) line.now.number word) }
+    ensures why { IfErr result (λ fault. fault ≡ ScriptFault.Memory) }
+{
+    match write_reply(out, Some(&line.who), line.number, word) {
+        Ok(()) => Ok(()),
+        Err(_) => Err(ScriptFault::Memory),
+    }
+}
+
+/// Appends answers of the core, each under the line that made its call.
+#[tactic(auto, using(crate::proofs::Texts::told_more))]
+pub fn tell_all<A: Allocator + Copy>(
+    out: &mut Vec<u8, A>,
+    calls: &Calls<A>,
+    replies: &[Reply],
+) -> Result<(), ScriptFault>
+    ensures ok { OnOk result (out.new.items
+        ≡ out.old.items ++ told_text calls.now.entries (map told_of replies.now)) }
+    ensures why { IfErr result (λ fault. fault ≡ ScriptFault.Memory) }
+{
+    for reply in replies {
+        if let Some(line) = calls.get(&reply.place) {
+            tell(out, line, Word::Outcome(reply.outcome))?;
+        }
+    }
+    Ok(())
+}
+
+/// Writes all the bytes.
+pub fn put<W: Sink>(writer: &mut W, bytes: &[u8]) -> Result<(), ScriptFault>
+    requires { W.failures writer.old ≡ 0 }
+    ensures ok { OnOk result
+        ((W.taken writer.new ≡ W.taken writer.old ++ bytes.now) × (W.failures writer.new ≡ 0)) }
+    ensures err { OnErr result
+        (IsCutShort (W.taken writer.new) (W.taken writer.old ++ bytes.now)) }
+    ensures why { IfErr result (λ fault. fault ≡ ScriptFault.Write) }
+{
+    let mut rest = bytes;
+    while !rest.is_empty() {
+        match writer.write(rest) {
+            Ok(0) => return Err(ScriptFault::Write),
+            Ok(n) => rest = &rest[n..],
+            Err(_) => return Err(ScriptFault::Write),
+        }
+    }
+    Ok(())
+}

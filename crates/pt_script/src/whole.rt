@@ -1,0 +1,159 @@
+ghost use Rattle.std.specs.Prelude.{◌≡◌, ◌≤◌, ◌<◌, ◌+◌, ◌^◌, ◌++◌, [], length, true, OnOk, OnErr, IfOk, IfErr};
+ghost use Rattle.pt_lines.specs.Lines.{to_come, IsBegun};
+ghost use Rattle.pt_script.specs.Ends.{IsScriptText, BeginsScriptText, IsFaultOf};
+ghost use Rattle.pt_script.specs.Engines.{Answers, IsStopped, IsEnd};
+
+use crate::engine::Engine;
+use crate::fault::ScriptFault;
+use crate::text::put;
+use pt_io::{Sink, Source};
+use pt_lines::Cutter;
+use std::alloc::Allocator;
+
+/// How many reads there may be of one input, the one that tells its end counted.  [profile]
+pub const MOST_READS: u64 = 1 << 40;
+
+/// How many bytes are read at once, at most.  [profile]
+const PIECE: usize = 4096;
+
+/// How a script ended that was read to its end.
+#[derive(Clone, Copy, Debug, PartialEq, Eq)]
+pub struct ScriptEnd {
+    /// How many lines it had, refused ones too.
+    pub lines: u64,
+    /// How many entries the history has.
+    pub entries: u64,
+}
+
+// Takes in a piece of the input, and writes the answers to the lines that it ends.
+fn take_in<W: Sink, A: Allocator + Copy>(
+    alloc: A,
+    engine: &mut Engine<A>,
+    cutter: &mut Cutter<A>,
+    piece: &[u8],
+    writer: &mut W,
+) -> Result<(), ScriptFault>
+    requires working { W.failures writer.old ≡ 0 }
+    requires few { length engine.old.seen
+        + length (to_come (record cutter.old { rest = cutter.old.rest ++ piece.now }) []) < 2 ^ 53 }
+    ensures ok { OnOk result (Answers (record cutter.old { rest = cutter.old.rest ++ piece.now })
+        engine.old (W.taken writer.old) cutter.new engine.new (W.taken writer.new)) }
+    ensures begun { OnOk result (IsBegun cutter.new) }
+    ensures wrote { OnOk result (W.failures writer.new ≡ 0) }
+    ensures err { IfErr result (λ fault. IsStopped fault
+        (record cutter.old { rest = cutter.old.rest ++ piece.now })
+        engine.old (W.taken writer.old) (W.taken writer.new) (W.failures writer.new)) }
+{
+    let Ok(()) = cutter.feed(piece) else {
+        return Err(ScriptFault::Memory);
+    };
+    let mut out = Vec::new(alloc);
+    engine.answer_all(cutter, &mut out)?;
+    put(writer, &out)?;
+    Ok(())
+}
+
+// Answers the last line, which no newline ended, if there is one.
+fn finish<W: Sink, A: Allocator + Copy>(
+    alloc: A,
+    engine: Engine<A>,
+    cutter: Cutter<A>,
+    writer: &mut W,
+) -> Result<ScriptEnd, ScriptFault>
+    requires working { W.failures writer.old ≡ 0 }
+    requires begun { IsBegun cutter }
+    requires few { length engine.seen + length (to_come cutter []) < 2 ^ 53 }
+    ensures ok { IfOk result (λ end. IsEnd
+        cutter engine (W.taken writer.old) (W.taken writer.new) end.lines end.entries) }
+    ensures wrote { OnOk result (W.failures writer.new ≡ 0) }
+    ensures err { IfErr result (λ fault. IsStopped fault cutter engine
+        (W.taken writer.old) (W.taken writer.new) (W.failures writer.new)) }
+{
+    let mut engine = engine;
+    let mut out = Vec::new(alloc);
+    engine.answer_last(cutter, &mut out)?;
+    put(writer, &out)?;
+    Ok(ScriptEnd {
+        lines: engine.lines(),
+        entries: engine.entries(),
+    })
+}
+
+/// Runs a script with at most so many reads, of at most 4,096 bytes each.  [profile]
+///
+/// Each line is answered once it has come; the answers to the lines of one read are written
+/// together. `Read` is told where a read failed or the last of these reads did not tell the end,
+/// `Write` where a write failed or took no byte, and `Memory` where a growth was refused that no
+/// line is answered ENOMEM for. The answers not written by then are lost.
+pub fn script_within<R: Source, W: Sink, A: Allocator + Copy>(
+    alloc: A,
+    reads: u64,
+    reader: &mut R,
+    writer: &mut W,
+) -> Result<ScriptEnd, ScriptFault>
+    requires fresh { (R.given reader.old ≡ []) × (W.taken writer.old ≡ []) }
+    requires working { (R.failures reader.old ≡ 0) × (W.failures writer.old ≡ 0) }
+    requires few { reads ≤ 2 ^ 40 }
+
+    // All is read, and all of its text written and nothing else.
+    ensures ok { IfOk result (λ end. IsScriptText
+        (R.given reader.new) (W.taken writer.new) end.lines end.entries) }
+    ensures ended { OnOk result (R.ended reader.new ≡ true) }
+    ensures working { OnOk result ((R.failures reader.new ≡ 0) × (W.failures writer.new ≡ 0)) }
+
+    // A fault: what is written begins such a text, and the fault tells what stopped it.
+    ensures err { OnErr result (BeginsScriptText (R.given reader.new) (W.taken writer.new)) }
+    ensures why { IfErr result (λ fault. IsFaultOf (record {
+      given = R.given reader.new;
+      taken = W.taken writer.new;
+      read_failures = R.failures reader.new;
+      write_failures = W.failures writer.new;
+      had_ended = R.ended reader.old;
+      has_ended = R.ended reader.new;
+      reads = reads;
+    }) fault) }
+{
+    let mut engine = Engine::new(alloc)?;
+    let mut cutter = Cutter::new(alloc);
+    let mut piece = [0u8; PIECE];
+    for _ in 0..reads {
+        let Ok(n) = reader.read(&mut piece) else {
+            return Err(ScriptFault::Read);
+        };
+        if n == 0 {
+            return finish(alloc, engine, cutter, writer);
+        }
+        take_in(alloc, &mut engine, &mut cutter, &piece[..n], writer)?;
+    }
+    Err(ScriptFault::Read)
+}
+
+/// Runs a script, as `script_within` does with 2^40 reads.  [profile]
+pub fn script<R: Source, W: Sink, A: Allocator + Copy>(
+    alloc: A,
+    reader: &mut R,
+    writer: &mut W,
+) -> Result<ScriptEnd, ScriptFault>
+    requires fresh { (R.given reader.old ≡ []) × (W.taken writer.old ≡ []) }
+    requires working { (R.failures reader.old ≡ 0) × (W.failures writer.old ≡ 0) }
+
+    // All is read, and all of its text written and nothing else.
+    ensures ok { IfOk result (λ end. IsScriptText
+        (R.given reader.new) (W.taken writer.new) end.lines end.entries) }
+    ensures ended { OnOk result (R.ended reader.new ≡ true) }
+    ensures working { OnOk result ((R.failures reader.new ≡ 0) × (W.failures writer.new ≡ 0)) }
+
+    // A fault: what is written begins such a text, and the fault tells what stopped it.
+    ensures err { OnErr result (BeginsScriptText (R.given reader.new) (W.taken writer.new)) }
+    ensures why { IfErr result (λ fault. IsFaultOf (record {
+      given = R.given reader.new;
+      taken = W.taken writer.new;
+      read_failures = R.failures reader.new;
+      write_failures = W.failures writer.new;
+      had_ended = R.ended reader.old;
+      has_ended = R.ended reader.new;
+      reads = MOST_READS;
+    }) fault) }
+{
+    script_within(alloc, MOST_READS, reader, writer)
+}
