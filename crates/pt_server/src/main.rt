@@ -1,0 +1,89 @@
+//! The program `ptserver`: scripts of POSIX synchronisation calls in, their answers out.
+//!
+//! What a script is answered is the contract of `pt_script`. Only tests and runs show what stands
+//! here: the words of the command line, the texts on standard error, and the exit statuses.
+#![tactic(auto)]
+
+ghost use Rattle.std.specs.Prelude.{◌≡◌, ◌⊎◌};
+
+mod command;
+
+use clap::Error;
+use clap::error::ErrorKind;
+use command::command;
+use pt_io::Counted;
+use pt_script::{ScriptFault, script};
+use std::process::ExitCode;
+use std::{env, io};
+
+// The exit statuses that are not 0.  [profile]
+const USAGE: u8 = 2;
+
+const DEVICE: u8 = 3;
+
+const MEMORY: u8 = 5;
+
+// The status of a fault: that of want of memory, or of a device.
+fn status_of(fault: ScriptFault) -> u8
+    ensures device { (fault ≡ ScriptFault.Read) ⊎ (fault ≡ ScriptFault.Write) → result ≡ 3 }
+    ensures memory { fault ≡ ScriptFault.Memory → result ≡ 5 }
+{
+    match fault {
+        ScriptFault::Memory => MEMORY,
+        ScriptFault::Read | ScriptFault::Write => DEVICE,
+    }
+}
+
+// Answers standard input on standard output.
+fn run_script(rt: &HostRuntime) -> ExitCode {
+    let mut reader = Counted::new(rt.stdin());
+    let mut writer = Counted::new(io::writer(rt));
+    match script(rt.alloc(), &mut reader, &mut writer) {
+        Ok(_) => ExitCode::SUCCESS,
+        Err(fault) => {
+            let _ = eprintln!(rt; "ptserver: {fault}");
+            ExitCode::from(status_of(fault))
+        }
+    }
+}
+
+// Shows what was asked for, or what is wrong with the words.
+fn show(rt: &HostRuntime, error: &Error) -> ExitCode {
+    let _ = error.print(rt);
+    if error.use_stderr() {
+        return ExitCode::from(USAGE);
+    }
+    ExitCode::SUCCESS
+}
+
+// Does what the command line asks for. The error is want of memory.
+fn run(rt: &HostRuntime, words: &[String]) -> Result<ExitCode, Error> {
+    let matches = match command(rt.alloc())?.try_get_matches_from(words) {
+        Ok(matches) => matches,
+        Err(error) if error.kind() == ErrorKind::OutOfMemory => return Err(error),
+        Err(error) => return Ok(show(rt, &error)),
+    };
+    match matches.subcommand() {
+        Some(("script", _)) => Ok(run_script(rt)),
+        _ => Ok(ExitCode::from(USAGE)),
+    }
+}
+
+fn out_of_memory(rt: &HostRuntime) -> ExitCode {
+    let _ = eprintln!(rt; "ptserver: out of memory");
+    ExitCode::from(MEMORY)
+}
+
+fn main(rt: HostRuntime) -> ExitCode {
+    let Ok(args) = env::args(&rt) else {
+        return ExitCode::from(USAGE);
+    };
+    let words: Result<Vec<String>, _> = args.collect(rt.alloc());
+    let Ok(words) = words else {
+        return out_of_memory(&rt);
+    };
+    run(&rt, words.as_slice()).unwrap_or_else(|_| out_of_memory(&rt))
+}
+
+#[cfg(test)]
+mod tests;
