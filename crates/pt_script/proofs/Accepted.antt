@@ -62,7 +62,8 @@ greeting_as (event.Moment t) line = refl
 pub answers_added : (old added : List Entry)
     → answers_from (length old) (old ++ added) ≡ replies_from (history old) added
 answers_added old added =
-    ap (λ es. replies_from (history es) (drop (length old) (old ++ added))) (take-append_seam old added)
+    ap (λ es. replies_from (history es) (drop (length old) (old ++ added)))
+    (take-append_seam old added)
     ∙ ap (λ es. replies_from (history old) es) (drop-append_seam old added)
 
 limited : (core : Kept) → core.limit ≡ most_entries
@@ -70,8 +71,8 @@ limited : (core : Kept) → core.limit ≡ most_entries
 limited core same = ap (λ n. let k : Kept = record { entries = core.entries; limit = n } in k) same
 
 -- an accepted event: its parts were noted, and its answers appended
-pub accepted : (s : Script) (core next : Kept) (names known : Known) (calls noted : List (ℕ × Asking))
-    (v : Event) (line : Asking) (a : Applied) (m : Mark) (out greeted told : List ℕ)
+pub accepted : (s : Script) (core next : Kept) (names known : Known)
+    (calls noted : List (ℕ × Asking)) (v : Event) (line : Asking) (a : Applied) (m : Mark) (out greeted told : List ℕ)
     → s ≡ seen_as core names calls → core.limit ≡ most_entries → m ≡ mark_of v
     → IsApplied core v next a
     → known ≡ record names { clients = clients_marked m line.who a.first names.clients }
@@ -82,11 +83,11 @@ pub accepted : (s : Script) (core next : Kept) (names known : Known) (calls note
 accepted s core next names known calls noted v line a m out greeted told is limit marks applied
     knows notes greets tells =
     subst (λ t. Adds (SaysOf t v line (seen_as next known noted)) out told) (sym is) (record {
-      text = greeting_marked m line ++ told_text noted (answers_from a.first next.entries);
+      text = greeting_marked m line ++ answers;
       grows =
           tells
-          ∙ ap (λ xs. xs ++ told_text noted (answers_from a.first next.entries)) greets
-          ∙ append_assoc out (greeting_marked m line) (told_text noted (answers_from a.first next.entries));
+          ∙ ap (λ xs. xs ++ answers) greets
+          ∙ append_assoc out (greeting_marked m line) answers;
       holds = accepts (record {
         applies =
             subst (λ k. Applies k v (core_of (seen_as next known noted))) (limited core limit)
@@ -106,9 +107,10 @@ accepted s core next names known calls noted v line a m out greeted told is limi
             ∙ ap (λ n. calls_marked (mark_of v) line n calls) applied.first
             ∙ calls_as v line (length core.entries) calls;
         written =
-            ap (λ n. greeting_marked n line ++ told_text noted (answers_from a.first next.entries)) marks
-            ∙ ap (λ g. g ++ told_text noted (answers_from a.first next.entries)) (greeting_as v line)
-            ∙ ap (λ n. greeting v line ++ told_text noted (answers_from n next.entries)) applied.first
+            ap (λ n. greeting_marked n line ++ answers) marks
+            ∙ ap (λ g. g ++ answers) (greeting_as v line)
+            ∙ ap (λ n. greeting v line ++ told_text noted (answers_from n next.entries))
+            applied.first
             ∙ ap (λ es. greeting v line ++ told_text noted (answers_from (length core.entries) es))
             applied.applies.extends.1
             ∙ ap (λ ts. greeting v line ++ told_text noted ts) (answers_added core.entries added);
@@ -118,9 +120,12 @@ accepted s core next names known calls noted v line a m out greeted told is limi
     added : List Entry
     added = entry_for (history core.entries) v ∷ applied.applies.extends.0
 
+    answers : List ℕ
+    answers = told_text noted (answers_from a.first next.entries)
+
 -- a refused event: its refusal was appended, and nothing else changed
-pub refused : (s : Script) (core next : Kept) (names : Known) (calls noted : List (ℕ × Asking))
-    (v : Event) (line : Asking) (why : Refusal) (out told : List ℕ)
+pub refused : (s : Script) (core next : Kept) (names : Known)
+    (calls noted : List (ℕ × Asking)) (v : Event) (line : Asking) (why : Refusal) (out told : List ℕ)
     → s ≡ seen_as core names calls → core.limit ≡ most_entries → next ≡ core → noted ≡ calls
     → IsRefusal core v why → told ≡ out ++ refusal_text line why
     → Adds (SaysOf s v line (seen_as next names noted)) out told
@@ -137,7 +142,8 @@ refused s core next names calls noted v line why out told is limit stays kept re
 
     by : (r : Option Refusal) → refusal_within most_entries (history core.entries) v ≡ r
         → MatchOption r (IsWantOfMemory v why) (λ x. why ≡ x)
-        → SaysOf (seen_as core names calls) v line (seen_as next names noted) (refusal_text line why)
+        → SaysOf (seen_as core names calls) v line (seen_as next names noted)
+        (refusal_text line why)
     by None none want = lacks (record {
       accepted = none;
       lives = want.1;
@@ -153,7 +159,8 @@ refused s core next names calls noted v line why out told is limit stays kept re
 
 -- no call is noted at a place that comes, also behind an accepted event
 pub fresh_noted : (calls noted : List (ℕ × Asking)) (m : Mark) (line : Asking) (place next : ℕ)
-    → IsFresh calls place → place < next → noted ≡ calls_marked m line place calls → IsFresh noted next
+    → IsFresh calls place → place < next → noted ≡ calls_marked m line place calls
+    → IsFresh noted next
 fresh_noted calls noted m line place next fresh below notes = λ j far.
     ap (λ cs. line_at cs j) notes ∙ by m j (fresh j (omega arith)) (apart j (omega arith))
   where

@@ -15,7 +15,8 @@ pub count_by_push : {X : Type 0} (p : X → Bool) (xs : List X) (x : X)
     → count_by p (xs ++ x ∷ []) ≡ cond (p x) (suc (count_by p xs)) (count_by p xs)
 count_by_push p xs x = sum_by-append (λ y. cond (p y) 1 0) xs (x ∷ []) ∙ by (p x)
   where
-    by : (b : Bool) → count_by p xs + (0 + cond b 1 0) ≡ cond b (suc (count_by p xs)) (count_by p xs)
+    by : (b : Bool)
+        → count_by p xs + (0 + cond b 1 0) ≡ cond b (suc (count_by p xs)) (count_by p xs)
     by true = omega arith
     by false = omega arith
 

@@ -52,7 +52,8 @@ seen_to s line (Ok v) next text says = seen_of s v line next text says
 pub says_seen : (s : Script) (line : ScriptLine) (next : Script) (text : List ℕ)
     → Says s line next text → length next.seen ≡ length s.seen + 1
 says_seen s line next text says =
-    ap length (seen_to (counted s line.who) (asking s line.who) (event_of_line s line) next text says)
+    ap length
+    (seen_to (counted s line.who) (asking s line.who) (event_of_line s line) next text says)
     ∙ length-append s.seen (line.who ∷ [])
 
 -- as many more as there are
@@ -73,8 +74,8 @@ answers_none held s out = record {
 }
 
 -- one line more
-pub answers_one : (held : Held) (s : Script) (out : List ℕ) (mid : Held) (t : Script) (text : List ℕ)
-    (next : Held) (last : Script) (new : List ℕ) (cut : Cut)
+pub answers_one : (held : Held) (s : Script) (out : List ℕ) (mid : Held) (t : Script)
+    (text : List ℕ) (next : Held) (last : Script) (new : List ℕ) (cut : Cut)
     → Answers held s out mid t text → ((more : List ℕ) → to_come mid more ≡ cut ∷ to_come next more)
     → Adds (Says t (script_of cut) last) text new → Answers held s out next last new
 answers_one held s out mid t text next last new cut before gives adds = record {
@@ -98,8 +99,8 @@ answers_one held s out mid t text next last new cut before gives adds = record {
 }
 
 -- how many lines remain
-pub answers_few : (held : Held) (s : Script) (out : List ℕ) (next : Held) (last : Script) (new : List ℕ)
-    → Answers held s out next last new
+pub answers_few : (held : Held) (s : Script) (out : List ℕ) (next : Held) (last : Script)
+    (new : List ℕ) → Answers held s out next last new
     → length last.seen + length (to_come next []) ≡ length s.seen + length (to_come held [])
 answers_few held s out next last new a =
     let seen = says_all_seen s (map script_of a.cuts) last a.answered.text a.answered.says in
@@ -107,45 +108,39 @@ answers_few held s out next last new a =
     let all = ap length (a.given []) ∙ length-append a.cuts (to_come next []) in
     omega (arith, seen, same, all)
 
+-- a buffer that began empty, behind what was taken before
+pub onto_taken : (s : Script) (cuts : List Cut) (begun : List ℕ) (last : Script)
+    (out shown old : List ℕ) → IsAnswered s cuts begun last out → begun ≡ [] → shown ≡ out
+    → IsAnswered s cuts old last (old ++ shown)
+onto_taken s cuts begun last out shown old a empty shows = record {
+  text = a.text;
+  says = a.says;
+  grows = ap (λ xs. old ++ xs) (shows ∙ a.grows ∙ ap (λ xs. xs ++ a.text) empty);
+}
+
 -- an answer that not all of was taken
-pub cut_off : (held : Held) (s : Script) (old : List ℕ) (next : Held) (last : Script) (out new : List ℕ)
-    → Answers held s [] next last out → IsCutShort new (old ++ out) → IsCutOff held s old new
-cut_off held s old next last out new a short = record {
+pub cut_off : (held fed : Held) (s : Script) (begun : List ℕ) (next : Held) (last : Script)
+    (out shown old new : List ℕ) → Answers fed s begun next last out → fed ≡ held → begun ≡ []
+    → shown ≡ out → IsCutShort new (old ++ shown) → IsCutOff held s old new
+cut_off held fed s begun next last out shown old new a feeds empty shows short = record {
   cuts = a.cuts;
   later = to_come next [];
   last = last;
-  whole = old ++ out;
-  given = a.given [];
-  answered = record {
-    text = a.answered.text;
-    says = a.answered.says;
-    grows = ap (λ xs. old ++ xs) a.answered.grows;
-  };
+  whole = old ++ shown;
+  given = ap (λ h. to_come h []) (sym feeds) ∙ a.given [];
+  answered = onto_taken s a.cuts begun last out shown old a.answered empty shows;
   short = short;
 }
 
--- an answer that was taken
-pub put_behind : (held : Held) (s : Script) (old : List ℕ) (next : Held) (last : Script) (out new : List ℕ)
-    → Answers held s [] next last out → new ≡ old ++ out → Answers held s old next last new
-put_behind held s old next last out new a puts = record {
-  cuts = a.cuts;
-  given = a.given;
-  answered = record {
-    text = a.answered.text;
-    says = a.answered.says;
-    grows = puts ∙ ap (λ xs. old ++ xs) a.answered.grows;
-  };
-}
-
 -- a fault that is told is this one
-pub told_fault : {T : Type 0} (r : Result T ScriptFault) (fault : ScriptFault) (P : ScriptFault → Type 0)
-    → IsErrAnd r (λ f. f ≡ fault) → P fault → IfErr r P
+pub told_fault : {T : Type 0} (r : Result T ScriptFault) (fault : ScriptFault)
+    (P : ScriptFault → Type 0) → IsErrAnd r (λ f. f ≡ fault) → P fault → IfErr r P
 told_fault (Ok done) fault P told holds = absurd told
 told_fault (Err f) fault P told holds = subst P (sym told) holds
 
 -- a last line
-pub last_some : (s : Script) (cuts : List Cut) (cut : Cut) (old : List ℕ) (last : Script) (new : List ℕ)
-    → cuts ≡ cut ∷ [] → Adds (Says s (script_of cut) last) old new → IsAnswered s cuts old last new
+pub last_some : (s : Script) (cuts : List Cut) (cut : Cut) (old : List ℕ) (last : Script)
+    (new : List ℕ) → cuts ≡ cut ∷ [] → Adds (Says s (script_of cut) last) old new → IsAnswered s cuts old last new
 last_some s cuts cut old last new is adds = record {
   text = adds.text;
   says =
@@ -155,7 +150,8 @@ last_some s cuts cut old last new is adds = record {
 }
 
 -- no last line
-pub last_none : (s : Script) (cuts : List Cut) (out : List ℕ) → cuts ≡ [] → IsAnswered s cuts out s out
+pub last_none : (s : Script) (cuts : List Cut) (out : List ℕ) → cuts ≡ []
+    → IsAnswered s cuts out s out
 last_none s cuts out is = record {
   text = [];
   says = subst (λ xs. SaysAll s (map script_of xs) s []) (sym is) (refl, refl);
@@ -163,28 +159,27 @@ last_none s cuts out is = record {
 }
 
 -- the last answer that not all of was taken
-pub last_cut_off : (held : Held) (s : Script) (old : List ℕ) (last : Script) (out new : List ℕ)
-    → IsAnswered s (to_come held []) [] last out → IsCutShort new (old ++ out) → IsCutOff held s old new
-last_cut_off held s old last out new a short = record {
+pub last_cut_off : (held : Held) (s : Script) (last : Script) (whole old new : List ℕ)
+    → IsAnswered s (to_come held []) old last whole → IsCutShort new whole
+    → IsCutOff held s old new
+last_cut_off held s last whole old new a short = record {
   cuts = to_come held [];
   later = [];
   last = last;
-  whole = old ++ out;
+  whole = whole;
   given = sym (append-nil (to_come held []));
-  answered = record {
-    text = a.text;
-    says = a.says;
-    grows = ap (λ xs. old ++ xs) a.grows;
-  };
+  answered = a;
   short = short;
 }
 
 -- what holds of each good answer
-pub on_ok : {T E : Type 0} (P Q : T → Type 0) (r : Result T E) → ((x : T) → P x → Q x) → IfOk r P → IfOk r Q
+pub on_ok : {T E : Type 0} (P Q : T → Type 0) (r : Result T E)
+    → ((x : T) → P x → Q x) → IfOk r P → IfOk r Q
 on_ok P Q (Ok x) then holds = then x holds
 on_ok P Q (Err e) then holds = tt
 
 -- what holds of each fault
-pub on_err : {T E : Type 0} (P Q : E → Type 0) (r : Result T E) → ((e : E) → P e → Q e) → IfErr r P → IfErr r Q
+pub on_err : {T E : Type 0} (P Q : E → Type 0) (r : Result T E)
+    → ((e : E) → P e → Q e) → IfErr r P → IfErr r Q
 on_err P Q (Ok x) then holds = tt
 on_err P Q (Err e) then holds = then e holds

@@ -26,7 +26,8 @@ few_after [] (b ∷ bytes) = by (b == 10) (few_after [] bytes) (few_after (b ∷
   where
     by : (t : Bool) → length (lines_after [] bytes) ≤ length bytes + 0
         → length (lines_after (b ∷ []) bytes) ≤ length bytes + 1
-        → length (cond t (cut_of [] ∷ lines_after [] bytes) (lines_after (b ∷ []) bytes)) ≤ suc (length bytes) + 0
+        → length (cond t (cut_of [] ∷ lines_after [] bytes) (lines_after (b ∷ []) bytes))
+        ≤ suc (length bytes) + 0
     by true ended goes = omega (arith, ended)
     by false ended goes = omega (arith, goes)
 few_after (x ∷ text) (b ∷ bytes) =
@@ -34,9 +35,11 @@ few_after (x ∷ text) (b ∷ bytes) =
     (length-append text (b ∷ []))
   where
     by : (t : Bool) → length (lines_after [] bytes) ≤ length bytes + 0
-        → length (lines_after (x ∷ (text ++ b ∷ [])) bytes) ≤ length bytes + suc (length (text ++ b ∷ []))
+        → length (lines_after (x ∷ (text ++ b ∷ [])) bytes)
+        ≤ length bytes + suc (length (text ++ b ∷ []))
         → length (text ++ b ∷ []) ≡ length text + 1
-        → length (cond t (cut_of (x ∷ text) ∷ lines_after [] bytes) (lines_after (x ∷ (text ++ b ∷ [])) bytes))
+        → length (cond t (cut_of (x ∷ text) ∷ lines_after [] bytes)
+        (lines_after (x ∷ (text ++ b ∷ [])) bytes))
         ≤ suc (length bytes) + suc (length text)
     by true ended goes longer = omega (arith, ended)
     by false ended goes longer = omega (arith, goes, longer)
@@ -69,7 +72,8 @@ begun_nothing = record {
 
 -- as many lines were seen as were given, and the rest is still to come
 pub behind_few : (bytes : List ℕ) (held : Held) (s : Script) (text : List ℕ) (more : List ℕ)
-    → IsBehind bytes held s text → length s.seen + length (to_come held more) ≤ length (bytes ++ more)
+    → IsBehind bytes held s text
+    → length s.seen + length (to_come held more) ≤ length (bytes ++ more)
 behind_few bytes held s text more b =
     let seen = says_all_seen begun (map script_of b.cuts) s text b.says in
     let same : length (map script_of b.cuts) ≡ length b.cuts = simp length-map in

@@ -57,13 +57,15 @@ client_for None = Err Nohello
 client_for (Some c) = Ok c
 
 -- these lines were answered, and what may be written for them was appended
-pub record IsAnswered (s : Script) (cuts : List Cut) (old : List ℕ) (last : Script) (new : List ℕ) : Type 0 where
+pub record IsAnswered (s : Script) (cuts : List Cut) (old : List ℕ) (last : Script)
+    (new : List ℕ) : Type 0 where
   pub text : List ℕ
   pub says : SaysAll s (map script_of cuts) last text
   pub grows : new ≡ old ++ text
 
 -- so were all lines that a cutter had whole
-pub record Answers (held : Held) (s : Script) (old : List ℕ) (next : Held) (last : Script) (new : List ℕ) : Type 0 where
+pub record Answers (held : Held) (s : Script) (old : List ℕ) (next : Held) (last : Script)
+    (new : List ℕ) : Type 0 where
   pub cuts : List Cut
   pub given : (more : List ℕ) → to_come held more ≡ cuts ++ to_come next more
   pub answered : IsAnswered s cuts old last new

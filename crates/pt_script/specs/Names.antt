@@ -40,11 +40,13 @@ lines_counted k Star = k.star
 lines_counted k Unknown = k.unknown
 
 -- one line more of this name, and all else of the rows as it was
-pub record IsRowRaised (old : List (List ℕ × Row)) (name : List ℕ) (new : List (List ℕ × Row)) : Type 0 where
+pub record IsRowRaised (old : List (List ℕ × Row)) (name : List ℕ)
+    (new : List (List ℕ × Row)) : Type 0 where
   pub lines :
       (other : List ℕ)
       → lines_in (row_of new other)
-      ≡ (if bytes_eq name other then suc (lines_in (row_of old other)) else lines_in (row_of old other))
+      ≡ (if bytes_eq name other then suc (lines_in (row_of old other))
+      else lines_in (row_of old other))
   pub clients : (other : List ℕ) → client_in (row_of new other) ≡ client_in (row_of old other)
 
 -- the same of any client
@@ -57,7 +59,8 @@ pub record IsRaised (old : Counted) (who : Who) (new : Counted) : Type 0 where
       (name : List ℕ) → client_in (row_of new.rows name) ≡ client_in (row_of old.rows name)
 
 -- the client of this name has its number, and all else of the rows is as it was
-pub record IsRowGiven (old : List (List ℕ × Row)) (name : List ℕ) (c : ℕ) (new : List (List ℕ × Row)) : Type 0 where
+pub record IsRowGiven (old : List (List ℕ × Row)) (name : List ℕ) (c : ℕ)
+    (new : List (List ℕ × Row)) : Type 0 where
   pub lines : (other : List ℕ) → lines_in (row_of new other) ≡ lines_in (row_of old other)
   pub clients :
       (other : List ℕ)

@@ -19,7 +19,8 @@ use Rattle.pt_script.specs.Scripts.{Script, asking, event_of_line, told_text, re
 abbrev pub core_of : Script → Kept
 core_of s = record { entries = s.entries; limit = most_entries }
 
--- why an event of a line is refused, or none; the line itself may have its refusal before  [profile]
+-- why an event of a line is refused, or none; the line may have a refusal of its own before
+-- [profile]
 abbrev pub refusal_of_event : Script → Event → Option Refusal
 refusal_of_event s event = refusal_within most_entries (history s.entries) event
 
@@ -28,7 +29,8 @@ abbrev pub counted : Script → Who → Script
 counted s who = record s { seen = s.seen ++ who ∷ [] }
 
 -- the event is refused: its refusal is written, and it leaves no entry  [profile]
-pub record IsRefused (s : Script) (event : Event) (line : Asking) (next : Script) (text : List ℕ) : Type 0 where
+pub record IsRefused (s : Script) (event : Event) (line : Asking) (next : Script)
+    (text : List ℕ) : Type 0 where
   pub why : Refusal
   pub refused : refusal_of_event s event ≡ Some why
   pub same : next ≡ s
@@ -36,7 +38,8 @@ pub record IsRefused (s : Script) (event : Event) (line : Asking) (next : Script
 
 -- a growth was refused: ENOMEM is written where there is no other refusal, and for no `die`
 -- [profile]
-pub record IsUnmet (s : Script) (event : Event) (line : Asking) (next : Script) (text : List ℕ) : Type 0 where
+pub record IsUnmet (s : Script) (event : Event) (line : Asking) (next : Script)
+    (text : List ℕ) : Type 0 where
   pub accepted : refusal_of_event s event ≡ None
   pub lives : is_death event ≡ false
   pub same : next ≡ s
@@ -44,7 +47,8 @@ pub record IsUnmet (s : Script) (event : Event) (line : Asking) (next : Script) 
 
 -- the event is accepted: its entries are added to the history, and their answers are written
 -- [profile]
-pub record IsAccepted (s : Script) (event : Event) (line : Asking) (next : Script) (text : List ℕ) : Type 0 where
+pub record IsAccepted (s : Script) (event : Event) (line : Asking) (next : Script)
+    (text : List ℕ) : Type 0 where
   pub applies : Applies (core_of s) event (core_of next)
   pub added : List Entry
   pub extends : next.entries ≡ s.entries ++ added
@@ -55,7 +59,8 @@ pub record IsAccepted (s : Script) (event : Event) (line : Asking) (next : Scrip
       text ≡ greeting event line ++ told_text next.calls (replies_from (history s.entries) added)
 
 -- what may be written for the event that a line asks for  [profile]
-pub data SaysOf (s : Script) (event : Event) (line : Asking) (next : Script) (text : List ℕ) : Type 0 where
+pub data SaysOf (s : Script) (event : Event) (line : Asking) (next : Script)
+    (text : List ℕ) : Type 0 where
   refuses : IsRefused s event line next text → SaysOf s event line next text
   lacks : IsUnmet s event line next text → SaysOf s event line next text
   accepts : IsAccepted s event line next text → SaysOf s event line next text

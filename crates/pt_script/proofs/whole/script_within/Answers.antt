@@ -64,7 +64,9 @@ returns-then-n-eq0-clause-why g c =
       has_ended = g.R.Source.ended c.read.new.self;
       reads = c.args.reads;
     } in
-    on_err (λ fault. IsStopped fault c.loop.cutter c.loop.engine text course.taken course.write_failures)
+    on_err
+    (λ fault. IsStopped fault c.loop.cutter c.loop.engine text course.taken
+    course.write_failures)
     (λ fault. IsFaultOf course fault) c.finish.result
     (λ fault stop. stopped_why bytes [] c.loop.cutter c.loop.cutter c.loop.engine text course
     fault c.loop.invariant.behind same refl c.in-Ok.ensures.count stop)

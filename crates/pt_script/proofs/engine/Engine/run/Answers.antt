@@ -8,7 +8,8 @@ invariant_of-self-in-Ok g c =
     kept_noted c.self.inside.core c.apply.new.self c.self.inside.calls.entries
     c.note.new.calls.entries c.args.event c.args.line c.in-Ok.applied c.mark_of-mark.result
     c.self.invariant.0 c.self.invariant.1 c.in-Ok.ensures.ok
-    (c.note.ensures.calls ∙ ap (calls_marked c.mark_of-mark.result c.args.line c.in-Ok.applied.first)
+    (c.note.ensures.calls
+    ∙ ap (calls_marked c.mark_of-mark.result c.args.line c.in-Ok.applied.first)
     c.reserve.ensures.entries)
 
 pub invariant_of-self-in_err-tell_from-in-Ok : goal.invariant_of-self-in_err-tell_from-in-Ok
@@ -16,7 +17,8 @@ invariant_of-self-in_err-tell_from-in-Ok g c =
     kept_noted c.self.inside.core c.apply.new.self c.self.inside.calls.entries
     c.note.new.calls.entries c.args.event c.args.line c.in-Ok.applied c.mark_of-mark.result
     c.self.invariant.0 c.self.invariant.1 c.in-Ok.ensures.ok
-    (c.note.ensures.calls ∙ ap (calls_marked c.mark_of-mark.result c.args.line c.in-Ok.applied.first)
+    (c.note.ensures.calls
+    ∙ ap (calls_marked c.mark_of-mark.result c.args.line c.in-Ok.applied.first)
     c.reserve.ensures.entries)
 
 pub returns-in_ok-tell_from-in-Ok-clause-ok : goal.returns-in_ok-tell_from-in-Ok-clause-ok
@@ -26,7 +28,8 @@ returns-in_ok-tell_from-in-Ok-clause-ok g c =
     c.args.line c.in-Ok.applied c.mark_of-mark.result c.args.out.now.items
     c.greet.new.out.items c.tell_from.new.out.items (sym c.self.view_is) c.self.invariant.0
     c.mark_of-mark.ensures c.in-Ok.ensures.ok c.note.ensures.names
-    (c.note.ensures.calls ∙ ap (calls_marked c.mark_of-mark.result c.args.line c.in-Ok.applied.first)
+    (c.note.ensures.calls
+    ∙ ap (calls_marked c.mark_of-mark.result c.args.line c.in-Ok.applied.first)
     c.reserve.ensures.entries)
     c.in_ok-greet-in-Ok.ensures.ok c.in_ok-tell_from-in-Ok.ensures.ok
 

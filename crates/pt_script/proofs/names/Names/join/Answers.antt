@@ -17,9 +17,14 @@ pub invariant_of-self : goal.invariant_of-self
 invariant_of-self g c =
     let first = rw c.in-Named.is at c.requires.first in
     let known : Known =
-    record { seen = map (λ p. p.0) c.self.inside.seen.items; clients = c.self.inside.joined.items } in
+    record {
+      seen = map (λ p. p.0) c.self.inside.seen.items;
+      clients = c.self.inside.joined.items;
+    } in
     let unknown = ap (λ k. number_named k.clients c.in-Named.name) c.self.view_is ∙ first in
-    subst (λ (rows : List (List ℕ × ℕ)). AreCounted c.give.new.self c.self.inside.total (record known { clients = rows }))
+    subst
+    (λ (rows : List (List ℕ × ℕ)).
+    AreCounted c.give.new.self c.self.inside.total (record known { clients = rows }))
     (sym c.and-self-inside.ensures)
     (joined_counted c.self.inside.counts c.give.new.self c.self.inside.total known
     c.in-Named.name c.args.client c.self.invariant c.give.ensures unknown)
