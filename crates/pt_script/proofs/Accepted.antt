@@ -72,7 +72,8 @@ limited core same = ap (λ n. let k : Kept = record { entries = core.entries; li
 
 -- an accepted event: its parts were noted, and its answers appended
 pub accepted : (s : Script) (core next : Kept) (names known : Known)
-    (calls noted : List (ℕ × Asking)) (v : Event) (line : Asking) (a : Applied) (m : Mark) (out greeted told : List ℕ)
+    (calls noted : List (ℕ × Asking)) (v : Event) (line : Asking) (a : Applied) (m : Mark)
+    (out greeted told : List ℕ)
     → s ≡ seen_as core names calls → core.limit ≡ most_entries → m ≡ mark_of v
     → IsApplied core v next a
     → known ≡ record names { clients = clients_marked m line.who a.first names.clients }
@@ -125,7 +126,8 @@ accepted s core next names known calls noted v line a m out greeted told is limi
 
 -- a refused event: its refusal was appended, and nothing else changed
 pub refused : (s : Script) (core next : Kept) (names : Known)
-    (calls noted : List (ℕ × Asking)) (v : Event) (line : Asking) (why : Refusal) (out told : List ℕ)
+    (calls noted : List (ℕ × Asking)) (v : Event) (line : Asking) (why : Refusal)
+    (out told : List ℕ)
     → s ≡ seen_as core names calls → core.limit ≡ most_entries → next ≡ core → noted ≡ calls
     → IsRefusal core v why → told ≡ out ++ refusal_text line why
     → Adds (SaysOf s v line (seen_as next names noted)) out told

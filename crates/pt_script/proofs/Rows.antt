@@ -25,7 +25,8 @@ keep_or f s name other true same = ap (λ n. s (f n)) (same refl)
 keep_or f s name other false same = refl
 
 pub row_raised : (old new : List (List ℕ × Row)) (name : List ℕ) (row : Row)
-    → IsSet old name row new → row.lines ≡ suc (lines_in (row_of old name)) → row.client ≡ client_in (row_of old name)
+    → IsSet old name row new → row.lines ≡ suc (lines_in (row_of old name))
+    → row.client ≡ client_in (row_of old name)
     → IsRowRaised old name new
 row_raised old new name row set more same = record {
   lines = λ other.

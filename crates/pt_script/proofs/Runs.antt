@@ -140,7 +140,8 @@ told_fault (Err f) fault P told holds = subst P (sym told) holds
 
 -- a last line
 pub last_some : (s : Script) (cuts : List Cut) (cut : Cut) (old : List ℕ) (last : Script)
-    (new : List ℕ) → cuts ≡ cut ∷ [] → Adds (Says s (script_of cut) last) old new → IsAnswered s cuts old last new
+    (new : List ℕ) → cuts ≡ cut ∷ [] → Adds (Says s (script_of cut) last) old new
+    → IsAnswered s cuts old last new
 last_some s cuts cut old last new is adds = record {
   text = adds.text;
   says =
