@@ -74,9 +74,19 @@ fn out_of_memory(rt: &HostRuntime) -> ExitCode {
     ExitCode::from(MEMORY)
 }
 
+// The words of the command line cannot be had: memory was refused, or one is not UTF-8.
+fn refuse_words(rt: &HostRuntime, error: &io::Error) -> ExitCode {
+    if error.kind() == io::ErrorKind::OutOfMemory {
+        return out_of_memory(rt);
+    }
+    let _ = eprintln!(rt; "error: invalid UTF-8 was detected in one or more arguments");
+    ExitCode::from(USAGE)
+}
+
 fn main(rt: HostRuntime) -> ExitCode {
-    let Ok(args) = env::args(&rt) else {
-        return ExitCode::from(USAGE);
+    let args = match env::args(&rt) {
+        Ok(args) => args,
+        Err(error) => return refuse_words(&rt, &error),
     };
     let words: Result<Vec<String>, _> = args.collect(rt.alloc());
     let Ok(words) = words else {
