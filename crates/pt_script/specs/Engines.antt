@@ -20,50 +20,50 @@ use Rattle.pt_script.specs.Scripts.{Script, begun, line_at, clients_joined}
 use Rattle.pt_script.specs.Says.{SaysAll}
 use Rattle.pt_script.specs.Texts.{IsCutShort}
 
--- a text of which this holds was appended
+-- a text of which this holds was appended  [profile]
 pub record Adds (Holds : List ℕ → Type 0) (old new : List ℕ) : Type 0 where
   pub text : List ℕ
   pub grows : new ≡ old ++ text
   pub holds : Holds text
 
--- no call is noted at a place that comes
+-- no call is noted at a place that comes  [profile]
 abbrev pub IsFresh : List (ℕ × Asking) → ℕ → Type 0
 IsFresh calls next = (j : ℕ) → next ≤ j → line_at calls j ≡ None
 
--- what is noted of an event, once it is accepted
+-- what is noted of an event, once it is accepted  [profile]
 abbrev pub mark_of : Event → Mark
 mark_of (event.Join p) = Client
 mark_of (event.Call c call) = Call
 mark_of _ = Nothing
 
--- the clients behind a line of this mark
+-- the clients behind a line of this mark  [profile]
 abbrev pub clients_marked : Mark → Who → ℕ → List (List ℕ × ℕ) → List (List ℕ × ℕ)
 clients_marked Client who place rows = clients_joined who place rows
 clients_marked _ who place rows = rows
 
--- the lines of calls behind it
+-- the lines of calls behind it  [profile]
 abbrev pub calls_marked : Mark → Asking → ℕ → List (ℕ × Asking) → List (ℕ × Asking)
 calls_marked Call line place rows = rows ++ (place, line) ∷ []
 calls_marked _ line place rows = rows
 
--- its greeting
+-- its greeting  [profile]
 abbrev pub greeting_marked : Mark → Asking → List ℕ
 greeting_marked Client line = reply_line (Some line.who) line.number (word.Outcome Done)
 greeting_marked _ line = []
 
--- the client that a line is of, where hello came first
+-- the client that a line is of, where hello came first  [profile]
 abbrev pub client_for : Option ℕ → Result ℕ Refusal
 client_for None = Err Nohello
 client_for (Some c) = Ok c
 
--- these lines were answered, and what may be written for them was appended
+-- these lines were answered, and what may be written for them was appended  [profile]
 pub record IsAnswered (s : Script) (cuts : List Cut) (old : List ℕ) (last : Script)
     (new : List ℕ) : Type 0 where
   pub text : List ℕ
   pub says : SaysAll s (map script_of cuts) last text
   pub grows : new ≡ old ++ text
 
--- so were all lines that a cutter had whole
+-- so were all lines that a cutter had whole  [profile]
 pub record Answers (held : Held) (s : Script) (old : List ℕ) (next : Held) (last : Script)
     (new : List ℕ) : Type 0 where
   pub cuts : List Cut
@@ -71,12 +71,13 @@ pub record Answers (held : Held) (s : Script) (old : List ℕ) (next : Held) (la
   pub answered : IsAnswered s cuts old last new
 
 -- all lines were answered that are whole in these bytes, of which the cutter holds the rest
+-- [profile]
 pub record IsBehind (bytes : List ℕ) (held : Held) (s : Script) (text : List ℕ) : Type 0 where
   pub cuts : List Cut
   pub given : (more : List ℕ) → lines (bytes ++ more) ≡ cuts ++ to_come held more
   pub says : SaysAll begun (map script_of cuts) s text
 
--- the first of the lines to come were answered, and not all of it was taken
+-- the first of the lines to come were answered, and not all of it was taken  [profile]
 pub record IsCutOff (held : Held) (s : Script) (old new : List ℕ) : Type 0 where
   pub cuts : List Cut
   pub later : List Cut
@@ -86,13 +87,13 @@ pub record IsCutOff (held : Held) (s : Script) (old new : List ℕ) : Type 0 whe
   pub answered : IsAnswered s cuts old last whole
   pub short : IsCutShort new whole
 
--- how the answers to lines to come are stopped; no reader has a part in it
+-- how the answers to lines to come are stopped; no reader has a part in it  [profile]
 abbrev pub IsStopped : ScriptFault → Held → Script → List ℕ → List ℕ → ℕ → Type 0
 IsStopped Read held s old new failures = ⊥
 IsStopped Write held s old new failures = IsCutOff held s old new
 IsStopped Memory held s old new failures = (new ≡ old) × (failures ≡ 0)
 
--- all lines to come were answered, and these are the counts of all lines and all entries
+-- all lines to come were answered, and these are the counts of all lines and all entries  [profile]
 pub record IsEnd (held : Held) (s : Script) (old new : List ℕ) (count entries : ℕ) : Type 0 where
   pub last : Script
   pub answered : IsAnswered s (to_come held []) old last new

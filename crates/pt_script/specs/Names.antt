@@ -13,33 +13,33 @@ pub record Known : Type 0 where
   pub seen : List Who
   pub clients : List (List ℕ × ℕ)
 
--- the number of a client's lines, by its row
+-- the number of a client's lines, by its row  [profile]
 abbrev pub lines_in : Option Row → ℕ
 lines_in None = 0
 lines_in (Some row) = row.lines
 
--- the number of the client that has joined, by its row
+-- the number of the client that has joined, by its row  [profile]
 abbrev pub client_in : Option Row → Option ℕ
 client_in None = None
 client_in (Some row) = row.client
 
--- the row of a name
+-- the row of a name  [profile]
 abbrev pub row_of : List (List ℕ × Row) → List ℕ → Option Row
 row_of rows name = lookup (bytes_eq name) rows
 
--- what is counted: the rows of names, and the lines of `*` and of `?`
+-- what is counted: the rows of names, and the lines of `*` and of `?`  [profile]
 pub record Counted : Type 0 where
   pub rows : List (List ℕ × Row)
   pub star : ℕ
   pub unknown : ℕ
 
--- how many lines are counted for a client
+-- how many lines are counted for a client  [profile]
 abbrev pub lines_counted : Counted → Who → ℕ
 lines_counted k (Named name) = lines_in (row_of k.rows name)
 lines_counted k Star = k.star
 lines_counted k Unknown = k.unknown
 
--- one line more of this name, and all else of the rows as it was
+-- one line more of this name, and all else of the rows as it was  [profile]
 pub record IsRowRaised (old : List (List ℕ × Row)) (name : List ℕ)
     (new : List (List ℕ × Row)) : Type 0 where
   pub lines :
@@ -49,7 +49,7 @@ pub record IsRowRaised (old : List (List ℕ × Row)) (name : List ℕ)
       else lines_in (row_of old other))
   pub clients : (other : List ℕ) → client_in (row_of new other) ≡ client_in (row_of old other)
 
--- the same of any client
+-- the same of any client  [profile]
 pub record IsRaised (old : Counted) (who : Who) (new : Counted) : Type 0 where
   pub lines :
       (other : Who)
@@ -58,7 +58,7 @@ pub record IsRaised (old : Counted) (who : Who) (new : Counted) : Type 0 where
   pub clients :
       (name : List ℕ) → client_in (row_of new.rows name) ≡ client_in (row_of old.rows name)
 
--- the client of this name has its number, and all else of the rows is as it was
+-- the client of this name has its number, and all else of the rows is as it was  [profile]
 pub record IsRowGiven (old : List (List ℕ × Row)) (name : List ℕ) (c : ℕ)
     (new : List (List ℕ × Row)) : Type 0 where
   pub lines : (other : List ℕ) → lines_in (row_of new other) ≡ lines_in (row_of old other)
@@ -67,7 +67,7 @@ pub record IsRowGiven (old : List (List ℕ × Row)) (name : List ℕ) (c : ℕ)
       → client_in (row_of new other)
       ≡ (if bytes_eq name other then Some c else client_in (row_of old other))
 
--- the same of all that is counted
+-- the same of all that is counted  [profile]
 pub record IsGiven (old : Counted) (name : List ℕ) (c : ℕ) (new : Counted) : Type 0 where
   pub lines : (who : Who) → lines_counted new who ≡ lines_counted old who
   pub clients :
@@ -75,7 +75,7 @@ pub record IsGiven (old : Counted) (name : List ℕ) (c : ℕ) (new : Counted) :
       → client_in (row_of new.rows other)
       ≡ (if bytes_eq name other then Some c else client_in (row_of old.rows other))
 
--- what is counted is what came so far
+-- what is counted is what came so far  [profile]
 pub record AreCounted (k : Counted) (total : ℕ) (known : Known) : Type 0 where
   pub lines : (who : Who) → lines_counted k who ≡ lines_of_who known.seen who
   pub all : total ≡ length known.seen
