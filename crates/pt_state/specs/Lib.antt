@@ -1,0 +1,4 @@
+pub mod Callers
+pub mod Things
+pub mod Logs
+pub mod Reads
