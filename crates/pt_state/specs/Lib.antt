@@ -1,4 +1,9 @@
+pub mod Adds
 pub mod Callers
-pub mod Things
+pub mod Counts
+pub mod Kept
 pub mod Logs
+pub mod OpenRows
 pub mod Reads
+pub mod Things
+pub mod Writes

@@ -5,8 +5,8 @@ use Rattle.pt_types.specs.declared.call.ObjectKind.{ObjectKind}
 use Rattle.pt_types.specs.declared.call.ObjectKind.TheVariants as kind
 use Rattle.pt_table.specs.declared.objects.ObjectRow.{ObjectRow}
 use Rattle.pt_table.specs.ObjectRows.{object_value, number_of}
-use Rattle.pt_mutex.specs.MutexState.{MutexState}
-use Rattle.pt_rwlock.specs.RwlockState.{RwlockState, reads_of, row_of}
+use Rattle.pt_mutex.specs.MutexState.{MutexState, made as made_mutex}
+use Rattle.pt_rwlock.specs.RwlockState.{RwlockState, made as made_rwlock, reads_of, row_of}
 use Rattle.pt_model.specs.Histories.{History, place}
 use Rattle.pt_model.specs.Objects.{kind_of, object_named, objects}
 use Rattle.pt_model.specs.Records.{Standing, ForRead}
@@ -35,6 +35,14 @@ module _ {A : Type 0} where
   kind_kept (Rwlock r) = kind.Rwlock
   kind_kept (Cond q) = kind.Cond
   kind_kept (Barrier count) = kind.Barrier count
+
+  -- an object of this kind, as it is made  [XSH pthread_mutex_init, pthread_cond_init]
+  abbrev pub IsNew : Object A → ObjectKind → Type 0
+  IsNew (Mutex m) (kind.Mutex k robust) = m ≡ made_mutex k robust
+  IsNew (Rwlock r) kind.Rwlock = r ≡ made_rwlock
+  IsNew (Cond q) kind.Cond = q ≡ record { bound = None }
+  IsNew (Barrier count) (kind.Barrier n) = count ≡ n
+  IsNew _ _ = ⊥
 
   -- each row's number is below those of the rows behind it, and below n  [profile]
   abbrev pub Rising : List (ObjectRow (Object A)) → ℕ → Type 0

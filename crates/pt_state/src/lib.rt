@@ -3,8 +3,16 @@
 //! Contracts say of all tables at once that they are those that are read off the history.
 #![tactic(auto)]
 
+mod asking;
+mod caller_rows;
 mod callers;
+mod counting;
+mod finding;
+mod finishing;
+mod judging;
 mod object;
+mod open_rows;
+mod pushing;
 mod replies;
 mod state;
 

@@ -1,0 +1,60 @@
+-- One entry more: the tables that are read off with it.
+use Rattle.std.proofs.Common.{◌≡◌, ℕ, ◌+◌, List, [], ◌∷◌, ◌++◌, Option, map, length, refl, sym, ap, ◌∙◌, subst, arith}
+use Rattle.std.specs.Prelude.{vec_len, vec_capacity}
+use Rattle.std.proofs.lemmas.List.{map-append}
+use Rattle.pt_types.specs.declared.outcome.Outcome.{Outcome}
+use Rattle.pt_types.specs.declared.time.Moment.{Moment}
+use Rattle.pt_state.specs.declared.replies.Answered.{Answered}
+use Rattle.pt_table.specs.declared.clients.ClientRow.{ClientRow}
+use Rattle.pt_table.specs.declared.objects.ObjectRow.{ObjectRow}
+use Rattle.pt_history.specs.Stored.{Stored}
+use Rattle.pt_model.specs.declared.entry.Entry.{Entry}
+use Rattle.pt_model.specs.Histories.{History, ◌▷◌, place, history}
+use Rattle.pt_model.specs.Clients as clients_of
+use Rattle.pt_model.specs.Records.{Told}
+use Rattle.pt_model.specs.Answers.{told}
+use Rattle.pt_model.specs.Steps.{Follows}
+use Rattle.pt_model.proofs.Histories.{history-push}
+use Rattle.pt_state.specs.declared.state.State.{State}
+use Rattle.pt_state.specs.declared.callers.Caller.{Caller}
+use Rattle.pt_state.specs.declared.object.Object.{Object}
+use Rattle.pt_state.specs.Callers.{AreCallers}
+use Rattle.pt_state.specs.Things.{AreThings}
+use Rattle.pt_state.specs.Logs.{logged, log, told_at}
+use Rattle.pt_state.specs.Reads.{Reads, IsRead}
+use Rattle.pt_state.specs.Adds.{pushed, past, IsNearly, Adds}
+
+module _ {A : Type 0} (s : State A) (e : Entry) (f : Follows (past s ▷ e)) where
+  pub adds : (new : State A) → new.stored ≡ pushed s.stored e
+      → AreCallers (past s ▷ e) new.clients → AreThings (past s ▷ e) new.objects
+      → new.clock ≡ clients_of.clock (past s ▷ e) → map logged new.answers.items ≡ log (past s ▷ e)
+      → vec_capacity new.answers ≡ vec_capacity s.answers
+      → vec_len new.answers ≡ vec_len s.answers + length (told (past s) e) → Adds s e new
+  adds new es cs os ck an held_as told_as =
+      record {
+        stored = es;
+        read = subst (λ (g : History). Reads g new.clients new.objects new.clock new.answers.items)
+            (sym here) (record {
+              follows = f;
+              callers = cs;
+              things = os;
+              clock = ck;
+              answers = an;
+            });
+        held = held_as;
+        told = told_as;
+      }
+    where
+      here : history new.stored.entries ≡ past s ▷ e
+      here = ap (λ (x : Stored). history x.entries) es ∙ history-push s.stored.entries e
+
+-- a call's own answer is added
+pub logged-one : (old new : List Answered) (k : ℕ) (h : History) (c : ℕ) (x : Outcome) → k ≡ place h
+    → new ≡ old ++ record { at = k; client = c; place = k; outcome = x } ∷ []
+    → map logged old ≡ log h
+    → map logged new ≡ log h ++ (place h, record { client = c; place = place h; outcome = x }) ∷ []
+logged-one old new k h c x ek en e =
+    ap (map logged) en
+    ∙ (map-append logged old (record { at = k; client = c; place = k; outcome = x } ∷ [])
+    ∙ (ap (λ us. us ++ (k, record { client = c; place = k; outcome = x }) ∷ []) e
+    ∙ ap (λ n. log h ++ (n, record { client = c; place = n; outcome = x }) ∷ []) ek))

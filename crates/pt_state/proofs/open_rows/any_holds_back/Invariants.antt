@@ -1,0 +1,11 @@
+use Rattle.std.proofs.Common.{◌≡◌, ℕ, ◌<◌, false}
+use Rattle.pt_table.specs.ClientRows.{nth_value}
+use Rattle.pt_plain.specs.Found.{passes}
+use Rattle.pt_state.specs.Callers.{open_in}
+use Rattle.pt_state.specs.OpenRows.{holds_back_at}
+use Rattle.pt_state.proofs.open_rows.any_holds_back.Given as goal
+
+abbrev pub invariant-loop-i : goal.invariant-loop-i
+invariant-loop-i g l =
+    (k : ℕ) → k < l.i
+    → passes (holds_back_at l.r l.priority) (open_in (nth_value l.clients k)) ≡ false

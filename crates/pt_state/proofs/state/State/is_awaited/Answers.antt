@@ -1,0 +1,11 @@
+use Rattle.std.proofs.Common.{◌∙◌}
+use Rattle.pt_model.specs.Histories.{history}
+use Rattle.pt_state.proofs.Asked.{awaited}
+use Rattle.pt_state.proofs.state.State.is_awaited.Goals as goal
+
+pub returns : goal.returns
+returns g c =
+    let tables = c.args.self.now in
+    c.any_stands_at.ensures
+    ∙ awaited (history tables.stored.entries) tables.clients c.requires.follows
+    c.requires.callers c.args.o
