@@ -19,15 +19,15 @@ use Rattle.pt_model.specs.Grants.{is_grantable, is_expired, grant_outcome}
 use Rattle.pt_model.specs.Verdicts.{verdict}
 use Rattle.pt_model.specs.Steps.{Step, joins, calls, dies, ticks, grants, trips, yields, expires, Follows}
 use Rattle.pt_model.proofs.Lists.{In-filter}
-use Rattle.pt_model.proofs.Effects.{Effect, Idle, Creates, Removes, Relocks, Frees, Mends, Returns, Wakes, Waits, stays, effect, Allowed}
+use Rattle.pt_model.proofs.Effects.{Effect, Idle, Creates, Removes, Relocks, Frees, Mends, Returns, Wakes, Waits, effect, Allowed}
 use Rattle.pt_model.proofs.Allowances.{allowed}
 use Rattle.pt_model.proofs.Changes.{left_by, takes_more, awaited, gives_up, resolved}
-use Rattle.pt_model.proofs.Unheld.{has}
 use Rattle.pt_model.proofs.Opens.{left, was_open, open-grant}
 use Rattle.pt_model.proofs.OneEach.{none_of_client, one_each}
 use Rattle.pt_model.proofs.Counts.{Balanced-follows, not_both, counted, count-call, count-grant, count-yield}
 use Rattle.pt_model.proofs.Owners.{for_mutex, outcome-mutex}
-use Rattle.pt_state.proofs.Locking.{may_count, takes-may, or_left, may_count-room, acquire-room, acquired_lost, grant_role}
+use Rattle.pt_model.proofs.Services.{or_true}
+use Rattle.pt_state.proofs.Locking.{may_count, takes-may, may_count-room, acquire-room, acquired_lost, grant_role}
 
 -- nobody holds a mutex more than 255 times, nor so often while it waits to have it back
 pub record CountsBound (h : History) : Type 0 where
@@ -41,7 +41,7 @@ pub relock-can : (h : History) (c : ℕ) (call : Asked) (m : ℕ)
     → can_acquire (mutex_view h m) c ≡ true
 relock-can h c call m e =
     let same : (m == m) ≡ true = grind (arith, nat_tests) in
-    or_left (is_none (owner h m)) (may_count h m c)
+    or_true (is_none (owner h m)) (may_count h m c)
     (takes-may h c call m (ap (λ E. takes_more E m) e ∙ same))
 
 -- who is granted a mutex can be given it, where the bounds hold
@@ -136,6 +136,7 @@ not_caller h c w none i = go (c == w.client) refl
     go true e = let same : w.client ≡ c = grind (arith, nat_tests) in absurd (none i same)
     go false e = refl
 
+-- each entry keeps the bounds
 pub CountsBound-step : (h : History) (e : Entry) → Follows h → CountsBound h → Step h e
     → CountsBound (h ▷ e)
 CountsBound-step h e f b (joins p n lt) =
@@ -230,6 +231,7 @@ CountsBound-step h _ f b (grants v s j g) =
         same true false false ez = refl
         same false y false ez = refl
 
+-- so they hold of each history
 pub CountsBound-follows : (h : History) → Follows h → CountsBound h
 CountsBound-follows Begin f =
     record { most = λ m c. omega arith; room = λ w m i r. absurd i }

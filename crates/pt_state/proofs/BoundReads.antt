@@ -1,5 +1,5 @@
 -- Read-write locks: nobody has more than 255 read locks, and whoever is granted one can have it.
-use Rattle.std.proofs.Common.{◌≡◌, ℕ, suc, ◌-◌, ◌<◌, ◌≤◌, ◌⊎◌, inl, inr, Bool, true, false, cond, not, ◌&&◌, ◌||◌, ◌==◌, nat_lt, nat_le, List, Option, Some, None, is_some, is_none, unwrap_or, refl, sym, ap, ◌∙◌, subst, arith}
+use Rattle.std.proofs.Common.{◌≡◌, ℕ, suc, ◌<◌, ◌≤◌, ◌⊎◌, inl, inr, Bool, true, false, cond, not, ◌&&◌, ◌||◌, ◌==◌, nat_lt, nat_le, List, Option, Some, None, is_some, is_none, unwrap_or, refl, sym, ap, ◌∙◌, subst, arith}
 use Rattle.std.proofs.lemmas.Bool.Decides.{nat_tests}
 use Rattle.std.proofs.lemmas.Bool.{and_parts, and_from, ltb-true, lt-ltb}
 use Rattle.pt_types.specs.declared.call.Call.{Call as Asked}
@@ -160,6 +160,7 @@ granted_most h v r c b i ForWrite e = b.most r c
 granted_most h v r c b i ForBarrier e = b.most r c
 granted_most h v r c b i (ForCond m) e = b.most r c
 
+-- each entry keeps the bounds
 pub ReadsBound-step : (h : History) (e : Entry) → Follows h → ReadsBound h → Step h e
     → ReadsBound (h ▷ e)
 ReadsBound-step h _ f b (joins p n lt) =
@@ -214,6 +215,7 @@ ReadsBound-step h _ f b (grants v s j g) =
         (there_false v.role (v.object == w.object) (v.client == w.client)
         (apart w i (v.client == w.client) refl))
 
+-- so they hold of each history
 pub ReadsBound-follows : (h : History) → Follows h → ReadsBound h
 ReadsBound-follows Begin f =
     record { most = λ r c. omega arith; room = λ w i r. absurd i }
@@ -228,6 +230,7 @@ pub read-room : (h : History) → Follows h → (w : Standing) → In w (open_ca
     → w.role ≡ ForRead → reads h w.object w.client < most_reads
 read-room h f w i r = (ReadsBound-follows h f).room w i r
 
+-- what isn't there is none
 unsome : (o : Option ℕ) → not (is_some o) ≡ true → is_none o ≡ true
 unsome None e = refl
 unsome (Some x) e = absurd cc

@@ -1,5 +1,7 @@
 pub mod AddLemmas
 pub mod Asked
+pub mod BadDeadlines
+pub mod BadVerdicts
 pub mod Bound
 pub mod BoundCounts
 pub mod BoundMutex
@@ -16,6 +18,7 @@ pub mod FindLemmas
 pub mod HeldAlive
 pub mod JudgeLemmas
 pub mod Locking
+pub mod NoBadDeadlines
 pub mod OpenRows
 pub mod RowLemmas
 pub mod RowLoops
