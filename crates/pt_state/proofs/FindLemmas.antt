@@ -1,5 +1,5 @@
 -- FindLemmas: what a name means is what the tables find under it.
-use Rattle.std.proofs.Common.{◌≡◌, ℕ, Bool, true, false, cond, List, Option, Some, None, refl, sym, ap, ◌∙◌}
+use Rattle.std.proofs.Common.{◌≡◌, ℕ, true, false, cond, List, Option, Some, None, refl, sym, ap, ◌∙◌}
 use Rattle.std.specs.Prelude.{option_map}
 use Rattle.pt_types.specs.declared.call.ObjectKind.{ObjectKind}
 use Rattle.pt_types.specs.Deeds.{Sort, sort_of, same_sort}
@@ -25,7 +25,9 @@ module _ {A : Type 0} (h : History) (follows : Follows h) (rows : List (ObjectRo
       go None k = refl
       go (Some o) k = absurd cc
 
-  sort_passes : (s : Sort) (o : Option (Object A)) (k : ObjectKind) → option_map kind_kept o ≡ Some k
+  -- the sort of what is kept is that of its kind
+  sort_passes : (s : Sort) (o : Option (Object A)) (k : ObjectKind)
+      → option_map kind_kept o ≡ Some k
       → passes (λ x. same_sort (sort_of (kind_kept x)) s) o ≡ same_sort (sort_of k) s
   sort_passes s None k e = absurd cc
   sort_passes s (Some x) k e =
@@ -38,7 +40,8 @@ module _ {A : Type 0} (h : History) (follows : Follows h) (rows : List (ObjectRo
       None
   find_some n s k e = go (object_named h n) refl (sym (are.names n) ∙ e)
     where
-      go : (o : Option Thing) → object_named h n ≡ o → option_map (λ (x : Thing). x.number) o ≡ Some k
+      go : (o : Option Thing) → object_named h n ≡ o
+          → option_map (λ (x : Thing). x.number) o ≡ Some k
           → number_as o s
           ≡ cond (passes (λ x. same_sort (sort_of (kind_kept x)) s) (object_value rows k)) (Some k)
           None
@@ -50,6 +53,7 @@ module _ {A : Type 0} (h : History) (follows : Follows h) (rows : List (ObjectRo
           rw (sort_passes s (object_value rows k) o.kind (are.look.kinds k ∙ made))
           (ap (λ z. cond (same_sort (sort_of o.kind) s) (Some z) None) same)
 
+  -- where it is of the sort, and where it isn't
   pub find_yes : (n : List ℕ) (s : Sort) (k : ℕ) → number_of rows n ≡ Some k
       → passes (λ x. same_sort (sort_of (kind_kept x)) s) (object_value rows k) ≡ true
       → find h n s ≡ Some k

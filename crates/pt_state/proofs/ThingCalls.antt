@@ -1,9 +1,8 @@
 -- ThingCalls: what is kept of all objects, behind a call that changes none of them but a count.
-use Rattle.std.proofs.Common.{◌≡◌, ℕ, Bool, true, false, cond, ◌⊎◌, inl, inr, ◌==◌, List, ◌∷◌, [], Option, Some, None, is_some, refl, sym, ap, ◌∙◌, subst, arith}
+use Rattle.std.proofs.Common.{◌≡◌, ℕ, Bool, true, false, cond, ◌⊎◌, inl, inr, ◌==◌, ◌∷◌, [], Option, Some, is_some, refl, sym, ap, ◌∙◌, subst, arith}
 use Rattle.std.proofs.lemmas.Bool.Decides.{nat_tests}
 use Rattle.std.specs.Prelude.{unwrap_or}
 use Rattle.pt_types.specs.declared.call.Call.{Call as Asked}
-use Rattle.pt_types.specs.declared.call.ObjectKind.{ObjectKind}
 use Rattle.pt_types.specs.Tables.{reply}
 use Rattle.pt_rwlock.specs.RwlockState.{RwlockState, row_of, reads_of, with_row, ChangesRow}
 use Rattle.pt_model.specs.declared.entry.Entry.TheVariants.{Call}
@@ -12,7 +11,7 @@ use Rattle.pt_model.specs.Objects.{kind_of}
 use Rattle.pt_model.specs.Records.{Role, ForMutex, ForRead, ForWrite, ForBarrier, ForCond, Standing}
 use Rattle.pt_model.specs.Searches.{In}
 use Rattle.pt_model.specs.Answers.{open_calls}
-use Rattle.pt_model.specs.Mutexes.{condition, mutex_view}
+use Rattle.pt_model.specs.Mutexes.{condition}
 use Rattle.pt_model.specs.Rwlocks.{writes, reads}
 use Rattle.pt_model.specs.Verdicts.{verdict}
 use Rattle.pt_model.specs.Steps.{Step, Follows}
@@ -24,7 +23,7 @@ use Rattle.pt_model.proofs.Opens.{was_open}
 use Rattle.pt_model.proofs.Counts.{Balanced-follows, count-call}
 use Rattle.pt_state.specs.declared.object.Object.{Object}
 use Rattle.pt_state.specs.declared.object.Object.TheVariants.{Rwlock}
-use Rattle.pt_state.specs.Things.{IsRwlock, ThingsLook}
+use Rattle.pt_state.specs.Things.{ThingsLook}
 use Rattle.pt_state.proofs.ThingKept.{HasRows, OldReaders, Quiet, things-still, things-quiet, things-one, rwlock-changed}
 use Rattle.pt_state.proofs.ThingEntries.{quiet-parts, old-readers}
 

@@ -1,15 +1,15 @@
 -- ThingChanges: what is kept of all objects, behind a call that changes one of them.
-use Rattle.std.proofs.Common.{◌≡◌, ℕ, suc, ◌+◌, ◌-◌, ◌<◌, Bool, true, false, cond, ◌&&◌, ◌==◌, nat_lt, inl, inr, List, Option, Some, None, refl, sym, ap, ◌∙◌, subst, arith}
+use Rattle.std.proofs.Common.{◌≡◌, ℕ, suc, ◌+◌, ◌-◌, ◌<◌, Bool, true, false, cond, ◌==◌, nat_lt, inl, inr, List, Option, Some, None, refl, sym, ap, ◌∙◌, subst, arith}
 use Rattle.std.proofs.lemmas.Bool.Decides.{nat_tests}
-use Rattle.std.proofs.lemmas.Bool.{ltb-true, false≢true}
+use Rattle.std.proofs.lemmas.Bool.{ltb-true}
 use Rattle.pt_types.specs.declared.call.Call.{Call as Asked}
 use Rattle.pt_types.specs.declared.call.ObjectKind.{ObjectKind}
 use Rattle.pt_types.specs.declared.call.ObjectKind.TheVariants as kind
 use Rattle.pt_types.specs.declared.outcome.Condition.{Condition}
 use Rattle.pt_types.specs.Deeds.{Sort}
 use Rattle.pt_types.specs.Tables.{reply}
-use Rattle.pt_types.specs.MutexTable.{MutexView, is_number, after_release, after_consistent}
-use Rattle.pt_mutex.specs.MutexState.{MutexState, acquired, released, freed, restored}
+use Rattle.pt_types.specs.MutexTable.{after_release, after_consistent}
+use Rattle.pt_mutex.specs.MutexState.{MutexState, acquired, released, restored}
 use Rattle.pt_model.specs.declared.entry.Entry.TheVariants.{Call}
 use Rattle.pt_model.specs.Histories.{History, place}
 use Rattle.pt_model.specs.Objects.{kind_of, mutex_kind, is_robust}
@@ -18,11 +18,10 @@ use Rattle.pt_model.specs.Searches.{In}
 use Rattle.pt_model.specs.Mutexes.{condition, owner, count, count_if, mutex_view}
 use Rattle.pt_model.specs.Verdicts.{verdict}
 use Rattle.pt_model.specs.Steps.{Step, Follows}
-use Rattle.pt_model.proofs.Effects.{Effect, Removes, Relocks, Frees, Mends, Waits, owning, Allowed}
+use Rattle.pt_model.proofs.Effects.{Effect, Removes, Relocks, Frees, Mends, Waits, owning}
 use Rattle.pt_model.proofs.Allowances.{allowed}
 use Rattle.pt_model.proofs.Changes.{left_by, kind_effect, takes_more, awaited, gives_up, mends, resolved}
 use Rattle.pt_model.proofs.Readings.{kind-call, condition-call}
-use Rattle.pt_model.proofs.Unheld.{has}
 use Rattle.pt_model.proofs.Counts.{Balanced-follows, owning-owner, owning-has, gives_up-owns, not_both, count-call}
 use Rattle.pt_model.proofs.Owners.{takes_owns}
 use Rattle.pt_model.proofs.Holders.{owner-call}

@@ -1,7 +1,7 @@
 -- ThingEntries: what is kept of all objects, behind each entry but calls and grants.
-use Rattle.std.proofs.Common.{◌≡◌, ℕ, suc, Bool, true, false, cond, ◌⊎◌, inl, inr, ◌==◌, nat_lt, Option, Some, None, refl, sym, ap, ◌∙◌, arith}
+use Rattle.std.proofs.Common.{◌≡◌, ℕ, suc, true, cond, ◌⊎◌, inl, inr, ◌==◌, nat_lt, Option, Some, None, refl, ap, ◌∙◌, arith}
 use Rattle.std.proofs.lemmas.Bool.Decides.{nat_tests}
-use Rattle.pt_types.specs.MutexTable.{MutexView, after_yield}
+use Rattle.pt_types.specs.MutexTable.{after_yield}
 use Rattle.pt_mutex.specs.MutexState.{MutexState, yielded}
 use Rattle.pt_model.specs.declared.entry.Entry.{Entry}
 use Rattle.pt_model.specs.declared.entry.Entry.TheVariants.{Join, Death, Moment, Trip, Yield, Expire}
@@ -10,7 +10,7 @@ use Rattle.pt_model.specs.Objects.{kind_of}
 use Rattle.pt_model.specs.Records.{Standing, ForRead}
 use Rattle.pt_model.specs.Searches.{In}
 use Rattle.pt_model.specs.Answers.{open_calls}
-use Rattle.pt_model.specs.Mutexes.{condition, owner, count, count_if, mutex_view}
+use Rattle.pt_model.specs.Mutexes.{condition, owner, count, mutex_view}
 use Rattle.pt_model.specs.Rwlocks.{writes, writer, reads}
 use Rattle.pt_model.specs.Steps.{Step, Follows}
 use Rattle.pt_model.proofs.Leasts.{first_below-same, first_below-more}

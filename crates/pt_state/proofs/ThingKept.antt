@@ -1,12 +1,11 @@
 -- ThingKept: what is kept of one object, and of all objects where one of them changes.
 use Rattle.std.proofs.Common.{◌≡◌, ℕ, Bool, true, false, cond, ◌==◌, Option, Some, None, is_some, option_map, refl, sym, ap, ◌∙◌, subst, arith}
 use Rattle.std.proofs.lemmas.Bool.Decides.{nat_tests}
-use Rattle.pt_types.specs.MutexTable.{MutexView}
+use Rattle.pt_types.specs.MutexTable.{MutexView, is_number}
 use Rattle.pt_types.specs.declared.call.MutexKind.{MutexKind}
-use Rattle.pt_types.specs.declared.call.ObjectKind.{ObjectKind}
 use Rattle.pt_types.specs.declared.call.ObjectKind.TheVariants as kind
 use Rattle.pt_mutex.specs.MutexState.{MutexState}
-use Rattle.pt_rwlock.specs.RwlockState.{RwlockState, row_of, reads_of}
+use Rattle.pt_rwlock.specs.RwlockState.{RwlockState, row_of}
 use Rattle.pt_model.specs.Histories.{History}
 use Rattle.pt_model.specs.Objects.{kind_of}
 use Rattle.pt_model.specs.Records.{Standing, ForRead}
@@ -15,8 +14,13 @@ use Rattle.pt_model.specs.Answers.{open_calls}
 use Rattle.pt_model.specs.Mutexes.{condition, owner, count, count_if, mutex_view}
 use Rattle.pt_model.specs.Rwlocks.{writer, reads}
 use Rattle.pt_state.specs.declared.object.Object.{Object}
-use Rattle.pt_state.specs.declared.object.Object.TheVariants.{Mutex, Rwlock, Cond, Barrier}
+use Rattle.pt_state.specs.declared.object.Object.TheVariants.{Mutex, Rwlock}
 use Rattle.pt_state.specs.Things.{IsMutex, IsRwlock, kind_kept, ThingsLook}
+
+-- a number that is known to be this one
+pub number-is : (o : Option ℕ) (c : ℕ) → is_number o c ≡ true → o ≡ Some c
+number-is None c e = absurd cc
+number-is (Some d) c e = let same : d ≡ c = grind (arith, nat_tests) in ap Some same
 
 -- who reads at the lock has a row
 abbrev pub HasRows : History → ℕ → RwlockState → Type 0

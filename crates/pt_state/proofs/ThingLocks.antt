@@ -1,31 +1,29 @@
 -- ThingLocks: what is kept of all objects, behind a call that makes one or gives back a lock.
-use Rattle.std.proofs.Common.{◌≡◌, ℕ, suc, ◌-◌, ◌<◌, Bool, true, false, cond, ◌&&◌, ◌==◌, List, Option, Some, None, is_some, refl, sym, ap, ◌∙◌, subst, arith}
+use Rattle.std.proofs.Common.{◌≡◌, ℕ, suc, ◌-◌, ◌<◌, Bool, true, false, cond, ◌==◌, List, Option, Some, None, refl, sym, ap, ◌∙◌, subst, arith}
 use Rattle.std.proofs.lemmas.Bool.Decides.{nat_tests}
-use Rattle.std.proofs.lemmas.Bool.{false≢true}
 use Rattle.pt_types.specs.declared.call.Call.{Call as Asked}
 use Rattle.pt_types.specs.declared.call.MutexKind.{MutexKind}
 use Rattle.pt_types.specs.declared.call.ObjectKind.{ObjectKind}
 use Rattle.pt_types.specs.declared.call.ObjectKind.TheVariants as kind
 use Rattle.pt_types.specs.declared.outcome.Condition.TheVariants.{Consistent}
-use Rattle.pt_types.specs.Deeds.{RwlockSort}
 use Rattle.pt_types.specs.Tables.{reply}
 use Rattle.pt_types.specs.MutexTable.{is_number}
 use Rattle.pt_mutex.specs.MutexState.{MutexState, made as made_mutex}
-use Rattle.pt_rwlock.specs.RwlockState.{RwlockState, row_of, reads_of, released, ChangesRow, made as made_rwlock}
+use Rattle.pt_rwlock.specs.RwlockState.{RwlockState, reads_of, released, ChangesRow, made as made_rwlock}
 use Rattle.pt_model.specs.declared.entry.Entry.TheVariants.{Call}
 use Rattle.pt_model.specs.Histories.{History, place}
 use Rattle.pt_model.specs.Objects.{kind_of}
-use Rattle.pt_model.specs.Records.{Role, ForRead, Standing, Move}
+use Rattle.pt_model.specs.Records.{Role, ForRead, Standing}
 use Rattle.pt_model.specs.Searches.{In}
 use Rattle.pt_model.specs.Answers.{open_calls}
 use Rattle.pt_model.specs.Moves.{moved}
-use Rattle.pt_model.specs.Mutexes.{condition, owner, mutex_view}
+use Rattle.pt_model.specs.Mutexes.{condition, mutex_view}
 use Rattle.pt_model.specs.Rwlocks.{read_given_back, writes, reads, writer}
 use Rattle.pt_model.specs.Verdicts.{verdict}
 use Rattle.pt_model.specs.Steps.{Step, Follows}
 use Rattle.pt_model.proofs.Leasts.{first_below-passes, first_below-nowhere}
-use Rattle.pt_model.proofs.Effects.{Effect, Creates, Returns}
-use Rattle.pt_model.proofs.Changes.{kind_effect, resolved}
+use Rattle.pt_model.proofs.Effects.{Creates, Returns}
+use Rattle.pt_model.proofs.Changes.{resolved}
 use Rattle.pt_model.proofs.Readings.{kind-call, condition-call, writes-call, reads-call}
 use Rattle.pt_model.proofs.Apart.{owner-unmade}
 use Rattle.pt_model.proofs.Seats.{HousedBy, housed}
@@ -33,11 +31,11 @@ use Rattle.pt_model.proofs.Rwlocks.{alone, writes-writer}
 use Rattle.pt_model.proofs.Holders.{owner-call}
 use Rattle.pt_state.specs.declared.object.Object.{Object}
 use Rattle.pt_state.specs.declared.object.Object.TheVariants.{Mutex, Rwlock, Cond, Barrier}
-use Rattle.pt_state.specs.Things.{IsMutex, IsRwlock, IsNew, ThingsLook}
-use Rattle.pt_state.proofs.ThingKept.{HasRows, OldReaders, IsKept, kept-mutex, kept-rwlock, rwlock-changed}
+use Rattle.pt_state.specs.Things.{IsRwlock, IsNew, ThingsLook}
+use Rattle.pt_state.proofs.ThingKept.{number-is, OldReaders, IsKept, kept-mutex, kept-rwlock, rwlock-changed}
 use Rattle.pt_state.proofs.ThingEntries.{writer-same}
-use Rattle.pt_state.proofs.ThingUnmade.{Unmade, unmade-all, writer-unmade, lock-below}
-use Rattle.pt_state.proofs.ThingCalls.{does, behind, Spares, call-readers, reads-changed, rows-changed}
+use Rattle.pt_state.proofs.ThingUnmade.{unmade-all, writer-unmade, lock-below}
+use Rattle.pt_state.proofs.ThingCalls.{does, behind, call-readers, reads-changed, rows-changed}
 use Rattle.pt_state.proofs.ThingChanges.{view-parts, call-one}
 
 -- who waits for a read lock does so at one that exists
@@ -142,10 +140,6 @@ module _ {A : Type 0} (h : History) (look look' : ℕ → Option (Object A)) (c 
       })
       (λ w i r. i) (new_kept n k e x new)
 
-numbered : (o : Option ℕ) (c : ℕ) → is_number o c ≡ true → o ≡ Some c
-numbered None c e = absurd cc
-numbered (Some d) c e = let same : d ≡ c = grind (arith, nat_tests) in ap Some same
-
 -- a lock that its writer or a reader gives back
 module _ (h : History) (c : ℕ) (call : Asked) (f : Follows h)
     (s : Step h (Call c call (reply (verdict h c call)))) (o : ℕ)
@@ -178,7 +172,7 @@ module _ (h : History) (c : ℕ) (call : Asked) (f : Follows h)
       wrote : writes h o c ≡ true
       wrote =
           first_below-passes (place h) (λ d. writes h o d) c
-          (sym old.writer ∙ numbered r.writer c b)
+          (sym old.writer ∙ number-is r.writer c b)
 
       unwritten : (d : ℕ) (x : Bool) → (c == d) ≡ x → cond x false (writes h o d) ≡ false
       unwritten d true ex = refl

@@ -1,18 +1,14 @@
 -- ThingUnmade: what is read off of objects that aren't made yet.
-use Rattle.std.proofs.Common.{◌≡◌, ℕ, suc, ◌<◌, ◌≤◌, Bool, true, false, cond, ◌&&◌, ◌==◌, Option, Some, None, refl, sym, ap, ◌∙◌, arith}
+use Rattle.std.proofs.Common.{◌≡◌, ℕ, ◌<◌, ◌≤◌, Bool, true, false, cond, ◌&&◌, ◌==◌, Option, Some, None, refl, sym, ap, ◌∙◌, arith}
 use Rattle.std.proofs.lemmas.Bool.Decides.{nat_tests}
 use Rattle.std.proofs.lemmas.Bool.{and_parts, false≢true}
-use Rattle.pt_types.specs.declared.outcome.Condition.{Condition}
 use Rattle.pt_types.specs.declared.outcome.Condition.TheVariants.{Consistent}
-use Rattle.pt_types.specs.Deeds.{Sort, RwlockSort}
-use Rattle.pt_types.specs.MutexTable.{after_yield}
+use Rattle.pt_types.specs.Deeds.{RwlockSort}
 use Rattle.pt_types.specs.Tables.{reply}
 use Rattle.pt_model.specs.declared.entry.Entry.{Entry}
 use Rattle.pt_model.specs.Histories.{History, Begin, ◌▷◌, place}
 use Rattle.pt_model.specs.Objects.{kind_of, is_robust}
-use Rattle.pt_model.specs.Records.{Role, ForMutex, ForRead, ForWrite, ForBarrier, ForCond, Standing, Move}
-use Rattle.pt_model.specs.Searches.{In}
-use Rattle.pt_model.specs.Answers.{open_calls}
+use Rattle.pt_model.specs.Records.{Role, ForMutex, ForRead, ForWrite, ForBarrier, ForCond, Move}
 use Rattle.pt_model.specs.Moves.{moved}
 use Rattle.pt_model.specs.Mutexes.{owner, condition}
 use Rattle.pt_model.specs.Rwlocks.{reads_there, writes_there, read_given_back, writes, reads, writer}

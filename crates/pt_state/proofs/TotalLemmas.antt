@@ -37,7 +37,8 @@ number_in row = row.number
 abbrev pub in_row : (Open → ℕ) → ClientRow Caller → ℕ
 in_row g row = counted g row.value.open
 
-flipped : (a b : ℕ) → (a == b) ≡ (b == a)
+-- whether two numbers are one, asked the other way
+pub flipped : (a b : ℕ) → (a == b) ≡ (b == a)
 flipped a b = go (b == a) refl
   where
     go : (x : Bool) → (b == a) ≡ x → (a == b) ≡ x
@@ -60,7 +61,7 @@ rows-worth g (row ∷ rows) c =
     go false ih = ih
 
 -- and the first call of a client for what is found of it
-calls-worth : (f : Standing → ℕ) (ws : List Standing) (c : ℕ)
+pub calls-worth : (f : Standing → ℕ) (ws : List Standing) (c : ℕ)
     → worth caller_of f ws c ≡ counted f (call_of ws c)
 calls-worth f [] c = refl
 calls-worth f (w ∷ ws) c = go (w.client == c) (calls-worth f ws c)
@@ -81,6 +82,7 @@ total-rows g (row ∷ rows) = go row.value.open (total-rows g rows)
     go None ih = omega (arith, ih)
     go (Some o) ih = ap (λ n. g o + n) ih
 
+-- no two rows have one number
 rows_lone : (rows : List (ClientRow Caller)) → Once rows → Lone number_in rows
 rows_lone [] a = tt
 rows_lone (row ∷ rows) a = (a.0, rows_lone rows a.1)
@@ -89,9 +91,10 @@ rows_lone (row ∷ rows) a = (a.0, rows_lone rows a.1)
 calls_lone : (ws : List Standing) → Apart ws
     → ((v w : Standing) → In v ws → In w ws → v.client ≡ w.client → v ≡ w) → Lone caller_of ws
 calls_lone [] a one = tt
-calls_lone (w ∷ ws) a one =
-    (false_by (list_any (λ (v : Standing). v.client == w.client) ws) other,
-    calls_lone ws a.1 (λ u v i j. one u v (inr i) (inr j)))
+calls_lone (w ∷ ws) a one = (
+  false_by (list_any (λ (v : Standing). v.client == w.client) ws) other,
+  calls_lone ws a.1 (λ u v i j. one u v (inr i) (inr j)),
+)
   where
     other : list_any (λ (v : Standing). v.client == w.client) ws ≡ true → ⊥
     other t =
@@ -134,8 +137,13 @@ some_mapped : {X Y : Type 0} (f : X → Y) (o : Option X) → is_some (option_ma
 some_mapped f None = refl
 some_mapped f (Some x) = refl
 
+-- no client has two open calls
+pub lone-calls : (h : History) → Follows h → Lone caller_of (open_calls h)
+lone-calls h follows = calls_lone (open_calls h) (open_apart h follows) (one_each h follows)
+
 module _ (h : History) (follows : Follows h) (rows : List (ClientRow Caller))
     (are : AreCallers h rows) where
+  -- the clients of the rows joined before, and so did those of the open calls
   rows_below : Each (λ row. number_in row < place h) rows
   rows_below =
       Each-from_in (λ row. number_in row < place h) rows
@@ -149,6 +157,28 @@ module _ (h : History) (follows : Follows h) (rows : List (ClientRow Caller))
       Each-from_in (λ w. caller_of w < place h) (open_calls h)
       (λ w i. alive_below h w.client (Fresh-follows h follows) (open_alive h w i))
 
+  -- what the open call in a client's row counts for, its open call does
+  pub counted-client : (f : Standing → ℕ) (g : Open → ℕ)
+      → ((o : Open) → In (shown o.call) (open_calls h)
+      → option_map shown_move o.moved ≡ moved h o.call.place → g o ≡ f (shown o.call))
+      → (c : ℕ) → counted g (open_in (client_value rows c)) ≡ counted f (call_of (open_calls h) c)
+  counted-client f g each c =
+      go (open_in (client_value rows c)) (call_of (open_calls h) c) (are.look.calls c) refl
+      (are.look.moves c)
+    where
+      go : (o : Option Open) (m : Option Standing)
+          → option_map (λ (x : Open). shown x.call) o ≡ m → call_of (open_calls h) c ≡ m
+          → ((w : Standing) → call_of (open_calls h) c ≡ Some w
+          → option_and_then (λ (x : Open). option_map shown_move x.moved) o ≡ moved h w.place)
+          → counted g o ≡ counted f m
+      go None None e k mv = refl
+      go None (Some w) e k mv = absurd cc
+      go (Some o) None e k mv = absurd cc
+      go (Some o) (Some w) e k mv =
+          let same : shown o.call ≡ w = cc in
+          let at : call_of (open_calls h) c ≡ Some (shown o.call) = k ∙ ap Some (sym same) in
+          each o (called_in (open_calls h) c (shown o.call) at) (mv (shown o.call) at) ∙ ap f same
+
   -- the sum over the open calls in the rows is that over all open calls
   pub total-calls : (f : Standing → ℕ) (g : Open → ℕ)
       → ((o : Open) → In (shown o.call) (open_calls h)
@@ -158,30 +188,10 @@ module _ (h : History) (follows : Follows h) (rows : List (ClientRow Caller))
       sym (total-rows g rows)
       ∙ (total-worth number_in (in_row g) (place h) rows (rows_lone rows are.once) rows_below
       ∙ (sum_below-same (place h) (worth number_in (in_row g) rows)
-      (worth caller_of f (open_calls h)) termwise
-      ∙ sym (total-worth caller_of f (place h) (open_calls h)
-      (calls_lone (open_calls h) (open_apart h follows) (one_each h follows)) calls_below)))
-    where
-      found : (c : ℕ) (o : Option Open) (m : Option Standing)
-          → option_map (λ (x : Open). shown x.call) o ≡ m → call_of (open_calls h) c ≡ m
-          → ((w : Standing) → call_of (open_calls h) c ≡ Some w
-          → option_and_then (λ (x : Open). option_map shown_move x.moved) o ≡ moved h w.place)
-          → counted g o ≡ counted f m
-      found c None None e k mv = refl
-      found c None (Some w) e k mv = absurd cc
-      found c (Some o) None e k mv = absurd cc
-      found c (Some o) (Some w) e k mv =
-          let same : shown o.call ≡ w = cc in
-          let at : call_of (open_calls h) c ≡ Some (shown o.call) = k ∙ ap Some (sym same) in
-          each o (called_in (open_calls h) c (shown o.call) at) (mv (shown o.call) at) ∙ ap f same
-
-      termwise : (c : ℕ) → worth number_in (in_row g) rows c
-          ≡ worth caller_of f (open_calls h) c
-      termwise c =
-          rows-worth g rows c
-          ∙ (found c (open_in (client_value rows c)) (call_of (open_calls h) c)
-          (are.look.calls c) refl (are.look.moves c)
-          ∙ sym (calls-worth f (open_calls h) c))
+      (worth caller_of f (open_calls h))
+      (λ c. rows-worth g rows c
+      ∙ (counted-client f g each c ∙ sym (calls-worth f (open_calls h) c)))
+      ∙ sym (total-worth caller_of f (place h) (open_calls h) (lone-calls h follows) calls_below)))
 
 -- sums over the open calls in the rows are sums over all open calls
 pub total-opens : (h : History) (rows : List (ClientRow Caller)) → Follows h → AreCallers h rows
@@ -193,6 +203,7 @@ total-opens h rows follows are f g each =
     sum-total g (opens_of rows) ∙ (total-calls h follows rows are f g each
     ∙ sym (sum-total f (open_calls h)))
 
+-- how many pass a test is a sum, in which each of them counts for one
 pub length-total : {X : Type 0} (p : X → Bool) (xs : List X)
     → length (filter p xs) ≡ total (λ x. one_if (p x)) xs
 length-total p [] = refl

@@ -1,9 +1,13 @@
 pub mod Adds
+pub mod Arrivals
 pub mod Callers
 pub mod Counts
+pub mod Granting
 pub mod Kept
 pub mod Logs
+pub mod Needed
 pub mod OpenRows
 pub mod Reads
+pub mod Serving
 pub mod Things
 pub mod Writes
