@@ -1,5 +1,5 @@
 -- One entry more: the tables that are read off with it.
-use Rattle.std.proofs.Common.{◌≡◌, ℕ, ◌+◌, List, [], ◌∷◌, ◌++◌, Option, map, length, refl, sym, ap, ◌∙◌, subst, arith}
+use Rattle.std.proofs.Common.{◌≡◌, ℕ, ◌+◌, List, [], ◌∷◌, ◌++◌, Option, None, map, length, refl, sym, ap, ◌∙◌, subst, arith}
 use Rattle.std.specs.Prelude.{vec_len, vec_capacity}
 use Rattle.std.proofs.lemmas.List.{map-append}
 use Rattle.pt_types.specs.declared.outcome.Outcome.{Outcome}
@@ -9,7 +9,7 @@ use Rattle.pt_table.specs.declared.clients.ClientRow.{ClientRow}
 use Rattle.pt_table.specs.declared.objects.ObjectRow.{ObjectRow}
 use Rattle.pt_history.specs.Stored.{Stored}
 use Rattle.pt_model.specs.declared.entry.Entry.{Entry}
-use Rattle.pt_model.specs.Histories.{History, ◌▷◌, place, history}
+use Rattle.pt_model.specs.Histories.{History, Begin, ◌▷◌, place, history}
 use Rattle.pt_model.specs.Clients as clients_of
 use Rattle.pt_model.specs.Records.{Told}
 use Rattle.pt_model.specs.Answers.{told}
@@ -58,3 +58,32 @@ logged-one old new k h c x ek en e =
     ∙ (map-append logged old (record { at = k; client = c; place = k; outcome = x } ∷ [])
     ∙ (ap (λ us. us ++ (k, record { client = c; place = k; outcome = x }) ∷ []) e
     ∙ ap (λ n. log h ++ (n, record { client = c; place = n; outcome = x }) ∷ []) ek))
+
+-- before the first entry all tables are empty
+pub reads-begin : {A : Type 0} → Reads {A = A} Begin [] [] None []
+reads-begin =
+    record {
+      follows = tt;
+      callers = record {
+        look = record {
+          living = λ c. refl;
+          calls = λ c. refl;
+          moves = λ c w e. absurd cc;
+          latest = λ c v e. absurd cc;
+        };
+        many = refl;
+        once = tt;
+      };
+      things = record {
+        look = record {
+          kinds = λ o. refl;
+          mutexes = λ o m e. absurd cc;
+          rwlocks = λ o r e. absurd cc;
+        };
+        names = λ n. refl;
+        rising = tt;
+        many = refl;
+      };
+      clock = refl;
+      answers = refl;
+    }

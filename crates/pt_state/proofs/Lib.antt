@@ -28,6 +28,7 @@ pub mod NeedLemmas
 pub mod NoBadDeadlines
 pub mod OpenRows
 pub mod Orphans
+pub mod PushLemmas
 pub mod RobustLemmas
 pub mod RowLemmas
 pub mod RowLoops

@@ -1,3 +1,6 @@
+ghost use Rattle.std.specs.Prelude.{◌≡◌, [], vec_len};
+ghost use Rattle.pt_state.specs.Reads.{IsRead};
+
 use crate::callers::Caller;
 use crate::object::Object;
 use crate::replies::Answered;
@@ -15,4 +18,22 @@ pub struct State<A: Allocator + Copy = Global> {
     pub clock: Option<Moment>,
     pub answers: Vec<Answered, A>,
     pub alloc: A,
+}
+
+impl<A: Allocator + Copy> State<A> {
+    /// No entry, of at most so many. It takes no memory.
+    pub fn new(alloc: A, limit: u32) -> State<A>
+        ensures stored { result.stored ≡ record { entries = []; limit = limit; room = 0 } }
+        ensures answers { vec_len result.answers ≡ 0 }
+        ensures read { IsRead result }
+    {
+        State {
+            stored: History::with_limit(alloc, limit),
+            clients: Clients::new(alloc),
+            objects: Objects::new(alloc),
+            clock: None,
+            answers: Vec::new(alloc),
+            alloc,
+        }
+    }
 }
