@@ -5,3 +5,5 @@ mod RoomLemmas
 mod ApplyingLemmas
 mod AnsweringLemmas
 mod DeadlineLemmas
+mod WholeLemmas
+mod OpenLemmas

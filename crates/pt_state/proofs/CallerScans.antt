@@ -1,13 +1,12 @@
 -- Rows of clients, where what stands in the first ones is rewritten, and in one more.
-use Rattle.std.proofs.Common.{◌≡◌, ℕ, zero, suc, ◌+◌, ◌≤◌, Bool, true, false, cond, nat_eq, List, [], ◌∷◌, map, length, slice_get, Option, Some, None, option_map, refl, sym, ap, ◌∙◌, arith}
-use Rattle.std.proofs.lemmas.Bool.{eq-eqb}
+use Rattle.std.proofs.Common.{◌≡◌, ℕ, zero, suc, ◌+◌, ◌≤◌, Bool, true, false, cond, nat_eq, List, [], ◌∷◌, map, length, Option, Some, None, option_map, refl, sym, ap, ◌∙◌, arith}
 use Rattle.std.proofs.lemmas.Bool.Decides.{nat_tests}
 use Rattle.pt_table.specs.declared.clients.ClientRow.{ClientRow}
 use Rattle.pt_table.specs.ClientRows.{client_at, client_value, with_client, nth_number, nth_value}
 use Rattle.pt_state.specs.declared.callers.Caller.{Caller}
 use Rattle.pt_state.specs.Callers.{Once}
 use Rattle.pt_state.specs.Writes.{RewritesCallers, rewritten_nth}
-use Rattle.pt_state.proofs.RowLemmas.{Apart, Apart-map, length-map, row-map, one_changed, found-number, value-map}
+use Rattle.pt_state.proofs.RowLemmas.{Apart, Apart-map, length-map, value-map}
 use Rattle.pt_state.proofs.CallerWrites.{number_in, value_in, apart-once, once-apart}
 
 module _ (g : Caller → Caller) where

@@ -1,13 +1,17 @@
 pub mod Adds
 pub mod Arrivals
 pub mod Callers
+pub mod Calling
 pub mod Counts
 pub mod Granting
 pub mod Kept
+pub mod Left
 pub mod Logs
 pub mod Needed
 pub mod OpenRows
+pub mod Outer
 pub mod Reads
 pub mod Serving
 pub mod Things
+pub mod Views
 pub mod Writes

@@ -1,5 +1,5 @@
 -- Writes: rows of the tables before and after some of them are written.
-use Rattle.std.specs.Prelude.{ℕ, zero, suc, ◌+◌, ◌≡◌, ◌==◌, ◌&&◌, Bool, List, [], ◌∷◌, Option, Some, None, is_none, length, option_map, if◌then◌else◌}
+use Rattle.std.specs.Prelude.{ℕ, zero, suc, ◌+◌, ◌≡◌, ◌==◌, ◌&&◌, Bool, List, [], ◌∷◌, Some, None, is_none, length, option_map, if◌then◌else◌}
 use Rattle.pt_table.specs.declared.clients.ClientRow.{ClientRow}
 use Rattle.pt_table.specs.declared.objects.ObjectRow.{ObjectRow}
 use Rattle.pt_table.specs.ClientRows.{client_value}
@@ -55,8 +55,9 @@ abbrev pub arrived_at : ℕ → Open → Bool
 arrived_at b o = is_arrival (shown o.call).role && ((shown o.call).object == b)
 
 -- whether it stands at the condition, and isn't moved  [XSH pthread_cond_wait]
-abbrev pub waits_at : ℕ → Open → Bool
-waits_at q o = is_wait (shown o.call).role && (is_none o.moved && ((shown o.call).object == q))
+abbrev pub still_waits_at : ℕ → Open → Bool
+still_waits_at q o =
+    is_wait (shown o.call).role && (is_none o.moved && ((shown o.call).object == q))
 
 -- a row after the barrier let its calls go on  [XSH pthread_barrier_wait]
 abbrev pub closed_at : ℕ → Caller → Caller
@@ -64,7 +65,7 @@ closed_at b v = if has_open (arrived_at b) v then closed v else v
 
 -- a row after a broadcast at the condition, by the entry at place k  [XSH pthread_cond_broadcast]
 abbrev pub woken_at : ℕ → ℕ → Cause → Caller → Caller
-woken_at q k cause v = if has_open (waits_at q) v then moved_at k cause v else v
+woken_at q k cause v = if has_open (still_waits_at q) v then moved_at k cause v else v
 
 module _ {A : Type 0} where
   -- no name stands in two rows  [profile]
@@ -85,7 +86,8 @@ module _ {A : Type 0} where
   pub record AddsObject (old new : List (ObjectRow (Object A))) (o : ℕ) (name : List ℕ)
       (x : Object A) : Type 0 where
     pub look : (p : ℕ) → object_value new p ≡ if o == p then Some x else object_value old p
-    pub names : (n : List ℕ) → number_of new n ≡ if same_name name n then Some o else number_of old n
+    pub names : (n : List ℕ)
+        → number_of new n ≡ if same_name name n then Some o else number_of old n
     pub rising : Rising new (o + 1)
     pub many : length new ≡ length old + 1
     pub once : NamesOnce old → NamesOnce new

@@ -101,7 +101,7 @@ impl<A: Allocator + Copy> State<A> {
     }
 
     /// The place of a client's open call.  [profile]
-    pub(crate) fn open_place(&self, c: ClientId) -> Option<u64>
+    pub fn open_place(&self, c: ClientId) -> Option<u64>
         requires { IsRead self.now }
         ensures { result ≡ open_place_in (history self.now.stored.entries) c }
     {

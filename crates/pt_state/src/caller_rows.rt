@@ -2,7 +2,7 @@ ghost use Rattle.std.specs.Prelude.{ℕ, ◌≡◌, ◌<◌, true, false, Some, 
 ghost use Rattle.pt_types.specs.Limits.{most_clients};
 ghost use Rattle.pt_table.specs.ClientRows.{client_value, has_client};
 ghost use Rattle.pt_state.specs.Callers.{Once, has_open, closed, called_at, moved_at, open_moved_at};
-ghost use Rattle.pt_state.specs.Writes.{WritesCaller, AddsCaller, RemovesCaller, RewritesCallers, arrived_at, waits_at, closed_at, woken_at, rewritten_nth};
+ghost use Rattle.pt_state.specs.Writes.{WritesCaller, AddsCaller, RemovesCaller, RewritesCallers, arrived_at, still_waits_at, closed_at, woken_at, rewritten_nth};
 
 use crate::callers::{Caller, Open};
 use pt_model::Cause;
@@ -40,7 +40,8 @@ pub(crate) fn stand<A: Allocator + Copy>(
     place: u64,
 )
     ensures { (v : Caller) → client_value clients.old c ≡ Some v
-        → WritesCaller clients.old clients.new c (record v { «open» = Some «open»; latest = Some place }) }
+        → WritesCaller clients.old clients.new c
+        (record v { «open» = Some «open»; latest = Some place }) }
 {
     if let Some(row) = clients.at_mut(c) {
         row.open = Some(open);
@@ -150,7 +151,7 @@ pub(crate) fn close_arrivals<A: Allocator + Copy>(clients: &mut Clients<Caller, 
 
 // Whether the client's open call is a wait with the condition that isn't moved.
 fn is_waiting(caller: &Caller, q: ObjectId) -> bool
-    ensures { result ≡ has_open (waits_at q) caller.now }
+    ensures { result ≡ has_open (still_waits_at q) caller.now }
 {
     match &caller.open {
         Some(open) => { is_wait(open.call.role) && open.moved.is_none() && open.call.object == q.0 }

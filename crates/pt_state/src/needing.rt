@@ -183,7 +183,7 @@ impl<A: Allocator + Copy> State<A> {
 
     /// The entries kept behind the entry of an event that isn't refused, where none is forced.
     /// [profile]
-    pub(crate) fn need_after(&self, entry: &Entry) -> u64
+    pub fn need_after(&self, entry: &Entry) -> u64
         requires read { IsRead self.now }
         requires forced { forced (history self.now.stored.entries) ≡ None }
         requires admits { Admits (history self.now.stored.entries) entry.now }

@@ -247,7 +247,7 @@ impl<A: Allocator + Copy> State<A> {
 
     /// What must follow, if anything: service, then yields, then deadlines.
     /// [XSH pthread_mutex_unlock, pthread_mutex_lock EOWNERDEAD, pthread_mutex_timedlock]
-    pub(crate) fn next_forced(&self) -> Option<Forced>
+    pub fn next_forced(&self) -> Option<Forced>
         requires { IsRead self.now }
         ensures entry { option_map (entry_of (history self.now.stored.entries)) result
             ≡ forced_in (history self.now.stored.entries) }

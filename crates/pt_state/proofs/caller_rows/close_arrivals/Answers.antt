@@ -1,4 +1,4 @@
-use Rattle.std.proofs.Common.{◌≡◌, ◌≤◌, sym, ap, ◌∙◌, arith, length}
+use Rattle.std.proofs.Common.{◌≤◌, sym, ap, ◌∙◌, arith, length}
 use Rattle.pt_state.specs.Writes.{closed_at, rewritten_nth}
 use Rattle.pt_state.proofs.CallerScans.{first-none, first-more, first-once, rewrites-all}
 use Rattle.pt_state.proofs.caller_rows.close_arrivals.Goals as goal

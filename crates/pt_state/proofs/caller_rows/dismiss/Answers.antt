@@ -1,4 +1,3 @@
-use Rattle.std.proofs.Common.{◌≡◌, sym}
 use Rattle.pt_state.proofs.CallerWrites.{removes-caller}
 use Rattle.pt_state.proofs.caller_rows.dismiss.Goals as goal
 

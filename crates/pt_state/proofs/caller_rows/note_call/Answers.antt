@@ -1,4 +1,3 @@
-use Rattle.std.proofs.Common.{Some}
 use Rattle.pt_state.specs.Callers.{called_at}
 use Rattle.pt_state.proofs.CallerWrites.{writes-by}
 use Rattle.pt_state.proofs.caller_rows.note_call.Goals as goal

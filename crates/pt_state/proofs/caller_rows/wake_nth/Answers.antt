@@ -1,6 +1,6 @@
-use Rattle.std.proofs.Common.{sym, ap, ◌∙◌}
+use Rattle.std.proofs.Common.{sym, ◌∙◌}
 use Rattle.pt_state.specs.Callers.{moved_at, has_open}
-use Rattle.pt_state.specs.Writes.{waits_at, woken_at}
+use Rattle.pt_state.specs.Writes.{still_waits_at, woken_at}
 use Rattle.pt_state.proofs.CallerScans.{nth-none, nth-same, nth-written, nth-absent, by-true, by-false}
 use Rattle.pt_state.proofs.caller_rows.wake_nth.Goals as goal
 
@@ -14,7 +14,7 @@ returns-then-not-is_waiting g c =
     let v = c.in-Some.caller.now in
     sym (nth-same (woken_at c.args.q c.args.at c.args.cause) c.args.clients.now c.args.index v
     (sym c.in-Some.ensures.value)
-    (by-false (has_open (waits_at c.args.q) v) (moved_at c.args.at c.args.cause v) v
+    (by-false (has_open (still_waits_at c.args.q) v) (moved_at c.args.at c.args.cause v) v
     (sym c.if-not-is_waiting.ensures)))
 
 pub returns-in-Some-at_mut : goal.returns-in-Some-at_mut
@@ -25,7 +25,7 @@ returns-in-Some-at_mut g c =
     (nth-written (woken_at c.args.q c.args.at c.args.cause) woken c.args.clients.now c.args.index
     c.in-Some.c v c.in-Some-at_mut.row.now c.requires (sym c.in-Some.ensures.number)
     (sym c.in-Some.ensures.value) c.in-Some-at_mut.ensures.value
-    (by-true (has_open (waits_at c.args.q) v) (woken v) v
+    (by-true (has_open (still_waits_at c.args.q) v) (woken v) v
     (sym c.is_waiting.ensures ∙ c.if-not-is_waiting.false)))
 
 pub returns-in_default-at_mut : goal.returns-in_default-at_mut

@@ -1,4 +1,4 @@
-use Rattle.std.proofs.Common.{◌≡◌, ◌≤◌, sym, ap, ◌∙◌, arith, length}
+use Rattle.std.proofs.Common.{◌≤◌, sym, ap, ◌∙◌, arith, length}
 use Rattle.pt_state.specs.Writes.{woken_at, rewritten_nth}
 use Rattle.pt_state.proofs.CallerScans.{first-none, first-more, first-once, rewrites-all}
 use Rattle.pt_state.proofs.caller_rows.wake_waits.Goals as goal
@@ -14,10 +14,12 @@ wake_nth-requires g c =
 pub loop-i-preserved : goal.loop-i-preserved
 loop-i-preserved g c =
     c.wake_nth.ensures
-    ∙ ap (λ rows. rewritten_nth (woken_at c.args.q c.args.at c.args.cause) rows c.loop-i.i) c.loop-i.invariant
+    ∙ ap (λ rows. rewritten_nth (woken_at c.args.q c.args.at c.args.cause) rows c.loop-i.i)
+    c.loop-i.invariant
     ∙ first-more (woken_at c.args.q c.args.at c.args.cause) c.args.clients.now c.loop-i.i
 
 pub returns : goal.returns
 returns g c =
     let all : length c.args.clients.now ≤ c.loop-i.i = omega (arith, c.len-i-end.ensures.len) in
-    rw c.loop-i.invariant (rewrites-all (woken_at c.args.q c.args.at c.args.cause) c.args.clients.now c.loop-i.i all)
+    rw c.loop-i.invariant
+    (rewrites-all (woken_at c.args.q c.args.at c.args.cause) c.args.clients.now c.loop-i.i all)
