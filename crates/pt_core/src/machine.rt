@@ -14,10 +14,8 @@ ghost use Rattle.pt_core.specs.Replies.{told_of};
 use crate::applied::{Applied, Reply, Stopped};
 use crate::deadlines::least_deadline;
 use crate::{answering, applying};
-use pt_deciding::room::refusal_within;
-use pt_history::History;
 use pt_model::{Entry, Event};
-use pt_plain::answers::open_place;
+use pt_state::State;
 use pt_types::{ClientId, Deadline, Refusal};
 use std::alloc::{Allocator, Global};
 use std::marker::Model;
@@ -30,18 +28,18 @@ const MOST_ENTRIES: u32 = 1_048_576;
 /// Contracts see the entries in order, and how many there may be at most.
 #[derive(Drop)]
 pub struct Core<A: Allocator + Copy = Global> {
-    stored: History<A>,
-    alloc: A,
+    state: State<A>,
 }
 
 impl<A: Allocator + Copy> Model for Core<A> {
-    ghost use Rattle.pt_core.specs.Cores.{Kept, kept, IsKept};
+    ghost use Rattle.pt_core.specs.Cores.{Kept, kept};
+    ghost use Rattle.pt_core.specs.Wholes.{IsWhole};
 
     ghost Value = { Kept };
 
-    ghost view = { λ c. kept c.stored };
+    ghost view = { λ c. kept c.state.stored };
 
-    ghost invariant = { λ c. IsKept c.stored };
+    ghost invariant = { λ c. IsWhole c.state };
 }
 
 impl<A: Allocator + Copy> Core<A> {
@@ -60,8 +58,7 @@ impl<A: Allocator + Copy> Core<A> {
         ensures err { IfErr result (λ refusal. refusal ≡ Refusal.Enomem) }
     {
         Ok(Core {
-            stored: History::with_limit(alloc, limit),
-            alloc,
+            state: State::new(alloc, limit),
         })
     }
 
@@ -76,7 +73,7 @@ impl<A: Allocator + Copy> Core<A> {
         ensures death { (c : ℕ) → event ≡ Event.Death c
             → is_alive (history self.old.entries) c ≡ true → IsOk result }
     {
-        applying::apply(&mut self.stored, &event)
+        applying::apply(&mut self.state, &event)
     }
 
     /// All these events, one after the other. It stops at the first that is refused: the events
@@ -97,14 +94,14 @@ impl<A: Allocator + Copy> Core<A> {
     pub fn would_refuse(&self, event: &Event) -> Option<Refusal>
         ensures { result ≡ refusal_in self.now.limit (history self.now.entries) event.now }
     {
-        refusal_within(self.stored.entries(), self.stored.limit() as u64, event)
+        self.state.refusal_within(event)
     }
 
     /// The place of a client's open call.
     pub fn open_call(&self, c: ClientId) -> Option<u64>
         ensures { result ≡ open_place_in (history self.now.entries) c }
     {
-        open_place(self.stored.entries(), c)
+        self.state.open_place(c)
     }
 
     /// The answers that the entries from a place on give, in the order of the entries; of one Trip
@@ -114,21 +111,21 @@ impl<A: Allocator + Copy> Core<A> {
             map told_of replies.items ≡ answers_in place self.now.entries) }
         ensures err { IfErr result (λ refusal. refusal ≡ Refusal.Enomem) }
     {
-        answering::answers_from(self.stored.entries(), place, self.alloc)
+        answering::answers_from(&self.state, place)
     }
 
     /// The answer to a living client's latest call, where it has one.
     pub fn answer_of(&self, c: ClientId) -> Option<Reply>
         ensures { option_map told_of result ≡ answer_in (history self.now.entries) c }
     {
-        answering::answer_of(self.stored.entries(), c)
+        answering::answer_of(&self.state, c)
     }
 
     /// The least deadline of the open calls that are not moved, as it was written.
     pub fn least_deadline(&self) -> Option<Deadline>
         ensures { option_map deadline_nanos result ≡ least_deadline_in (history self.now.entries) }
     {
-        least_deadline(self.stored.entries())
+        least_deadline(self.state.stored.entries())
     }
 
     /// The number of entries, which is the place of the next one.
@@ -136,13 +133,13 @@ impl<A: Allocator + Copy> Core<A> {
         ensures value { result ≡ length self.now.entries }
         ensures legal { Legal self.now.entries (events_of self.now.entries) }
     {
-        self.stored.len()
+        self.state.stored.len()
     }
 
     /// The entry at a place, where there is one.
     pub fn entry(&self, place: u64) -> Option<&Entry>
         ensures { option_copied result ≡ slice_get self.now.entries place }
     {
-        self.stored.entry(place)
+        self.state.stored.entry(place)
     }
 }

@@ -1,41 +1,48 @@
 //! An accepted event's entry, and the forced ones behind it, pushed in room that is there.
 
-ghost use Rattle.std.specs.Prelude.{◌≡◌, ◌≤◌, None, OnOk, OnErr, IfErr};
-ghost use Rattle.pt_model.specs.Histories.{history};
-ghost use Rattle.pt_model.specs.Room.{need, refusal, refusal_within};
-ghost use Rattle.pt_model.specs.Steps.{Follows};
-ghost use Rattle.pt_core.specs.Cores.{IsKept};
-ghost use Rattle.pt_core.specs.Applying.{IsWantOfMemory, is_death as is_death_of};
-ghost use Rattle.pt_core.specs.Settling.{Settles, Enters, IsReady, IsMade};
+ghost use Rattle.std.specs.Prelude.{◌≡◌, None, true, false, IsOk, OnOk, OnErr, IfErr};
+ghost use Rattle.pt_model.specs.Room.{refusal as refusal_in, entry_for};
+ghost use Rattle.pt_state.specs.Adds.{Stays, past};
+ghost use Rattle.pt_core.specs.Cores.{kept};
+ghost use Rattle.pt_core.specs.Applying.{IsRefusal, is_death as is_death_of};
+ghost use Rattle.pt_core.specs.Settling.{Settles, Enters};
+ghost use Rattle.pt_core.specs.Wholes.{IsRoomy, IsWhole, IsOpen};
 
-use pt_deciding::after;
-use pt_deciding::forced::forced;
-use pt_deciding::room::entry_for;
-use pt_history::History;
-use pt_model::Event;
+use pt_model::{Entry, Event};
+use pt_state::State;
 use pt_types::Refusal;
 use std::alloc::Allocator;
 
 /// Pushes what must follow, until nothing must.  [profile]
-pub fn settle<A: Allocator + Copy>(stored: &mut History<A>)
-    requires follows { Follows (history stored.old.entries) }
-    requires room { need (history stored.old.entries) ≤ stored.old.room }
-    ensures { Settles stored.old stored.new }
+pub fn settle<A: Allocator + Copy>(state: &mut State<A>)
+    requires { IsRoomy state.old }
+    ensures settles { Settles state.old.stored state.new.stored }
+    ensures roomy { IsRoomy state.new }
 {
-    while let Some(entry) = forced(stored.entries()) {
-        stored.push(entry);
+    while let Some(forced) = state.next_forced() {
+        state.push_forced(&forced);
     }
 }
 
-/// Pushes the entry of an accepted event, and what must follow it.  [profile]
-pub fn enter<A: Allocator + Copy>(stored: &mut History<A>, event: &Event)
-    requires ready { IsReady stored.old event.now }
-    requires accepted { refusal (history stored.old.entries) event.now ≡ None }
-    ensures { Enters stored.old event.now stored.new }
+/// Pushes the entry of an accepted event, and what must follow it. ENOMEM where a table's growth
+/// is refused: then no entry is pushed.  [profile]
+pub fn enter<A: Allocator + Copy>(
+    state: &mut State<A>,
+    event: &Event,
+    entry: &Entry,
+) -> Result<(), Refusal>
+    requires open { IsOpen state.old event.now state.old }
+    requires accepted { refusal_in (past state.old) event.now ≡ None }
+    requires entry { entry.now ≡ entry_for (past state.old) event.now }
+    ensures ok { OnOk result (Enters state.old.stored event.now state.new.stored) }
+    ensures roomy { OnOk result (IsRoomy state.new) }
+    ensures err { OnErr result (Stays state.old state.new) }
+    ensures reason { IfErr result (λ refusal. refusal ≡ Refusal.Enomem) }
+    ensures death { is_death_of event.now ≡ true → IsOk result }
 {
-    let outer = entry_for(stored.entries(), event);
-    stored.push(outer);
-    settle(stored);
+    state.push_outer(entry)?;
+    settle(state);
+    Ok(())
 }
 
 /// Whether an event is the death of a client.
@@ -45,19 +52,31 @@ pub fn is_death(event: &Event) -> bool
     matches!(event, Event::Death(_))
 }
 
-/// Room for an accepted event's entry and all that must follow it. A Death has its room.  [profile]
-pub fn make_room<A: Allocator + Copy>(stored: &mut History<A>, event: &Event) -> Result<(), Refusal>
-    requires kept { IsKept stored.old }
-    requires accepted { refusal_within stored.old.limit (history stored.old.entries) event.now
-        ≡ None }
-    ensures ok { OnOk result (IsMade stored.old event.now stored.new) }
-    ensures err { OnErr result (stored.new ≡ stored.old) }
-    ensures memory { IfErr result (IsWantOfMemory event.now) }
+/// Room for an accepted event's entry and all that must follow it, and memory for their answers. A
+/// Death has both.  [profile]
+pub fn make_room<A: Allocator + Copy>(
+    state: &mut State<A>,
+    event: &Event,
+    entry: &Entry,
+) -> Result<(), Refusal>
+    requires whole { IsWhole state.old }
+    requires accepted { refusal_in (past state.old) event.now ≡ None }
+    requires entry { entry.now ≡ entry_for (past state.old) event.now }
+    ensures ok { OnOk result (IsOpen state.old event.now state.new) }
+    ensures whole { IsWhole state.new }
+    ensures same { kept state.new.stored ≡ kept state.old.stored }
+    ensures refusal { IfErr result (IsRefusal (kept state.old.stored) event.now) }
+    ensures death { is_death_of event.now ≡ true → IsOk result }
 {
     if is_death(event) {
         return Ok(());
     }
-    let entry = entry_for(stored.entries(), event);
-    let room = 1 + after::need(stored.entries(), &entry);
-    stored.reserve_for(room)
+    let room = state.stored.room().max(1 + state.need_after(entry));
+    if let Err(refusal) = state.stored.reserve_for(room) {
+        return Err(refusal);
+    }
+    match state.answers.reserve(room as usize) {
+        Ok(()) => Ok(()),
+        Err(_) => Err(Refusal::Enomem),
+    }
 }

@@ -1,5 +1,5 @@
 -- Calls that are answered at once: what their pushes find, and the tables behind them.
-use Rattle.std.proofs.Common.{◌≡◌, ℕ, Bool, true, false, List, [], ◌∷◌, Option, Some, None, is_some, option_map, refl, sym, ap, ◌∙◌, subst}
+use Rattle.std.proofs.Common.{◌≡◌, ℕ, Bool, true, false, List, [], Option, Some, None, is_some, option_map, refl, sym, ap, ◌∙◌, subst}
 use Rattle.pt_types.specs.declared.call.Call.{Call as Asked}
 use Rattle.pt_types.specs.declared.outcome.Outcome.{Outcome}
 use Rattle.pt_types.specs.declared.outcome.Outcome.TheVariants.{Done, Serial, Eperm, Einval, Ebusy, Eagain, Edeadlk, Etimedout, Eownerdead, Enotrecoverable}
@@ -12,11 +12,11 @@ use Rattle.pt_table.specs.ClientRows.{client_value}
 use Rattle.pt_table.specs.ObjectRows.{object_value, number_of}
 use Rattle.pt_model.specs.declared.entry.Entry.TheVariants.{Call}
 use Rattle.pt_model.specs.Histories.{History, ◌▷◌, place}
-use Rattle.pt_model.specs.Clients.{is_alive, client}
 use Rattle.pt_model.specs.Moves.{moved}
 use Rattle.pt_model.specs.Verdicts.{on, deed_verdict, verdict}
-use Rattle.pt_model.specs.Steps.{Step, Follows}
-use Rattle.pt_model.proofs.Effects.{Effect, Idle, Creates, Removes, Relocks, Frees, Mends, Returns, Wakes, Waits, succeeds, act, effect}
+use Rattle.pt_model.specs.Steps.{Step}
+use Rattle.pt_model.proofs.Effects.{Effect, Idle, Creates, Removes, Relocks, Frees, Mends, Returns, Wakes, Waits, succeeds, act, effect, Allowed}
+use Rattle.pt_model.proofs.Allowances.{allowed}
 use Rattle.pt_model.proofs.Changes.{left_by, cause_effect}
 use Rattle.pt_state.specs.declared.callers.Caller.{Caller}
 use Rattle.pt_state.specs.declared.object.Object.{Object}
@@ -117,6 +117,10 @@ module _ {A : Type 0} (s : State A) (c : ℕ) (call : Asked) (r : Option Outcome
   did d e k = ap (effect (past s) c call) (sym answered ∙ e)
       ∙ ap (λ (x : Deed). act (past s) c x (Some Done)) k
 
+  -- which it may do
+  pub may : (E : Effect) → does (past s) c call ≡ E → Allowed (past s) c E
+  may E e = subst (λ (X : Effect). Allowed (past s) c X) e (allowed (past s) c call)
+
   -- and what it was told
   pub spoke : (d : Deed) → r ≡ Some Done → deed call ≡ d
       → Some Done ≡ reply (deed_verdict (past s) c d)
@@ -140,18 +144,26 @@ module _ {A : Type 0} (s : State A) (c : ℕ) (call : Asked) (r : Option Outcome
         callers = n;
       }
 
-  -- a call that leaves the clients' calls as they are
-  pub noted : is_alone (does (past s) c call) ≡ true → Noting (past s) c call r s.clients
-  noted e rows v at w =
+  -- a call that is not left standing, and moves none
+  pub noted-by : left_by (does (past s) c call) ≡ []
+      → ((j : ℕ) → cause_effect (past s) (moved (past s)) (does (past s) c call) j ≡ None)
+      → Noting (past s) c call r s.clients
+  noted-by l m rows v at w =
       subst (λ (x : Option Outcome). AreCallers (past s ▷ Call c call x) rows) (sym answered)
       (callers-written (past s) (Call c call (reply (verdict (past s) c call))) s.clients rows c
       (called_at (place (past s)) v) g.read.callers w
       (look-replied (past s) (client_value s.clients) (client_value rows) g.read.follows
-      g.read.callers.look c call stepped v at (alone-left (does (past s) c call) e)
-      (alone-moves (past s) (does (past s) c call) e) w.look) refl)
+      g.read.callers.look c call stepped v at l m w.look) refl)
+
+  -- and so one that leaves the clients' calls as they are
+  noted : is_alone (does (past s) c call) ≡ true → Noting (past s) c call r s.clients
+  noted e =
+      noted-by (alone-left (does (past s) c call) e)
+      (alone-moves (past s) (does (past s) c call) e)
 
   -- such a call with a change of the objects alone
-  pub nearly-alone : (objects : List (ObjectRow (Object A))) → is_alone (does (past s) c call) ≡ true
+  pub nearly-alone : (objects : List (ObjectRow (Object A)))
+      → is_alone (does (past s) c call) ≡ true
       → AreThings (behind (past s) c call) objects
       → IsNearly (record s { objects = objects }) c call r
   nearly-alone objects e o =
@@ -160,7 +172,7 @@ module _ {A : Type 0} (s : State A) (c : ℕ) (call : Asked) (r : Option Outcome
       calls_there (noted e)
 
   -- the objects behind a call that changes none of them
-  things_still : is_idle (does (past s) c call) ≡ true
+  pub things_still : is_idle (does (past s) c call) ≡ true
       → names_none (does (past s) c call) ≡ true → AreThings (behind (past s) c call) s.objects
   things_still e k =
       record {
@@ -172,8 +184,8 @@ module _ {A : Type 0} (s : State A) (c : ℕ) (call : Asked) (r : Option Outcome
       }
 
   -- and behind one that changes one of them
-  pub things_changed : names_none (does (past s) c call) ≡ true → (new : List (ObjectRow (Object A)))
-      (o : ℕ) (x : Object A) → WritesObject s.objects new o x
+  pub things_changed : names_none (does (past s) c call) ≡ true
+      → (new : List (ObjectRow (Object A))) (o : ℕ) (x : Object A) → WritesObject s.objects new o x
       → ThingsLook (behind (past s) c call) (object_value new)
       → AreThings (behind (past s) c call) new
   things_changed k new o x w l =
@@ -195,3 +207,8 @@ module _ {A : Type 0} (s : State A) (c : ℕ) (call : Asked) (r : Option Outcome
   nearly-told x e other =
       nearly-idle (ap (effect (past s) c call) (sym answered ∙ e)
       ∙ told-idle (past s) c (deed call) x other)
+
+  -- and a call that is told 0 where that does nothing
+  pub nearly-done : (d : Deed) → r ≡ Some Done → deed call ≡ d → succeeds (past s) d ≡ Idle
+      → IsNearly s c call r
+  nearly-done d e k idle = nearly-idle (did d e k ∙ idle)

@@ -1,12 +1,11 @@
 -- Calls that change one lock: what is kept of it, and the tables behind them.
-use Rattle.std.proofs.Common.{◌≡◌, ℕ, ◌-◌, Bool, true, false, List, Option, Some, None, refl, sym, ap, ◌∙◌, subst}
+use Rattle.std.proofs.Common.{◌≡◌, ℕ, ◌-◌, true, false, List, Some, refl, ap, ◌∙◌}
 use Rattle.pt_types.specs.declared.call.Call.{Call as Asked}
 use Rattle.pt_types.specs.declared.call.How.{How}
-use Rattle.pt_types.specs.declared.outcome.Outcome.{Outcome}
 use Rattle.pt_types.specs.declared.outcome.Outcome.TheVariants.{Done}
 use Rattle.pt_types.specs.Deeds.{Acquires, Unlocks, Restores, Rwunlocks, deed, MutexLock, MutexSort, RwlockSort}
 use Rattle.pt_types.specs.MutexTable.{MutexView, is_number, owns, unlock_verdict, consistent_verdict, lock_verdict}
-use Rattle.pt_types.specs.RwlockTable.{RwlockView, holds, rwunlock_verdict}
+use Rattle.pt_types.specs.RwlockTable.{holds, rwunlock_verdict}
 use Rattle.pt_mutex.specs.MutexState.{MutexState, can_acquire, acquired, released, restored}
 use Rattle.pt_rwlock.specs.RwlockState.{RwlockState, reads_of, seen_by, ChangesRow, released as released_lock}
 use Rattle.pt_table.specs.declared.objects.ObjectRow.{ObjectRow}
@@ -15,8 +14,7 @@ use Rattle.pt_model.specs.declared.entry.Entry.TheVariants.{Call}
 use Rattle.pt_model.specs.Objects.{find}
 use Rattle.pt_model.specs.Mutexes.{mutex_view}
 use Rattle.pt_model.specs.Rwlocks.{rwlock_view}
-use Rattle.pt_model.proofs.Effects.{Effect, Relocks, Frees, Mends, Returns, upon, owning, Allowed}
-use Rattle.pt_model.proofs.Allowances.{allowed}
+use Rattle.pt_model.proofs.Effects.{Relocks, Frees, Mends, Returns, upon}
 use Rattle.pt_state.specs.declared.object.Object.{Object}
 use Rattle.pt_state.specs.declared.object.Object.TheVariants.{Mutex, Rwlock}
 use Rattle.pt_state.specs.declared.state.State.{State}
@@ -24,18 +22,14 @@ use Rattle.pt_state.specs.Adds.{past, IsReadyFor, IsNearly}
 use Rattle.pt_state.specs.Writes.{WritesObject}
 use Rattle.pt_state.proofs.BoundCounts.{relock-can}
 use Rattle.pt_state.proofs.BoundReads.{view-by}
-use Rattle.pt_state.proofs.CallLemmas.{said, stepped, did, spoke, nearly-alone, things_changed}
+use Rattle.pt_state.proofs.CallLemmas.{said, stepped, did, may, spoke, nearly-alone, things_changed}
 use Rattle.pt_state.proofs.JudgeLemmas.{found-mutex, found-rwlock}
 use Rattle.pt_state.proofs.ThingCalls.{does}
 use Rattle.pt_state.proofs.ThingChanges.{things-relocks, things-frees, things-mends}
 use Rattle.pt_state.proofs.ThingLocks.{things-returns}
-use Rattle.pt_state.proofs.ThingNames.{names_none}
 
 module _ {A : Type 0} (s : State A) (c : ℕ) (call : Asked)
     (g : IsReadyFor s (Call c call (Some Done))) (n : List ℕ) where
-  may : (E : Effect) → does (past s) c call ≡ E → Allowed (past s) c E
-  may E e = subst (λ (X : Effect). Allowed (past s) c X) e (allowed (past s) c call)
-
   -- a mutex is kept as it is read off
   viewed : (m : ℕ) (x : MutexState) → object_value s.objects m ≡ Some (Mutex x)
       → x.seen ≡ mutex_view (past s) m
@@ -55,7 +49,8 @@ module _ {A : Type 0} (s : State A) (c : ℕ) (call : Asked)
   pub unlock-owns : deed call ≡ Unlocks n → (m : ℕ) → find (past s) n MutexSort ≡ Some m
       → (x : MutexState) → object_value s.objects m ≡ Some (Mutex x) → owns x.seen c ≡ true
   unlock-owns d m e x k =
-      ap (λ (v : MutexView). owns v c) (viewed m x k) ∙ (may (Frees m) (frees d m e)).1
+      ap (λ (v : MutexView). owns v c) (viewed m x k)
+      ∙ (may s c call (Some Done) g (Frees m) (frees d m e)).1
 
   -- behind it
   pub unlock-nearly : deed call ≡ Unlocks n → (m : ℕ) → find (past s) n MutexSort ≡ Some m
@@ -153,7 +148,7 @@ module _ {A : Type 0} (s : State A) (c : ℕ) (call : Asked)
   return-holds d r e x k =
       let kept = g.read.things.look.rwlocks r x k in
       ap holds (view-by (past s) g.read.follows r x kept.writer kept.reads c)
-      ∙ (may (Returns r) (returns d r e)).1
+      ∙ (may s c call (Some Done) g (Returns r) (returns d r e)).1
 
   -- behind it
   pub return-nearly : deed call ≡ Rwunlocks n → (r : ℕ) → find (past s) n RwlockSort ≡ Some r

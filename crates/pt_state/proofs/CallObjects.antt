@@ -1,15 +1,13 @@
 -- Calls that make an object or end one: what is known before them, and the tables behind them.
-use Rattle.std.proofs.Common.{◌≡◌, ℕ, suc, ◌+◌, ◌-◌, ◌<◌, Bool, true, false, cond, nat_le, List, [], ◌∷◌, length, Option, Some, None, is_some, option_map, refl, sym, ap, ◌∙◌, subst, add-one, arith}
+use Rattle.std.proofs.Common.{◌≡◌, ℕ, suc, ◌+◌, ◌-◌, ◌<◌, Bool, true, false, nat_le, List, [], ◌∷◌, length, Option, Some, None, is_some, option_map, refl, sym, ap, ◌∙◌, add-one, arith}
 use Rattle.std.proofs.lemmas.Bool.Decides.{nat_tests}
 use Rattle.pt_types.specs.declared.call.Call.{Call as Asked}
 use Rattle.pt_types.specs.declared.call.ObjectKind.{ObjectKind}
 use Rattle.pt_types.specs.declared.call.ObjectKind.TheVariants as kind
-use Rattle.pt_types.specs.declared.outcome.Outcome.{Outcome}
 use Rattle.pt_types.specs.declared.outcome.Outcome.TheVariants.{Done, Einval, Ebusy, Eagain}
 use Rattle.pt_types.specs.declared.outcome.Verdict.TheVariants.{Reply}
 use Rattle.pt_types.specs.Deeds.{Makes, Ends, deed, Sort}
 use Rattle.pt_types.specs.Limits.{most_objects}
-use Rattle.pt_types.specs.MutexTable.{is_number}
 use Rattle.pt_types.specs.ObjectTable.{is_bad_kind, destroy_verdict}
 use Rattle.pt_types.specs.Tables.{decide, reply}
 use Rattle.pt_table.specs.declared.objects.ObjectRow.{ObjectRow}
@@ -20,19 +18,18 @@ use Rattle.pt_model.specs.Objects.{find, kind_of, objects}
 use Rattle.pt_model.specs.Objects as known
 use Rattle.pt_model.specs.Records.{Object as Known_object}
 use Rattle.pt_model.specs.Verdicts.{is_busy}
-use Rattle.pt_model.proofs.Effects.{Effect, Creates, Removes, upon, Allowed}
-use Rattle.pt_model.proofs.Allowances.{allowed}
+use Rattle.pt_model.proofs.Effects.{Creates, Removes, upon}
 use Rattle.pt_model.proofs.Named.{is_sort, known_exists}
 use Rattle.pt_state.specs.declared.object.Object.{Object}
 use Rattle.pt_state.specs.declared.state.State.{State}
-use Rattle.pt_state.specs.Adds.{past, IsReadyFor, IsNearly, Stays}
-use Rattle.pt_state.specs.Things.{kind_kept, IsNew, AreThings}
+use Rattle.pt_state.specs.Adds.{past, IsReadyFor, IsNearly}
+use Rattle.pt_state.specs.Things.{kind_kept, IsNew}
 use Rattle.pt_state.specs.Writes.{AddsObject, RemovesObject, new_object}
-use Rattle.pt_state.proofs.CallLemmas.{said, stepped, did, spoke, nearly-alone}
+use Rattle.pt_state.proofs.CallLemmas.{said, stepped, did, may, spoke, nearly-alone}
 use Rattle.pt_state.proofs.NamedObjects.{things-once}
 use Rattle.pt_state.proofs.ObjectWrites.{rising-new}
 use Rattle.pt_state.proofs.TableLemmas.{rising-more}
-use Rattle.pt_state.proofs.ThingCalls.{does, behind}
+use Rattle.pt_state.proofs.ThingCalls.{does}
 use Rattle.pt_state.proofs.ThingChanges.{things-removes}
 use Rattle.pt_state.proofs.ThingLocks.{things-creates}
 use Rattle.pt_state.proofs.ThingNames.{names-creates, names-drops, objects-creates, objects-removes}
@@ -70,24 +67,14 @@ module _ {A : Type 0} where
   sorted-has None s e = absurd cc
   sorted-has (Some row) s e = refl
 
-  -- a refused growth changes nothing
-  pub stays-same : (s : State A) (e : _) → IsReadyFor s e → (new : List (ObjectRow (Object A)))
-      → new ≡ s.objects → Stays s (record s { objects = new })
-  stays-same s e g new same =
-      subst (λ (x : List (ObjectRow (Object A))). Stays s (record s { objects = x })) (sym same)
-      record { stored = refl; read = g.read; held = refl; told = refl }
-
 module _ {A : Type 0} (s : State A) (c : ℕ) (call : Asked)
     (g : IsReadyFor s (Call c call (Some Done))) (n : List ℕ) where
-  may : (E : Effect) → does (past s) c call ≡ E → Allowed (past s) c E
-  may E e = subst (λ (X : Effect). Allowed (past s) c X) e (allowed (past s) c call)
-
   creates : (k : ObjectKind) → deed call ≡ Makes n k → does (past s) c call ≡ Creates n k
   creates k d = did s c call (Some Done) g (Makes n k) refl d
 
   -- an init's kind is one that can be made
   pub make-kind : (k : ObjectKind) → deed call ≡ Makes n k → is_bad_kind k ≡ false
-  make-kind k d = (may (Creates n k) (creates k d)).0
+  make-kind k d = (may s c call (Some Done) g (Creates n k) (creates k d)).0
 
   -- its number and its name are new
   pub make-new : (k : ObjectKind) → deed call ≡ Makes n k → (o : ℕ) → o ≡ place (past s)
@@ -95,7 +82,7 @@ module _ {A : Type 0} (s : State A) (c : ℕ) (call : Asked)
   make-new k d o e =
       rw (ap (object_at s.objects) e ∙ rising-new s.objects (place (past s)) g.read.things.rising)
       (unnamed (object_named s.objects n) (known.object_named (past s) n)
-      (g.read.things.names n) (may (Creates n k) (creates k d)).1)
+      (g.read.things.names n) (may s c call (Some Done) g (Creates n k) (creates k d)).1)
 
   -- there is room for it
   pub make-room : (k : ObjectKind) → deed call ≡ Makes n k → length s.objects < most_objects

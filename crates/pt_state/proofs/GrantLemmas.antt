@@ -1,28 +1,26 @@
 -- Whether a call may go on, by the rows of objects, is what the history says of it.
-use Rattle.std.proofs.Common.{◌≡◌, ℕ, nat_lt, nat_le, ◌<◌, ◌==◌, ◌&&◌, ◌||◌, Bool, true, false, not, List, Option, Some, None, is_some, refl, sym, ap, ◌∙◌, arith}
+use Rattle.std.proofs.Common.{◌≡◌, ℕ, nat_lt, ◌<◌, ◌==◌, ◌&&◌, ◌||◌, Bool, true, false, not, List, Option, Some, None, is_some, refl, sym, ap, ◌∙◌, arith}
 use Rattle.std.proofs.lemmas.Bool.Decides.{nat_tests}
-use Rattle.std.proofs.lemmas.Bool.{false≢true}
 use Rattle.std.specs.Prelude.{option_map}
 use Rattle.std.specs.Prelude.{length}
-use Rattle.pt_types.specs.Deeds.{Sort, MutexSort, RwlockSort}
+use Rattle.pt_types.specs.Deeds.{MutexSort, RwlockSort}
 use Rattle.pt_types.specs.declared.outcome.Condition.{Condition}
 use Rattle.pt_types.specs.declared.outcome.Outcome.{Outcome}
-use Rattle.pt_types.specs.MutexTable.{MutexView, may_lock, may_relock, lock_outcome, is_number}
+use Rattle.pt_types.specs.MutexTable.{MutexView, may_lock, may_relock, lock_outcome}
 use Rattle.pt_types.specs.RwlockTable.{may_read, is_free}
 use Rattle.pt_rwlock.specs.RwlockState.{RwlockState, reads_of, is_read, seen_by, nobody_holds}
 use Rattle.pt_rwlock.proofs.RowLemmas.{read_by_somebody}
-use Rattle.pt_table.specs.declared.clients.ClientRow.{ClientRow}
 use Rattle.pt_table.specs.declared.objects.ObjectRow.{ObjectRow}
 use Rattle.pt_table.specs.ObjectRows.{object_value}
 use Rattle.pt_model.specs.Searches.{In}
 use Rattle.pt_model.specs.Histories.{History, place}
-use Rattle.pt_model.specs.Objects.{kind_of, barrier_count}
-use Rattle.pt_model.specs.Records.{Role, ForMutex, ForRead, ForWrite, ForBarrier, ForCond, Standing, Move}
+use Rattle.pt_model.specs.Objects.{barrier_count}
+use Rattle.pt_model.specs.Records.{Role, ForMutex, ForRead, ForWrite, ForBarrier, ForCond, Move}
 use Rattle.pt_model.specs.Answers.{open_calls, at_barrier}
 use Rattle.pt_model.specs.Moves.{moved}
 use Rattle.pt_model.specs.Mutexes.{condition, mutex_view}
 use Rattle.pt_model.specs.Rwlocks.{writer, reader, reads, rwlock_view}
-use Rattle.pt_model.specs.Grants.{is_blocked, is_expired, is_complete, grant_outcome_as, grant_outcome}
+use Rattle.pt_model.specs.Grants.{is_blocked, is_expired, grant_outcome_as, grant_outcome}
 use Rattle.pt_model.specs.Steps.{Follows}
 use Rattle.pt_model.proofs.Named.{is_sort}
 use Rattle.pt_model.proofs.Seats.{exists_as, HousedBy, housed}
@@ -31,13 +29,12 @@ use Rattle.pt_model.proofs.Unheld.{has_read, reads-read}
 use Rattle.pt_model.proofs.Forcing.{may_by, may}
 use Rattle.pt_plain.specs.Found.{passes}
 use Rattle.pt_plain.specs.Shown.{shown_role}
-use Rattle.pt_state.specs.declared.callers.Caller.{Caller}
 use Rattle.pt_state.specs.declared.callers.Open.{Open}
 use Rattle.pt_state.specs.declared.object.Object.{Object}
 use Rattle.pt_state.specs.declared.object.Object.TheVariants.{Mutex, Rwlock, Cond, Barrier}
-use Rattle.pt_state.specs.Things.{kind_kept, IsRwlock, ThingsLook, AreThings}
+use Rattle.pt_state.specs.Things.{kind_kept, IsRwlock, ThingsLook}
 use Rattle.pt_state.specs.Serving.{called, move_of, AreOpen}
-use Rattle.pt_state.specs.Granting.{is_lockable, is_open_to, is_readable, is_unheld, condition_kept, count_kept, may_as, may_kept, told_at, outcome_as, outcome_kept}
+use Rattle.pt_state.specs.Granting.{is_lockable, is_open_to, is_readable, is_unheld, condition_kept, may_as, may_kept, told_at, outcome_as, outcome_kept}
 
 -- a lock is read in the rows where somebody reads there
 pub read-same : (h : History) (o : ℕ) (r : RwlockState) → Follows h → IsRwlock h o r
@@ -102,7 +99,8 @@ module _ {A : Type 0} (h : History) (things : List (ObjectRow (Object A)))
   -- and so is its condition
   pub condition-kept : (m : ℕ) → exists_as h MutexSort m ≡ true
       → condition_kept (object_value things m) ≡ condition h m
-  condition-kept m e = go (object_value things m) refl (ap (λ k. is_sort k MutexSort) (t.kinds m) ∙ e)
+  condition-kept m e =
+      go (object_value things m) refl (ap (λ k. is_sort k MutexSort) (t.kinds m) ∙ e)
     where
       go : (o : Option (Object A)) → object_value things m ≡ o
           → is_sort (option_map kind_kept o) MutexSort ≡ true → condition_kept o ≡ condition h m
@@ -135,7 +133,8 @@ module _ {A : Type 0} (h : History) (things : List (ObjectRow (Object A)))
   may-as f o ForMutex e s =
       mutex-kept o.call.object s.0 (passes is_lockable) (λ v. may_lock v true) (λ x. refl)
   may-as f o (ForCond m) e s =
-      ap (λ (v : Option Move). is_some v && passes (is_open_to o.call.client) (object_value things m)) e
+      ap (λ (v : Option Move). is_some v
+      && passes (is_open_to o.call.client) (object_value things m)) e
       ∙ ap (λ b. is_some (moved h o.call.place) && b)
       (mutex-kept m s.1 (passes (is_open_to o.call.client))
       (λ v. may_lock v true || may_relock v o.call.client) (λ x. refl))
@@ -170,13 +169,13 @@ module _ {A : Type 0} (h : History) (things : List (ObjectRow (Object A)))
 
   -- of a call in the rows
   pub may-kept : Follows h → (opens : List Open) → AreOpen h opens → (o : Open) → In o opens
-      → may_kept h things o ≡ may h (called o)
-  may-kept f opens a o i =
+      → (b : Bool) → b ≡ may_kept h things o → b ≡ may h (called o)
+  may-kept f opens a o i b e =
       let k = a.known o i in
-      may-as f o (shown_role o.call.role) k.1 (housed h f (called o) k.0)
+      e ∙ may-as f o (shown_role o.call.role) k.1 (housed h f (called o) k.0)
 
   pub outcome-kept : Follows h → (opens : List Open) → AreOpen h opens → (o : Open) → In o opens
-      → outcome_kept things o ≡ grant_outcome h (called o)
-  outcome-kept f opens a o i =
+      → (x : Outcome) → x ≡ outcome_kept things o → x ≡ grant_outcome h (called o)
+  outcome-kept f opens a o i x e =
       let k = a.known o i in
-      outcome-as o (shown_role o.call.role) k.1 (housed h f (called o) k.0)
+      e ∙ outcome-as o (shown_role o.call.role) k.1 (housed h f (called o) k.0)

@@ -11,6 +11,7 @@ pub mod BoundReads
 pub mod CallLemmas
 pub mod CallLocks
 pub mod CallObjects
+pub mod CallWakes
 pub mod CallerCalls
 pub mod CallerEntries
 pub mod CallerFinds
@@ -20,6 +21,10 @@ pub mod CallerWakes
 pub mod CallerWrites
 pub mod CountLemmas
 pub mod FindLemmas
+pub mod ForceCallers
+pub mod ForceGrants
+pub mod ForceLemmas
+pub mod ForceThings
 pub mod GrantLemmas
 pub mod HeldAlive
 pub mod JudgeLemmas

@@ -1,5 +1,5 @@
 -- The first orphan of the rows of objects is the first number that is one.
-use Rattle.std.proofs.Common.{◌≡◌, ℕ, ◌<◌, ◌==◌, ◌&&◌, Bool, true, false, not, cond, inl, inr, List, [], ◌∷◌, Option, Some, None, is_none, is_some, nat_eq, refl, sym, ap, ◌∙◌, arith}
+use Rattle.std.proofs.Common.{◌≡◌, ℕ, ◌<◌, ◌&&◌, Bool, true, false, not, cond, inl, inr, List, [], ◌∷◌, Option, Some, None, is_none, is_some, nat_eq, refl, sym, ap, ◌∙◌, arith}
 use Rattle.std.proofs.lemmas.Bool.Decides.{nat_tests}
 use Rattle.std.specs.Prelude.{option_map}
 use Rattle.std.specs.Option.{option_or}
@@ -11,9 +11,8 @@ use Rattle.pt_table.specs.ObjectRows.{object_at, object_value}
 use Rattle.pt_types.specs.MutexTable.{MutexView}
 use Rattle.pt_model.specs.Searches.{In, first_below}
 use Rattle.pt_model.specs.Histories.{History, place}
-use Rattle.pt_model.specs.Clients.{client, is_alive}
 use Rattle.pt_model.specs.Objects.{kind_of, is_robust}
-use Rattle.pt_model.specs.Mutexes.{owner, mutex_view}
+use Rattle.pt_model.specs.Mutexes.{owner}
 use Rattle.pt_model.specs.Forced.{is_dead_if, is_orphan}
 use Rattle.pt_plain.proofs.Below.{first_below-none, first_below-at}
 use Rattle.pt_state.specs.declared.callers.Caller.{Caller}
@@ -21,7 +20,7 @@ use Rattle.pt_state.specs.declared.object.Object.{Object}
 use Rattle.pt_state.specs.declared.object.Object.TheVariants.{Mutex, Rwlock, Cond, Barrier}
 use Rattle.pt_state.specs.Callers.{AreCallers, CallersLook}
 use Rattle.pt_state.specs.Things.{kind_kept, Rising, ThingsLook, AreThings}
-use Rattle.pt_state.specs.Serving.{is_gone, is_orphaned, orphan_of, orphan_in}
+use Rattle.pt_state.specs.Serving.{is_gone, is_orphaned, orphan_in}
 
 -- who isn't a living client is dead
 gone-same : (h : History) (rows : List (ClientRow Caller)) → CallersLook h (client_value rows)
@@ -108,7 +107,8 @@ module _ {A : Type 0} where
       → ThingsLook h (object_value things) → (o : ℕ) (thing : Object A)
       → object_value things o ≡ Some thing → is_orphan h o ≡ is_orphaned rows thing
   kept-same h rows things l t o thing e =
-      ap (λ k. is_robust k && is_dead_if h (owner h o)) (sym (t.kinds o) ∙ ap (option_map kind_kept) e)
+      ap (λ k. is_robust k && is_dead_if h (owner h o))
+      (sym (t.kinds o) ∙ ap (option_map kind_kept) e)
       ∙ go thing e
     where
       go : (x : Object A) → object_value things o ≡ Some x
@@ -134,9 +134,11 @@ module _ {A : Type 0} where
   -- the first orphan of the rows is the first one
   pub orphan-first : (h : History) (rows : List (ClientRow Caller))
       (things : List (ObjectRow (Object A))) → AreCallers h rows → AreThings h things
-      → orphan_in rows things ≡ first_below (place h) (is_orphan h)
-  orphan-first h rows things a t =
-      first-row (is_orphan h) rows things (place h) t.rising
-      (λ k lt e. nothing-orphaned h things t.look k e)
+      → (first : Option ℕ) → first ≡ orphan_in rows things
+      → first ≡ first_below (place h) (is_orphan h)
+  orphan-first h rows things a t first e =
+      e
+      ∙ first-row (is_orphan h) rows things (place h) t.rising
+      (λ k lt n. nothing-orphaned h things t.look k n)
       (λ row i. kept-same h rows things a.look t.look row.number row.value
       (thing-look things (place h) t.rising row i))

@@ -1,12 +1,12 @@
 -- The least of the open calls in the rows of clients is the least of the open calls.
-use Rattle.std.proofs.Common.{◌≡◌, ℕ, Bool, true, false, cond, inl, inr, List, [], ◌∷◌, Option, Some, None, refl, sym, ap, ◌∙◌, subst, filter, map}
+use Rattle.std.proofs.Common.{◌≡◌, Bool, true, false, cond, inl, inr, List, [], ◌∷◌, Option, Some, None, refl, sym, ap, ◌∙◌, subst, filter, map}
 use Rattle.std.specs.Prelude.{option_map}
 use Rattle.pt_model.specs.Searches.{In, least, least_with}
 use Rattle.pt_model.specs.Histories.{History}
 use Rattle.pt_model.specs.Records.{Standing}
 use Rattle.pt_model.specs.Answers.{open_calls}
 use Rattle.pt_model.proofs.Lists.{In-filter, filter-in}
-use Rattle.pt_model.proofs.Leasts.{least-in, least-none, none-least}
+use Rattle.pt_model.proofs.Leasts.{least-in, least-none}
 use Rattle.pt_model.proofs.Orders.{IsOrder, least-first}
 use Rattle.pt_state.specs.declared.callers.Open.{Open}
 use Rattle.pt_state.specs.Serving.{called, AreOpen}

@@ -1,4 +1,4 @@
--- The orders of open calls, by what their rows know: they are those of the history, and have no ties.
+-- The orders of open calls by what their rows know are those of the history, and have no ties.
 use Rattle.std.proofs.Common.{◌≡◌, ℕ, nat_lt, ◌==◌, ◌||◌, ◌&&◌, Bool, true, false, Option, Some, None, unwrap_or, refl, sym, ap, ◌∙◌, arith}
 use Rattle.std.proofs.lemmas.Bool.Decides.{nat_tests}
 use Rattle.pt_types.specs.KeyOrder.{Key, rank, goes_before}
@@ -6,7 +6,6 @@ use Rattle.pt_types.specs.Times.{pair_before}
 use Rattle.pt_model.specs.Searches.{In}
 use Rattle.pt_model.specs.Histories.{History}
 use Rattle.pt_model.specs.Records.{Standing, Move}
-use Rattle.pt_model.specs.Standing.{is_write}
 use Rattle.pt_model.specs.Answers.{open_calls}
 use Rattle.pt_model.specs.Moves.{moved, arrival_by, key_by, key, precedes, object_by, at_object}
 use Rattle.pt_model.specs.Forced.{is_served_before, expires_before}
@@ -45,6 +44,7 @@ tied-key a b e k =
     (pair_before b.arrival a.arrival) r.0 r.1 in
     tied-pair a.arrival b.arrival s.1 s.2
   where
+    -- the same by a key of which the greater goes first
     down : (m n : ℕ) (x y : Bool) → (nat_lt n m || ((m == n) && x)) ≡ false
         → (nat_lt m n || ((n == m) && y)) ≡ false → (x ≡ false) × (y ≡ false)
     down m n true true e k = absurd (grind (arith, nat_tests))
@@ -52,6 +52,7 @@ tied-key a b e k =
     down m n false true e k = absurd (grind (arith, nat_tests))
     down m n false false e k = (refl, refl)
 
+-- an arrival ends in the place of its call
 arrival-place : (o : Option Move) (j : ℕ) → (arrival_by o j).1 ≡ j
 arrival-place None j = refl
 arrival-place (Some v) j = refl
@@ -64,14 +65,14 @@ precedes-one h f v w i j e k =
     ∙ tied-key (key h v) (key h w) e k
     ∙ arrival-place (moved h w.place) w.place)
 
--- or is served before the other
+-- and those of which neither is served before the other
 pub served-one : (h : History) → Follows h → (v w : Standing) → In v (open_calls h)
     → In w (open_calls h) → is_served_before h v w ≡ false → is_served_before h w v ≡ false → v ≡ w
 served-one h f v w i j e k =
     let r = tied (at_object h v) (at_object h w) (precedes h v w) (precedes h w v) e k in
     precedes-one h f v w i j r.1 r.2
 
--- or expires before the other
+-- and those of which neither expires before the other
 pub expires-one : (h : History) → Follows h → (v w : Standing) → In v (open_calls h)
     → In w (open_calls h) → expires_before v w ≡ false → expires_before w v ≡ false → v ≡ w
 expires-one h f v w i j e k =

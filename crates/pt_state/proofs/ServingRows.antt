@@ -1,19 +1,17 @@
 -- The rows are looked at one by one, from the last to the first.
-use Rattle.std.proofs.Common.{◌≡◌, ℕ, zero, suc, ◌+◌, ◌-◌, ◌<◌, ◌≤◌, Bool, true, false, cond, inl, inr, List, [], ◌∷◌, ◌++◌, Option, Some, None, refl, sym, ap, ◌∙◌, arith, filter, length, drop, IfSome}
-use Rattle.std.specs.Prelude.{slice_get}
+use Rattle.std.proofs.Common.{◌≡◌, ℕ, zero, suc, ◌+◌, ◌-◌, ◌<◌, ◌≤◌, Bool, true, false, cond, List, [], ◌∷◌, ◌++◌, Option, Some, None, refl, sym, ap, ◌∙◌, arith, filter, length, drop, IfSome}
 use Rattle.std.specs.Option.{option_or}
-use Rattle.std.specs.List.{filter_map, cons_option}
+use Rattle.std.specs.List.{cons_option}
 use Rattle.std.proofs.lemmas.List.{drop_all}
 use Rattle.pt_table.specs.declared.clients.ClientRow.{ClientRow}
-use Rattle.pt_table.specs.ClientRows.{nth_value}
 use Rattle.pt_table.specs.declared.objects.ObjectRow.{ObjectRow}
-use Rattle.pt_model.specs.Searches.{In, least, least_with, listed}
+use Rattle.pt_model.specs.Searches.{In, least, listed}
 use Rattle.pt_plain.specs.Found.{keep}
 use Rattle.pt_state.specs.declared.callers.Caller.{Caller}
 use Rattle.pt_state.specs.declared.callers.Open.{Open}
 use Rattle.pt_state.specs.declared.object.Object.{Object}
 use Rattle.pt_state.specs.Callers.{opens_of}
-use Rattle.pt_state.specs.Serving.{open_nth, best_of, orphan_of, orphan_nth, orphan_in}
+use Rattle.pt_state.specs.Serving.{open_nth, best_of, orphan_nth, orphan_in}
 use Rattle.pt_state.proofs.ServingLemmas.{least-kept}
 
 -- the open calls from one row on
@@ -28,6 +26,7 @@ opens-from (row ∷ rows) zero = go row.value.open
     go (Some x) = refl
 opens-from (row ∷ rows) (suc k) = opens-from rows k
 
+-- a test of one more, if there is one
 filter-one : {X : Type 0} (q : X → Bool) (o : Option X) (xs : List X)
     → filter q (listed o ++ xs) ≡ listed (keep q o) ++ filter q xs
 filter-one q None xs = refl
@@ -38,6 +37,7 @@ filter-one q (Some x) xs = go (q x)
     go true = refl
     go false = refl
 
+-- the least of one more, if there is one
 least-one : {X : Type 0} (lt : X → X → Bool) (o : Option X) (xs : List X)
     → least lt (listed o ++ xs) ≡ best_of lt o (least lt xs)
 least-one lt None xs = refl
@@ -52,16 +52,18 @@ least-from lt q rows k =
     ∙ ap (least lt) (filter-one q (open_nth rows k) (opens_of (drop (suc k) rows)))
     ∙ least-one lt (keep q (open_nth rows k)) (filter q (opens_of (drop (suc k) rows)))
 
+-- a number that isn't 0 is behind another
 back-one : (i : ℕ) → 0 < i → i ≡ suc (i - 1)
 back-one i lt = omega arith
 
 -- the least of one row more
-pub least-less : (lt : Open → Open → Bool) (q : Open → Bool) (rows : List (ClientRow Caller)) (i : ℕ)
-    → 0 < i → (one best : Option Open) → one ≡ keep q (open_nth rows (i - 1))
-    → best ≡ least lt (filter q (opens_of (drop i rows)))
-    → best_of lt one best ≡ least lt (filter q (opens_of (drop (i - 1) rows)))
-least-less lt q rows i pos one best e k =
-    ap (λ o. best_of lt o best) e
+pub least-less : (lt : Open → Open → Bool) (q : Open → Bool) (rows : List (ClientRow Caller))
+    (i : ℕ) → 0 < i → (one best new : Option Open) → one ≡ keep q (open_nth rows (i - 1))
+    → best ≡ least lt (filter q (opens_of (drop i rows))) → new ≡ best_of lt one best
+    → new ≡ least lt (filter q (opens_of (drop (i - 1) rows)))
+least-less lt q rows i pos one best new e k n =
+    n
+    ∙ ap (λ o. best_of lt o best) e
     ∙ ap (best_of lt (keep q (open_nth rows (i - 1))))
     (k ∙ ap (λ j. least lt (filter q (opens_of (drop j rows)))) (back-one i pos))
     ∙ sym (least-from lt q rows (i - 1))
@@ -97,26 +99,34 @@ module _ {A : Type 0} where
   orphan-from rows (thing ∷ things) zero = refl
   orphan-from rows (thing ∷ things) (suc k) = orphan-from rows things k
 
-  -- a row that has one
+  -- the first orphan is in the row at an index, where none is in those before it
   pub orphan-here : (rows : List (ClientRow Caller)) (things : List (ObjectRow (Object A)))
-      (k m : ℕ) → Some m ≡ orphan_nth rows things k → orphan_in rows (drop k things) ≡ Some m
-  orphan-here rows things k m e =
-      orphan-from rows things k
-      ∙ ap (λ o. option_or o (orphan_in rows (drop (suc k) things))) (sym e)
+      (k : ℕ) (here : Option ℕ) (m : ℕ)
+      → orphan_in rows things ≡ orphan_in rows (drop k things)
+      → here ≡ orphan_nth rows things k → here ≡ Some m → Some m ≡ orphan_in rows things
+  orphan-here rows things k here m before e s =
+      sym (before ∙ orphan-from rows things k
+      ∙ ap (λ o. option_or o (orphan_in rows (drop (suc k) things))) (sym e ∙ s))
 
-  -- a row that has none
+  -- or it is in a row behind it
   pub orphan-later : (rows : List (ClientRow Caller)) (things : List (ObjectRow (Object A)))
-      (k : ℕ) → None ≡ orphan_nth rows things k
-      → orphan_in rows (drop k things) ≡ orphan_in rows (drop (k + 1) things)
-  orphan-later rows things k e =
-      orphan-from rows things k
-      ∙ ap (λ o. option_or o (orphan_in rows (drop (suc k) things))) (sym e)
+      (k : ℕ) (here : Option ℕ)
+      → orphan_in rows things ≡ orphan_in rows (drop k things)
+      → here ≡ orphan_nth rows things k → here ≡ None
+      → orphan_in rows things ≡ orphan_in rows (drop (k + 1) things)
+  orphan-later rows things k here before e n =
+      before
+      ∙ orphan-from rows things k
+      ∙ ap (λ o. option_or o (orphan_in rows (drop (suc k) things))) (sym e ∙ n)
       ∙ ap (λ j. orphan_in rows (drop j things)) (next k)
     where
       next : (n : ℕ) → suc n ≡ n + 1
       next n = omega arith
 
-  -- no row is left
+  -- or there is none, where no row is left
   pub orphan-nowhere : (rows : List (ClientRow Caller)) (things : List (ObjectRow (Object A)))
-      (k : ℕ) → length things ≤ k → orphan_in rows (drop k things) ≡ None
-  orphan-nowhere rows things k e = let none : drop k things ≡ [] = drop_all k things e in rw none refl
+      (k : ℕ) → orphan_in rows things ≡ orphan_in rows (drop k things) → length things ≤ k
+      → None ≡ orphan_in rows things
+  orphan-nowhere rows things k before e =
+      let none : drop k things ≡ [] = drop_all k things e in
+      sym (before ∙ ap (orphan_in rows) none)

@@ -1,5 +1,5 @@
 -- Granting: whether an open call may go on, and what it is told, by the rows of objects.
-use Rattle.std.specs.Prelude.{ℕ, ◌==◌, Bool, true, false, ◌&&◌, ◌||◌, length, List, Option, Some, None, is_some, option_map}
+use Rattle.std.specs.Prelude.{ℕ, ◌==◌, Bool, true, false, ◌&&◌, ◌||◌, length, List, Option, Some, is_some, option_map}
 use Rattle.pt_types.specs.declared.outcome.Condition.{Condition}
 use Rattle.pt_types.specs.declared.outcome.Condition.TheVariants.{Consistent}
 use Rattle.pt_types.specs.declared.outcome.Outcome.{Outcome}
@@ -18,7 +18,7 @@ use Rattle.pt_plain.specs.Found.{passes}
 use Rattle.pt_plain.specs.Shown.{shown_role}
 use Rattle.pt_state.specs.declared.callers.Open.{Open}
 use Rattle.pt_state.specs.declared.object.Object.{Object}
-use Rattle.pt_state.specs.declared.object.Object.TheVariants.{Mutex, Rwlock, Cond, Barrier}
+use Rattle.pt_state.specs.declared.object.Object.TheVariants.{Mutex, Rwlock}
 use Rattle.pt_state.specs.Things.{kind_kept}
 use Rattle.pt_state.specs.Serving.{move_of}
 

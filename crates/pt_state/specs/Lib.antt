@@ -3,6 +3,7 @@ pub mod Arrivals
 pub mod Callers
 pub mod Calling
 pub mod Counts
+pub mod Forcing
 pub mod Granting
 pub mod Kept
 pub mod Left

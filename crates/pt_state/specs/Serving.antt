@@ -13,9 +13,9 @@ use Rattle.pt_model.specs.Clients.{is_due}
 use Rattle.pt_model.specs.Records.{Standing, Move}
 use Rattle.pt_model.specs.Standing.{is_wait}
 use Rattle.pt_model.specs.Answers.{open_calls}
-use Rattle.pt_model.specs.Moves.{moved, key_by, object_by}
+use Rattle.pt_model.specs.Moves.{moved, key_by}
 use Rattle.pt_model.specs.Forced.{expires_before, service}
-use Rattle.pt_plain.specs.Shown.{shown, shown_role, shown_move}
+use Rattle.pt_plain.specs.Shown.{shown, shown_move}
 use Rattle.pt_state.specs.declared.callers.Caller.{Caller}
 use Rattle.pt_state.specs.declared.callers.Open.{Open}
 use Rattle.pt_state.specs.declared.object.Object.{Object}
@@ -60,12 +60,7 @@ served_first a b =
 abbrev pub expires_first : Open → Open → Bool
 expires_first a b = expires_before (called a) (called b)
 
--- whether it is a wait that stands at this condition still  [XSH pthread_cond_wait]
-abbrev pub waits_for : ℕ → Open → Bool
-waits_for q o =
-    is_wait (shown_role o.call.role) && (is_none (move_of o) && (o.call.object == q))
-
--- the same of a call of the history  [XSH pthread_cond_wait]
+-- whether a call is a wait that stands at this condition still  [XSH pthread_cond_wait]
 abbrev pub waits_in : History → ℕ → Standing → Bool
 waits_in h q w = is_wait w.role && (is_none (moved h w.place) && (w.object == q))
 

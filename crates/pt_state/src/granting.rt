@@ -71,6 +71,7 @@ fn lock_outcome(condition: Condition, expired: bool) -> Outcome
 }
 
 impl<A: Allocator + Copy> State<A> {
+    // Whether nothing but the order of calls keeps a call from it.  [XSH pthread_mutex_unlock]
     fn may_lock(&self, m: ObjectId) -> bool
         ensures { result ≡ passes is_lockable (object_value self.now.objects m) }
     {
@@ -80,6 +81,7 @@ impl<A: Allocator + Copy> State<A> {
         }
     }
 
+    // Whether nothing but that keeps a moved wait of this client from it.  [XSH pthread_cond_wait]
     fn may_return(&self, m: ObjectId, c: ClientId) -> bool
         ensures { result ≡ passes (is_open_to c) (object_value self.now.objects m) }
     {
@@ -89,6 +91,7 @@ impl<A: Allocator + Copy> State<A> {
         }
     }
 
+    // Whether a client may read there, behind writers or not.  [XSH pthread_rwlock_rdlock]
     fn may_read(&self, r: ObjectId, c: ClientId, blocked: bool) -> bool
         ensures { result
             ≡ passes (is_readable_kept c blocked) (object_value self.now.objects r) }
@@ -99,6 +102,7 @@ impl<A: Allocator + Copy> State<A> {
         }
     }
 
+    // Whether nobody holds it.  [XSH pthread_rwlock_wrlock]
     fn may_write(&self, r: ObjectId) -> bool
         ensures { result ≡ passes is_unheld (object_value self.now.objects r) }
     {
@@ -108,6 +112,7 @@ impl<A: Allocator + Copy> State<A> {
         }
     }
 
+    // How many calls it waits for.  [XSH pthread_barrier_init]
     fn count_at(&self, b: ObjectId) -> u64
         ensures { result ≡ count_kept (object_value self.now.objects b) }
     {
@@ -117,6 +122,7 @@ impl<A: Allocator + Copy> State<A> {
         }
     }
 
+    // Its condition.  [XSH pthread_mutex_consistent]
     fn condition_at(&self, m: ObjectId) -> Condition
         ensures { result ≡ condition_kept (object_value self.now.objects m) }
     {
@@ -126,6 +132,7 @@ impl<A: Allocator + Copy> State<A> {
         }
     }
 
+    // Whether nothing but the order of calls can hold it back, by its role.  [XSH, its page]
     fn may_kept(&self, kept: &Open) -> bool
         requires { IsRead self.now }
         ensures { result
@@ -152,12 +159,14 @@ impl<A: Allocator + Copy> State<A> {
         self.may_kept(kept)
     }
 
+    // What a mutex tells to a call with this move.  [XSH pthread_mutex_lock]
     fn told_at(&self, m: ObjectId, moved: Option<Move>) -> Outcome
         ensures { result ≡ told_at_in self.now.objects m (option_map shown_move moved) }
     {
         lock_outcome(self.condition_at(m), is_expired(moved))
     }
 
+    // What a call is told when it is granted, by its role.  [XSH, its page]
     fn outcome_kept(&self, kept: &Open) -> Outcome
         ensures { result ≡ outcome_kept_in self.now.objects kept.now }
     {

@@ -1,7 +1,7 @@
-ghost use Rattle.std.specs.Prelude.{◌≡◌, ◌<◌, ◌≤◌, ◌+◌, ◌++◌, [], ◌∷◌, map, length, drop, option_map, vec_len, vec_capacity, OnOk, IfOk, IfErr};
+ghost use Rattle.std.specs.Prelude.{◌≡◌, ◌<◌, ◌≤◌, ◌+◌, ◌++◌, [], ◌∷◌, map, length, drop, option_map, vec_len, vec_capacity};
 ghost use Rattle.pt_state.specs.Logs.{logged, since, Rises, last_to, outcome_in_log};
 
-use pt_types::{ClientId, Outcome, Refusal};
+use pt_types::{ClientId, Outcome};
 use std::alloc::Allocator;
 
 /// An answer, with the place of the entry that gave it.  [profile]
@@ -65,36 +65,6 @@ pub(crate) fn outcome_since(answers: &[Answered], place: u64) -> Option<Outcome>
         Some(answer) => Some(answer.outcome),
         None => None,
     }
-}
-
-// The same answers, in memory of their own.
-pub(crate) fn copied<A: Allocator + Copy>(
-    answers: &[Answered],
-    alloc: A,
-) -> Result<Vec<Answered, A>, Refusal>
-    ensures ok { IfOk result (λ kept. kept.items ≡ answers.now) }
-    ensures err { IfErr result (λ refusal. refusal ≡ Refusal.Enomem) }
-{
-    let mut kept = Vec::new(alloc);
-    for i in 0..answers.len() {
-        let answer = answers[i];
-        kept.push(answer).map_err(|_| Refusal::Enomem)?;
-    }
-    Ok(kept)
-}
-
-// The answers that the entries from a place on gave, in order.
-pub(crate) fn answers_from<A: Allocator + Copy>(
-    answers: &[Answered],
-    place: u64,
-    alloc: A,
-) -> Result<Vec<Answered, A>, Refusal>
-    requires { Rises 0 (map logged answers.now) }
-    ensures ok { IfOk result (λ kept. map logged kept.items ≡ since place (map logged answers.now)) }
-    ensures err { IfErr result (λ refusal. refusal ≡ Refusal.Enomem) }
-{
-    let from = answered_since(answers, place);
-    copied(&answers[from..], alloc)
 }
 
 // Adds an answer, in room that was made for it.

@@ -1,3 +1,5 @@
+//! What must follow, and the wait that a signal wakes: the least calls of the tables.
+
 ghost use Rattle.std.specs.Prelude.{◌≡◌, ◌≤◌, option_map, filter, IfSome};
 ghost use Rattle.pt_model.specs.Histories.{history, place};
 ghost use Rattle.pt_model.specs.Searches.{In, least, first_below};
@@ -7,8 +9,9 @@ ghost use Rattle.pt_model.specs.Forced.{is_served_before as is_served_before_in,
 ghost use Rattle.pt_model.proofs.Forcing.{may as may_in};
 ghost use Rattle.pt_plain.specs.Found.{keep};
 ghost use Rattle.pt_state.specs.Callers.{opens_of};
+ghost use Rattle.pt_state.specs.Counts.{waits_at};
 ghost use Rattle.pt_state.specs.Reads.{IsRead};
-ghost use Rattle.pt_state.specs.Serving.{called, open_nth as open_nth_in, goes_first as goes_first_by, served_first as served_first_by, expires_first as expires_first_by, waits_for as waits_for_it, waits_in, is_late as is_late_by, best_of, is_gone as is_gone_in, is_orphaned as is_orphaned_in, orphan_nth as orphan_nth_in, entry_of, IsFor};
+ghost use Rattle.pt_state.specs.Serving.{called, open_nth as open_nth_in, goes_first as goes_first_by, served_first as served_first_by, expires_first as expires_first_by, waits_in, is_late as is_late_by, best_of, is_gone as is_gone_in, is_orphaned as is_orphaned_in, orphan_nth as orphan_nth_in, entry_of, IsFor};
 
 use crate::callers::Open;
 use crate::object::Object;
@@ -55,17 +58,17 @@ fn expires_first(a: &Open, b: &Open) -> bool
 }
 
 // Whether it is a wait that stands at this condition still.  [XSH pthread_cond_wait]
-fn waits_for(open: &Open, q: ObjectId) -> bool
-    ensures { result ≡ waits_for_it q open.now }
+fn waits_for(kept: &Open, q: ObjectId) -> bool
+    ensures { result ≡ waits_at q kept.now }
 {
-    is_wait(open.call.role) && open.moved.is_none() && open.call.object == q.0
+    is_wait(kept.call.role) && kept.moved.is_none() && kept.call.object == q.0
 }
 
 // Whether its deadline is due by this clock; a moved wait has none.  [XSH pthread_mutex_timedlock]
-fn is_late(open: &Open, clock: Option<u64>) -> bool
-    ensures { result ≡ is_late_by clock open.now }
+fn is_late(kept: &Open, clock: Option<u64>) -> bool
+    ensures { result ≡ is_late_by clock kept.now }
 {
-    open.moved.is_none() && is_due(clock, open.call.deadline)
+    kept.moved.is_none() && is_due(clock, kept.call.deadline)
 }
 
 // The one to wake first, of a wait and the first behind it.  [XSH pthread_cond_signal]
@@ -104,10 +107,10 @@ fn sooner(one: Option<Open>, best: Option<Open>) -> Option<Open>
 impl<A: Allocator + Copy> State<A> {
     // The open call in the row at an index, if it is a wait that stands at this condition still.
     fn waiting_nth(&self, q: ObjectId, i: usize) -> Option<Open>
-        ensures { result ≡ keep (waits_for_it q) (open_nth_in self.now.clients i) }
+        ensures { result ≡ keep (waits_at q) (open_nth_in self.now.clients i) }
     {
         match self.open_nth(i) {
-            Some(open) if waits_for(&open, q) => Some(open),
+            Some(found) if waits_for(&found, q) => Some(found),
             _ => None,
         }
     }
@@ -145,7 +148,7 @@ impl<A: Allocator + Copy> State<A> {
         ensures { result ≡ keep (is_late_by self.now.clock) (open_nth_in self.now.clients i) }
     {
         match self.open_nth(i) {
-            Some(open) if is_late(&open, self.nanos()) => Some(open),
+            Some(found) if is_late(&found, self.nanos()) => Some(found),
             _ => None,
         }
     }

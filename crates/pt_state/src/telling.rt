@@ -1,13 +1,13 @@
-ghost use Rattle.std.specs.Prelude.{◌≡◌, map, option_map, IfOk, IfErr};
+ghost use Rattle.std.specs.Prelude.{◌≡◌, map, option_map};
 ghost use Rattle.pt_model.specs.Histories.{history};
 ghost use Rattle.pt_model.specs.Answers.{outcome as said};
 ghost use Rattle.pt_model.specs.Queries.{answers_from as answers_in, answer_of as answer_in};
 ghost use Rattle.pt_state.specs.Logs.{logged};
 ghost use Rattle.pt_state.specs.Reads.{IsRead};
 
-use crate::replies::{Answered, answer_since, answers_from, outcome_since};
+use crate::replies::{Answered, answer_since, answered_since, outcome_since};
 use crate::state::State;
-use pt_types::{ClientId, Outcome, Refusal};
+use pt_types::{ClientId, Outcome};
 use std::alloc::Allocator;
 
 // An answer as one to this client.
@@ -46,13 +46,12 @@ impl<A: Allocator + Copy> State<A> {
         to_client(answer_since(self.answers.as_slice(), place), c)
     }
 
-    /// The answers that the entries from a place on gave.  [profile]
-    pub fn answers_from(&self, place: u64, alloc: A) -> Result<Vec<Answered, A>, Refusal>
+    /// The answers that the entries from a place on gave, in order.  [profile]
+    pub fn answers_since(&self, place: u64) -> &[Answered]
         requires { IsRead self.now }
-        ensures ok { IfOk result (λ kept. map (λ a. (logged a).1) kept.items
-            ≡ answers_in place self.now.stored.entries) }
-        ensures err { IfErr result (λ refusal. refusal ≡ Refusal.Enomem) }
+        ensures { map (λ a. (logged a).1) result.now ≡ answers_in place self.now.stored.entries }
     {
-        answers_from(self.answers.as_slice(), place, alloc)
+        let answers = self.answers.as_slice();
+        &answers[answered_since(answers, place)..]
     }
 }

@@ -1,9 +1,8 @@
-use Rattle.std.proofs.Common.{◌≡◌, map}
-use Rattle.pt_model.specs.Queries.{answers_from}
+use Rattle.std.proofs.Common.{◌≡◌, map, take}
+use Rattle.pt_state.specs.Logs.{logged}
 use Rattle.pt_core.specs.Replies.{told_of}
-use Rattle.pt_core.proofs.AnsweringLemmas.{told_with}
 use Rattle.pt_core.proofs.answering.answers_from.Given as goal
 
-abbrev pub invariant-loop-at : goal.invariant-loop-at
-invariant-loop-at g l =
-    told_with (map told_of l.replies.items) l.entries l.at ≡ answers_from l.fn.place l.entries
+abbrev pub invariant-loop-answered : goal.invariant-loop-answered
+invariant-loop-answered g l =
+    map told_of l.replies.items ≡ map (λ a. (logged a).1) (take l.answered-index l.answered-items)

@@ -1,36 +1,32 @@
-use Rattle.std.proofs.Common.{◌≡◌, sym, ap, ◌∙◌}
+use Rattle.std.proofs.Common.{◌≡◌, None, refl, sym, ap, ◌∙◌, subst}
 use Rattle.pt_model.specs.Histories.{history}
-use Rattle.pt_core.proofs.ApplyingLemmas.{death-told, entered-kept, entered-applied, read-refusal}
+use Rattle.pt_model.specs.Room.{refusal}
+use Rattle.pt_state.specs.Adds.{past}
+use Rattle.pt_core.proofs.ApplyingLemmas.{entered-applied}
+use Rattle.pt_core.proofs.OpenLemmas.{memory-open, open-within}
+use Rattle.pt_core.proofs.WholeLemmas.{whole-entered}
 use Rattle.pt_core.proofs.applying.apply.Goals as goal
 
-pub returns-in-Some-clause-death : goal.returns-in-Some-clause-death
-returns-in-Some-clause-death g c =
-    death-told c.args.stored.now c.args.event.now c.refusal_within.result c.in-Some.refusal
-    c.requires
-    (read-refusal c.args.stored.now c.args.event.now c.limit-limit.result c.entries.result.now
-    c.refusal_within.result c.limit-limit.ensures c.entries.ensures c.refusal_within.ensures)
-    c.in-Some.is
+pub returns-in-Err-enter-clause-err : goal.returns-in-Err-enter-clause-err
+returns-in-Err-enter-clause-err g c =
+    memory-open c.args.state.now c.make_room.new.state c.args.event.now
+    c.in_default-make_room.ensures.ok (sym c.refusal.ensures ∙ c.in_default.is) c.enter.result
+    c.in-Err-enter.refusal c.in-Err-enter.is c.in-Err-enter.ensures.reason c.enter.ensures.death
 
-pub returns-clause-kept : goal.returns-clause-kept
-returns-clause-kept g c =
-    entered-kept c.args.stored.now c.make_room.new.stored c.enter.new.stored c.args.event.now
-    c.in_ok-make_room.ensures.ok c.enter.ensures
-    (
-    sym (read-refusal c.args.stored.now c.args.event.now c.limit-limit.result
-    c.entries.result.now c.refusal_within.result c.limit-limit.ensures c.entries.ensures
-    c.refusal_within.ensures)
-    ∙ c.in_default.is
-    )
+pub returns-clause-whole : goal.returns-clause-whole
+returns-clause-whole g c =
+    let o = c.in_default-make_room.ensures.ok in
+    whole-entered c.make_room.new.state c.enter.new.state c.args.event.now o.made.ready
+    (ap (λ es. refusal (history es) c.args.event.now) o.made.same_entries
+    ∙ (sym c.refusal.ensures ∙ c.in_default.is))
+    c.in_default-enter.ensures.ok c.in_default-enter.ensures.roomy
 
 pub returns-clause-ok : goal.returns-clause-ok
 returns-clause-ok g c =
-    entered-applied c.args.stored.now c.make_room.new.stored c.enter.new.stored c.args.event.now
-    c.in_ok-make_room.ensures.ok c.enter.ensures
-    (
-    sym (read-refusal c.args.stored.now c.args.event.now c.limit-limit.result
-    c.entries.result.now c.refusal_within.result c.limit-limit.ensures c.entries.ensures
-    c.refusal_within.ensures)
-    ∙ c.in_default.is
-    )
-    c.len-first.result c.len.result c.entries-2.result.now c.told-outcome.result
-    c.len-first.ensures c.len.ensures c.entries-2.ensures c.told-outcome.ensures
+    let o = c.in_default-make_room.ensures.ok in
+    entered-applied c.args.state.now.stored c.make_room.new.state.stored c.enter.new.state.stored
+    c.args.event.now o.made c.in_default-enter.ensures.ok
+    (open-within c.args.state.now c.make_room.new.state c.args.event.now o
+    (sym c.refusal.ensures ∙ c.in_default.is))
+    c.len-first.result c.len.result c.enter.new.state.stored.entries c.told-outcome.result
+    c.len-first.ensures c.len.ensures refl c.told-outcome.ensures

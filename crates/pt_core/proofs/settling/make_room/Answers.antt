@@ -1,20 +1,44 @@
-use Rattle.std.proofs.Common.{◌≡◌, ◌+◌, sym, ap, ◌∙◌}
-use Rattle.pt_model.specs.Histories.{◌▷◌, history}
-use Rattle.pt_model.specs.Room.{need, entry_for}
-use Rattle.pt_core.proofs.RoomLemmas.{made-death, reserved-memory, needed}
+use Rattle.std.proofs.Common.{◌≡◌, ◌+◌, max, sym, ap, ◌∙◌, subst}
+use Rattle.std.specs.Prelude.{Result, IfErr}
+use Rattle.pt_types.specs.declared.outcome.Refusal.{Refusal}
+use Rattle.pt_model.specs.declared.entry.Entry.{Entry}
+use Rattle.pt_model.specs.Histories.{◌▷◌}
+use Rattle.pt_model.specs.Room.{need}
+use Rattle.pt_model.specs.Legal.{events_of}
+use Rattle.pt_model.proofs.Legality.{legal-settled}
+use Rattle.pt_state.specs.Adds.{past}
+use Rattle.pt_core.specs.Cores.{kept}
+use Rattle.pt_core.specs.Applying.{IsRefusal}
+use Rattle.pt_core.proofs.OpenLemmas.{open-death, refused-room, memory-room, room-asked}
 use Rattle.pt_core.proofs.settling.make_room.Goals as goal
 
 pub returns-then-is_death-clause-ok : goal.returns-then-is_death-clause-ok
 returns-then-is_death-clause-ok g c =
-    made-death c.args.stored.now c.args.event.now c.requires.kept (sym c.is_death.ensures ∙
+    open-death c.args.state.now c.args.event.now c.requires.whole (sym c.is_death.ensures ∙
     c.if-is_death.true) c.requires.accepted
 
-pub returns-clause-memory : goal.returns-clause-memory
-returns-clause-memory g c =
-    reserved-memory c.args.stored.now c.args.event.now (1 + c.need-room.result) c.requires.kept
-    c.requires.accepted
-    (needed c.args.stored.now c.entries.result.now c.entries-2.result.now c.args.event.now
-    c.entry_for-entry.result c.need-room.result c.entries.ensures c.entries-2.ensures
-    c.entry_for-entry.ensures c.need-room.ensures.value)
-    c.reserve_for.result (sym c.is_death.ensures ∙ c.if-is_death.false)
-    c.reserve_for.ensures.full c.reserve_for.ensures.memory
+pub need_after-requires-clause-forced : goal.need_after-requires-clause-forced
+need_after-requires-clause-forced g c =
+    legal-settled c.args.state.now.stored.entries (events_of c.args.state.now.stored.entries)
+    c.requires.whole.kept.legal
+
+pub returns-in-Err-clause-refusal : goal.returns-in-Err-clause-refusal
+returns-in-Err-clause-refusal g c =
+    let s = c.args.state.now in
+    subst (λ a. IfErr a (IsRefusal (kept s.stored) c.args.event.now)) c.in-Err.is
+    (refused-room s.stored c.args.event.now c.max-room.result c.reserve_for.result
+    c.requires.accepted (sym c.is_death.ensures ∙ c.if-is_death.false) c.requires.whole.kept.fits
+    (c.max-room.ensures ∙ room-asked (past s) c.args.event.now c.args.entry.now s.stored.room
+    c.room.result c.need_after.result c.room.ensures.room c.requires.entry
+    c.need_after.ensures.value)
+    c.reserve_for.ensures.full c.reserve_for.ensures.memory)
+
+pub returns-in-Err-reserve-clause-refusal : goal.returns-in-Err-reserve-clause-refusal
+returns-in-Err-reserve-clause-refusal g c =
+    let s = c.args.state.now in
+    memory-room s.stored c.args.event.now c.max-room.result c.reserve_for.result
+    c.in_default.field-0 c.requires.accepted (sym c.is_death.ensures ∙ c.if-is_death.false)
+    (c.max-room.ensures ∙ room-asked (past s) c.args.event.now c.args.entry.now s.stored.room
+    c.room.result c.need_after.result c.room.ensures.room c.requires.entry
+    c.need_after.ensures.value)
+    c.reserve_for.ensures.full c.in_default.is

@@ -1,30 +1,32 @@
-use Rattle.std.proofs.Common.{◌≡◌, Some, sym, ap, ◌∙◌, subst, ◌<◌}
-use Rattle.pt_model.specs.Histories.{history}
-use Rattle.pt_model.specs.Room.{need}
+use Rattle.std.proofs.Common.{◌≡◌, Some, sym, ap, ◌∙◌}
+use Rattle.std.specs.Prelude.{option_map}
 use Rattle.pt_model.specs.Forced.{forced}
-use Rattle.pt_history.specs.Stored.{Stored}
-use Rattle.pt_core.specs.Settling.{IsSettling}
-use Rattle.pt_core.proofs.SettlingLemmas.{settling-start, settling-room, settling-more, settling-smaller}
+use Rattle.pt_state.specs.Adds.{past}
+use Rattle.pt_state.specs.Serving.{entry_of}
+use Rattle.pt_core.proofs.WholeLemmas.{ready-forced, roomy-forced, need-forced, settling-forced, settling-first}
 use Rattle.pt_core.proofs.settling.settle.Goals as goal
 
-pub push-requires : goal.push-requires
-push-requires g c =
-    settling-room c.args.stored.now c.loop-entry.stored c.in-Some.entry c.loop-entry.invariant
-    (ap (λ es. forced (history es)) (sym c.entries.ensures) ∙ sym c.in-Some.ensures)
+pub push_forced-requires-clause-ready : goal.push_forced-requires-clause-ready
+push_forced-requires-clause-ready g c =
+    let s = c.loop-forced.state in
+    ready-forced s (entry_of (past s) c.in-Some.forced) c.loop-forced.invariant.roomy
+    (sym c.next_forced.ensures.entry ∙ ap (option_map (entry_of (past s))) c.in-Some.is)
 
-pub loop-entry-smaller : goal.loop-entry-smaller
-loop-entry-smaller g c =
-    subst (λ (s : Stored). need (history s.entries) < need (history c.loop-entry.stored.entries))
-    (sym c.push.ensures)
-    (
-    settling-smaller c.args.stored.now c.loop-entry.stored c.in-Some.entry c.loop-entry.invariant
-    (ap (λ es. forced (history es)) (sym c.entries.ensures) ∙ sym c.in-Some.ensures)
-    )
+pub loop-forced-smaller : goal.loop-forced-smaller
+loop-forced-smaller g c =
+    let s = c.loop-forced.state in
+    need-forced s (entry_of (past s) c.in-Some.forced) c.loop-forced.invariant.roomy
+    (sym c.next_forced.ensures.entry ∙ ap (option_map (entry_of (past s))) c.in-Some.is)
+    c.push_forced.new.self c.push_forced.ensures
 
-pub loop-entry-preserved : goal.loop-entry-preserved
-loop-entry-preserved g c =
-    subst (λ (s : Stored). IsSettling c.args.stored.now s) (sym c.push.ensures)
-    (
-    settling-more c.args.stored.now c.loop-entry.stored c.in-Some.entry c.loop-entry.invariant
-    (ap (λ es. forced (history es)) (sym c.entries.ensures) ∙ sym c.in-Some.ensures)
-    )
+pub loop-forced-preserved : goal.loop-forced-preserved
+loop-forced-preserved g c =
+    let s = c.loop-forced.state in
+    let e = entry_of (past s) c.in-Some.forced in
+    let is = sym c.next_forced.ensures.entry ∙ ap (option_map (entry_of (past s))) c.in-Some.is in
+    record {
+      settling = settling-forced s e c.loop-forced.invariant.roomy is c.push_forced.new.self
+          c.push_forced.ensures c.args.state.now.stored c.loop-forced.invariant.settling;
+      roomy = roomy-forced s e c.loop-forced.invariant.roomy is c.push_forced.new.self
+          c.push_forced.ensures;
+    }

@@ -1,4 +1,3 @@
-use Rattle.std.proofs.Common.{◌∙◌}
 use Rattle.pt_model.specs.Histories.{history}
 use Rattle.pt_state.specs.Callers.{opens_of}
 use Rattle.pt_state.proofs.ServingFinds.{are-open}
@@ -10,6 +9,6 @@ returns g c =
     let s = c.args.self.now in
     let h = history s.stored.entries in
     let read = c.requires.read in
+    may-kept h s.objects read.things.look read.follows (opens_of s.clients)
+    (are-open h s.clients read.follows read.callers) c.args.kept.now c.requires.known _
     c.may_kept.ensures
-    ∙ may-kept h s.objects read.things.look read.follows (opens_of s.clients)
-    (are-open h s.clients read.follows read.callers) c.args.kept.now c.requires.known

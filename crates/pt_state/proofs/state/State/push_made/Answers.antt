@@ -1,4 +1,4 @@
-use Rattle.std.proofs.Common.{◌≡◌, ℕ, List, refl, sym, ap, ◌∙◌, subst}
+use Rattle.std.proofs.Common.{ℕ, List, sym, ap, ◌∙◌, subst}
 use Rattle.pt_model.proofs.Histories.{place-history}
 use Rattle.pt_table.specs.ObjectRows.{is_taken}
 use Rattle.pt_state.specs.declared.object.Object.{Object}
