@@ -1,28 +1,22 @@
 -- One entry more: the tables that are read off with it.
-use Rattle.std.proofs.Common.{◌≡◌, ℕ, ◌+◌, List, [], ◌∷◌, ◌++◌, Option, None, map, length, refl, sym, ap, ◌∙◌, subst, arith}
+use Rattle.std.proofs.Common.{◌≡◌, ℕ, ◌+◌, List, [], ◌∷◌, ◌++◌, None, map, length, refl, sym, ap, ◌∙◌, subst}
 use Rattle.std.specs.Prelude.{vec_len, vec_capacity}
 use Rattle.std.proofs.lemmas.List.{map-append}
 use Rattle.pt_types.specs.declared.outcome.Outcome.{Outcome}
-use Rattle.pt_types.specs.declared.time.Moment.{Moment}
 use Rattle.pt_state.specs.declared.replies.Answered.{Answered}
-use Rattle.pt_table.specs.declared.clients.ClientRow.{ClientRow}
-use Rattle.pt_table.specs.declared.objects.ObjectRow.{ObjectRow}
 use Rattle.pt_history.specs.Stored.{Stored}
 use Rattle.pt_model.specs.declared.entry.Entry.{Entry}
 use Rattle.pt_model.specs.Histories.{History, Begin, ◌▷◌, place, history}
 use Rattle.pt_model.specs.Clients as clients_of
-use Rattle.pt_model.specs.Records.{Told}
 use Rattle.pt_model.specs.Answers.{told}
 use Rattle.pt_model.specs.Steps.{Follows}
 use Rattle.pt_model.proofs.Histories.{history-push}
 use Rattle.pt_state.specs.declared.state.State.{State}
-use Rattle.pt_state.specs.declared.callers.Caller.{Caller}
-use Rattle.pt_state.specs.declared.object.Object.{Object}
 use Rattle.pt_state.specs.Callers.{AreCallers}
 use Rattle.pt_state.specs.Things.{AreThings}
-use Rattle.pt_state.specs.Logs.{logged, log, told_at}
-use Rattle.pt_state.specs.Reads.{Reads, IsRead}
-use Rattle.pt_state.specs.Adds.{pushed, past, IsNearly, Adds}
+use Rattle.pt_state.specs.Logs.{logged, log}
+use Rattle.pt_state.specs.Reads.{Reads}
+use Rattle.pt_state.specs.Adds.{pushed, past, Adds}
 
 module _ {A : Type 0} (s : State A) (e : Entry) (f : Follows (past s ▷ e)) where
   pub adds : (new : State A) → new.stored ≡ pushed s.stored e

@@ -1,12 +1,12 @@
 -- The arrivals at a barrier, told one by one from the rows.
-use Rattle.std.proofs.Common.{◌≡◌, ◌≢◌, ◌⊎◌, ℕ, zero, suc, ◌+◌, ◌-◌, ◌<◌, ◌≤◌, Bool, true, false, cond, eqb, leb, ltb, List, [], ◌∷◌, ◌++◌, Option, Some, None, is_some, map, length, take, drop, refl, sym, ap, ◌∙◌, subst, arith, filter, inl, inr, append_assoc, append-nil}
-use Rattle.std.specs.Prelude.{◌==◌, ◌&&◌, nat_le, nat_lt, option_map}
+use Rattle.std.proofs.Common.{◌≡◌, ℕ, zero, suc, ◌-◌, ◌<◌, ◌≤◌, Bool, true, false, cond, leb, List, [], ◌∷◌, Option, Some, None, map, length, drop, refl, sym, ap, ◌∙◌, subst, arith, filter, inl, inr}
+use Rattle.std.specs.Prelude.{◌==◌, ◌&&◌, nat_le, option_map}
 use Rattle.std.specs.List.{cons_option}
-use Rattle.std.proofs.lemmas.Bool.{and_parts, and_from, cases_lt, le-leb, lt-leb, lt-ltb, leb-true, false≢true}
+use Rattle.std.proofs.lemmas.Bool.{and_parts, and_from, lt-ltb, false≢true}
 use Rattle.pt_table.specs.declared.clients.ClientRow.{ClientRow}
 use Rattle.pt_table.specs.ClientRows.{nth_value}
-use Rattle.pt_model.specs.Searches.{In, least, least_with}
-use Rattle.pt_model.specs.Histories.{History, place}
+use Rattle.pt_model.specs.Searches.{In}
+use Rattle.pt_model.specs.Histories.{History}
 use Rattle.pt_model.specs.Records.{Standing}
 use Rattle.pt_model.specs.Standing.{is_arrival}
 use Rattle.pt_model.specs.Answers.{at_barrier, open_calls}
@@ -16,8 +16,8 @@ use Rattle.pt_model.proofs.Lists.{In-filter, filter-in}
 use Rattle.pt_model.proofs.Orders.{order-key, least-first}
 use Rattle.pt_plain.specs.Found.{keep}
 use Rattle.pt_plain.specs.Shown.{shown}
-use Rattle.pt_plain.proofs.Lists.{Ascends, Ascends-filter, from, from-before}
-use Rattle.pt_plain.proofs.Opens.{open-ascends, open-below}
+use Rattle.pt_plain.proofs.Lists.{Ascends, Ascends-filter, from}
+use Rattle.pt_plain.proofs.Opens.{open-ascends}
 use Rattle.pt_state.specs.declared.callers.Caller.{Caller}
 use Rattle.pt_state.specs.declared.callers.Open.{Open}
 use Rattle.pt_state.specs.Arrivals.{calls_of, arrives_from, came_before, first_of, first_with, next_of}

@@ -43,10 +43,11 @@ caller_free h c call x s = go (Call c call x) s refl
     go : (e : Entry) → Step h e → e ≡ Call c call x
         → (is_alive h c ≡ true) × (call_of (open_calls h) c ≡ None)
     go _ (calls d asked n a o) e =
-        let same : c ≡ d = cc in
-        (ap (is_alive h) same ∙ a,
-        none (call_of (open_calls h) c)
-        (call_of-place (open_calls h) c ∙ (ap (open_place h) same ∙ o)))
+        let same : c ≡ d = cc in (
+          ap (is_alive h) same ∙ a,
+          none (call_of (open_calls h) c)
+              (call_of-place (open_calls h) c ∙ (ap (open_place h) same ∙ o)),
+        )
     go _ (joins p n lt) e = absurd cc
     go _ (dies d n a) e = absurd cc
     go _ (ticks t n) e = absurd cc

@@ -1,13 +1,11 @@
 -- What a name finds is kept as what it is.
-use Rattle.std.proofs.Common.{◌≡◌, ℕ, Bool, true, false, List, Option, Some, None, refl, sym, ap, ◌∙◌}
-use Rattle.std.specs.Prelude.{option_map, is_some}
-use Rattle.pt_types.specs.Deeds.{Sort, MutexSort, RwlockSort, sort_of, same_sort}
-use Rattle.pt_types.specs.declared.call.ObjectKind.{ObjectKind}
-use Rattle.pt_types.specs.declared.call.ObjectKind.TheVariants as kind
+use Rattle.std.proofs.Common.{◌≡◌, ℕ, true, List, Option, Some, None, refl, sym, ap, ◌∙◌}
+use Rattle.std.specs.Prelude.{option_map}
+use Rattle.pt_types.specs.Deeds.{Sort, MutexSort, RwlockSort}
 use Rattle.pt_mutex.specs.MutexState.{MutexState}
 use Rattle.pt_rwlock.specs.RwlockState.{RwlockState}
 use Rattle.pt_model.specs.Histories.{History}
-use Rattle.pt_model.specs.Objects.{kind_of, find}
+use Rattle.pt_model.specs.Objects.{find}
 use Rattle.pt_model.specs.Steps.{Follows}
 use Rattle.pt_model.proofs.Named.{is_sort, known_exists}
 use Rattle.pt_state.specs.declared.object.Object.{Object}

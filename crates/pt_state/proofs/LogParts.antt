@@ -1,11 +1,10 @@
 -- Parts of the kept answers: what a loop from their end has seen.
-use Rattle.std.proofs.Common.{◌≡◌, ◌≢◌, ℕ, zero, suc, ◌+◌, ◌-◌, ◌<◌, ◌≤◌, Bool, true, false, cond, eqb, leb, List, [], ◌∷◌, ◌++◌, Option, Some, None, map, length, take, drop, get_or, refl, sym, ap, ◌∙◌, subst, arith, filter, drop-cons, add-one}
-use Rattle.std.specs.Prelude.{◌==◌, nat_le, option_map}
+use Rattle.std.proofs.Common.{◌≡◌, ◌≢◌, ℕ, zero, suc, ◌-◌, ◌<◌, ◌≤◌, List, [], ◌∷◌, ◌++◌, Some, None, map, length, take, drop, get_or, refl, sym, ap, ◌∙◌, subst, arith, drop-cons}
+use Rattle.std.specs.Prelude.{nat_le}
 use Rattle.std.specs.Option.{option_or}
 use Rattle.std.proofs.lemmas.Bool.{eq-eqb, ne_eqb, le-leb, lt-leb}
 use Rattle.std.proofs.lemmas.List.{map-append, take-append-drop}
 use Rattle.std.proofs.lemmas.List.Elements.{filter-append}
-use Rattle.pt_model.specs.Records.{Told}
 use Rattle.pt_state.specs.declared.replies.Answered.{Answered}
 use Rattle.pt_state.specs.Logs.{logged, since, Rises, last_to}
 use Rattle.pt_state.proofs.LogLemmas.{last_to-append}

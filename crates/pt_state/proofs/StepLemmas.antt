@@ -1,16 +1,14 @@
 -- What is known of an entry that may follow.
-use Rattle.std.proofs.Common.{◌≡◌, ℕ, ◌<◌, true, Option, Some, None, refl, sym, ◌∙◌, subst}
+use Rattle.std.proofs.Common.{◌≡◌, ℕ, ◌<◌, true, Option, None, refl, sym, ◌∙◌, subst}
 use Rattle.pt_types.specs.declared.call.Call.{Call as Asked}
 use Rattle.pt_types.specs.declared.outcome.Outcome.{Outcome}
 use Rattle.pt_types.specs.Limits.{most_clients}
 use Rattle.pt_types.specs.Tables.{reply}
 use Rattle.pt_model.specs.declared.entry.Entry.{Entry}
-use Rattle.pt_model.specs.declared.entry.Entry.TheVariants.{Join, Call, Death, Grant, Trip, Yield, Expire}
-use Rattle.pt_model.specs.Searches.{In}
-use Rattle.pt_model.specs.Histories.{History, ◌▷◌, place}
+use Rattle.pt_model.specs.declared.entry.Entry.TheVariants.{Join, Call, Death}
+use Rattle.pt_model.specs.Histories.{History, place}
 use Rattle.pt_model.specs.Clients.{is_alive, living}
-use Rattle.pt_model.specs.Records.{Standing}
-use Rattle.pt_model.specs.Answers.{open_calls, open_place}
+use Rattle.pt_model.specs.Answers.{open_place}
 use Rattle.pt_model.specs.Forced.{forced}
 use Rattle.pt_model.specs.Verdicts.{verdict}
 use Rattle.pt_model.specs.Steps.{Step, joins, calls, dies, ticks, grants, trips, yields, expires}

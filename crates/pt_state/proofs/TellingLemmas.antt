@@ -1,15 +1,14 @@
 -- What is found in the kept answers is what the definitions say of the history.
-use Rattle.std.proofs.Common.{◌≡◌, ◌≢◌, ℕ, Bool, true, false, cond, eqb, List, [], ◌∷◌, Option, Some, None, is_some, map, refl, sym, ap, ◌∙◌, subst}
-use Rattle.std.specs.Prelude.{◌==◌, option_map}
+use Rattle.std.proofs.Common.{◌≡◌, ℕ, Bool, true, false, cond, eqb, List, [], ◌∷◌, Option, Some, None, map, refl, sym, ap, ◌∙◌, subst}
+use Rattle.std.specs.Prelude.{option_map}
 use Rattle.std.specs.Option.{option_or}
 use Rattle.std.proofs.lemmas.Bool.{eqb-true}
 use Rattle.pt_types.specs.declared.outcome.Outcome.{Outcome}
 use Rattle.pt_model.specs.declared.entry.Entry.{Entry}
 use Rattle.pt_model.specs.Histories.{History, history}
-use Rattle.pt_model.specs.Clients.{client, is_alive}
 use Rattle.pt_model.specs.Records.{Told}
 use Rattle.pt_model.specs.Answers.{outcome}
-use Rattle.pt_model.specs.Queries.{latest, told_if, told_at, answer_of, answers_from}
+use Rattle.pt_model.specs.Queries.{told_if, told_at, answer_of, answers_from}
 use Rattle.pt_model.specs.Steps.{Follows}
 use Rattle.pt_state.specs.declared.callers.Caller.{Caller}
 use Rattle.pt_state.specs.declared.replies.Answered.{Answered}

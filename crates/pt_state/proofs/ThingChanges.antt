@@ -4,7 +4,6 @@ use Rattle.std.proofs.lemmas.Bool.Decides.{nat_tests}
 use Rattle.std.proofs.lemmas.Bool.{ltb-true}
 use Rattle.pt_types.specs.declared.call.Call.{Call as Asked}
 use Rattle.pt_types.specs.declared.call.ObjectKind.{ObjectKind}
-use Rattle.pt_types.specs.declared.call.ObjectKind.TheVariants as kind
 use Rattle.pt_types.specs.declared.outcome.Condition.{Condition}
 use Rattle.pt_types.specs.Deeds.{Sort}
 use Rattle.pt_types.specs.Tables.{reply}
@@ -142,96 +141,96 @@ wait-unread w v m e (inr i) r = i
 
 module _ {A : Type 0} (h : History) (look look' : ℕ → Option (Object A)) (c : ℕ) (call : Asked)
     (f : Follows h) (s : Step h (Call c call (reply (verdict h c call)))) (t : ThingsLook h look)
-    where
-  -- one object is changed by a call that lets nobody wait for a read lock
-  pub call-one : (E : Effect) (q : ℕ) (x : Option (Object A)) → does h c call ≡ E
-      → ((o : ℕ) → look' o ≡ cond (q == o) x (look o))
-      → ((o : ℕ) → (q == o) ≡ false → Spares h E o)
-      → ((w : Standing) → In w (left_by E) → w.role ≡ ForRead → ⊥)
-      → IsKept (behind h c call) q x → ThingsLook (behind h c call) look'
-  call-one E q x e change spared unread new =
-      things-one h (behind h c call) look look' q x t change
-      (λ o ne. quiet-call h c call f o
-      (subst (λ (X : Effect). Spares h X o) (sym e) (spared o ne)))
-      (call-readers h c call f s E e unread) new
+  where
+    -- one object is changed by a call that lets nobody wait for a read lock
+    pub call-one : (E : Effect) (q : ℕ) (x : Option (Object A)) → does h c call ≡ E
+        → ((o : ℕ) → look' o ≡ cond (q == o) x (look o))
+        → ((o : ℕ) → (q == o) ≡ false → Spares h E o)
+        → ((w : Standing) → In w (left_by E) → w.role ≡ ForRead → ⊥)
+        → IsKept (behind h c call) q x → ThingsLook (behind h c call) look'
+    call-one E q x e change spared unread new =
+        things-one h (behind h c call) look look' q x t change
+        (λ o ne. quiet-call h c call f o
+        (subst (λ (X : Effect). Spares h X o) (sym e) (spared o ne)))
+        (call-readers h c call f s E e unread) new
 
-  -- a destroy takes an object away
-  pub things-removes : (n : List ℕ) (sort : Sort) (q : ℕ) → does h c call ≡ Removes n sort q
-      → ((o : ℕ) → look' o ≡ cond (q == o) None (look o)) → ThingsLook (behind h c call) look'
-  things-removes n sort q e change =
-      call-one (Removes n sort q) q None e change
-      (λ o ne. record {
-        kinds = rw ne refl;
-        takes = refl;
-        gives = refl;
-        mends = refl;
-        returns = refl;
-      })
-      (λ w i r. i)
-      record {
-        kind = sym (kind-call h c call (reply (verdict h c call)) (kind_of h q) q ∙ gone);
-        mutex = λ m k. absurd cc;
-        rwlock = λ r k. absurd cc;
-      }
-    where
-      gone : kind_effect (place h) (does h c call) (kind_of h q) q ≡ None
-      gone = let here : (q == q) ≡ true = grind (arith, nat_tests) in rw (e, here) refl
+    -- a destroy takes an object away
+    pub things-removes : (n : List ℕ) (sort : Sort) (q : ℕ) → does h c call ≡ Removes n sort q
+        → ((o : ℕ) → look' o ≡ cond (q == o) None (look o)) → ThingsLook (behind h c call) look'
+    things-removes n sort q e change =
+        call-one (Removes n sort q) q None e change
+        (λ o ne. record {
+          kinds = rw ne refl;
+          takes = refl;
+          gives = refl;
+          mends = refl;
+          returns = refl;
+        })
+        (λ w i r. i)
+        record {
+          kind = sym (kind-call h c call (reply (verdict h c call)) (kind_of h q) q ∙ gone);
+          mutex = λ m k. absurd cc;
+          rwlock = λ r k. absurd cc;
+        }
+      where
+        gone : kind_effect (place h) (does h c call) (kind_of h q) q ≡ None
+        gone = let here : (q == q) ≡ true = grind (arith, nat_tests) in rw (e, here) refl
 
-  -- an owner locks its mutex once more
-  pub things-relocks : (m : ℕ) (x : MutexState) → does h c call ≡ Relocks m
-      → look m ≡ Some (Mutex x)
-      → ((o : ℕ) → look' o
-      ≡ cond (m == o) (Some (Mutex (record x { seen = acquired x.seen c }))) (look o))
-      → ThingsLook (behind h c call) look'
-  things-relocks m x e k change =
-      call-one (Relocks m) m (Some (Mutex (record x { seen = acquired x.seen c }))) e change
-      (λ o ne. record { kinds = refl; takes = ne; gives = refl; mends = refl; returns = refl })
-      (λ w i r. i)
-      (mutex-changed h (behind h c call) look t m x k (kind_same h c call f s m (rw e refl))
-      (λ v. acquired v c) (relocked h c call f s m e))
+    -- an owner locks its mutex once more
+    pub things-relocks : (m : ℕ) (x : MutexState) → does h c call ≡ Relocks m
+        → look m ≡ Some (Mutex x)
+        → ((o : ℕ) → look' o
+        ≡ cond (m == o) (Some (Mutex (record x { seen = acquired x.seen c }))) (look o))
+        → ThingsLook (behind h c call) look'
+    things-relocks m x e k change =
+        call-one (Relocks m) m (Some (Mutex (record x { seen = acquired x.seen c }))) e change
+        (λ o ne. record { kinds = refl; takes = ne; gives = refl; mends = refl; returns = refl })
+        (λ w i r. i)
+        (mutex-changed h (behind h c call) look t m x k (kind_same h c call f s m (rw e refl))
+        (λ v. acquired v c) (relocked h c call f s m e))
 
-  -- an owner gives a lock back
-  pub things-frees : (m : ℕ) (x : MutexState) → does h c call ≡ Frees m
-      → look m ≡ Some (Mutex x)
-      → ((o : ℕ) → look' o
-      ≡ cond (m == o) (Some (Mutex (record x { seen = released x.seen }))) (look o))
-      → ThingsLook (behind h c call) look'
-  things-frees m x e k change =
-      let here : (m == m) ≡ true = grind (arith, nat_tests) in
-      call-one (Frees m) m (Some (Mutex (record x { seen = released x.seen }))) e change
-      (λ o ne. record { kinds = refl; takes = refl; gives = ne; mends = refl; returns = refl })
-      (λ w i r. i)
-      (mutex-changed h (behind h c call) look t m x k (kind_same h c call f s m (rw e refl))
-      released (given_back h c call f s m (rw e here) (rw e refl) (rw e refl)))
+    -- an owner gives a lock back
+    pub things-frees : (m : ℕ) (x : MutexState) → does h c call ≡ Frees m
+        → look m ≡ Some (Mutex x)
+        → ((o : ℕ) → look' o
+        ≡ cond (m == o) (Some (Mutex (record x { seen = released x.seen }))) (look o))
+        → ThingsLook (behind h c call) look'
+    things-frees m x e k change =
+        let here : (m == m) ≡ true = grind (arith, nat_tests) in
+        call-one (Frees m) m (Some (Mutex (record x { seen = released x.seen }))) e change
+        (λ o ne. record { kinds = refl; takes = refl; gives = ne; mends = refl; returns = refl })
+        (λ w i r. i)
+        (mutex-changed h (behind h c call) look t m x k (kind_same h c call f s m (rw e refl))
+        released (given_back h c call f s m (rw e here) (rw e refl) (rw e refl)))
 
-  -- and so does one that begins to wait
-  pub things-awaits : (w : Standing) (m : ℕ) (x : MutexState) → does h c call ≡ Waits w
-      → w.role ≡ ForCond m → look m ≡ Some (Mutex x)
-      → ((o : ℕ) → look' o
-      ≡ cond (m == o) (Some (Mutex (record x { seen = released x.seen }))) (look o))
-      → ThingsLook (behind h c call) look'
-  things-awaits w m x e role k change =
-      call-one (Waits w) m (Some (Mutex (record x { seen = released x.seen }))) e change
-      (λ o ne. record {
-        kinds = refl;
-        takes = refl;
-        gives = rw role ne;
-        mends = refl;
-        returns = refl;
-      })
-      (λ v i r. wait-unread w v m role i r)
-      (mutex-changed h (behind h c call) look t m x k (kind_same h c call f s m (rw e refl))
-      released (given_back h c call f s m (rw e (wait-gives w m role)) (rw e refl) (rw e refl)))
+    -- and so does one that begins to wait
+    pub things-awaits : (w : Standing) (m : ℕ) (x : MutexState) → does h c call ≡ Waits w
+        → w.role ≡ ForCond m → look m ≡ Some (Mutex x)
+        → ((o : ℕ) → look' o
+        ≡ cond (m == o) (Some (Mutex (record x { seen = released x.seen }))) (look o))
+        → ThingsLook (behind h c call) look'
+    things-awaits w m x e role k change =
+        call-one (Waits w) m (Some (Mutex (record x { seen = released x.seen }))) e change
+        (λ o ne. record {
+          kinds = refl;
+          takes = refl;
+          gives = rw role ne;
+          mends = refl;
+          returns = refl;
+        })
+        (λ v i r. wait-unread w v m role i r)
+        (mutex-changed h (behind h c call) look t m x k (kind_same h c call f s m (rw e refl))
+        released (given_back h c call f s m (rw e (wait-gives w m role)) (rw e refl) (rw e refl)))
 
-  -- an owner makes its mutex consistent
-  pub things-mends : (m : ℕ) (x : MutexState) → does h c call ≡ Mends m
-      → look m ≡ Some (Mutex x)
-      → ((o : ℕ) → look' o
-      ≡ cond (m == o) (Some (Mutex (record x { seen = restored x.seen }))) (look o))
-      → ThingsLook (behind h c call) look'
-  things-mends m x e k change =
-      call-one (Mends m) m (Some (Mutex (record x { seen = restored x.seen }))) e change
-      (λ o ne. record { kinds = refl; takes = refl; gives = refl; mends = ne; returns = refl })
-      (λ w i r. i)
-      (mutex-changed h (behind h c call) look t m x k (kind_same h c call f s m (rw e refl))
-      restored (mended h c call f s m e))
+    -- an owner makes its mutex consistent
+    pub things-mends : (m : ℕ) (x : MutexState) → does h c call ≡ Mends m
+        → look m ≡ Some (Mutex x)
+        → ((o : ℕ) → look' o
+        ≡ cond (m == o) (Some (Mutex (record x { seen = restored x.seen }))) (look o))
+        → ThingsLook (behind h c call) look'
+    things-mends m x e k change =
+        call-one (Mends m) m (Some (Mutex (record x { seen = restored x.seen }))) e change
+        (λ o ne. record { kinds = refl; takes = refl; gives = refl; mends = ne; returns = refl })
+        (λ w i r. i)
+        (mutex-changed h (behind h c call) look t m x k (kind_same h c call f s m (rw e refl))
+        restored (mended h c call f s m e))

@@ -18,7 +18,7 @@ use Rattle.pt_model.specs.Searches.{In}
 use Rattle.pt_model.specs.Answers.{open_calls}
 use Rattle.pt_model.specs.Moves.{moved}
 use Rattle.pt_model.specs.Mutexes.{condition, mutex_view}
-use Rattle.pt_model.specs.Rwlocks.{read_given_back, writes, reads, writer}
+use Rattle.pt_model.specs.Rwlocks.{read_given_back, writes, reads}
 use Rattle.pt_model.specs.Verdicts.{verdict}
 use Rattle.pt_model.specs.Steps.{Step, Follows}
 use Rattle.pt_model.proofs.Leasts.{first_below-passes, first_below-nowhere}
@@ -84,61 +84,61 @@ module _ (h : History) (c : ℕ) (call : Asked) (f : Follows h)
 
 module _ {A : Type 0} (h : History) (look look' : ℕ → Option (Object A)) (c : ℕ) (call : Asked)
     (f : Follows h) (s : Step h (Call c call (reply (verdict h c call)))) (t : ThingsLook h look)
-    where
-  -- what is made is kept as it is new
-  new_kept : (n : List ℕ) (k : ObjectKind) → does h c call ≡ Creates n k → (x : Object A)
-      → IsNew x k → IsKept (behind h c call) (place h) (Some x)
-  new_kept n (kind.Mutex m robust) e (Mutex x) new =
-      kept-mutex (behind h c call) (place h) x m robust
-      (new_kind h c call f s n (kind.Mutex m robust) e)
-      (ap (λ (y : MutexState). y.seen) new
-      ∙ sym (new_view h c call f s n (kind.Mutex m robust) e m robust refl))
-      (ap (λ (y : MutexState). y.bound_waits) new)
-  new_kept n kind.Rwlock e (Rwlock x) new =
-      kept-rwlock (behind h c call) (place h) x (new_kind h c call f s n kind.Rwlock e)
-      (subst (λ r. IsRwlock (behind h c call) (place h) r) (sym new)
-      (new_lock h c call f s n kind.Rwlock e))
-  new_kept n kind.Cond e (Cond x) new =
-      record {
-        kind = sym (new_kind h c call f s n kind.Cond e);
-        mutex = λ m k. absurd cc;
-        rwlock = λ r k. absurd cc;
-      }
-  new_kept n (kind.Barrier count) e (Barrier x) new =
-      record {
-        kind = ap (λ y. Some (kind.Barrier y)) new
-            ∙ sym (new_kind h c call f s n (kind.Barrier count) e);
-        mutex = λ m k. absurd cc;
-        rwlock = λ r k. absurd cc;
-      }
-  new_kept n (kind.Mutex m robust) e (Rwlock x) new = absurd new
-  new_kept n (kind.Mutex m robust) e (Cond x) new = absurd new
-  new_kept n (kind.Mutex m robust) e (Barrier x) new = absurd new
-  new_kept n kind.Rwlock e (Mutex x) new = absurd new
-  new_kept n kind.Rwlock e (Cond x) new = absurd new
-  new_kept n kind.Rwlock e (Barrier x) new = absurd new
-  new_kept n kind.Cond e (Mutex x) new = absurd new
-  new_kept n kind.Cond e (Rwlock x) new = absurd new
-  new_kept n kind.Cond e (Barrier x) new = absurd new
-  new_kept n (kind.Barrier count) e (Mutex x) new = absurd new
-  new_kept n (kind.Barrier count) e (Rwlock x) new = absurd new
-  new_kept n (kind.Barrier count) e (Cond x) new = absurd new
+  where
+    -- what is made is kept as it is new
+    new_kept : (n : List ℕ) (k : ObjectKind) → does h c call ≡ Creates n k → (x : Object A)
+        → IsNew x k → IsKept (behind h c call) (place h) (Some x)
+    new_kept n (kind.Mutex m robust) e (Mutex x) new =
+        kept-mutex (behind h c call) (place h) x m robust
+        (new_kind h c call f s n (kind.Mutex m robust) e)
+        (ap (λ (y : MutexState). y.seen) new
+        ∙ sym (new_view h c call f s n (kind.Mutex m robust) e m robust refl))
+        (ap (λ (y : MutexState). y.bound_waits) new)
+    new_kept n kind.Rwlock e (Rwlock x) new =
+        kept-rwlock (behind h c call) (place h) x (new_kind h c call f s n kind.Rwlock e)
+        (subst (λ r. IsRwlock (behind h c call) (place h) r) (sym new)
+        (new_lock h c call f s n kind.Rwlock e))
+    new_kept n kind.Cond e (Cond x) new =
+        record {
+          kind = sym (new_kind h c call f s n kind.Cond e);
+          mutex = λ m k. absurd cc;
+          rwlock = λ r k. absurd cc;
+        }
+    new_kept n (kind.Barrier count) e (Barrier x) new =
+        record {
+          kind = ap (λ y. Some (kind.Barrier y)) new
+              ∙ sym (new_kind h c call f s n (kind.Barrier count) e);
+          mutex = λ m k. absurd cc;
+          rwlock = λ r k. absurd cc;
+        }
+    new_kept n (kind.Mutex m robust) e (Rwlock x) new = absurd new
+    new_kept n (kind.Mutex m robust) e (Cond x) new = absurd new
+    new_kept n (kind.Mutex m robust) e (Barrier x) new = absurd new
+    new_kept n kind.Rwlock e (Mutex x) new = absurd new
+    new_kept n kind.Rwlock e (Cond x) new = absurd new
+    new_kept n kind.Rwlock e (Barrier x) new = absurd new
+    new_kept n kind.Cond e (Mutex x) new = absurd new
+    new_kept n kind.Cond e (Rwlock x) new = absurd new
+    new_kept n kind.Cond e (Barrier x) new = absurd new
+    new_kept n (kind.Barrier count) e (Mutex x) new = absurd new
+    new_kept n (kind.Barrier count) e (Rwlock x) new = absurd new
+    new_kept n (kind.Barrier count) e (Cond x) new = absurd new
 
-  -- an init makes an object
-  pub things-creates : (n : List ℕ) (k : ObjectKind) (x : Object A)
-      → does h c call ≡ Creates n k → IsNew x k
-      → ((o : ℕ) → look' o ≡ cond (place h == o) (Some x) (look o))
-      → ThingsLook (behind h c call) look'
-  things-creates n k x e new change =
-      call-one h look look' c call f s t (Creates n k) (place h) (Some x) e change
-      (λ o ne. record {
-        kinds = rw ne refl;
-        takes = refl;
-        gives = refl;
-        mends = refl;
-        returns = refl;
-      })
-      (λ w i r. i) (new_kept n k e x new)
+    -- an init makes an object
+    pub things-creates : (n : List ℕ) (k : ObjectKind) (x : Object A)
+        → does h c call ≡ Creates n k → IsNew x k
+        → ((o : ℕ) → look' o ≡ cond (place h == o) (Some x) (look o))
+        → ThingsLook (behind h c call) look'
+    things-creates n k x e new change =
+        call-one h look look' c call f s t (Creates n k) (place h) (Some x) e change
+        (λ o ne. record {
+          kinds = rw ne refl;
+          takes = refl;
+          gives = refl;
+          mends = refl;
+          returns = refl;
+        })
+        (λ w i r. i) (new_kept n k e x new)
 
 -- a lock that its writer or a reader gives back
 module _ (h : History) (c : ℕ) (call : Asked) (f : Follows h)

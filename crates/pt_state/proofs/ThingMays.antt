@@ -17,7 +17,7 @@ use Rattle.pt_model.specs.Searches.{In}
 use Rattle.pt_model.specs.Standing.{mutex_of}
 use Rattle.pt_model.specs.Answers.{open_calls}
 use Rattle.pt_model.specs.Moves.{is_least}
-use Rattle.pt_model.specs.Mutexes.{condition, owner, count, count_if, mutex_view}
+use Rattle.pt_model.specs.Mutexes.{owner, count, count_if, mutex_view}
 use Rattle.pt_model.specs.Rwlocks.{writes, reads, writer, reader, rwlock_view}
 use Rattle.pt_model.specs.Grants.{is_blocked, is_grantable_as, is_grantable, grant_outcome}
 use Rattle.pt_model.specs.Steps.{Follows}

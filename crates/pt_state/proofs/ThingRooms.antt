@@ -16,8 +16,8 @@ use Rattle.pt_types.specs.RwlockTable.{RwlockView, relock_outcome}
 use Rattle.pt_model.specs.Histories.{History}
 use Rattle.pt_model.specs.Objects.{find}
 use Rattle.pt_model.specs.Records.{ForRead}
-use Rattle.pt_model.specs.Mutexes.{condition, owner, count, count_if, mutex_view}
-use Rattle.pt_model.specs.Rwlocks.{writes, reads, rwlock_view}
+use Rattle.pt_model.specs.Mutexes.{owner, count, count_if, mutex_view}
+use Rattle.pt_model.specs.Rwlocks.{reads, rwlock_view}
 use Rattle.pt_model.specs.Grants.{is_blocked}
 use Rattle.pt_model.specs.Verdicts.{on, want_verdict, deed_verdict}
 use Rattle.pt_model.proofs.Effects.{Effect, Idle, Creates, Removes, Relocks, Frees, Mends, Returns, Wakes, Waits, upon, succeeds, stays, act, Allowed}

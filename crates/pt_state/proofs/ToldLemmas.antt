@@ -1,5 +1,5 @@
 -- What each entry answers.
-use Rattle.std.proofs.Common.{◌≡◌, ℕ, Bool, true, false, List, [], ◌∷◌, ◌++◌, Option, Some, None, map, refl, sym, ap, ◌∙◌, append-nil}
+use Rattle.std.proofs.Common.{◌≡◌, ℕ, true, false, List, [], ◌∷◌, ◌++◌, Some, None, map, refl, sym, ap, ◌∙◌, append-nil}
 use Rattle.pt_types.specs.declared.call.Call.{Call as Asked}
 use Rattle.pt_types.specs.declared.outcome.Outcome.{Outcome}
 use Rattle.pt_types.specs.declared.outcome.Outcome.TheVariants.{Etimedout}
@@ -8,8 +8,8 @@ use Rattle.pt_model.specs.declared.entry.Entry.TheVariants.{Join, Call, Death, M
 use Rattle.pt_model.specs.Searches.{In}
 use Rattle.pt_model.specs.Histories.{History, ◌▷◌, place}
 use Rattle.pt_model.specs.Records.{Standing, Told}
-use Rattle.pt_model.specs.Standing.{stood, at_place, is_wait, is_wait_if}
-use Rattle.pt_model.specs.Answers.{told, told_by_trip, told_by_expiry, at_barrier, open_calls, client_if}
+use Rattle.pt_model.specs.Standing.{is_wait, is_wait_if}
+use Rattle.pt_model.specs.Answers.{told, told_by_trip, told_by_expiry, at_barrier, open_calls}
 use Rattle.pt_model.specs.Steps.{Follows}
 use Rattle.pt_model.proofs.Found.{found_open}
 use Rattle.pt_state.specs.declared.replies.Answered.{Answered}

@@ -1,11 +1,11 @@
 -- A Trip's answers, told one by one in order of the calls' places.
-use Rattle.std.proofs.Common.{◌≡◌, ◌⊎◌, ℕ, suc, ◌+◌, ◌<◌, ◌≤◌, Bool, true, false, leb, List, [], ◌∷◌, ◌++◌, Option, Some, None, map, length, refl, sym, ap, ◌∙◌, subst, arith, filter, inl, inr, append_assoc, append-nil}
-use Rattle.std.specs.Prelude.{◌==◌, ◌&&◌, option_map}
+use Rattle.std.proofs.Common.{◌≡◌, ◌⊎◌, ℕ, suc, ◌+◌, ◌<◌, ◌≤◌, leb, List, [], ◌∷◌, ◌++◌, Option, Some, None, map, length, refl, sym, ap, ◌∙◌, subst, arith, inl, inr, append_assoc, append-nil}
+use Rattle.std.specs.Prelude.{◌==◌, ◌&&◌}
 use Rattle.std.proofs.lemmas.Bool.{cases_lt, le-leb, lt-leb, leb-true}
 use Rattle.pt_types.specs.declared.outcome.Outcome.{Outcome}
 use Rattle.pt_model.specs.declared.entry.Entry.{Entry}
-use Rattle.pt_model.specs.Searches.{In, Each}
-use Rattle.pt_model.specs.Histories.{History, place, history}
+use Rattle.pt_model.specs.Searches.{In}
+use Rattle.pt_model.specs.Histories.{place, history}
 use Rattle.pt_model.specs.Records.{Standing, Told}
 use Rattle.pt_model.specs.Standing.{is_arrival}
 use Rattle.pt_model.specs.Answers.{at_barrier, open_calls, told_by_trip, trip_outcome}
@@ -16,7 +16,7 @@ use Rattle.pt_plain.proofs.Opens.{open-below}
 use Rattle.pt_state.specs.declared.replies.Answered.{Answered}
 use Rattle.pt_state.specs.Arrivals.{outcome_before}
 use Rattle.pt_state.specs.Logs.{logged, told_at}
-use Rattle.pt_state.proofs.ArrivalLemmas.{head_of, arrivals-ascend}
+use Rattle.pt_state.proofs.ArrivalLemmas.{head_of}
 
 -- the calls from this one on
 abbrev pub rest_of : Option Standing → List Standing → List Standing

@@ -1,5 +1,5 @@
 -- Arrivals: which open call in the rows stands at a barrier next.
-use Rattle.std.specs.Prelude.{ℕ, ◌==◌, Bool, ◌&&◌, nat_le, nat_lt, List, [], ◌∷◌, Option, Some, None, map, option_map}
+use Rattle.std.specs.Prelude.{ℕ, ◌==◌, Bool, ◌&&◌, nat_le, nat_lt, List, Option, Some, None, map}
 use Rattle.std.specs.List.{filter}
 use Rattle.pt_table.specs.declared.clients.ClientRow.{ClientRow}
 use Rattle.pt_types.specs.declared.outcome.Outcome.{Outcome}
@@ -9,7 +9,6 @@ use Rattle.pt_model.specs.Records.{Standing}
 use Rattle.pt_model.specs.Standing.{is_arrival}
 use Rattle.pt_plain.specs.Shown.{shown}
 use Rattle.pt_state.specs.declared.callers.Caller.{Caller}
-use Rattle.pt_state.specs.declared.callers.Open.{Open}
 use Rattle.pt_state.specs.Callers.{opens_of}
 
 -- the open calls in all rows, as the definitions know them  [profile]

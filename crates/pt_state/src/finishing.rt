@@ -25,6 +25,7 @@ impl<A: Allocator + Copy> State<A> {
             place,
             outcome,
         });
-        self.stored.push(Entry::Call(c, call.again(), Some(outcome)));
+        self.stored
+            .push(Entry::Call(c, call.again(), Some(outcome)));
     }
 }

@@ -86,11 +86,14 @@ fn next_arrival<A: Allocator + Copy>(
 // What an arrival is told, where this one follows it.  [XSH pthread_barrier_wait]
 fn told_in_trip(at: u64, call: &Standing, next: &Option<Standing>) -> Answered
     ensures { logged result
-        ≡ (at, record {
-          client = call.now.client;
-          place = call.now.place;
-          outcome = outcome_before (option_map shown next.now);
-        }) }
+        ≡ (
+          at,
+          record {
+            client = call.now.client;
+            place = call.now.place;
+            outcome = outcome_before (option_map shown next.now);
+          },
+        ) }
 {
     Answered {
         at,

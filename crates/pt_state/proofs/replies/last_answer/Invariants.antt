@@ -4,7 +4,7 @@ use Rattle.pt_state.proofs.replies.last_answer.Given as goal
 
 abbrev pub invariant-loop-i : goal.invariant-loop-i
 invariant-loop-i l =
-    record { within : l.i ≤ length l.answers; rest : NoneTo l.place (drop l.i l.answers); }
+    record { within : l.i ≤ length l.answers; rest : NoneTo l.place (drop l.i l.answers) }
 
 abbrev pub decreases-loop-i : goal.decreases-loop-i
 decreases-loop-i l = l.i

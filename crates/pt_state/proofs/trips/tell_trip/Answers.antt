@@ -1,7 +1,6 @@
-use Rattle.std.proofs.Common.{◌≡◌, ◌+◌, ◌<◌, ◌∷◌, ◌++◌, [], suc, List, Some, length, map, vec_len, vec_capacity, refl, sym, ap, ◌∙◌, subst, arith}
+use Rattle.std.proofs.Common.{◌+◌, ◌∷◌, ◌++◌, [], length, map, vec_len, vec_capacity, refl, ap, ◌∙◌, arith}
 use Rattle.std.specs.Prelude.{option_map}
 use Rattle.pt_model.specs.Histories.{history}
-use Rattle.pt_model.specs.Records.{Standing}
 use Rattle.pt_model.specs.Answers.{at_barrier, open_calls}
 use Rattle.pt_plain.specs.Shown.{shown}
 use Rattle.pt_state.specs.Logs.{logged}

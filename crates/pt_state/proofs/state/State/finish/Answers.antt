@@ -1,14 +1,12 @@
-use Rattle.std.proofs.Common.{◌≡◌, ◌++◌, [], ◌∷◌, List, Some, map, refl, ap, sym, ◌∙◌, subst, arith}
+use Rattle.std.proofs.Common.{◌≡◌, Some, ap, sym, ◌∙◌, subst, arith}
 use Rattle.pt_types.specs.declared.call.Call.{Call as Asked}
 use Rattle.pt_model.specs.declared.entry.Entry.TheVariants as entry
 use Rattle.pt_model.proofs.Histories.{place-history}
 use Rattle.pt_table.specs.ClientRows.{client_value}
 use Rattle.pt_state.specs.declared.callers.Caller.{Caller}
-use Rattle.pt_state.specs.declared.replies.Answered.{Answered}
 use Rattle.pt_state.specs.Adds.{past, pushed}
 use Rattle.pt_state.specs.Callers.{called_at}
 use Rattle.pt_state.specs.Writes.{WritesCaller}
-use Rattle.pt_state.specs.Logs.{log, logged}
 use Rattle.pt_state.proofs.AddLemmas.{adds, logged-one}
 use Rattle.pt_state.proofs.state.State.finish.Goals as goal
 
@@ -20,11 +18,11 @@ returns g c =
     let e = entry.Call c.args.c c.args.call.now (Some c.args.outcome) in
     let place_is = c.len-place.ensures ∙ sym (place-history c.args.self.now.stored.entries) in
     let noted : (v : Caller) → client_value c.args.self.now.clients c.args.c ≡ Some v
-        → WritesCaller c.args.self.now.clients c.note_call.new.clients c.args.c (called_at
-            c.len-place.result v) =
+    → WritesCaller c.args.self.now.clients c.note_call.new.clients c.args.c (called_at
+    c.len-place.result v) =
     subst (λ n. (v : Caller) → client_value c.args.self.now.clients n ≡ Some v
-        → WritesCaller c.args.self.now.clients c.note_call.new.clients n (called_at
-            c.len-place.result v)) c.c.view_is c.note_call.ensures in
+    → WritesCaller c.args.self.now.clients c.note_call.new.clients n (called_at
+    c.len-place.result v)) c.c.view_is c.note_call.ensures in
     adds c.args.self.now e (c.requires.follows, c.requires.step) _
     (c.push.ensures ∙ ap (λ (x : Asked). pushed c.args.self.now.stored (entry.Call c.args.c x (Some
     c.args.outcome))) c.again.ensures)

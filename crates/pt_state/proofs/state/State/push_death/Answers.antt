@@ -1,4 +1,4 @@
-use Rattle.std.proofs.Common.{ℕ, refl, ap, sym, ◌∙◌, subst, append-nil, arith}
+use Rattle.std.proofs.Common.{refl, sym, ◌∙◌, subst, append-nil, arith}
 use Rattle.pt_table.specs.ObjectRows.{object_value}
 use Rattle.pt_model.specs.declared.entry.Entry.TheVariants as entry
 use Rattle.pt_model.specs.Steps.{Step}

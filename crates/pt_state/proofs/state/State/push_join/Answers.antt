@@ -1,4 +1,4 @@
-use Rattle.std.proofs.Common.{ℕ, Some, refl, ap, sym, ◌∙◌, append-nil, arith}
+use Rattle.std.proofs.Common.{ℕ, refl, ap, sym, ◌∙◌, append-nil, arith}
 use Rattle.pt_table.specs.ObjectRows.{object_value}
 use Rattle.pt_model.specs.declared.entry.Entry.TheVariants as entry
 use Rattle.pt_model.specs.Histories.{place}
@@ -7,7 +7,6 @@ use Rattle.pt_state.specs.Adds.{past, pushed}
 use Rattle.pt_state.specs.Logs.{log}
 use Rattle.pt_state.proofs.AddLemmas.{adds}
 use Rattle.pt_state.proofs.PushLemmas.{new-at, callers-join}
-use Rattle.pt_state.proofs.StepLemmas.{joined-at}
 use Rattle.pt_state.proofs.TableLemmas.{things-kept}
 use Rattle.pt_state.proofs.ThingEntries.{things-join}
 use Rattle.pt_state.proofs.state.State.push_join.Goals as goal
