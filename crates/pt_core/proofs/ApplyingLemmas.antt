@@ -16,15 +16,6 @@ use Rattle.pt_core.specs.Settling.{Enters, IsMade}
 use Rattle.pt_core.proofs.AcceptingLemmas.{unrefused-itself, death-unrefused}
 use Rattle.pt_core.proofs.SettlingLemmas.{applied-extends, applied-legal, kept-entered}
 
--- a Death that is refused is of nobody who lives
-pub death-told : (s : Stored) (v : Event) (read : Option Refusal) (r : Refusal) → IsKept s
-    → read ≡ refusal_within s.limit (history s.entries) v → read ≡ Some r
-    → (c : ℕ) → v ≡ event.Death c → is_alive (history s.entries) c ≡ true → false ≡ true
-death-told s v read r k told is c e alive =
-    let none : refusal_within s.limit (history s.entries) v ≡ None =
-    ap (refusal_within s.limit (history s.entries)) e ∙ death-unrefused s k c alive in
-    absurd (let no : Some r ≡ None = sym is ∙ (told ∙ none) in cc)
-
 -- the same verdict over the entries that were made room for
 same_refusal : (old made : Stored) (v : Event) → made.entries ≡ old.entries
     → refusal (history old.entries) v ≡ None → refusal (history made.entries) v ≡ None
@@ -98,12 +89,3 @@ module _ (old made new : Stored) (v : Event) (m : IsMade old v made) (e : Enters
         bounded = omega (arith, ef, ap length m.same_entries, el, entered_longer, entered_bounded);
         told = ex ∙ ap (λ es. told_at_once v (history es) first) er;
       }
-
--- the refusal that was computed
-pub read-refusal : (s : Stored) (v : Event) (limit : ℕ) (read : List Entry) (o : Option Refusal)
-    → limit ≡ s.limit → read ≡ s.entries → o ≡ refusal_within limit (history read) v
-    → o ≡ refusal_within s.limit (history s.entries) v
-read-refusal s v limit read o el er eo =
-    eo
-    ∙ (ap (λ n. refusal_within n (history read) v) el
-    ∙ ap (λ es. refusal_within s.limit (history es) v) er)

@@ -1,9 +1,7 @@
 mod SettlingLemmas
 mod RunningLemmas
 mod AcceptingLemmas
-mod RoomLemmas
 mod ApplyingLemmas
-mod AnsweringLemmas
 mod DeadlineLemmas
 mod WholeLemmas
 mod OpenLemmas

@@ -5,6 +5,7 @@ use Rattle.std.proofs.Math.ListN.{length-map}
 use Rattle.std.proofs.Math.Seq.{take-append_seam}
 use Rattle.std.proofs.lemmas.Bool.Decides.{Decides-eqb}
 use mathlib.Core.List.{IsPrefix}
+use Rattle.std.specs.Prelude.{Result, Ok, Err, OnOk}
 use Rattle.pt_io.specs.Devices.{is_end}
 use Rattle.pt_lines.specs.declared.cutter.Cut.{Cut}
 use Rattle.pt_lines.specs.Cuts.{cut_of}
@@ -220,3 +221,32 @@ not_ended n buf before after some says = says ∙ by (n == 0) (Decides-eqb n 0).
     by true none e = absurd (some (none refl))
     by false none true = refl
     by false none false = refl
+
+-- before the first byte no line came, and none is begun
+pub behind_begun : (given : List ℕ) (held : Held) (s : Script) (text : List ℕ) → given ≡ []
+    → held ≡ record { rest = []; dropping = false } → s ≡ begun → text ≡ []
+    → IsBehind given held s text
+behind_begun given held s text eg eh es et =
+    rw (eg, eh, es, et) (record { cuts = []; given = λ more. refl; says = (refl, refl) })
+
+pub begun_held : (held : Held) → held ≡ record { rest = []; dropping = false } → IsBegun held
+begun_held held e =
+    rw e (record {
+      no_newline = λ i lt e. absurd (omega (arith, lt));
+      short = omega arith;
+      dropped = λ d. refl;
+    })
+
+-- a read of no byte into a buffer that has room tells the end
+pub has_ended : (n : ℕ) (buf : List ℕ) (before after : Bool) → n ≡ 0 → length buf ≡ 4096
+    → after ≡ (before || is_end n buf) → after ≡ true
+has_ended n buf before after e room says =
+    says ∙ (ap (λ k. before || is_end k buf) e ∙ (ap (λ k. before || nat_lt 0 k) room ∙ by before))
+  where
+    by : (b : Bool) → (b || nat_lt 0 4096) ≡ true
+    by true = refl
+    by false = refl
+
+pub done_if : {T E : Type 0} (P : Type 0) (r : Result T E) → P → OnOk r P
+done_if P (Ok x) holds = holds
+done_if P (Err e) holds = tt

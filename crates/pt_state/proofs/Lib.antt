@@ -1,5 +1,4 @@
 pub mod AddLemmas
-pub mod AnswerRoom
 pub mod ArrivalLemmas
 pub mod Asked
 pub mod BadDeadlines
@@ -57,17 +56,13 @@ pub mod StepLemmas
 pub mod TableLemmas
 pub mod TellNeeds
 pub mod TellingLemmas
-pub mod ThingBounds
 pub mod ThingCalls
 pub mod ThingChanges
 pub mod ThingEntries
 pub mod ThingGrants
 pub mod ThingKept
-pub mod ThingKinds
 pub mod ThingLocks
-pub mod ThingMays
 pub mod ThingNames
-pub mod ThingRooms
 pub mod ThingUnmade
 pub mod ToldLemmas
 pub mod TotalLemmas

@@ -1,9 +1,19 @@
-use Rattle.std.proofs.Common.{◌++◌, [], sym, subst}
+use Rattle.std.proofs.Common.{◌++◌, [], refl, sym, subst}
 use Rattle.pt_lines.specs.Lines.{to_come}
-use Rattle.pt_script.specs.declared.fault.ScriptFault.TheVariants.{Write}
+use Rattle.pt_script.specs.declared.fault.ScriptFault.TheVariants.{Write, Memory}
 use Rattle.pt_script.specs.Engines.{IsAnswered, IsStopped}
 use Rattle.pt_script.proofs.Runs.{onto_taken, last_cut_off, told_fault}
 use Rattle.pt_script.proofs.whole.finish.Goals as goal
+
+pub returns-in_err-answer_last-clause-err : goal.returns-in_err-answer_last-clause-err
+returns-in_err-answer_last-clause-err g c =
+    let gives = c.from_residual.ensures in
+    let why = c.in_err-answer_last.ensures.why in
+    let old = g.W.Sink.taken c.args.writer.now in
+    told_fault c.from_residual.result Memory
+    (λ fault. IsStopped fault c.args.cutter c.args.engine old old
+    (g.W.Sink.failures c.args.writer.now)) (rw why at gives.1)
+    (refl, c.requires.working)
 
 pub returns-in_err-put-clause-err : goal.returns-in_err-put-clause-err
 returns-in_err-put-clause-err g c =

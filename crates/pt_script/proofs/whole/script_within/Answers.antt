@@ -1,10 +1,25 @@
-use Rattle.std.proofs.Common.{◌++◌, [], ◌∙◌, sym, ap, subst, refl, take, length, append-nil, length-append, arith}
+use Rattle.std.proofs.Common.{◌≡◌, ◌++◌, [], true, ◌∙◌, sym, ap, subst, refl, take, length, append-nil, length-append, arith}
 use Rattle.pt_lines.specs.Lines.{Held}
 use Rattle.pt_script.specs.Ends.{Course, IsScriptText, BeginsScriptText, IsFaultOf}
 use Rattle.pt_script.specs.Engines.{IsBehind, IsEnd, IsStopped}
 use Rattle.pt_script.proofs.Runs.{on_ok, on_err, told_fault}
-use Rattle.pt_script.proofs.Wholes.{fed_end, behind_few, behind_fed, behind_end, begins_given, stopped_begins, stopped_why, not_ended}
+use Rattle.pt_script.proofs.Wholes.{fed_end, behind_few, behind_fed, behind_end, begins_given, stopped_begins, stopped_why, not_ended, behind_begun, begun_held, has_ended, done_if}
 use Rattle.pt_script.proofs.whole.script_within.Goals as goal
+
+pub loop-init : goal.loop-init
+loop-init g c =
+    record {
+      behind = behind_begun (g.R.Source.given c.args.reader.now) c.new-cutter.result
+          c.in_ok-engine.engine (g.W.Sink.taken c.args.writer.now) c.requires.fresh.0
+          c.new-cutter.ensures c.in_ok-engine.ensures.ok c.requires.fresh.1;
+      begun = begun_held c.new-cutter.result c.new-cutter.ensures;
+      read = c.requires.working.0;
+      wrote = c.requires.working.1;
+      no_end = refl;
+      some = omega arith;
+      few = omega (arith, ap length c.requires.fresh.0);
+      room = refl;
+    }
 
 pub returns-in_default-clause-err : goal.returns-in_default-clause-err
 returns-in_default-clause-err g c =
@@ -33,6 +48,13 @@ returns-then-n-eq0-clause-ok g c =
     (behind_end bytes c.loop.cutter c.loop.engine text new end.lines end.entries
     c.loop.invariant.behind done))
     c.finish.ensures.ok
+
+pub returns-then-n-eq0-clause-ended : goal.returns-then-n-eq0-clause-ended
+returns-then-n-eq0-clause-ended g c =
+    done_if (g.R.Source.ended c.read.new.self ≡ true) c.finish.result
+    (has_ended c.in-Ok.n c.read.new.buf (g.R.Source.ended c.loop.reader)
+    (g.R.Source.ended c.read.new.self) c.if-n-eq0.true
+    (omega (arith, c.read.auto.buf, c.loop.invariant.room)) c.in-Ok.ensures.end)
 
 pub returns-then-n-eq0-clause-err : goal.returns-then-n-eq0-clause-err
 returns-then-n-eq0-clause-err g c =
