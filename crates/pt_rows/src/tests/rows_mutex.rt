@@ -1,7 +1,6 @@
 // Worked rows of docs/ROWS.md, each under its number there, with its answers.
-// Row 4 stands here with five locks and none refused.
 
-pub const SCRIPTS: [(&str, &str, &str); 10] = [
+pub const SCRIPTS: [(&str, &str, &str); 9] = [
     ("row 1", "", ""),
     (
         "row 2",
@@ -51,51 +50,6 @@ C 3 0
 D 2 0
 D 3 0
 B 2 0
-",
-    ),
-    (
-        "row 4",
-        "\
-A hello 10
-B hello 10
-A mutex-init e errorcheck stalled
-A mutex-init r recursive stalled
-A lock e
-A lock e
-A trylock e
-B unlock e
-A lock r
-A lock r
-A lock r
-A lock r
-A lock r
-A unlock r
-A unlock r
-A unlock r
-A unlock r
-A unlock r
-A unlock r
-",
-        "\
-A 1 0
-B 1 0
-A 2 0
-A 3 0
-A 4 0
-A 5 EDEADLK
-A 6 EBUSY
-B 2 EPERM
-A 7 0
-A 8 0
-A 9 0
-A 10 0
-A 11 0
-A 12 0
-A 13 0
-A 14 0
-A 15 0
-A 16 0
-A 17 EPERM
 ",
     ),
     (

@@ -1,7 +1,6 @@
 // Worked rows of docs/ROWS.md, each under its number there, with its answers.
-// Row 31 stands here with five read locks and none refused.
 
-pub const SCRIPTS: [(&str, &str, &str); 6] = [
+pub const SCRIPTS: [(&str, &str, &str); 5] = [
     (
         "row 8",
         "\
@@ -113,41 +112,6 @@ B 2 EPERM
 B 3 EBUSY
 B 4 EBUSY
 B 5 0
-",
-    ),
-    (
-        "row 31",
-        "\
-A hello 10
-A rwlock-init r
-A rdlock r
-A rdlock r
-A rdlock r
-A rdlock r
-A rdlock r
-A lock r
-A rwunlock r
-A rwunlock r
-A rwunlock r
-A rwunlock r
-A rwunlock r
-A rwunlock r
-",
-        "\
-A 1 0
-A 2 0
-A 3 0
-A 4 0
-A 5 0
-A 6 0
-A 7 0
-A 8 EINVAL
-A 9 0
-A 10 0
-A 11 0
-A 12 0
-A 13 0
-A 14 EPERM
 ",
     ),
     (
