@@ -14,7 +14,7 @@ HEAD = """# Definitions
 Every definition that a contract or a law stands on, by crate and file, with its meaning and its source: `XSH` is a page or section
 of POSIX.1-2017, `profile` a choice of this project. Made by `python3 tools/definitions.py` from the comment above each definition.
 """
-NAMED = re.compile(r"^(?:abbrev pub|unfoldable pub|pub record|pub data|pub) ([^\s(:]+)")
+NAMED = re.compile(r"^(?:\s*(?:abbrev pub|unfoldable pub|pub record|pub data)|pub) ([^\s(:]+)")
 SOURCE = re.compile(r"\s*\[([^\]]*(?:XSH|XBD|profile)[^\]]*)\]\s*$")
 
 
@@ -30,8 +30,8 @@ def rows(path):
     """The definitions of one file: name, meaning, source."""
     comment = []
     for line in path.read_text().splitlines():
-        if line.startswith("-- "):
-            comment.append(line[3:])
+        if line.lstrip().startswith("-- "):
+            comment.append(line.lstrip()[3:])
             continue
         named = NAMED.match(line)
         if named and comment:

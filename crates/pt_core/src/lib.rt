@@ -1,9 +1,8 @@
 //! The core: clients, mutexes, read-write locks, conditions and barriers, as one history of events.
 //!
 //! Contracts see a core as its entries in order and their greatest number. Whatever events come,
-//! the entries are the one legal list for those that were accepted. This body keeps the entries
-//! alone and reads everything off them, so it is for short histories.
-//! Only tests show that ENOMEM follows a refused growth.
+//! the entries are the one legal list for those that were accepted. What it is asked it reads off
+//! the tables of `pt_state`. Only tests show that ENOMEM follows a refused growth.
 #![tactic(auto)]
 
 mod answering;
