@@ -37,15 +37,15 @@ module _ {A : Type 0} where
       record {
         whole = w;
         made = record {
-              same_entries = refl;
-              same_limit = refl;
-              ready = record {
-                    legal = w.kept.legal;
-                    room = death-fits s.stored w.kept c alive;
-                    fits = w.kept.fits;
-                    limit = w.kept.limit;
-                  };
-            };
+          same_entries = refl;
+          same_limit = refl;
+          ready = record {
+            legal = w.kept.legal;
+            room = death-fits s.stored w.kept c alive;
+            fits = w.kept.fits;
+            limit = w.kept.limit;
+          };
+        };
         spare = omega (arith, less, w.spare);
       }
   open-death s (event.Join p) w d ok = absurd cc
@@ -79,15 +79,15 @@ module _ {A : Type 0} where
         record {
           whole = whole-roomy (omega (arith, w.kept.room, more, spare));
           made = subst (λ (x : Stored). IsMade s.stored v x) (sym made) (record {
-                same_entries = refl;
-                same_limit = refl;
-                ready = record {
-                      legal = w.kept.legal;
-                      room = enough;
-                      fits = fits;
-                      limit = w.kept.limit;
-                    };
-              });
+            same_entries = refl;
+            same_limit = refl;
+            ready = record {
+              legal = w.kept.legal;
+              room = enough;
+              fits = fits;
+              limit = w.kept.limit;
+            };
+          });
           spare = omega (arith, enough, spare);
         }
 
@@ -152,8 +152,15 @@ refused-room s v n (Err r) ok d fits is full memory =
         err-same r Full (full.1 past_limit)
     go false e = (
       memory (λ same. absurd (let beyond = full.0 (ap Err same) in
-          omega (arith, beyond, is, within e, fits, max-le {a = s.room} {b = needed} {k = s.limit - length
-              s.entries} (omega (arith, fits)) (omega (arith, within e))))),
+          omega (
+            arith,
+            beyond,
+            is,
+            within e,
+            fits,
+            max-le {a = s.room} {b = needed} {k = s.limit - length
+                s.entries} (omega (arith, fits)) (omega (arith, within e)),
+          ))),
       d,
     )
 
@@ -224,11 +231,11 @@ pub whole-begin : {A : Type 0} (s : State A) (limit : ℕ)
 whole-begin s limit made read empty le =
     record {
       kept = subst IsKept (sym made) (record {
-            legal = (refl, refl);
-            room = omega arith;
-            fits = omega arith;
-            limit = le;
-          });
+        legal = (refl, refl);
+        room = omega arith;
+        fits = omega arith;
+        limit = le;
+      });
       read = read;
       spare = omega (arith, empty, ap (λ (x : Stored). need (history x.entries)) made);
     }

@@ -71,20 +71,20 @@ module _ {A : Type 0} where
           record {
             read = a.read;
             room = omega (
-                  arith,
-                  need_more,
-                  room_more,
-                  (keeps-forced (past s) e follows is).1,
-                  r.room,
-                );
+              arith,
+              need_more,
+              room_more,
+              (keeps-forced (past s) e follows is).1,
+              r.room,
+            );
             spare = omega (
-                  arith,
-                  need_more,
-                  a.held,
-                  a.told,
-                  told-need (past s) e follows is,
-                  r.spare,
-                );
+              arith,
+              need_more,
+              a.held,
+              a.told,
+              told-need (past s) e follows is,
+              r.spare,
+            );
           }
 
       pub need-forced : need (past t) < need (past s)
@@ -121,19 +121,19 @@ module _ {A : Type 0} where
           record {
             read = a.read;
             room = omega (
-                  arith,
-                  need_outer,
-                  ap (λ (x : Stored). x.room) a.stored,
-                  o.made.ready.room,
-                );
+              arith,
+              need_outer,
+              ap (λ (x : Stored). x.room) a.stored,
+              o.made.ready.room,
+            );
             spare = omega (
-                  arith,
-                  need_outer,
-                  a.held,
-                  a.told,
-                  told-outer (past s) v,
-                  o.spare,
-                );
+              arith,
+              need_outer,
+              a.held,
+              a.told,
+              told-outer (past s) v,
+              o.spare,
+            );
           }
 
       pub enters-outer : (u : Stored) → Settles t.stored u → Enters s.stored v u
@@ -158,10 +158,10 @@ module _ {A : Type 0} where
         kept = subst IsKept (sym a.stored) w.kept;
         read = a.read;
         spare = omega (
-              arith,
-              ap (λ (x : Stored). need (history x.entries)) a.stored,
-              a.held,
-              a.told,
-              w.spare,
-            );
+          arith,
+          ap (λ (x : Stored). need (history x.entries)) a.stored,
+          a.held,
+          a.told,
+          w.spare,
+        );
       }

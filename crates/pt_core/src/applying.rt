@@ -28,10 +28,7 @@ pub fn told<A: Allocator + Copy>(state: &State<A>, event: &Event, first: u64) ->
 }
 
 /// One event, and all that must follow it. A refused event changes nothing.  [profile]
-pub fn apply<A: Allocator + Copy>(
-    state: &mut State<A>,
-    event: &Event,
-) -> Result<Applied, Refusal>
+pub fn apply<A: Allocator + Copy>(state: &mut State<A>, event: &Event) -> Result<Applied, Refusal>
     requires { IsWhole state.old }
     ensures whole { IsWhole state.new }
     ensures ok { IfOk result (λ applied.

@@ -6,7 +6,7 @@ use Rattle.pt_core.proofs.settling.settle.Given as goal
 
 abbrev pub invariant-loop-forced : goal.invariant-loop-forced
 invariant-loop-forced g l =
-    record { settling : IsSettling l.fn.state.stored l.state.stored; roomy : IsRoomy l.state; }
+    record { settling : IsSettling l.fn.state.stored l.state.stored; roomy : IsRoomy l.state }
 
 abbrev pub decreases-loop-forced : goal.decreases-loop-forced
 decreases-loop-forced g l = need (past l.state)
