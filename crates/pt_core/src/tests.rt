@@ -50,11 +50,11 @@ fn name(text: &[u8]) -> Result<Name, Fail> {
     Ok(Name::new(text).ok_or("a name")?)
 }
 
-// A core with clients of these priorities, all joined.
-fn with_clients(rt: &HostRuntime, levels: &[u64]) -> Result<Core, Fail> {
-    let mut core = Core::new(rt.alloc())?;
+// Clients of these priorities join. A core is made and dropped by the test itself, and played on by
+// a function that borrows it, since each early end of a function that owns one has to drop it.
+fn join_all(core: &mut Core, levels: &[u64]) -> Result<(), Fail> {
     for level in levels {
         core.apply(join(*level)?)?;
     }
-    Ok(core)
+    Ok(())
 }

@@ -4,6 +4,10 @@ use super::*;
 #[test]
 fn run_row_2(rt: HostRuntime) -> Result<(), Fail> {
     let mut core = Core::new(rt.alloc())?;
+    play_run_row_2(&rt, &mut core)
+}
+
+fn play_run_row_2(rt: &impl Abort, core: &mut Core) -> Result<(), Fail> {
     let m = name(b"m")?;
     let (a, b) = (ClientId(0), ClientId(1));
     let (ten, twenty) = (
@@ -42,7 +46,12 @@ fn run_row_2(rt: HostRuntime) -> Result<(), Fail> {
 // What a run and the readers tell of an open call, of its answer, and of a refused event.
 #[test]
 fn open_calls_and_answers(rt: HostRuntime) -> Result<(), Fail> {
-    let mut core = with_clients(&rt, &[10, 10])?;
+    let mut core = Core::new(rt.alloc())?;
+    play_open_calls_and_answers(&rt, &mut core)
+}
+
+fn play_open_calls_and_answers(rt: &impl Abort, core: &mut Core) -> Result<(), Fail> {
+    join_all(core, &[10, 10])?;
     let m = name(b"m")?;
     let init = Call::MutexInit(m.same(), MutexKind::Normal, false);
     let events = [
@@ -103,46 +112,80 @@ fn refuses(rt: &impl Abort, core: &mut Core, event: Event, refusal: Refusal) {
 #[test]
 fn row_23(rt: HostRuntime) -> Result<(), Fail> {
     let mut core = Core::with_limit(rt.alloc(), 7)?;
-    let m = name(b"m")?;
-    let init = Call::MutexInit(m.same(), MutexKind::Normal, true);
-    writes(&rt, &mut core, join(10)?, 0, 0)?;
-    writes(&rt, &mut core, ask(0, init), 1, 1)?;
-    writes(&rt, &mut core, ask(0, Call::Lock(m.same())), 2, 3)?;
-    writes(&rt, &mut core, ask(0, Call::Unlock(m.same())), 4, 4)?;
-    refuses(&rt, &mut core, ask(0, Call::Lock(m)), Refusal::Full);
-    writes(&rt, &mut core, moment(1, 0)?, 5, 5)?;
-    refuses(&rt, &mut core, moment(2, 0)?, Refusal::Full);
-    writes(&rt, &mut core, die(0), 6, 6)
+    play_row_23(&rt, &mut core)
 }
 
-// The same, where a Yield must still be written; and with six entries at most.
+fn play_row_23(rt: &impl Abort, core: &mut Core) -> Result<(), Fail> {
+    let m = name(b"m")?;
+    let init = Call::MutexInit(m.same(), MutexKind::Normal, true);
+    writes(rt, core, join(10)?, 0, 0)?;
+    writes(rt, core, ask(0, init), 1, 1)?;
+    writes(rt, core, ask(0, Call::Lock(m.same())), 2, 3)?;
+    writes(rt, core, ask(0, Call::Unlock(m.same())), 4, 4)?;
+    refuses(rt, core, ask(0, Call::Lock(m)), Refusal::Full);
+    writes(rt, core, moment(1, 0)?, 5, 5)?;
+    refuses(rt, core, moment(2, 0)?, Refusal::Full);
+    writes(rt, core, die(0), 6, 6)
+}
+
+// The same, where a Yield must still be written.
 #[test]
 fn row_23_with_a_yield(rt: HostRuntime) -> Result<(), Fail> {
     let mut core = Core::with_limit(rt.alloc(), 7)?;
+    play_row_23_with_a_yield(&rt, &mut core)
+}
+
+fn play_row_23_with_a_yield(rt: &impl Abort, core: &mut Core) -> Result<(), Fail> {
     let m = name(b"m")?;
     let init = Call::MutexInit(m.same(), MutexKind::Normal, true);
-    writes(&rt, &mut core, join(10)?, 0, 0)?;
-    writes(&rt, &mut core, ask(0, init.again()), 1, 1)?;
-    writes(&rt, &mut core, ask(0, Call::Lock(m.same())), 2, 3)?;
-    writes(&rt, &mut core, moment(1, 0)?, 4, 4)?;
-    refuses(&rt, &mut core, moment(2, 0)?, Refusal::Full);
-    writes(&rt, &mut core, die(0), 5, 6)?;
+    writes(rt, core, join(10)?, 0, 0)?;
+    writes(rt, core, ask(0, init), 1, 1)?;
+    writes(rt, core, ask(0, Call::Lock(m)), 2, 3)?;
+    writes(rt, core, moment(1, 0)?, 4, 4)?;
+    refuses(rt, core, moment(2, 0)?, Refusal::Full);
+    writes(rt, core, die(0), 5, 6)?;
     assert!(rt; core.entry(6) == Some(&Entry::Yield(ObjectId(1))));
-    let mut six = Core::with_limit(rt.alloc(), 6)?;
-    writes(&rt, &mut six, join(10)?, 0, 0)?;
-    writes(&rt, &mut six, ask(0, init), 1, 1)?;
-    refuses(&rt, &mut six, ask(0, Call::Lock(m)), Refusal::Full);
     Ok(())
 }
 
-// A history of one entry, and one of none.
+// With six entries at most there is no room for the lock.
+#[test]
+fn row_23_of_six(rt: HostRuntime) -> Result<(), Fail> {
+    let mut six = Core::with_limit(rt.alloc(), 6)?;
+    play_row_23_of_six(&rt, &mut six)
+}
+
+fn play_row_23_of_six(rt: &impl Abort, six: &mut Core) -> Result<(), Fail> {
+    let m = name(b"m")?;
+    let init = Call::MutexInit(m.same(), MutexKind::Normal, true);
+    writes(rt, six, join(10)?, 0, 0)?;
+    writes(rt, six, ask(0, init), 1, 1)?;
+    refuses(rt, six, ask(0, Call::Lock(m)), Refusal::Full);
+    Ok(())
+}
+
+// A history of one entry.
 #[test]
 fn row_35(rt: HostRuntime) -> Result<(), Fail> {
     let mut core = Core::with_limit(rt.alloc(), 1)?;
-    refuses(&rt, &mut core, join(10)?, Refusal::Full);
-    writes(&rt, &mut core, moment(1, 0)?, 0, 0)?;
-    refuses(&rt, &mut core, moment(2, 0)?, Refusal::Full);
+    play_row_35(&rt, &mut core)
+}
+
+fn play_row_35(rt: &impl Abort, core: &mut Core) -> Result<(), Fail> {
+    refuses(rt, core, join(10)?, Refusal::Full);
+    writes(rt, core, moment(1, 0)?, 0, 0)?;
+    refuses(rt, core, moment(2, 0)?, Refusal::Full);
+    Ok(())
+}
+
+// And one of no entry.
+#[test]
+fn row_35_of_none(rt: HostRuntime) -> Result<(), Fail> {
     let mut none = Core::with_limit(rt.alloc(), 0)?;
-    refuses(&rt, &mut none, moment(1, 0)?, Refusal::Full);
+    play_row_35_of_none(&rt, &mut none)
+}
+
+fn play_row_35_of_none(rt: &impl Abort, none: &mut Core) -> Result<(), Fail> {
+    refuses(rt, none, moment(1, 0)?, Refusal::Full);
     Ok(())
 }
