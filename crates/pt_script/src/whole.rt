@@ -2,6 +2,7 @@ ghost use Rattle.std.specs.Prelude.{◌≡◌, ◌≤◌, ◌<◌, ◌+◌, ◌^
 ghost use Rattle.pt_lines.specs.Lines.{to_come, IsBegun};
 ghost use Rattle.pt_script.specs.Ends.{IsScriptText, BeginsScriptText, IsFaultOf};
 ghost use Rattle.pt_script.specs.Engines.{Answers, IsStopped, IsEnd};
+ghost use Rattle.pt_script.specs.Scripts.{begun};
 
 use crate::engine::Engine;
 use crate::fault::ScriptFault;
@@ -56,20 +57,19 @@ fn take_in<W: Sink, A: Allocator + Copy>(
 // Answers the last line, which no newline ended, if there is one.
 fn finish<W: Sink, A: Allocator + Copy>(
     alloc: A,
-    engine: Engine<A>,
+    engine: &mut Engine<A>,
     cutter: Cutter<A>,
     writer: &mut W,
 ) -> Result<ScriptEnd, ScriptFault>
     requires working { W.failures writer.old ≡ 0 }
     requires begun { IsBegun cutter }
-    requires few { length engine.seen + length (to_come cutter []) < 2 ^ 53 }
+    requires few { length engine.old.seen + length (to_come cutter []) < 2 ^ 53 }
     ensures ok { IfOk result (λ end. IsEnd
-        cutter engine (W.taken writer.old) (W.taken writer.new) end.lines end.entries) }
+        cutter engine.old (W.taken writer.old) (W.taken writer.new) end.lines end.entries) }
     ensures wrote { OnOk result (W.failures writer.new ≡ 0) }
-    ensures err { IfErr result (λ fault. IsStopped fault cutter engine
+    ensures err { IfErr result (λ fault. IsStopped fault cutter engine.old
         (W.taken writer.old) (W.taken writer.new) (W.failures writer.new)) }
 {
-    let mut engine = engine;
     let mut out = Vec::new(alloc);
     engine.answer_last(cutter, &mut out)?;
     put(writer, &out)?;
@@ -77,6 +77,51 @@ fn finish<W: Sink, A: Allocator + Copy>(
         lines: engine.lines(),
         entries: engine.entries(),
     })
+}
+
+// The same by an engine that has answered nothing yet.  [profile]
+fn run_within<R: Source, W: Sink, A: Allocator + Copy>(
+    alloc: A,
+    reads: u64,
+    engine: &mut Engine<A>,
+    reader: &mut R,
+    writer: &mut W,
+) -> Result<ScriptEnd, ScriptFault>
+    requires new { engine.old ≡ begun }
+    requires fresh { (R.given reader.old ≡ []) × (W.taken writer.old ≡ []) }
+    requires working { (R.failures reader.old ≡ 0) × (W.failures writer.old ≡ 0) }
+    requires few { reads ≤ 2 ^ 40 }
+
+    // All is read, and all of its text written and nothing else.
+    ensures ok { IfOk result (λ end. IsScriptText
+        (R.given reader.new) (W.taken writer.new) end.lines end.entries) }
+    ensures ended { OnOk result (R.ended reader.new ≡ true) }
+    ensures working { OnOk result ((R.failures reader.new ≡ 0) × (W.failures writer.new ≡ 0)) }
+
+    // A fault: what is written begins such a text, and the fault tells what stopped it.
+    ensures err { OnErr result (BeginsScriptText (R.given reader.new) (W.taken writer.new)) }
+    ensures why { IfErr result (λ fault. IsFaultOf (record {
+      given = R.given reader.new;
+      taken = W.taken writer.new;
+      read_failures = R.failures reader.new;
+      write_failures = W.failures writer.new;
+      had_ended = R.ended reader.old;
+      has_ended = R.ended reader.new;
+      reads = reads;
+    }) fault) }
+{
+    let mut cutter = Cutter::new(alloc);
+    let mut piece = [0u8; PIECE];
+    for _ in 0..reads {
+        let Ok(n) = reader.read(&mut piece) else {
+            return Err(ScriptFault::Read);
+        };
+        if n == 0 {
+            return finish(alloc, engine, cutter, writer);
+        }
+        take_in(alloc, engine, &mut cutter, &piece[..n], writer)?;
+    }
+    Err(ScriptFault::Read)
 }
 
 /// Runs a script with at most so many reads, of at most 4,096 bytes each.  [profile]
@@ -114,18 +159,7 @@ pub fn script_within<R: Source, W: Sink, A: Allocator + Copy>(
     }) fault) }
 {
     let mut engine = Engine::new(alloc)?;
-    let mut cutter = Cutter::new(alloc);
-    let mut piece = [0u8; PIECE];
-    for _ in 0..reads {
-        let Ok(n) = reader.read(&mut piece) else {
-            return Err(ScriptFault::Read);
-        };
-        if n == 0 {
-            return finish(alloc, engine, cutter, writer);
-        }
-        take_in(alloc, &mut engine, &mut cutter, &piece[..n], writer)?;
-    }
-    Err(ScriptFault::Read)
+    run_within(alloc, reads, &mut engine, reader, writer)
 }
 
 /// Runs a script, as `script_within` does with 2^40 reads.  [profile]

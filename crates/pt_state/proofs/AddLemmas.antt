@@ -3,7 +3,7 @@ use Rattle.std.proofs.Common.{◌≡◌, ℕ, ◌+◌, List, [], ◌∷◌, ◌+
 use Rattle.std.specs.Prelude.{vec_len, vec_capacity}
 use Rattle.std.proofs.lemmas.List.{map-append}
 use Rattle.pt_types.specs.declared.outcome.Outcome.{Outcome}
-use Rattle.pt_state.specs.declared.replies.Answered.{Answered}
+use Rattle.pt_tables.specs.declared.replies.Answered.{Answered}
 use Rattle.pt_history.specs.Stored.{Stored}
 use Rattle.pt_model.specs.declared.entry.Entry.{Entry}
 use Rattle.pt_model.specs.Histories.{History, Begin, ◌▷◌, place, history}
@@ -12,9 +12,9 @@ use Rattle.pt_model.specs.Answers.{told}
 use Rattle.pt_model.specs.Steps.{Follows}
 use Rattle.pt_model.proofs.Histories.{history-push}
 use Rattle.pt_state.specs.declared.state.State.{State}
-use Rattle.pt_state.specs.Callers.{AreCallers}
-use Rattle.pt_state.specs.Things.{AreThings}
-use Rattle.pt_state.specs.Logs.{logged, log}
+use Rattle.pt_tables.specs.Callers.{AreCallers}
+use Rattle.pt_tables.specs.Things.{AreThings}
+use Rattle.pt_tables.specs.Logs.{logged, log}
 use Rattle.pt_state.specs.Reads.{Reads}
 use Rattle.pt_state.specs.Adds.{pushed, past, Adds}
 

@@ -17,11 +17,11 @@ use Rattle.pt_model.specs.Steps.{Follows}
 use Rattle.pt_plain.proofs.Lists.{any-filter}
 use Rattle.pt_plain.specs.declared.moves.Move.{Move as PlainMove}
 use Rattle.pt_plain.specs.Shown.{shown, shown_move}
-use Rattle.pt_state.specs.declared.callers.Caller.{Caller}
-use Rattle.pt_state.specs.declared.callers.Open.{Open}
-use Rattle.pt_state.specs.Callers.{AreCallers, call_of, open_in, opens_of}
-use Rattle.pt_state.specs.OpenRows.{object_of, stands_at, holds_back_at, returns_to}
-use Rattle.pt_state.proofs.OpenRows.{any-opens, call_of-in}
+use Rattle.pt_tables.specs.declared.callers.Caller.{Caller}
+use Rattle.pt_tables.specs.declared.callers.Open.{Open}
+use Rattle.pt_tables.specs.Callers.{AreCallers, call_of, open_in, opens_of}
+use Rattle.pt_tables.specs.OpenRows.{object_of, stands_at, holds_back_at, returns_to}
+use Rattle.pt_tables.proofs.OpenRows.{any-opens, call_of-in}
 
 -- an open call stands where the history says
 pub object_kept : (h : History) (o : Open) → option_map shown_move o.moved ≡ moved h o.call.place

@@ -14,11 +14,11 @@ use Rattle.pt_model.specs.Steps.{Follows}
 use Rattle.pt_model.proofs.Lists.{In-filter, filter-in}
 use Rattle.pt_model.proofs.Seats.{exists_as}
 use Rattle.pt_plain.specs.Shown.{shown}
-use Rattle.pt_state.specs.declared.callers.Caller.{Caller}
-use Rattle.pt_state.specs.declared.callers.Open.{Open}
-use Rattle.pt_state.specs.Callers.{AreCallers, opens_of}
-use Rattle.pt_state.specs.OpenRows.{stands_at, awaited_at, IsBoundBy}
-use Rattle.pt_state.proofs.OpenRows.{found-open, open-found}
+use Rattle.pt_tables.specs.declared.callers.Caller.{Caller}
+use Rattle.pt_tables.specs.declared.callers.Open.{Open}
+use Rattle.pt_tables.specs.Callers.{AreCallers, opens_of}
+use Rattle.pt_tables.specs.OpenRows.{stands_at, awaited_at, IsBoundBy}
+use Rattle.pt_tables.proofs.OpenRows.{found-open, open-found}
 use Rattle.pt_state.proofs.Asked.{object_kept}
 use Rattle.pt_state.proofs.BoundMutex.{at_cond, bound-any}
 

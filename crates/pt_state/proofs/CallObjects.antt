@@ -20,14 +20,14 @@ use Rattle.pt_model.specs.Records.{Object as Known_object}
 use Rattle.pt_model.specs.Verdicts.{is_busy}
 use Rattle.pt_model.proofs.Effects.{Creates, Removes, upon}
 use Rattle.pt_model.proofs.Named.{is_sort, known_exists}
-use Rattle.pt_state.specs.declared.object.Object.{Object}
+use Rattle.pt_tables.specs.declared.object.Object.{Object}
 use Rattle.pt_state.specs.declared.state.State.{State}
 use Rattle.pt_state.specs.Adds.{past, IsReadyFor, IsNearly}
-use Rattle.pt_state.specs.Things.{kind_kept, IsNew}
-use Rattle.pt_state.specs.Writes.{AddsObject, RemovesObject, new_object}
+use Rattle.pt_tables.specs.Things.{kind_kept, IsNew}
+use Rattle.pt_tables.specs.Writes.{AddsObject, RemovesObject, new_object}
 use Rattle.pt_state.proofs.CallLemmas.{said, stepped, did, may, spoke, nearly-alone}
 use Rattle.pt_state.proofs.NamedObjects.{things-once}
-use Rattle.pt_state.proofs.ObjectWrites.{rising-new}
+use Rattle.pt_tables.proofs.ObjectWrites.{rising-new}
 use Rattle.pt_state.proofs.TableLemmas.{rising-more}
 use Rattle.pt_state.proofs.ThingCalls.{does}
 use Rattle.pt_state.proofs.ThingChanges.{things-removes}

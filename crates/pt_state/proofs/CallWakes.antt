@@ -24,13 +24,13 @@ use Rattle.pt_model.proofs.Leasts.{least-in}
 use Rattle.pt_model.proofs.Lists.{In-filter}
 use Rattle.pt_plain.specs.Found.{passes}
 use Rattle.pt_plain.specs.Shown.{shown, shown_move}
-use Rattle.pt_state.specs.declared.callers.Caller.{Caller}
-use Rattle.pt_state.specs.declared.callers.Open.{Open}
+use Rattle.pt_tables.specs.declared.callers.Caller.{Caller}
+use Rattle.pt_tables.specs.declared.callers.Open.{Open}
 use Rattle.pt_state.specs.declared.state.State.{State}
 use Rattle.pt_state.specs.Adds.{past, IsReadyFor, IsNearly}
-use Rattle.pt_state.specs.Callers.{AreCallers, call_in, has_open, moved_at, called_at, waits_in}
-use Rattle.pt_state.specs.Things.{AreThings}
-use Rattle.pt_state.specs.Writes.{WritesCaller, RewritesCallers, still_waits_at, woken_at}
+use Rattle.pt_tables.specs.Callers.{AreCallers, call_in, has_open, moved_at, called_at, waits_in}
+use Rattle.pt_tables.specs.Things.{AreThings}
+use Rattle.pt_tables.specs.Writes.{WritesCaller, RewritesCallers, still_waits_at, woken_at}
 use Rattle.pt_state.proofs.CallLemmas.{Noting, said, answered, stepped, calls_there, did, spoke, nearly, noted-by, things_still}
 use Rattle.pt_state.proofs.CallerCalls.{caller_free, look-wakes}
 use Rattle.pt_state.proofs.CallerFinds.{look-finds}

@@ -21,9 +21,9 @@ use Rattle.pt_model.proofs.Opens.{open-join, open-moment, open-yield, open-death
 use Rattle.pt_model.proofs.Moves.{moved-expire}
 use Rattle.pt_plain.specs.Found.{passes}
 use Rattle.pt_plain.specs.Shown.{shown}
-use Rattle.pt_state.specs.declared.callers.Caller.{Caller}
-use Rattle.pt_state.specs.declared.callers.Open.{Open}
-use Rattle.pt_state.specs.Callers.{call_of, joined, moved_at, closed, has_open, CallersLook}
+use Rattle.pt_tables.specs.declared.callers.Caller.{Caller}
+use Rattle.pt_tables.specs.declared.callers.Open.{Open}
+use Rattle.pt_tables.specs.Callers.{call_of, joined, moved_at, closed, has_open, CallersLook}
 use Rattle.pt_state.proofs.CallerFinds.{call_of-in, call_of-none, call_of-absent, call_of-kept, call_of-gone, look-open}
 use Rattle.pt_state.proofs.CallerRows.{RowIs, Same, row-of, rows-look, one-row, row-same, row-none, row-joined, row-closed, row-moved}
 

@@ -18,9 +18,9 @@ use Rattle.pt_model.proofs.Moves.{woken-broadcast}
 use Rattle.pt_plain.specs.declared.moves.Move.{Move as PlainMove}
 use Rattle.pt_plain.specs.Found.{passes}
 use Rattle.pt_plain.specs.Shown.{shown, shown_move}
-use Rattle.pt_state.specs.declared.callers.Caller.{Caller}
-use Rattle.pt_state.specs.declared.callers.Open.{Open}
-use Rattle.pt_state.specs.Callers.{moved_at, has_open, waits_in, CallersLook}
+use Rattle.pt_tables.specs.declared.callers.Caller.{Caller}
+use Rattle.pt_tables.specs.declared.callers.Open.{Open}
+use Rattle.pt_tables.specs.Callers.{moved_at, has_open, waits_in, CallersLook}
 use Rattle.pt_state.proofs.CallerFinds.{look-finds, look-open}
 use Rattle.pt_state.proofs.CallerEntries.{place_other}
 

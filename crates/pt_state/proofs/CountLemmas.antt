@@ -13,10 +13,10 @@ use Rattle.pt_model.specs.Steps.{Follows}
 use Rattle.pt_model.proofs.Counting.{total, sum-total}
 use Rattle.pt_plain.specs.Shown.{shown_move}
 use Rattle.pt_plain.specs.declared.moves.Move.{Move as PlainMove}
-use Rattle.pt_state.specs.declared.callers.Caller.{Caller}
-use Rattle.pt_state.specs.declared.callers.Open.{Open}
-use Rattle.pt_state.specs.Callers.{call_of, open_in, opens_of, AreCallers}
-use Rattle.pt_state.specs.Counts.{counted, one_if, arrives_at, waits_at, kept_open}
+use Rattle.pt_tables.specs.declared.callers.Caller.{Caller}
+use Rattle.pt_tables.specs.declared.callers.Open.{Open}
+use Rattle.pt_tables.specs.Callers.{call_of, open_in, opens_of, AreCallers}
+use Rattle.pt_tables.specs.Counts.{counted, one_if, arrives_at, waits_at, kept_open}
 use Rattle.pt_state.proofs.TotalLemmas.{total-calls, counted-client, length-total, total-take}
 
 -- a move is there as the definitions know it

@@ -11,8 +11,8 @@ use Rattle.pt_model.specs.Records.{Object as Thing}
 use Rattle.pt_model.specs.Steps.{Follows}
 use Rattle.pt_model.proofs.Named.{Named-follows}
 use Rattle.pt_plain.specs.Found.{passes}
-use Rattle.pt_state.specs.declared.object.Object.{Object}
-use Rattle.pt_state.specs.Things.{kind_kept, AreThings}
+use Rattle.pt_tables.specs.declared.object.Object.{Object}
+use Rattle.pt_tables.specs.Things.{kind_kept, AreThings}
 
 module _ {A : Type 0} (h : History) (follows : Follows h) (rows : List (ObjectRow (Object A)))
     (are : AreThings h rows) where

@@ -22,20 +22,20 @@ use Rattle.pt_model.specs.Answers.{told, told_by_trip, at_barrier, open_calls}
 use Rattle.pt_model.specs.Forced.{forced}
 use Rattle.pt_model.specs.Steps.{Step, Follows}
 use Rattle.pt_model.proofs.Steps.{step-forced}
-use Rattle.pt_state.specs.declared.callers.Caller.{Caller}
-use Rattle.pt_state.specs.declared.callers.Open.{Open}
-use Rattle.pt_state.specs.declared.object.Object.{Object}
-use Rattle.pt_state.specs.declared.object.Object.TheVariants.{Mutex}
-use Rattle.pt_state.specs.declared.replies.Answered.{Answered}
+use Rattle.pt_tables.specs.declared.callers.Caller.{Caller}
+use Rattle.pt_tables.specs.declared.callers.Open.{Open}
+use Rattle.pt_tables.specs.declared.object.Object.{Object}
+use Rattle.pt_tables.specs.declared.object.Object.TheVariants.{Mutex}
+use Rattle.pt_tables.specs.declared.replies.Answered.{Answered}
 use Rattle.pt_state.specs.declared.state.State.{State}
-use Rattle.pt_state.specs.Callers.{AreCallers, moved_at, opens_of}
-use Rattle.pt_state.specs.Things.{AreThings}
-use Rattle.pt_state.specs.Logs.{logged, log, told_at}
+use Rattle.pt_tables.specs.Callers.{AreCallers, moved_at, opens_of}
+use Rattle.pt_tables.specs.Things.{AreThings}
+use Rattle.pt_tables.specs.Logs.{logged, log, told_at}
 use Rattle.pt_state.specs.Adds.{past, pushed, IsReadyFor, Adds}
 use Rattle.pt_state.specs.Forcing.{told_of, Answers, IsGranted}
 use Rattle.pt_state.specs.declared.serving.Forced.{Forced}
 use Rattle.pt_state.specs.Serving.{called, entry_of}
-use Rattle.pt_state.specs.Writes.{WritesCaller, RewritesCallers, WritesObject, closed_at}
+use Rattle.pt_tables.specs.Writes.{WritesCaller, RewritesCallers, WritesObject, closed_at}
 use Rattle.pt_state.proofs.AddLemmas.{adds}
 use Rattle.pt_state.proofs.CallerEntries.{look-trip, look-yield}
 use Rattle.pt_state.proofs.ForceCallers.{known-open, callers-grant, callers-expire, callers-expire_wait}

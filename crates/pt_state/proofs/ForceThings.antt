@@ -24,12 +24,12 @@ use Rattle.pt_model.specs.Mutexes.{owner}
 use Rattle.pt_model.specs.Steps.{Step, joins, calls, dies, ticks, grants, trips, yields, expires, Follows}
 use Rattle.pt_model.proofs.Named.{is_sort}
 use Rattle.pt_model.proofs.Seats.{exists_as, HousedBy, housed}
-use Rattle.pt_state.specs.declared.object.Object.{Object}
-use Rattle.pt_state.specs.declared.object.Object.TheVariants.{Mutex, Rwlock, Cond, Barrier}
-use Rattle.pt_state.specs.Things.{kind_kept, ThingsLook, AreThings}
-use Rattle.pt_state.specs.Writes.{WritesObject}
+use Rattle.pt_tables.specs.declared.object.Object.{Object}
+use Rattle.pt_tables.specs.declared.object.Object.TheVariants.{Mutex, Rwlock, Cond, Barrier}
+use Rattle.pt_tables.specs.Things.{kind_kept, ThingsLook, AreThings}
+use Rattle.pt_tables.specs.Writes.{WritesObject}
 use Rattle.pt_state.proofs.BoundCounts.{grant-can}
-use Rattle.pt_state.proofs.BoundReads.{read-acquire, write-acquire}
+use Rattle.pt_tables.proofs.BoundReads.{read-acquire, write-acquire}
 use Rattle.pt_state.proofs.TableLemmas.{things-kept, things-written}
 use Rattle.pt_state.proofs.ThingEntries.{things-expire, things-yield}
 use Rattle.pt_state.proofs.ThingGrants.{after_grant, granted-may, things-grant-mutex, things-grant-lost, things-grant-read, things-grant-write}

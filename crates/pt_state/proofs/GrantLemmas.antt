@@ -29,10 +29,10 @@ use Rattle.pt_model.proofs.Unheld.{has_read, reads-read}
 use Rattle.pt_model.proofs.Forcing.{may_by, may}
 use Rattle.pt_plain.specs.Found.{passes}
 use Rattle.pt_plain.specs.Shown.{shown_role}
-use Rattle.pt_state.specs.declared.callers.Open.{Open}
-use Rattle.pt_state.specs.declared.object.Object.{Object}
-use Rattle.pt_state.specs.declared.object.Object.TheVariants.{Mutex, Rwlock, Cond, Barrier}
-use Rattle.pt_state.specs.Things.{kind_kept, IsRwlock, ThingsLook}
+use Rattle.pt_tables.specs.declared.callers.Open.{Open}
+use Rattle.pt_tables.specs.declared.object.Object.{Object}
+use Rattle.pt_tables.specs.declared.object.Object.TheVariants.{Mutex, Rwlock, Cond, Barrier}
+use Rattle.pt_tables.specs.Things.{kind_kept, IsRwlock, ThingsLook}
 use Rattle.pt_state.specs.Serving.{called, move_of, AreOpen}
 use Rattle.pt_state.specs.Granting.{is_lockable, is_open_to, is_readable, is_unheld, condition_kept, may_as, may_kept, told_at, outcome_as, outcome_kept}
 

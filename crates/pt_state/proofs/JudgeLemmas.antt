@@ -8,10 +8,10 @@ use Rattle.pt_model.specs.Histories.{History}
 use Rattle.pt_model.specs.Objects.{find}
 use Rattle.pt_model.specs.Steps.{Follows}
 use Rattle.pt_model.proofs.Named.{is_sort, known_exists}
-use Rattle.pt_state.specs.declared.object.Object.{Object}
-use Rattle.pt_state.specs.declared.object.Object.TheVariants.{Mutex, Rwlock, Cond, Barrier}
-use Rattle.pt_state.specs.Things.{kind_kept, ThingsLook}
-use Rattle.pt_state.specs.Kept.{mutex_in, rwlock_in}
+use Rattle.pt_tables.specs.declared.object.Object.{Object}
+use Rattle.pt_tables.specs.declared.object.Object.TheVariants.{Mutex, Rwlock, Cond, Barrier}
+use Rattle.pt_tables.specs.Things.{kind_kept, ThingsLook}
+use Rattle.pt_tables.specs.Kept.{mutex_in, rwlock_in}
 
 module _ {A : Type 0} (h : History) (f : Follows h) (look : ℕ → Option (Object A))
     (t : ThingsLook h look) where

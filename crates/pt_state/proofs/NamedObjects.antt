@@ -17,10 +17,10 @@ use Rattle.pt_model.proofs.Allowances.{allowed}
 use Rattle.pt_model.proofs.Changes.{named_effect, kind_effect, resolved}
 use Rattle.pt_model.proofs.Readings.{named-call, kind-call}
 use Rattle.pt_model.proofs.Named.{same_named, named_same, found_object}
-use Rattle.pt_state.specs.declared.object.Object.{Object}
-use Rattle.pt_state.specs.Things.{AreThings, kind_kept}
-use Rattle.pt_state.specs.Writes.{NamesOnce}
-use Rattle.pt_state.proofs.ObjectWrites.{rising-apart}
+use Rattle.pt_tables.specs.declared.object.Object.{Object}
+use Rattle.pt_tables.specs.Things.{AreThings, kind_kept}
+use Rattle.pt_tables.specs.Writes.{NamesOnce}
+use Rattle.pt_tables.proofs.ObjectWrites.{rising-apart}
 use Rattle.pt_state.proofs.ObjectFinds.{AreFound, found-once}
 
 -- a name means this object

@@ -22,12 +22,12 @@ use Rattle.pt_model.proofs.Services.{served}
 use Rattle.pt_model.proofs.Orders.{precedes-order, is_served_before-order, expires_before-order}
 use Rattle.pt_plain.specs.Shown.{shown_role, shown_move}
 use Rattle.pt_plain.specs.declared.moves.Move.{Move as PlainMove}
-use Rattle.pt_state.specs.declared.callers.Caller.{Caller}
-use Rattle.pt_state.specs.declared.callers.Open.{Open}
-use Rattle.pt_state.specs.Callers.{AreCallers, opens_of}
-use Rattle.pt_state.specs.Counts.{waits_at as kept_at}
+use Rattle.pt_tables.specs.declared.callers.Caller.{Caller}
+use Rattle.pt_tables.specs.declared.callers.Open.{Open}
+use Rattle.pt_tables.specs.Callers.{AreCallers, opens_of}
+use Rattle.pt_tables.specs.Counts.{waits_at as kept_at}
 use Rattle.pt_state.specs.Serving.{called, move_of, AreOpen, goes_first, served_first, expires_first, waits_in, is_late}
-use Rattle.pt_state.proofs.OpenRows.{row-look, open-row, call_of-in, found-open, open-kept, open-found}
+use Rattle.pt_tables.proofs.OpenRows.{row-look, open-row, call_of-in, found-open, open-kept, open-found}
 use Rattle.pt_state.proofs.ServingLemmas.{least-opens}
 use Rattle.pt_state.proofs.ServingOrders.{precedes-one, served-one, expires-one, first-same, served-same}
 

@@ -10,11 +10,11 @@ use Rattle.pt_model.specs.Records.{Told}
 use Rattle.pt_model.specs.Answers.{outcome}
 use Rattle.pt_model.specs.Queries.{told_if, told_at, answer_of, answers_from}
 use Rattle.pt_model.specs.Steps.{Follows}
-use Rattle.pt_state.specs.declared.callers.Caller.{Caller}
-use Rattle.pt_state.specs.declared.replies.Answered.{Answered}
-use Rattle.pt_state.specs.Callers.{CallersLook}
-use Rattle.pt_state.specs.Logs.{logged, log, answers_in, since, Rises, last_to, outcome_in_log}
-use Rattle.pt_state.proofs.LogLemmas.{log-rises, log-since, log-from}
+use Rattle.pt_tables.specs.declared.callers.Caller.{Caller}
+use Rattle.pt_tables.specs.declared.replies.Answered.{Answered}
+use Rattle.pt_tables.specs.Callers.{CallersLook}
+use Rattle.pt_tables.specs.Logs.{logged, log, answers_in, since, Rises, last_to, outcome_in_log}
+use Rattle.pt_tables.proofs.LogLemmas.{log-rises, log-since, log-from}
 
 -- the kept answers are in order of the entries that gave them
 pub kept-rises : (h : History) (xs ys : List Answered) → map logged xs ≡ log h → ys ≡ xs

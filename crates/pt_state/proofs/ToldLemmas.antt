@@ -12,8 +12,8 @@ use Rattle.pt_model.specs.Standing.{is_wait, is_wait_if}
 use Rattle.pt_model.specs.Answers.{told, told_by_trip, told_by_expiry, at_barrier, open_calls}
 use Rattle.pt_model.specs.Steps.{Follows}
 use Rattle.pt_model.proofs.Found.{found_open}
-use Rattle.pt_state.specs.declared.replies.Answered.{Answered}
-use Rattle.pt_state.specs.Logs.{logged, told_at, log}
+use Rattle.pt_tables.specs.declared.replies.Answered.{Answered}
+use Rattle.pt_tables.specs.Logs.{logged, told_at, log}
 
 -- an answer to an open call
 abbrev pub answer_to : Standing → Outcome → Told

@@ -20,10 +20,10 @@ use Rattle.pt_model.proofs.Found.{open_alive}
 use Rattle.pt_model.proofs.OneEach.{one_each}
 use Rattle.pt_model.proofs.Apart.{Apart, open_apart}
 use Rattle.pt_plain.specs.Shown.{shown, shown_move}
-use Rattle.pt_state.specs.declared.callers.Caller.{Caller}
-use Rattle.pt_state.specs.declared.callers.Open.{Open}
-use Rattle.pt_state.specs.Callers.{call_of, open_in, opens_of, Once, AreCallers}
-use Rattle.pt_state.specs.Counts.{counted, one_if}
+use Rattle.pt_tables.specs.declared.callers.Caller.{Caller}
+use Rattle.pt_tables.specs.declared.callers.Open.{Open}
+use Rattle.pt_tables.specs.Callers.{call_of, open_in, opens_of, Once, AreCallers}
+use Rattle.pt_tables.specs.Counts.{counted, one_if}
 use Rattle.pt_state.proofs.Totals.{sum_below-same, worth, Lone, total-worth}
 
 -- the client of a call, and the number of a row

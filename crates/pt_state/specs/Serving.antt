@@ -16,14 +16,14 @@ use Rattle.pt_model.specs.Answers.{open_calls}
 use Rattle.pt_model.specs.Moves.{moved, key_by}
 use Rattle.pt_model.specs.Forced.{expires_before, service}
 use Rattle.pt_plain.specs.Shown.{shown, shown_move}
-use Rattle.pt_state.specs.declared.callers.Caller.{Caller}
-use Rattle.pt_state.specs.declared.callers.Open.{Open}
-use Rattle.pt_state.specs.declared.object.Object.{Object}
-use Rattle.pt_state.specs.declared.object.Object.TheVariants.{Mutex}
+use Rattle.pt_tables.specs.declared.callers.Caller.{Caller}
+use Rattle.pt_tables.specs.declared.callers.Open.{Open}
+use Rattle.pt_tables.specs.declared.object.Object.{Object}
+use Rattle.pt_tables.specs.declared.object.Object.TheVariants.{Mutex}
 use Rattle.pt_state.specs.declared.serving.Forced.{Forced}
 use Rattle.pt_state.specs.declared.serving.Forced.TheVariants.{Serve, Yield, Expire}
-use Rattle.pt_state.specs.Callers.{open_in}
-use Rattle.pt_state.specs.OpenRows.{object_of}
+use Rattle.pt_tables.specs.Callers.{open_in}
+use Rattle.pt_tables.specs.OpenRows.{object_of}
 
 -- a call in a row, as the definitions know it  [profile]
 abbrev pub called : Open → Standing

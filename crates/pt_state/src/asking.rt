@@ -9,38 +9,19 @@ ghost use Rattle.pt_model.specs.Objects.{kind_of};
 ghost use Rattle.pt_model.specs.Answers.{open_calls, open_place as open_place_in};
 ghost use Rattle.pt_model.specs.Moves.{standing_at};
 ghost use Rattle.pt_model.specs.Rwlocks.{is_held_alive as is_held_alive_in};
-ghost use Rattle.pt_model.specs.Grants.{is_blocked as is_blocked_in};
-ghost use Rattle.pt_model.specs.Verdicts.{is_awaited as is_awaited_in, will_return as will_return_in, bound_by};
-ghost use Rattle.pt_state.specs.Callers.{open_in};
+ghost use Rattle.pt_model.specs.Verdicts.{will_return as will_return_in, bound_by};
+ghost use Rattle.pt_tables.specs.Callers.{open_in};
 ghost use Rattle.pt_state.specs.Reads.{IsRead};
 
-use crate::callers::Open;
-use crate::object::Object;
-use crate::open_rows::{any_awaited, any_holds, any_holds_back, any_returns, any_stands_at};
 use crate::state::State;
-use pt_types::{ClientId, ObjectId, ObjectKind};
+use pt_tables::open_rows::{any_awaited, any_holds, any_returns};
+use pt_tables::{Object, Open};
+use pt_types::{ClientId, ObjectId, ObjectKind, Priority};
 use std::alloc::Allocator;
 
 impl<A: Allocator + Copy> State<A> {
-    /// Whether a writer of this priority or a higher one stands at the lock.
-    /// [XSH pthread_rwlock_rdlock]
-    pub(crate) fn is_blocked(&self, r: ObjectId, priority: u64) -> bool
-        requires { IsRead self.now }
-        ensures { result ≡ is_blocked_in (history self.now.stored.entries) r priority }
-    {
-        any_holds_back(&self.clients, r, priority)
-    }
-
-    /// Whether a call stands at the object.  [XSH pthread_mutex_destroy]
-    pub(crate) fn is_awaited(&self, o: ObjectId) -> bool
-        requires { IsRead self.now }
-        ensures { result ≡ is_awaited_in (history self.now.stored.entries) o }
-    {
-        any_stands_at(&self.clients, o)
-    }
-
     /// Whether a wait that isn't moved will come back to the mutex.  [XSH pthread_mutex_destroy]
-    pub(crate) fn will_return(&self, m: ObjectId) -> bool
+    pub fn will_return(&self, m: ObjectId) -> bool
         requires { IsRead self.now }
         ensures { result
             ≡ list_any (will_return_in (history self.now.stored.entries) m)
@@ -50,7 +31,7 @@ impl<A: Allocator + Copy> State<A> {
     }
 
     /// The mutex with which calls wait at the condition, where some do.  [XSH pthread_cond_wait]
-    pub(crate) fn bound(&self, q: ObjectId) -> Option<ObjectId>
+    pub fn bound(&self, q: ObjectId) -> Option<ObjectId>
         requires read { IsRead self.now }
         requires cond { kind_of (history self.now.stored.entries) q ≡ Some ObjectKind.Cond }
         ensures { result ≡ bound_by (standing_at (history self.now.stored.entries) q) }
@@ -59,7 +40,7 @@ impl<A: Allocator + Copy> State<A> {
     }
 
     /// Whether a living client holds the lock.  [XSH pthread_rwlock_destroy]
-    pub(crate) fn is_held_alive(&self, r: ObjectId) -> bool
+    pub fn is_held_alive(&self, r: ObjectId) -> bool
         requires read { IsRead self.now }
         requires lock { kind_of (history self.now.stored.entries) r ≡ Some ObjectKind.Rwlock }
         ensures { result ≡ is_held_alive_in (history self.now.stored.entries) r }
@@ -71,15 +52,26 @@ impl<A: Allocator + Copy> State<A> {
     }
 
     /// Whether a client lives.  [profile]
-    pub(crate) fn is_alive(&self, c: ClientId) -> bool
+    pub fn is_alive(&self, c: ClientId) -> bool
         requires { IsRead self.now }
         ensures { result ≡ is_alive_in (history self.now.stored.entries) c }
     {
         self.clients.at(c.0).is_some()
     }
 
+    /// The priority of a living client.  [XSH 2.8.4]
+    pub fn priority(&self, c: ClientId) -> Option<Priority>
+        requires { IsRead self.now }
+        ensures { result ≡ client (history self.now.stored.entries) c }
+    {
+        match self.clients.at(c.0) {
+            Some(caller) => Some(caller.priority),
+            None => None,
+        }
+    }
+
     /// The priority of a living client; 0 of any other.  [XSH 2.8.4]
-    pub(crate) fn priority_of(&self, c: ClientId) -> u64
+    pub fn priority_of(&self, c: ClientId) -> u64
         requires { IsRead self.now }
         ensures { result ≡ unwrap_or (client (history self.now.stored.entries) c) 0 }
     {
@@ -90,7 +82,7 @@ impl<A: Allocator + Copy> State<A> {
     }
 
     /// A client's open call, with its move.  [profile]
-    pub(crate) fn open_of(&self, c: ClientId) -> Option<Open>
+    pub fn open_of(&self, c: ClientId) -> Option<Open>
         requires { IsRead self.now }
         ensures { result ≡ open_in (client_value self.now.clients c) }
     {
@@ -112,7 +104,7 @@ impl<A: Allocator + Copy> State<A> {
     }
 
     /// How many clients live.  [profile]
-    pub(crate) fn living(&self) -> usize
+    pub fn living(&self) -> usize
         requires { IsRead self.now }
         ensures { result ≡ living_in (history self.now.stored.entries) }
     {

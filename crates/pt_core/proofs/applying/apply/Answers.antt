@@ -9,14 +9,14 @@ use Rattle.pt_core.proofs.applying.apply.Goals as goal
 
 pub returns-in-Err-enter-clause-err : goal.returns-in-Err-enter-clause-err
 returns-in-Err-enter-clause-err g c =
-    memory-open c.args.state.now c.make_room.new.state c.args.event.now
+    memory-open c.args.body.now c.make_room.new.body c.args.event.now
     c.in_default-make_room.ensures.ok (sym c.refusal.ensures ∙ c.in_default.is) c.enter.result
     c.in-Err-enter.refusal c.in-Err-enter.is c.in-Err-enter.ensures.reason c.enter.ensures.death
 
 pub returns-clause-whole : goal.returns-clause-whole
 returns-clause-whole g c =
     let o = c.in_default-make_room.ensures.ok in
-    whole-entered c.make_room.new.state c.enter.new.state c.args.event.now o.made.ready
+    whole-entered c.make_room.new.body c.enter.new.body c.args.event.now o.made.ready
     (ap (λ es. refusal (history es) c.args.event.now) o.made.same_entries
     ∙ (sym c.refusal.ensures ∙ c.in_default.is))
     c.in_default-enter.ensures.ok c.in_default-enter.ensures.roomy
@@ -24,9 +24,9 @@ returns-clause-whole g c =
 pub returns-clause-ok : goal.returns-clause-ok
 returns-clause-ok g c =
     let o = c.in_default-make_room.ensures.ok in
-    entered-applied c.args.state.now.stored c.make_room.new.state.stored c.enter.new.state.stored
+    entered-applied c.args.body.now.stored c.make_room.new.body.stored c.enter.new.body.stored
     c.args.event.now o.made c.in_default-enter.ensures.ok
-    (open-within c.args.state.now c.make_room.new.state c.args.event.now o
+    (open-within c.args.body.now c.make_room.new.body c.args.event.now o
     (sym c.refusal.ensures ∙ c.in_default.is))
-    c.len-first.result c.len.result c.enter.new.state.stored.entries c.told-outcome.result
+    c.len-first.result c.len.result c.enter.new.body.stored.entries c.told-outcome.result
     c.len-first.ensures c.len.ensures refl c.told-outcome.ensures

@@ -11,7 +11,7 @@ returns-in_err-answer_last-clause-err g c =
     let why = c.in_err-answer_last.ensures.why in
     let old = g.W.Sink.taken c.args.writer.now in
     told_fault c.from_residual.result Memory
-    (λ fault. IsStopped fault c.args.cutter c.args.engine old old
+    (λ fault. IsStopped fault c.args.cutter c.args.engine.now old old
     (g.W.Sink.failures c.args.writer.now)) (rw why at gives.1)
     (refl, c.requires.working)
 
@@ -22,11 +22,11 @@ returns-in_err-put-clause-err g c =
     let old = g.W.Sink.taken c.args.writer.now in
     let new = g.W.Sink.taken c.put.new.writer in
     told_fault c.from_residual-in_err-put.result Write
-    (λ fault. IsStopped fault c.args.cutter c.args.engine old new
+    (λ fault. IsStopped fault c.args.cutter c.args.engine.now old new
     (g.W.Sink.failures c.put.new.writer)) (rw why at gives.1)
-    (last_cut_off c.args.cutter c.args.engine c.answer_last.new.self
+    (last_cut_off c.args.cutter c.args.engine.now c.answer_last.new.self
     (old ++ c.deref.result.now) old new
-    (onto_taken c.args.engine (to_come c.args.cutter []) c.new-out.result.items
+    (onto_taken c.args.engine.now (to_come c.args.cutter []) c.new-out.result.items
     c.answer_last.new.self c.answer_last.new.out.items c.deref.result.now old
     c.in_ok-answer_last.ensures.ok c.new-out.ensures.items c.deref.ensures.value)
     c.in_err-put.ensures.err)
@@ -38,9 +38,9 @@ returns-clause-ok g c =
       last = c.answer_last.new.self;
       answered =
           subst
-          (IsAnswered c.args.engine (to_come c.args.cutter []) old c.answer_last.new.self)
+          (IsAnswered c.args.engine.now (to_come c.args.cutter []) old c.answer_last.new.self)
           (sym c.in_ok-put.ensures.ok.0)
-          (onto_taken c.args.engine (to_come c.args.cutter []) c.new-out.result.items
+          (onto_taken c.args.engine.now (to_come c.args.cutter []) c.new-out.result.items
           c.answer_last.new.self c.answer_last.new.out.items c.deref.result.now old
           c.in_ok-answer_last.ensures.ok c.new-out.ensures.items c.deref.ensures.value);
       lines = c.lines.ensures;

@@ -1,6 +1,6 @@
 use Rattle.std.proofs.Common.{sym, ◌∙◌}
 use Rattle.pt_state.specs.Adds.{past}
-use Rattle.pt_state.proofs.LockViews.{cond-found}
+use Rattle.pt_tables.proofs.LockViews.{cond-found}
 use Rattle.pt_state.proofs.state.State.awaits_verdict.Goals as goal
 
 pub bound-requires-clause-cond : goal.bound-requires-clause-cond

@@ -1,0 +1,75 @@
+-- What waits arrived before the next entry, at an object that exists.
+use Rattle.std.proofs.Common.{◌≡◌, ℕ, suc, ◌<◌, inl, inr, true, List, [], ◌∷◌, Option, Some, None, is_some, refl, sym, subst, arith}
+use Rattle.std.specs.List.{AllByRecursion as Each}
+use Rattle.pt_types.specs.declared.call.ObjectKind.{ObjectKind}
+use Rattle.pt_types.specs.Deeds.{Sort}
+use Rattle.pt_waitq.specs.declared.waiter.Waiter.{Waiter}
+use Rattle.pt_waitq.specs.Queues.{In as Among}
+use Rattle.pt_waitq.specs.Members.{Members}
+use Rattle.pt_model.specs.declared.entry.Cause.{Cause}
+use Rattle.pt_model.specs.Searches.{In}
+use Rattle.pt_model.specs.Histories.{History, Begin, ◌▷◌, place}
+use Rattle.pt_model.specs.Objects.{kind_of}
+use Rattle.pt_model.specs.Records.{Standing, Move}
+use Rattle.pt_model.specs.Answers.{open_calls}
+use Rattle.pt_model.specs.Moves.{arrival_by, cause_by, move_or, moved, at_object}
+use Rattle.pt_model.specs.Steps.{Follows}
+use Rattle.pt_model.proofs.Sound.{Fresh-follows, below_open}
+use Rattle.pt_model.proofs.Named.{is_sort}
+use Rattle.pt_model.proofs.Seats.{seat, housed}
+use Rattle.pt_body.specs.Queued.{waiter}
+
+-- a wait was moved by an entry of the history
+pub moved-below : (h : History) (j : ℕ) (v : Move) → moved h j ≡ Some v → v.at < place h
+moved-below Begin j v e = absurd cc
+moved-below (h ▷ e) j v m =
+    go (cause_by h (moved h) e j) (moved h j) (λ k. moved-below h j v k) m
+  where
+    go : (x : Option Cause) (o : Option Move) → (o ≡ Some v → v.at < place h)
+        → move_or (place h) x o ≡ Some v → v.at < suc (place h)
+    go None o ih k = omega (arith, ih k)
+    go (Some x) o ih k = let here : place h ≡ v.at = cc in omega (arith, here)
+
+-- an open call arrived by an entry of the history
+pub arrival-below : (h : History) → Follows h → (w : Standing) → In w (open_calls h)
+    → (arrival_by (moved h w.place) w.place).0 < place h
+arrival-below h f w i = go (moved h w.place) refl
+  where
+    go : (o : Option Move) → moved h w.place ≡ o → (arrival_by o w.place).0 < place h
+    go None e = (below_open h w (Fresh-follows h f) i).0
+    go (Some v) e = moved-below h w.place v e
+
+-- so did each that waits in a queue
+pub waiters-below :
+    (h : History) (queue : ℕ → List Waiter) → Follows h
+    → Members (at_object h) (waiter h) (open_calls h) queue
+    → (q : ℕ) → Each (λ v. v.moved < place h) (queue q)
+waiters-below h queue f k q = each (queue q) (λ v i. one v (k.known q v i))
+  where
+    one : (v : Waiter)
+        → (w : Standing) × Among w (open_calls h) × (at_object h w ≡ q) × (v ≡ waiter h w)
+        → v.moved < place h
+    one v r = subst (λ (x : Waiter). x.moved < place h) (sym r.3) (arrival-below h f r.0 r.1)
+
+    each : (vs : List Waiter) → ((v : Waiter) → Among v vs → v.moved < place h)
+        → Each (λ v. v.moved < place h) vs
+    each [] g = tt
+    each (v ∷ vs) g = (g v (inl refl), each vs (λ u i. g u (inr i)))
+
+-- a call that has just come arrives at its own place
+pub arrival-new : (h : History) → Follows h → (w : Standing) → w.place ≡ place h
+    → (arrival_by (moved h w.place) w.place).0 ≡ place h
+arrival-new h f w e =
+    let still : moved h w.place ≡ None =
+    (Fresh-follows h f).moves w.place (omega (arith, e)) in
+    rw still e
+
+-- the object of an open call exists
+pub object-there : (h : History) → Follows h → (w : Standing) → In w (open_calls h)
+    → is_some (kind_of h (at_object h w)) ≡ true
+object-there h f w i =
+    there (kind_of h (at_object h w)) (seat w.role (moved h w.place)) (housed h f w i).0
+  where
+    there : (o : Option ObjectKind) (s : Sort) → is_sort o s ≡ true → is_some o ≡ true
+    there None s e = absurd cc
+    there (Some k) s e = refl

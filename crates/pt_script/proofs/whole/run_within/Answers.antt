@@ -1,0 +1,174 @@
+use Rattle.std.proofs.Common.{◌≡◌, ◌++◌, [], true, ◌∙◌, sym, ap, subst, refl, take, length, append-nil, length-append, arith}
+use Rattle.pt_lines.specs.Lines.{Held}
+use Rattle.pt_script.specs.Ends.{Course, IsScriptText, BeginsScriptText, IsFaultOf}
+use Rattle.pt_script.specs.Engines.{IsBehind, IsEnd, IsStopped}
+use Rattle.pt_script.proofs.Runs.{on_ok, on_err, told_fault}
+use Rattle.pt_script.proofs.Wholes.{fed_end, behind_few, behind_fed, behind_end, begins_given, stopped_begins, stopped_why, not_ended, behind_begun, begun_held, has_ended, done_if}
+use Rattle.pt_script.proofs.whole.run_within.Goals as goal
+
+pub loop-init : goal.loop-init
+loop-init g c =
+    record {
+      behind = behind_begun (g.R.Source.given c.args.reader.now) c.new-cutter.result
+          c.args.engine.now (g.W.Sink.taken c.args.writer.now) c.requires.fresh.0
+          c.new-cutter.ensures c.requires.new c.requires.fresh.1;
+      begun = begun_held c.new-cutter.result c.new-cutter.ensures;
+      read = c.requires.working.0;
+      wrote = c.requires.working.1;
+      no_end = refl;
+      some = omega arith;
+      few = omega (arith, ap length c.requires.fresh.0);
+      room = refl;
+    }
+
+pub returns-in_default-clause-err : goal.returns-in_default-clause-err
+returns-in_default-clause-err g c =
+    begins_given (g.R.Source.given c.loop.reader) (g.R.Source.given c.read.new.self) []
+    c.loop.cutter c.loop.engine (g.W.Sink.taken c.loop.writer) c.loop.invariant.behind
+    (c.in_default.ensures.bytes ∙ sym (append-nil (g.R.Source.given c.loop.reader)))
+
+pub finish-requires-clause-few : goal.finish-requires-clause-few
+finish-requires-clause-few g c =
+    let few = behind_few (g.R.Source.given c.loop.reader) c.loop.cutter c.loop.engine
+    (g.W.Sink.taken c.loop.writer) [] c.loop.invariant.behind in
+    let all = length-append (g.R.Source.given c.loop.reader) [] in
+    omega (arith, few, all)
+
+pub returns-then-n-eq0-clause-ok : goal.returns-then-n-eq0-clause-ok
+returns-then-n-eq0-clause-ok g c =
+    let bytes = g.R.Source.given c.loop.reader in
+    let given = g.R.Source.given c.read.new.self in
+    let text = g.W.Sink.taken c.loop.writer in
+    let new = g.W.Sink.taken c.finish.new.writer in
+    let same = c.in-Ok.ensures.bytes
+    ∙ ap (λ n. bytes ++ take n c.read.new.buf) c.if-n-eq0.true ∙ append-nil bytes in
+    on_ok (λ end. IsEnd c.loop.cutter c.loop.engine text new end.lines end.entries)
+    (λ end. IsScriptText given new end.lines end.entries) c.finish.result
+    (λ end done. subst (λ bs. IsScriptText bs new end.lines end.entries) (sym same)
+    (behind_end bytes c.loop.cutter c.loop.engine text new end.lines end.entries
+    c.loop.invariant.behind done))
+    c.finish.ensures.ok
+
+pub returns-then-n-eq0-clause-ended : goal.returns-then-n-eq0-clause-ended
+returns-then-n-eq0-clause-ended g c =
+    done_if (g.R.Source.ended c.read.new.self ≡ true) c.finish.result
+    (has_ended c.in-Ok.n c.read.new.buf (g.R.Source.ended c.loop.reader)
+    (g.R.Source.ended c.read.new.self) c.if-n-eq0.true
+    (omega (arith, c.read.auto.buf, c.loop.invariant.room)) c.in-Ok.ensures.end)
+
+pub returns-then-n-eq0-clause-err : goal.returns-then-n-eq0-clause-err
+returns-then-n-eq0-clause-err g c =
+    let bytes = g.R.Source.given c.loop.reader in
+    let given = g.R.Source.given c.read.new.self in
+    let text = g.W.Sink.taken c.loop.writer in
+    let new = g.W.Sink.taken c.finish.new.writer in
+    let failures = g.W.Sink.failures c.finish.new.writer in
+    let same = c.in-Ok.ensures.bytes
+    ∙ ap (λ n. bytes ++ take n c.read.new.buf) c.if-n-eq0.true in
+    on_err (λ fault. IsStopped fault c.loop.cutter c.loop.engine text new failures)
+    (λ fault. BeginsScriptText given new) c.finish.result
+    (λ fault stop. stopped_begins bytes given [] c.loop.cutter c.loop.cutter c.loop.engine text
+    new failures fault c.loop.invariant.behind same refl stop)
+    c.finish.ensures.err
+
+pub returns-then-n-eq0-clause-why : goal.returns-then-n-eq0-clause-why
+returns-then-n-eq0-clause-why g c =
+    let bytes = g.R.Source.given c.loop.reader in
+    let text = g.W.Sink.taken c.loop.writer in
+    let same = c.in-Ok.ensures.bytes
+    ∙ ap (λ n. bytes ++ take n c.read.new.buf) c.if-n-eq0.true in
+    let course : Course = record {
+      given = g.R.Source.given c.read.new.self;
+      taken = g.W.Sink.taken c.finish.new.writer;
+      read_failures = g.R.Source.failures c.read.new.self;
+      write_failures = g.W.Sink.failures c.finish.new.writer;
+      had_ended = g.R.Source.ended c.args.reader.now;
+      has_ended = g.R.Source.ended c.read.new.self;
+      reads = c.args.reads;
+    } in
+    on_err
+    (λ fault. IsStopped fault c.loop.cutter c.loop.engine text course.taken
+    course.write_failures)
+    (λ fault. IsFaultOf course fault) c.finish.result
+    (λ fault stop. stopped_why bytes [] c.loop.cutter c.loop.cutter c.loop.engine text course
+    fault c.loop.invariant.behind same refl c.in-Ok.ensures.count stop)
+    c.finish.ensures.err
+
+pub take_in-requires-clause-few : goal.take_in-requires-clause-few
+take_in-requires-clause-few g c =
+    let bytes = g.R.Source.given c.loop.reader in
+    let more = take c.in-Ok.n c.read.new.buf in
+    let few = behind_few bytes c.loop.cutter c.loop.engine (g.W.Sink.taken c.loop.writer) more
+    c.loop.invariant.behind in
+    let same = ap length (fed_end c.loop.cutter more) in
+    let all = length-append bytes more in
+    let bound = c.in-Ok.ensures.bound in
+    let kept = c.read.auto.buf in
+    omega (arith, few, same, all, bound, kept)
+
+pub returns-in_err-take_in-clause-err : goal.returns-in_err-take_in-clause-err
+returns-in_err-take_in-clause-err g c =
+    let bytes = g.R.Source.given c.loop.reader in
+    let given = g.R.Source.given c.read.new.self in
+    let more = take c.in-Ok.n c.read.new.buf in
+    let next : Held = record c.loop.cutter { rest = c.loop.cutter.rest ++ more } in
+    let new = g.W.Sink.taken c.take_in.new.writer in
+    told_fault c.from_residual.result c.in_err-take_in.field-0.0
+    (λ fault. BeginsScriptText given new) c.from_residual.ensures.1
+    (stopped_begins bytes given more c.loop.cutter next c.loop.engine
+    (g.W.Sink.taken c.loop.writer) new (g.W.Sink.failures c.take_in.new.writer)
+    c.in_err-take_in.field-0.0 c.loop.invariant.behind c.in-Ok.ensures.bytes
+    (fed_end c.loop.cutter more) c.in_err-take_in.ensures.err)
+
+pub returns-in_err-take_in-clause-why : goal.returns-in_err-take_in-clause-why
+returns-in_err-take_in-clause-why g c =
+    let bytes = g.R.Source.given c.loop.reader in
+    let more = take c.in-Ok.n c.read.new.buf in
+    let next : Held = record c.loop.cutter { rest = c.loop.cutter.rest ++ more } in
+    let course : Course = record {
+      given = g.R.Source.given c.read.new.self;
+      taken = g.W.Sink.taken c.take_in.new.writer;
+      read_failures = g.R.Source.failures c.read.new.self;
+      write_failures = g.W.Sink.failures c.take_in.new.writer;
+      had_ended = g.R.Source.ended c.args.reader.now;
+      has_ended = g.R.Source.ended c.read.new.self;
+      reads = c.args.reads;
+    } in
+    told_fault c.from_residual.result c.in_err-take_in.field-0.0
+    (λ fault. IsFaultOf course fault) c.from_residual.ensures.1
+    (stopped_why bytes more c.loop.cutter next c.loop.engine (g.W.Sink.taken c.loop.writer)
+    course c.in_err-take_in.field-0.0 c.loop.invariant.behind c.in-Ok.ensures.bytes
+    (fed_end c.loop.cutter more) c.in-Ok.ensures.count c.in_err-take_in.ensures.err)
+
+pub loop-preserved : goal.loop-preserved
+loop-preserved g c =
+    let bytes = g.R.Source.given c.loop.reader in
+    let more = take c.in-Ok.n c.read.new.buf in
+    let new = g.W.Sink.taken c.take_in.new.writer in
+    let longer = ap length c.in-Ok.ensures.bytes ∙ length-append bytes more in
+    let bound = c.in-Ok.ensures.bound in
+    let kept = c.read.auto.buf in
+    record {
+      behind =
+          subst (λ bs. IsBehind bs c.take_in.new.cutter c.take_in.new.engine new)
+          (sym c.in-Ok.ensures.bytes)
+          (behind_fed bytes more c.loop.cutter c.loop.engine (g.W.Sink.taken c.loop.writer)
+          c.take_in.new.cutter c.take_in.new.engine new c.loop.invariant.behind
+          c.in_ok-take_in.ensures.ok);
+      begun = c.in_ok-take_in.ensures.begun;
+      read = c.in-Ok.ensures.count;
+      wrote = c.in_ok-take_in.ensures.wrote;
+      no_end =
+          not_ended c.in-Ok.n c.read.new.buf (g.R.Source.ended c.loop.reader)
+          (g.R.Source.ended c.read.new.self) c.if-n-eq0.false c.in-Ok.ensures.end
+          ∙ c.loop.invariant.no_end;
+      some = omega (arith, longer, bound, c.if-n-eq0.false);
+      few = omega (arith, longer, bound, kept);
+      room = omega (arith, kept);
+    }
+
+pub returns-clause-err : goal.returns-clause-err
+returns-clause-err g c =
+    begins_given (g.R.Source.given c.loop.reader) (g.R.Source.given c.loop.reader) []
+    c.loop.cutter c.loop.engine (g.W.Sink.taken c.loop.writer) c.loop.invariant.behind
+    (sym (append-nil (g.R.Source.given c.loop.reader)))

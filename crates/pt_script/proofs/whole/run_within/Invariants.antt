@@ -1,0 +1,16 @@
+use Rattle.std.proofs.Common.{◌≡◌, ◌*◌, ◌≤◌, length}
+use Rattle.pt_lines.specs.Lines.{IsBegun}
+use Rattle.pt_script.specs.Engines.{IsBehind}
+use Rattle.pt_script.proofs.whole.run_within.Given as goal
+
+abbrev pub invariant-loop : goal.invariant-loop
+invariant-loop g l = record {
+  behind : IsBehind (g.R.Source.given l.reader) l.cutter l.engine (g.W.Sink.taken l.writer);
+  begun : IsBegun l.cutter;
+  read : g.R.Source.failures l.reader ≡ 0;
+  wrote : g.W.Sink.failures l.writer ≡ 0;
+  no_end : g.R.Source.ended l.reader ≡ g.R.Source.ended l.fn.reader;
+  some : l.counter ≤ length (g.R.Source.given l.reader);
+  few : length (g.R.Source.given l.reader) ≤ 4096 * l.counter;
+  room : length l.piece ≡ 4096;
+}
