@@ -1,6 +1,7 @@
 pub mod ArrivalBounds
 pub mod BadDeadlines
 pub mod BadVerdicts
+pub mod Bindings
 pub mod Broadcasts
 pub mod DueLemmas
 pub mod MayLemmas

@@ -4,7 +4,7 @@ use Rattle.std.proofs.lemmas.Bool.Decides.{nat_tests}
 use Rattle.std.specs.Prelude.{option_map}
 use Rattle.pt_types.specs.declared.call.Call.{Call as Asked}
 use Rattle.pt_types.specs.declared.outcome.Outcome.{Outcome}
-use Rattle.pt_types.specs.Times.{Timespec, deadline_nanos, has_bad_deadline}
+use Rattle.pt_types.specs.Times.{deadline_nanos, has_bad_deadline}
 use Rattle.pt_types.specs.Deeds.{Deed, Makes, Ends, Acquires, Unlocks, Restores, Rwunlocks, Awaits, Signals, Broadcasts, Arrives, deed}
 use Rattle.pt_types.specs.Tables.{reply}
 use Rattle.pt_model.specs.declared.entry.Entry.{Entry}
@@ -194,12 +194,3 @@ pub none-bad : (h : History) → Follows h → forced h ≡ None → (w : Standi
 none-bad h f n w i =
     false_by (has_bad_deadline (timed h w.place)) (λ bad. not_forced (forced h)
     (Grant w.place (grant_outcome h w)) n (grants-bad h f w i bad))
-
--- the call that was made just now has a good deadline, where it is still open then
-pub open-good : (h : History) → Follows h → forced h ≡ None → (w : Standing)
-    → In w (open_calls h) → (d : Timespec) → timed h w.place ≡ Some d
-    → (has_bad_deadline (Some d) ≡ false) × (w.deadline ≡ Some (deadline_nanos d))
-open-good h f n w i d e = (
-  ap has_bad_deadline (sym e) ∙ none-bad h f n w i,
-  deadline-kept h f w i ∙ ap (option_map deadline_nanos) e,
-)

@@ -1,9 +1,9 @@
 -- Room that is made for an accepted event, with memory for its answers.
-use Rattle.std.proofs.Common.{◌≡◌, ◌≢◌, ℕ, ◌+◌, ◌≤◌, ◌<◌, ◌-◌, max, cond, Bool, true, false, List, [], Option, Some, None, length, refl, sym, ap, ◌∙◌, subst, arith}
+use Rattle.std.proofs.Common.{◌≡◌, ◌≢◌, ℕ, ◌+◌, ◌≤◌, ◌<◌, ◌-◌, max, cond, Bool, true, false, [], Option, Some, None, length, refl, sym, ap, ◌∙◌, subst, arith}
 use Rattle.std.proofs.Math.Nat.{le-max_right, max-le}
 use Rattle.std.proofs.lemmas.Bool.Decides.{nat_tests}
 use Rattle.std.specs.Option.{option_or}
-use Rattle.std.specs.Prelude.{◌↔◌, nat_lt, MatchOption, vec_len, vec_capacity, Result, Ok, Err, IfErr, IsOk}
+use Rattle.std.specs.Prelude.{◌↔◌, nat_lt, MatchOption, vec_len, Result, Ok, Err, IfErr, IsOk}
 use Rattle.pt_types.specs.declared.outcome.Refusal.{Refusal}
 use Rattle.pt_types.specs.declared.outcome.Refusal.TheVariants.{Full, Enomem}
 use Rattle.pt_types.specs.Limits.{most_entries}
@@ -11,21 +11,18 @@ use Rattle.pt_history.specs.Stored.{Stored}
 use Rattle.pt_model.specs.declared.entry.Entry.{Entry}
 use Rattle.pt_model.specs.declared.entry.Event.{Event}
 use Rattle.pt_model.specs.declared.entry.Event.TheVariants as event
-use Rattle.pt_model.specs.Histories.{History, ◌▷◌, place, history}
-use Rattle.pt_model.specs.Clients.{is_alive}
+use Rattle.pt_model.specs.Histories.{History, ◌▷◌, history}
 use Rattle.pt_model.specs.Room.{need, refusal, entry_for, is_over, refusal_for_room, refusal_within}
-use Rattle.pt_model.specs.Legal.{events_of}
 use Rattle.pt_model.proofs.Histories.{place-history}
-use Rattle.pt_model.proofs.Legality.{legal-follows}
 use Rattle.pt_model.proofs.Room.{room-death}
 use Rattle.pt_state.specs.declared.state.State.{State}
 use Rattle.pt_state.specs.Reads.{IsRead}
 use Rattle.pt_state.specs.Adds.{past}
 use Rattle.pt_core.specs.Cores.{IsKept, kept}
 use Rattle.pt_core.specs.Applying.{is_death, IsWantOfMemory, IsRefusal}
-use Rattle.pt_core.specs.Settling.{IsReady, IsMade}
+use Rattle.pt_core.specs.Settling.{IsMade}
 use Rattle.pt_core.specs.Wholes.{HasSpare, IsWhole, IsOpen}
-use Rattle.pt_core.proofs.AcceptingLemmas.{unrefused-alive, death-fits, death-unrefused}
+use Rattle.pt_core.proofs.AcceptingLemmas.{unrefused-alive, death-fits}
 
 module _ {A : Type 0} where
   -- a Death needs no room but what is kept
@@ -90,17 +87,6 @@ module _ {A : Type 0} where
           });
           spare = omega (arith, enough, spare);
         }
-
-  -- room that was made for an event is there for it
-  pub open-itself : (s t : State A) (v : Event) → IsOpen s v t → IsOpen t v t
-  open-itself s t v o =
-      let same : past t ≡ past s = ap history o.made.same_entries in
-      record {
-        whole = o.whole;
-        made = record { same_entries = refl; same_limit = refl; ready = o.made.ready };
-        spare = subst (λ (h : History). HasSpare t (1 + need (h ▷ entry_for h v))) (sym same)
-            o.spare;
-      }
 
 err-same : {X : Type 0} (a b : Refusal) → ◌≡◌ {A = Result X Refusal} (Err a) (Err b) → a ≡ b
 err-same a b e = cc

@@ -1,8 +1,8 @@
 -- Forced entries one after another, and the legal list that they end.
-use Rattle.std.proofs.Common.{◌≡◌, ℕ, ◌+◌, ◌-◌, ◌≤◌, ◌<◌, List, [], ◌∷◌, ◌++◌, length, Some, None, true, refl, sym, ap, ◌∙◌, subst, append_assoc, append-nil, arith, length-append}
+use Rattle.std.proofs.Common.{◌≡◌, ◌+◌, ◌-◌, ◌≤◌, ◌<◌, List, [], ◌∷◌, ◌++◌, length, Some, None, true, refl, sym, ap, ◌∙◌, subst, append_assoc, arith, length-append}
 use Rattle.pt_model.specs.declared.entry.Entry.{Entry}
 use Rattle.pt_model.specs.declared.entry.Event.{Event}
-use Rattle.pt_model.specs.Histories.{History, Begin, ◌▷◌, place, onto, history, is_forced}
+use Rattle.pt_model.specs.Histories.{History, Begin, ◌▷◌, onto, history, is_forced}
 use Rattle.pt_model.specs.Forced.{forced}
 use Rattle.pt_model.specs.Room.{need, refusal, entry_for}
 use Rattle.pt_model.specs.Legal.{LegalFrom, Legal, events_of}
@@ -21,18 +21,6 @@ pub forces-push : (h : History) (fs : List Entry) (f : Entry) → Forces h fs
     → forced (onto h fs) ≡ Some f → Forces h (fs ++ f ∷ [])
 forces-push h [] f a e = (e, tt)
 forces-push h (x ∷ xs) f a e = (a.0, forces-push (h ▷ x) xs f a.1 e)
-
-pub settling-start : (s : Stored) → Follows (history s.entries) → need (history s.entries) ≤ s.room
-    → IsSettling s s
-settling-start s f r =
-    record {
-      added = ([], sym (append-nil s.entries), tt);
-      follows = f;
-      room = r;
-      same_limit = refl;
-      same_end = refl;
-      bounded = omega arith;
-    }
 
 -- forced entries alone go on legally by no event
 pub legal-forces : (h : History) (fs : List Entry) → Forces h fs → forced (onto h fs) ≡ None
@@ -108,9 +96,6 @@ module _ (old now : Stored) (f : Entry) (s : IsSettling old now)
         length-append now.entries (f ∷ []),
       )
 
-  pub settling-smaller : need (history (now.entries ++ f ∷ [])) < need (history now.entries)
-  settling-smaller = omega (arith, keeps.1, next_need)
-
   pub settling-more : IsSettling old (pushed now f)
   settling-more =
       record {
@@ -161,9 +146,6 @@ module _ (old new : List Entry) (v : Event) (l : Legal old (events_of old))
 -- behind an event's entry: what was settled then was entered
 module _ (old new : Stored) (v : Event) (lt : 0 < old.room)
     (s : Settles (pushed old (entry_for (history old.entries) v)) new) where
-  behind_entry : List Entry
-  behind_entry = old.entries ++ entry_for (history old.entries) v ∷ []
-
   entered_bounded :
       length new.entries
       ≤ length old.entries + 1 + need (history old.entries ▷ entry_for (history old.entries) v)
@@ -220,10 +202,3 @@ module _ (s : Stored) (v : Event) (r : IsReady s v) (ok : refusal (history s.ent
           r.room,
           ap need (history-push s.entries (entry_for (history s.entries) v)),
         )
-
--- what a push of an event's entry makes of a stored history
-pub pushed-entry : (s : Stored) (read : List Entry) (v : Event) (e : Entry) (next : Stored)
-    → read ≡ s.entries → e ≡ entry_for (history read) v → next ≡ pushed s e
-    → next ≡ pushed s (entry_for (history s.entries) v)
-pushed-entry s read v e next er ee en =
-    en ∙ ap (pushed s) (ee ∙ ap (λ es. entry_for (history es) v) er)

@@ -69,13 +69,6 @@ NoneFrom-block xs a n m h above i le = go (nat_lt i (a + n)) refl
     go true e = from_block xs a n i (omega arith) (grind arith) ∙ h (i - a) (omega arith)
     go false e = above i (grind arith)
 
--- the highest of the counts above a
-pub highest-drop : (xs : List ℕ) (a i : ℕ)
-    → (get_or (drop a xs) i 0 ≢ 0) × NoneFrom (drop a xs) (i + 1)
-    → (get_or xs (a + i) 0 ≢ 0) × NoneFrom xs (a + i + 1)
-highest-drop xs a i h =
-    (λ z. h.0 (get_or-drop a xs i 0 ∙ z), λ k le. NoneFrom-drop xs a (i + 1) h.1 k (omega arith))
-
 -- the highest of a block, where no count above the block is set
 pub highest-block : (xs : List ℕ) (a n i : ℕ) → NoneFrom xs (a + n)
     → (get_or (take n (drop a xs)) i 0 ≢ 0) × NoneFrom (take n (drop a xs)) (i + 1)

@@ -67,9 +67,6 @@ pub any_from_test : (xs : List ℕ) (p : ℕ)
     × (AnyFrom xs p → IsTrue (list_any is_set (drop p xs)))
 any_from_test xs p = decided xs p (list_any is_set (drop p xs)) refl
 
-pub none_past : (xs : List ℕ) (p : ℕ) → length xs ≤ p → AnyFrom xs p → ⊥
-none_past xs p le a = absurd (omega (arith, a.2.0, a.1, le))
-
 decided_zero : (xs : List ℕ) (b : Bool) → list_any is_set xs ≡ b
     → (IsTrue (not b) → AllZero xs) × (AllZero xs → IsTrue (not b))
 decided_zero xs false e = (λ _ i lt. none_set xs e i (omega arith), λ _. refl)
@@ -90,9 +87,6 @@ highest-is xs i h = (set-at xs i h.0, λ j s. least_past j (nat_lt i j) refl s)
     least_past : (j : ℕ) (b : Bool) → nat_lt i j ≡ b → IsSetAt xs j → j ≤ i
     least_past j true e s = absurd (s.1 (h.1 j (grind arith)))
     least_past j false e s = grind arith
-
-pub none-is : (xs : List ℕ) → NoneFrom xs 0 → IsHighest xs None
-none-is xs h = λ i lt. h i (omega arith)
 
 zero_or : (xs : List ℕ) (i : ℕ) (x : ℕ) → get_or xs i 0 ≡ x
     → (b : Bool) → is_set x ≡ b → (IsSetAt xs i → ⊥) → get_or xs i 0 ≡ 0

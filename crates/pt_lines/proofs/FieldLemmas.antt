@@ -14,10 +14,6 @@ fields-other :
     (x : ℕ) (xs : List ℕ) → (x == 32) ≡ false → fields (x ∷ xs) ≡ push_first x (fields xs)
 fields-other x xs ne = ap (λ b. cond b ([] ∷ fields xs) (push_first x (fields xs))) ne
 
--- a space ends the first field
-fields-space : (xs : List ℕ) → fields (32 ∷ xs) ≡ [] ∷ fields xs
-fields-space xs = refl
-
 -- up to the first space
 fields-at :
     (xs : List ℕ) (i : ℕ) → i < length xs → get_or xs i 0 ≡ 32

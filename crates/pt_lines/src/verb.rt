@@ -1,5 +1,4 @@
-ghost use Rattle.std.specs.Prelude.{◌≡◌, find, IfSome, Some};
-ghost use Rattle.std.specs.Str.{bytes_eq};
+ghost use Rattle.std.specs.Prelude.{◌≡◌, IfSome, Some};
 ghost use Rattle.pt_lines.specs.declared.verb.Verb.{Verb};
 ghost use Rattle.pt_lines.specs.Verbs.{named_word, timed_word, word_of, verb_of, call_on, call_until};
 

@@ -8,9 +8,6 @@ pub onto-append : (h : History) (xs ys : List Entry) → onto h (xs ++ ys) ≡ o
 onto-append h [] ys = refl
 onto-append h (x ∷ xs) ys = onto-append (h ▷ x) xs ys
 
-pub history-append : (xs ys : List Entry) → history (xs ++ ys) ≡ onto (history xs) ys
-history-append xs ys = onto-append Begin xs ys
-
 pub history-push : (xs : List Entry) (e : Entry) → history (xs ++ e ∷ []) ≡ history xs ▷ e
 history-push xs e = onto-append Begin xs (e ∷ [])
 

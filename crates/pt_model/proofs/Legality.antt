@@ -5,7 +5,7 @@ use Rattle.pt_model.specs.declared.entry.Event.{Event}
 use Rattle.pt_model.specs.declared.entry.Event.TheVariants as event
 use Rattle.pt_model.specs.Histories.{History, Begin, ◌▷◌, onto, history}
 use Rattle.pt_model.specs.Forced.{forced}
-use Rattle.pt_model.specs.Room.{refusal, entry_for}
+use Rattle.pt_model.specs.Room.{entry_for}
 use Rattle.pt_model.specs.Legal.{Takes, LegalFrom, Legal, event_of, events_of}
 use Rattle.pt_model.specs.Steps.{Step, Follows, joins, calls, dies, ticks, grants, trips, yields, expires}
 use Rattle.pt_model.proofs.Histories.{onto-append, follows-part}
@@ -92,18 +92,3 @@ pub legal-step : (older newer : List Entry) (e : Entry) (events : List Event)
     → Legal (older ++ e ∷ newer) events → Follows (history older) × Step (history older) e
 legal-step older newer e events l =
     follows-part (history older ▷ e) newer (legal-part older (e ∷ newer) events l)
-
--- a list goes on by the entry of an event that isn't refused
-pub legal-event : (h : History) (v : Event) (es : List Entry) (events : List Event) → forced h
-    ≡ None → refusal h v ≡ None → LegalFrom (h ▷ entry_for h v) es events
-    → LegalFrom h (entry_for h v ∷ es) (v ∷ events)
-legal-event h v es events n r l = rw n (r, refl, l)
-
--- and by the entry that is forced
-pub legal-forced : (h : History) (e : Entry) (es : List Entry) (events : List Event) → forced h
-    ≡ Some e → LegalFrom (h ▷ e) es events → LegalFrom h (e ∷ es) events
-legal-forced h e es events f l = rw f (refl, l)
-
--- and ends where none is
-pub legal-end : (h : History) → forced h ≡ None → LegalFrom h [] []
-legal-end h n = (n, refl)

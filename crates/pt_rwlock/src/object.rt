@@ -1,4 +1,4 @@
-ghost use Rattle.std.specs.Prelude.{◌≡◌, ◌==◌, if◌then◌else◌, ◌<◌, ◌≤◌, length, ◌+◌, ◌-◌, ◌↔◌, ℕ, Bool, IsTrue, IsSome, IsNone, IsOk, IfErr, IfSome, IfNone, OnOk, OnErr, is_some, nat_lt, false};
+ghost use Rattle.std.specs.Prelude.{◌≡◌, ◌==◌, ◌<◌, length, ◌+◌, ◌-◌, Bool, IsTrue, IsSome, IsOk, IfErr, IfSome, IfNone, OnOk, OnErr, is_some, nat_lt, false};
 ghost use Rattle.std.specs.List.{list_any};
 ghost use Rattle.std.specs.Ordering.{nat_cmp};
 ghost use Rattle.std.specs.BTreeMap.{values, IsOrdered};

@@ -1,5 +1,5 @@
 -- What is told of an event: it is refused, or accepted.
-use Rattle.std.proofs.Common.{◌≡◌, ℕ, suc, ◌<◌, Bool, true, false, cond, List, [], ◌∷◌, ◌++◌, length, drop, Option, Some, None, Result, Ok, Err, nat_eq, refl, sym, ap, subst, ◌∙◌, append_assoc, length-append, arith}
+use Rattle.std.proofs.Common.{◌≡◌, ℕ, suc, ◌<◌, Bool, true, false, cond, List, [], ◌∷◌, ◌++◌, length, drop, Option, Some, None, nat_eq, refl, sym, ap, subst, ◌∙◌, append_assoc, length-append, arith}
 use Rattle.std.proofs.Math.Seq.{take-append_seam, drop-append_seam}
 use Rattle.std.specs.Option.{option_or, MatchOption}
 use Rattle.std.proofs.lemmas.Bool.Decides.{Decides-eqb}
@@ -8,8 +8,6 @@ use Rattle.pt_types.specs.Limits.{most_entries}
 use Rattle.pt_types.specs.declared.outcome.Refusal.{Refusal}
 use Rattle.pt_lines.specs.declared.client.Who.{Who}
 use Rattle.pt_lines.specs.declared.client.Who.TheVariants.{Named, Star, Unknown}
-use Rattle.pt_lines.specs.declared.script_line.ScriptBody.{ScriptBody}
-use Rattle.pt_lines.specs.declared.script_line.ScriptBody.TheVariants.{Hello, Ask, Die, Tick}
 use Rattle.pt_model.specs.declared.entry.Entry.{Entry}
 use Rattle.pt_model.specs.declared.entry.Event.{Event}
 use Rattle.pt_model.specs.declared.entry.Event.TheVariants as event
@@ -23,7 +21,7 @@ use Rattle.pt_core.specs.Applying.{Applies, IsApplied, IsRefusal, IsWantOfMemory
 use Rattle.pt_script.specs.declared.asking.Asking.{Asking}
 use Rattle.pt_script.specs.declared.engine.Mark.{Mark}
 use Rattle.pt_script.specs.declared.engine.Mark.TheVariants as mark
-use Rattle.pt_script.specs.Scripts.{Script, line_at, number_of, number_named, told_text, refusal_text, greeting, clients_with, calls_with, event_of_body, join_for, of_client, same_who, lines_of_who}
+use Rattle.pt_script.specs.Scripts.{Script, line_at, told_text, refusal_text, greeting, clients_with, calls_with, same_who, lines_of_who}
 use Rattle.pt_script.specs.Says.{core_of, SaysOf, refuses, lacks, accepts}
 use Rattle.pt_script.specs.Names.{Known}
 use Rattle.pt_script.specs.Engines.{Adds, IsFresh, mark_of, clients_marked, calls_marked, greeting_marked}
@@ -181,38 +179,6 @@ fresh_noted calls noted m line place next fresh below notes = λ j far.
         ∙ ap (λ o. option_or o (cond (nat_eq j place) (Some line) None)) none
         ∙ ap (λ b. cond b (Some line) None) other
     by mark.Nothing j none other = none
-
--- a line asks to join only under a name under which no client has joined
-pub joins_first : (s : Script) (who : Who) (body : Result ScriptBody Refusal) (v : Event)
-    → event_of_body s who body ≡ Ok v → mark_of v ≡ mark.Client → number_of s.clients who ≡ None
-joins_first s who (Err r) v asks marks = cc
-joins_first s (Named name) (Ok (Hello p)) v asks marks = by (number_named s.clients name) refl asks
-  where
-    by : (o : Option ℕ) → number_named s.clients name ≡ o → join_for s.entries p o ≡ Ok v
-        → number_named s.clients name ≡ None
-    by None is joins = is
-    by (Some c) is joins = cc
-joins_first s (Named name) (Ok (Ask call)) v asks marks = by (number_named s.clients name) refl asks
-  where
-    by : (o : Option ℕ) → number_named s.clients name ≡ o
-        → of_client (λ c. event.Call c call) o ≡ Ok v → number_named s.clients name ≡ None
-    by None is calls = is
-    by (Some c) is calls =
-        let called : event.Call c call ≡ v = cc in
-        let marked = subst (λ w. mark_of w ≡ mark.Client) (sym called) marks in
-        cc
-joins_first s (Named name) (Ok Die) v asks marks = by (number_named s.clients name) refl asks
-  where
-    by : (o : Option ℕ) → number_named s.clients name ≡ o
-        → of_client (λ c. event.Death c) o ≡ Ok v → number_named s.clients name ≡ None
-    by None is dies = is
-    by (Some c) is dies =
-        let died : event.Death c ≡ v = cc in
-        let marked = subst (λ w. mark_of w ≡ mark.Client) (sym died) marks in
-        cc
-joins_first s (Named name) (Ok (Tick t)) v asks marks = cc
-joins_first s Star body v asks marks = refl
-joins_first s Unknown body v asks marks = refl
 
 same_as_itself : (who : Who) → same_who who who ≡ true
 same_as_itself (Named name) = (bytes_eq-Decides name name).1 refl

@@ -60,17 +60,6 @@ pub fed_end : (held : Held) (piece : List ℕ)
     → to_come (record held { rest = held.rest ++ piece }) [] ≡ to_come held piece
 fed_end held piece = fed held piece [] ∙ ap (to_come held) (append-nil piece)
 
--- before the first byte
-pub behind_nothing : IsBehind [] (record { rest = []; dropping = false }) begun []
-behind_nothing = record { cuts = []; given = λ more. refl; says = (refl, refl) }
-
-pub begun_nothing : IsBegun (record { rest = []; dropping = false })
-begun_nothing = record {
-  no_newline = λ i below. absurd (omega (arith, below));
-  short = omega arith;
-  dropped = λ dropping. refl;
-}
-
 -- as many lines were seen as were given, and the rest is still to come
 pub behind_few : (bytes : List ℕ) (held : Held) (s : Script) (text : List ℕ) (more : List ℕ)
     → IsBehind bytes held s text

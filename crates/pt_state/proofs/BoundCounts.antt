@@ -237,15 +237,6 @@ CountsBound-follows Begin f =
     record { most = λ m c. omega arith; room = λ w m i r. absurd i }
 CountsBound-follows (h ▷ e) f = CountsBound-step h e f.0 (CountsBound-follows h f.0) f.1
 
--- nobody holds a mutex more than 255 times
-pub count-most : (h : History) → Follows h → (m c : ℕ) → count h m c ≤ most_locks
-count-most h f m c = (CountsBound-follows h f).most m c
-
--- a wait's client has room for the lock that it will have back
-pub return-most : (h : History) → Follows h → (w : Standing) (m : ℕ) → In w (open_calls h)
-    → w.role ≡ ForCond m → count h m w.client < most_locks
-return-most h f w m i r = (CountsBound-follows h f).room w m i r
-
 -- who is granted a mutex can be given it
 pub grant-can : (h : History) → Follows h → (w : Standing) (m : ℕ) → In w (open_calls h)
     → is_grantable h w ≡ true → mutex_of w.role w.object ≡ Some m

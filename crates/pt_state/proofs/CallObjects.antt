@@ -14,7 +14,7 @@ use Rattle.pt_table.specs.declared.objects.ObjectRow.{ObjectRow}
 use Rattle.pt_table.specs.ObjectRows.{object_at, object_named, object_value, has_object, is_taken, number_of}
 use Rattle.pt_model.specs.declared.entry.Entry.TheVariants.{Call}
 use Rattle.pt_model.specs.Histories.{place}
-use Rattle.pt_model.specs.Objects.{find, kind_of, objects}
+use Rattle.pt_model.specs.Objects.{find, objects}
 use Rattle.pt_model.specs.Objects as known
 use Rattle.pt_model.specs.Records.{Object as Known_object}
 use Rattle.pt_model.specs.Verdicts.{is_busy}
@@ -71,10 +71,6 @@ module _ {A : Type 0} (s : State A) (c : ℕ) (call : Asked)
     (g : IsReadyFor s (Call c call (Some Done))) (n : List ℕ) where
   creates : (k : ObjectKind) → deed call ≡ Makes n k → does (past s) c call ≡ Creates n k
   creates k d = did s c call (Some Done) g (Makes n k) refl d
-
-  -- an init's kind is one that can be made
-  pub make-kind : (k : ObjectKind) → deed call ≡ Makes n k → is_bad_kind k ≡ false
-  make-kind k d = (may s c call (Some Done) g (Creates n k) (creates k d)).0
 
   -- its number and its name are new
   pub make-new : (k : ObjectKind) → deed call ≡ Makes n k → (o : ℕ) → o ≡ place (past s)

@@ -20,13 +20,12 @@ use Rattle.pt_model.specs.Answers.{open_calls, at_barrier}
 use Rattle.pt_model.specs.Moves.{moved}
 use Rattle.pt_model.specs.Mutexes.{condition, mutex_view}
 use Rattle.pt_model.specs.Rwlocks.{writer, reader, reads, rwlock_view}
-use Rattle.pt_model.specs.Grants.{is_blocked, is_expired, grant_outcome_as, grant_outcome}
+use Rattle.pt_model.specs.Grants.{is_blocked, may_by, may, is_expired, grant_outcome_as, grant_outcome}
 use Rattle.pt_model.specs.Steps.{Follows}
 use Rattle.pt_model.proofs.Named.{is_sort}
 use Rattle.pt_model.proofs.Seats.{exists_as, HousedBy, housed}
 use Rattle.pt_model.proofs.Leasts.{first_below-passes}
 use Rattle.pt_model.proofs.Unheld.{has_read, reads-read}
-use Rattle.pt_model.proofs.Forcing.{may_by, may}
 use Rattle.pt_plain.specs.Found.{passes}
 use Rattle.pt_plain.specs.Shown.{shown_role}
 use Rattle.pt_tables.specs.declared.callers.Open.{Open}

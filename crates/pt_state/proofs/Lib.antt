@@ -1,6 +1,5 @@
 pub mod AddLemmas
 pub mod Asked
-pub mod Bound
 pub mod BoundCounts
 pub mod BoundMutex
 pub mod CallLemmas

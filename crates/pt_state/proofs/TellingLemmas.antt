@@ -73,22 +73,12 @@ told-caller ps j c (Some a) e =
     answer : a.place ≡ j → say a.place ≡ say j
     answer same = ap say same
 
--- of a client that doesn't live there is no answer
-pub answer-gone : (h : History) (look : ℕ → Option Caller) (c : ℕ) → CallersLook h look
-    → look c ≡ None → answer_of h c ≡ None
-answer-gone h look c l e = rw (sym (l.living c) ∙ ap (option_map (λ v. v.priority)) e) refl
-
 -- the answer to a living client's latest call
 latest-answer : (h : History) (look : ℕ → Option Caller) (c : ℕ) (v : Caller) → CallersLook h look
     → look c ≡ Some v → answer_of h c ≡ told_at h c v.latest
 latest-answer h look c v l e =
     rw (sym (l.living c) ∙ ap (option_map (λ u. u.priority)) e)
     (ap (told_at h c) (sym (l.latest c v e)))
-
--- of a client that made no call there is none
-pub answer-none : (h : History) (look : ℕ → Option Caller) (c : ℕ) (v : Caller) → CallersLook h look
-    → look c ≡ Some v → v.latest ≡ None → answer_of h c ≡ None
-answer-none h look c v l e none = latest-answer h look c v l e ∙ ap (told_at h c) none
 
 -- the answer to the latest call is that found since its place
 pub answer-found : (h : History) (look : ℕ → Option Caller) (c : ℕ) (v : Caller) (j : ℕ)

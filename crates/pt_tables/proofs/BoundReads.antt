@@ -221,10 +221,6 @@ ReadsBound-follows Begin f =
     record { most = λ r c. omega arith; room = λ w i r. absurd i }
 ReadsBound-follows (h ▷ e) f = ReadsBound-step h e f.0 (ReadsBound-follows h f.0) f.1
 
--- nobody has more than 255 read locks on a lock
-pub reads-most : (h : History) → Follows h → (r c : ℕ) → reads h r c ≤ most_reads
-reads-most h f r c = (ReadsBound-follows h f).most r c
-
 -- whoever waits to read has room for one more
 pub read-room : (h : History) → Follows h → (w : Standing) → In w (open_calls h)
     → w.role ≡ ForRead → reads h w.object w.client < most_reads

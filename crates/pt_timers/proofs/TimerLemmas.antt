@@ -30,10 +30,6 @@ before-back a b c h k = grind (arith, nat_tests)
 first-least : (a b : ℕ × ℕ) → pair_before a b ≡ false → b.0 ≤ a.0
 first-least a b h = grind (arith, nat_tests)
 
--- none of these is sooner
-NoneSooner : Timer → List Timer → Type 0
-NoneSooner r ts = Each (λ u. pair_before (key_of u) (key_of r) ≡ false) ts
-
 record IsSoonest (b : Timer) (ts : List Timer) : Type 0 where
   which : Timer
   found : soonest_from (Some b) ts ≡ Some which

@@ -26,7 +26,7 @@ impl Model for Moment {
 }
 
 impl Moment {
-    ghost use Rattle.std.specs.Prelude.{◌≡◌, ◌≤◌, ◌<◌, ◌^◌, ◌↔◌, IsSome, IfSome};
+    ghost use Rattle.std.specs.Prelude.{◌≡◌, ◌≤◌, ◌<◌, ◌↔◌, IsSome, IfSome};
     ghost use Rattle.pt_types.specs.Times.{nanos};
 
     /// The moment of these seconds and nanoseconds. None above 9,999,999,999 seconds, and from

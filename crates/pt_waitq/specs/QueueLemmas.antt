@@ -7,9 +7,6 @@ use Rattle.pt_waitq.specs.Queues.{comes_before, IsInKeyOrder, insert_in_order, h
 use Rattle.pt_waitq.specs.Waits.{queue_from, queue_of, earlier_of}
 use Rattle.pt_waitq.specs.OrderLemmas.{insert-in-order, filter-insert}
 
-put : ℕ → ℕ × Waiter → List Waiter → List Waiter
-put q e ws = cond (e.0 == q) (insert_in_order e.1 ws) ws
-
 -- one more is put in
 queue_from-more : (ws : List Waiter) (q : ℕ) (es : List (ℕ × Waiter)) (e : ℕ × Waiter)
     → queue_from ws q (es ++ e ∷ [])
