@@ -11,6 +11,7 @@ use Rattle.pt_model.specs.declared.entry.Entry.TheVariants.{Join, Call, Death, M
 use Rattle.pt_model.specs.declared.entry.Event.{Event}
 use Rattle.pt_model.specs.declared.entry.Event.TheVariants as event
 use Rattle.pt_model.specs.Histories.{Begin}
+use Rattle.pt_model.specs.Starts.{nothing}
 use Rattle.pt_worked.specs.Play.{play, told_in, at}
 
 abbrev pub named_c : List ℕ
@@ -63,4 +64,4 @@ told =
 
 -- the definitions alone play the events so
 abbrev pub IsPlayed13 : Type 0
-IsPlayed13 = (play Begin events ≡ entered) × (told_in Begin entered ≡ told)
+IsPlayed13 = (play (Begin nothing) events ≡ entered) × (told_in (Begin nothing) entered ≡ told)
