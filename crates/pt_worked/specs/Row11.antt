@@ -1,6 +1,7 @@
 -- Row11: a deadline that has passed still releases the mutex.
 use Rattle.std.specs.Prelude.{◌≡◌, List, [], ◌∷◌, ℕ, false, Some, None, Result, Ok, codes}
 use Rattle.pt_types.specs.Times.{nanos}
+use Rattle.pt_types.specs.declared.time.Clock.TheVariants.{Real}
 use Rattle.pt_types.specs.declared.call.Call.TheVariants as call
 use Rattle.pt_types.specs.declared.call.MutexKind.TheVariants.{Normal}
 use Rattle.pt_types.specs.declared.outcome.Outcome.{Outcome}
@@ -11,6 +12,7 @@ use Rattle.pt_model.specs.declared.entry.Entry.TheVariants.{Join, Call, Moment, 
 use Rattle.pt_model.specs.declared.entry.Event.{Event}
 use Rattle.pt_model.specs.declared.entry.Event.TheVariants as event
 use Rattle.pt_model.specs.Histories.{Begin}
+use Rattle.pt_model.specs.Starts.{nothing}
 use Rattle.pt_model.specs.Legal.{Legal}
 use Rattle.pt_worked.specs.Play.{play, told_in, at, entries_in, accepted_of}
 
@@ -23,7 +25,7 @@ named_m = codes "m"
 -- what happens
 abbrev pub events : List Event
 events =
-    event.Moment (nanos 10 0)
+    event.Moment Real (nanos 10 0)
     ∷ event.Join 10
     ∷ event.Join 10
     ∷ event.Call 1 (call.MutexInit named_m Normal false)
@@ -37,7 +39,7 @@ events =
 -- what each event writes, or why it is refused
 abbrev pub entered : List (Result (List Entry) Refusal)
 entered =
-    Ok (Moment (nanos 10 0) ∷ [])
+    Ok (Moment Real (nanos 10 0) ∷ [])
     ∷ Ok (Join 1 10 ∷ [])
     ∷ Ok (Join 2 10 ∷ [])
     ∷ Ok (Call 1 (call.MutexInit named_m Normal false) (Some Done) ∷ [])
@@ -64,7 +66,7 @@ told =
 
 -- the definitions alone play the events so
 abbrev pub IsPlayed11 : Type 0
-IsPlayed11 = (play Begin events ≡ entered) × (told_in Begin entered ≡ told)
+IsPlayed11 = (play (Begin nothing) events ≡ entered) × (told_in (Begin nothing) entered ≡ told)
 
 -- the entries are the history of the accepted events
 abbrev pub IsLegal11 : Type 0

@@ -1,6 +1,7 @@
 -- Row13: a wait whose deadline passed learns of an owner's death.
 use Rattle.std.specs.Prelude.{◌≡◌, List, [], ◌∷◌, ℕ, true, Some, None, Result, Ok, codes}
 use Rattle.pt_types.specs.Times.{nanos}
+use Rattle.pt_types.specs.declared.time.Clock.TheVariants.{Real}
 use Rattle.pt_types.specs.declared.call.Call.TheVariants as call
 use Rattle.pt_types.specs.declared.call.MutexKind.TheVariants.{Normal}
 use Rattle.pt_types.specs.declared.outcome.Outcome.{Outcome}
@@ -11,6 +12,7 @@ use Rattle.pt_model.specs.declared.entry.Entry.TheVariants.{Join, Call, Death, M
 use Rattle.pt_model.specs.declared.entry.Event.{Event}
 use Rattle.pt_model.specs.declared.entry.Event.TheVariants as event
 use Rattle.pt_model.specs.Histories.{Begin}
+use Rattle.pt_model.specs.Starts.{nothing}
 use Rattle.pt_worked.specs.Play.{play, told_in, at}
 
 abbrev pub named_c : List ℕ
@@ -29,7 +31,7 @@ events =
     ∷ event.Call 0 (call.Lock named_m)
     ∷ event.Call 0 (call.Timedwait named_c named_m (at 5 0))
     ∷ event.Call 1 (call.Lock named_m)
-    ∷ event.Moment (nanos 5 0)
+    ∷ event.Moment Real (nanos 5 0)
     ∷ event.Death 1
     ∷ []
 
@@ -43,7 +45,7 @@ entered =
     ∷ Ok (Call 0 (call.Lock named_m) None ∷ Grant 4 Done ∷ [])
     ∷ Ok (Call 0 (call.Timedwait named_c named_m (at 5 0)) None ∷ [])
     ∷ Ok (Call 1 (call.Lock named_m) None ∷ Grant 7 Done ∷ [])
-    ∷ Ok (Moment (nanos 5 0) ∷ Expire 6 ∷ [])
+    ∷ Ok (Moment Real (nanos 5 0) ∷ Expire 6 ∷ [])
     ∷ Ok (Death 1 ∷ Yield 2 ∷ Grant 6 Eownerdead ∷ [])
     ∷ []
 
@@ -63,4 +65,4 @@ told =
 
 -- the definitions alone play the events so
 abbrev pub IsPlayed13 : Type 0
-IsPlayed13 = (play Begin events ≡ entered) × (told_in Begin entered ≡ told)
+IsPlayed13 = (play (Begin nothing) events ≡ entered) × (told_in (Begin nothing) entered ≡ told)

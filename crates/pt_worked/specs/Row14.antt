@@ -9,6 +9,7 @@ use Rattle.pt_model.specs.declared.entry.Entry.TheVariants.{Join, Call, Death, T
 use Rattle.pt_model.specs.declared.entry.Event.{Event}
 use Rattle.pt_model.specs.declared.entry.Event.TheVariants as event
 use Rattle.pt_model.specs.Histories.{Begin}
+use Rattle.pt_model.specs.Starts.{nothing}
 use Rattle.pt_worked.specs.Play.{play, told_in}
 
 abbrev pub named_b : List ℕ
@@ -82,4 +83,4 @@ told =
 
 -- the definitions alone play the events so
 abbrev pub IsPlayed14 : Type 0
-IsPlayed14 = (play Begin events ≡ entered) × (told_in Begin entered ≡ told)
+IsPlayed14 = (play (Begin nothing) events ≡ entered) × (told_in (Begin nothing) entered ≡ told)

@@ -1,6 +1,7 @@
 -- Row16: a dead owner of a stalled mutex keeps it.
 use Rattle.std.specs.Prelude.{◌≡◌, List, [], ◌∷◌, ℕ, false, Some, None, Result, Ok, Err, codes}
 use Rattle.pt_types.specs.Times.{nanos}
+use Rattle.pt_types.specs.declared.time.Clock.TheVariants.{Real}
 use Rattle.pt_types.specs.declared.call.Call.TheVariants as call
 use Rattle.pt_types.specs.declared.call.MutexKind.TheVariants.{Normal}
 use Rattle.pt_types.specs.declared.outcome.Outcome.{Outcome}
@@ -12,6 +13,7 @@ use Rattle.pt_model.specs.declared.entry.Entry.TheVariants.{Join, Call, Death, M
 use Rattle.pt_model.specs.declared.entry.Event.{Event}
 use Rattle.pt_model.specs.declared.entry.Event.TheVariants as event
 use Rattle.pt_model.specs.Histories.{Begin}
+use Rattle.pt_model.specs.Starts.{nothing}
 use Rattle.pt_worked.specs.Play.{play, told_in, at}
 
 abbrev pub named_m : List ℕ
@@ -29,7 +31,7 @@ events =
     ∷ event.Death 0
     ∷ event.Call 1 (call.Trylock named_m)
     ∷ event.Call 1 (call.Timedlock named_m (at 5 0))
-    ∷ event.Moment (nanos 5 0)
+    ∷ event.Moment Real (nanos 5 0)
     ∷ event.Call 1 (call.MutexDestroy named_m)
     ∷ event.Call 1 (call.MutexInit named_m Normal false)
     ∷ []
@@ -46,7 +48,7 @@ entered =
     ∷ Ok (Death 0 ∷ [])
     ∷ Ok (Call 1 (call.Trylock named_m) (Some Ebusy) ∷ [])
     ∷ Ok (Call 1 (call.Timedlock named_m (at 5 0)) None ∷ [])
-    ∷ Ok (Moment (nanos 5 0) ∷ Expire 8 ∷ [])
+    ∷ Ok (Moment Real (nanos 5 0) ∷ Expire 8 ∷ [])
     ∷ Ok (Call 1 (call.MutexDestroy named_m) (Some Done) ∷ [])
     ∷ Ok (Call 1 (call.MutexInit named_m Normal false) (Some Done) ∷ [])
     ∷ []
@@ -69,4 +71,4 @@ told =
 
 -- the definitions alone play the events so
 abbrev pub IsPlayed16 : Type 0
-IsPlayed16 = (play Begin events ≡ entered) × (told_in Begin entered ≡ told)
+IsPlayed16 = (play (Begin nothing) events ≡ entered) × (told_in (Begin nothing) entered ≡ told)

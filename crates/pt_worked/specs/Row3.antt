@@ -10,6 +10,7 @@ use Rattle.pt_model.specs.declared.entry.Entry.TheVariants.{Join, Call, Grant}
 use Rattle.pt_model.specs.declared.entry.Event.{Event}
 use Rattle.pt_model.specs.declared.entry.Event.TheVariants as event
 use Rattle.pt_model.specs.Histories.{Begin}
+use Rattle.pt_model.specs.Starts.{nothing}
 use Rattle.pt_worked.specs.Play.{play, told_in}
 
 abbrev pub named_m : List ℕ
@@ -68,4 +69,4 @@ told =
 
 -- the definitions alone play the events so
 abbrev pub IsPlayed3 : Type 0
-IsPlayed3 = (play Begin events ≡ entered) × (told_in Begin entered ≡ told)
+IsPlayed3 = (play (Begin nothing) events ≡ entered) × (told_in (Begin nothing) entered ≡ told)

@@ -10,6 +10,7 @@ use Rattle.pt_model.specs.declared.entry.Entry.TheVariants.{Join, Call, Death, G
 use Rattle.pt_model.specs.declared.entry.Event.{Event}
 use Rattle.pt_model.specs.declared.entry.Event.TheVariants as event
 use Rattle.pt_model.specs.Histories.{Begin}
+use Rattle.pt_model.specs.Starts.{nothing}
 use Rattle.pt_worked.specs.Play.{play, told_in}
 
 abbrev pub named_c : List ℕ
@@ -68,4 +69,4 @@ told =
 
 -- the definitions alone play the events so
 abbrev pub IsPlayed33 : Type 0
-IsPlayed33 = (play Begin events ≡ entered) × (told_in Begin entered ≡ told)
+IsPlayed33 = (play (Begin nothing) events ≡ entered) × (told_in (Begin nothing) entered ≡ told)

@@ -10,6 +10,7 @@ use Rattle.pt_model.specs.declared.entry.Entry.TheVariants.{Join, Call, Death, G
 use Rattle.pt_model.specs.declared.entry.Event.{Event}
 use Rattle.pt_model.specs.declared.entry.Event.TheVariants as event
 use Rattle.pt_model.specs.Histories.{Begin}
+use Rattle.pt_model.specs.Starts.{nothing}
 use Rattle.pt_model.specs.Legal.{Legal}
 use Rattle.pt_worked.specs.Play.{play, told_in, entries_in, accepted_of}
 
@@ -66,7 +67,7 @@ told =
 
 -- the definitions alone play the events so
 abbrev pub IsPlayed5 : Type 0
-IsPlayed5 = (play Begin events ≡ entered) × (told_in Begin entered ≡ told)
+IsPlayed5 = (play (Begin nothing) events ≡ entered) × (told_in (Begin nothing) entered ≡ told)
 
 -- the entries are the history of the accepted events
 abbrev pub IsLegal5 : Type 0

@@ -10,6 +10,7 @@ use Rattle.pt_model.specs.declared.entry.Entry.TheVariants.{Join, Call, Death, G
 use Rattle.pt_model.specs.declared.entry.Event.{Event}
 use Rattle.pt_model.specs.declared.entry.Event.TheVariants as event
 use Rattle.pt_model.specs.Histories.{Begin}
+use Rattle.pt_model.specs.Starts.{nothing}
 use Rattle.pt_worked.specs.Play.{play, told_in}
 
 abbrev pub named_m : List ℕ
@@ -65,4 +66,4 @@ told =
 
 -- the definitions alone play the events so
 abbrev pub IsPlayed6 : Type 0
-IsPlayed6 = (play Begin events ≡ entered) × (told_in Begin entered ≡ told)
+IsPlayed6 = (play (Begin nothing) events ≡ entered) × (told_in (Begin nothing) entered ≡ told)

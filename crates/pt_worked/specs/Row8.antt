@@ -9,6 +9,7 @@ use Rattle.pt_model.specs.declared.entry.Entry.TheVariants.{Join, Call, Grant}
 use Rattle.pt_model.specs.declared.entry.Event.{Event}
 use Rattle.pt_model.specs.declared.entry.Event.TheVariants as event
 use Rattle.pt_model.specs.Histories.{Begin}
+use Rattle.pt_model.specs.Starts.{nothing}
 use Rattle.pt_worked.specs.Play.{play, told_in}
 
 abbrev pub named_r : List ℕ
@@ -73,4 +74,4 @@ told =
 
 -- the definitions alone play the events so
 abbrev pub IsPlayed8 : Type 0
-IsPlayed8 = (play Begin events ≡ entered) × (told_in Begin entered ≡ told)
+IsPlayed8 = (play (Begin nothing) events ≡ entered) × (told_in (Begin nothing) entered ≡ told)

@@ -9,6 +9,7 @@ use Rattle.pt_model.specs.declared.entry.Entry.TheVariants.{Join, Call, Grant}
 use Rattle.pt_model.specs.declared.entry.Event.{Event}
 use Rattle.pt_model.specs.declared.entry.Event.TheVariants as event
 use Rattle.pt_model.specs.Histories.{Begin}
+use Rattle.pt_model.specs.Starts.{nothing}
 use Rattle.pt_worked.specs.Play.{play, told_in}
 
 abbrev pub named_r : List ℕ
@@ -58,4 +59,4 @@ told =
 
 -- the definitions alone play the events so
 abbrev pub IsPlayed9 : Type 0
-IsPlayed9 = (play Begin events ≡ entered) × (told_in Begin entered ≡ told)
+IsPlayed9 = (play (Begin nothing) events ≡ entered) × (told_in (Begin nothing) entered ≡ told)
