@@ -150,7 +150,8 @@ body_again (Named text) rest (Tick clock t) h = absurd h
 body_again Star rest (Hello p) h = absurd h
 body_again Star rest (Ask asked) h = absurd h
 body_again Star rest Die h = absurd h
-body_again Star rest (Tick clock t) h = ap (body_from Star) (call_read-spelled rest (line.Tick clock t) h)
+body_again Star rest (Tick clock t) h =
+    ap (body_from Star) (call_read-spelled rest (line.Tick clock t) h)
 body_again Unknown rest body h = absurd h
 
 -- the client of a line that says something
