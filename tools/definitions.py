@@ -12,7 +12,8 @@ TOP = pathlib.Path(__file__).resolve().parent.parent
 HEAD = """# Definitions
 
 Every definition that a contract or a law stands on, by crate and file, with its meaning and its source: `XSH` is a page or section
-of POSIX.1-2017, `profile` a choice of this project. Made by `python3 tools/definitions.py` from the comment above each definition.
+of POSIX.1-2017, and for the clock calls of POSIX.1-2024; `profile` is a choice of this project. Made by `python3 tools/definitions.py`
+from the comment above each definition.
 """
 NAMED = re.compile(r"^(?:\s*(?:abbrev pub|unfoldable pub|pub record|pub data)|pub) ([^\s(:]+)")
 SOURCE = re.compile(r"\s*\[([^\]]*(?:XSH|XBD|profile)[^\]]*)\]\s*$")

@@ -8,10 +8,12 @@ use Rattle.std.proofs.lemmas.Slice.Eq.{bytes_eq-Decides}
 use Rattle.pt_types.specs.Limits.{second}
 use Rattle.pt_types.specs.Names.{IsName, is_name_byte}
 use Rattle.pt_types.specs.Times.{Timespec, nanos}
+use Rattle.pt_types.specs.declared.time.Clock.{Clock}
+use Rattle.pt_types.specs.declared.time.Clock.TheVariants.{Real, Mono}
 use Rattle.pt_types.specs.declared.call.MutexKind.{MutexKind}
 use Rattle.pt_types.specs.declared.call.MutexKind.TheVariants.{Normal, Errorcheck, Recursive}
-use Rattle.pt_lines.specs.Arguments.{name_of, kind_of, robust_of, alone, first_then, priority_of, moment_of, deadline_of, two_numbers, one_deadline}
-use Rattle.pt_lines.specs.Grammar.{IsKindWord, robust_word}
+use Rattle.pt_lines.specs.Arguments.{name_of, kind_of, robust_of, clock_named, alone, first_then, priority_of, moment_of, deadline_of, two_numbers, one_deadline, clock_and_deadline}
+use Rattle.pt_lines.specs.Grammar.{IsKindWord, robust_word, clock_name}
 use Rattle.pt_lines.specs.Numbers.{IsNumber, number_of}
 use Rattle.pt_lines.proofs.FieldLemmas.{is_no_space, is_word, is_short_word}
 use Rattle.pt_lines.proofs.NumberLemmas.{number_of-decimal, decimal-number_of}
@@ -229,26 +231,61 @@ pub robust_is_word : (robust : Bool) → is_short_word (robust_word robust) ≡ 
 robust_is_word true = refl
 robust_is_word false = refl
 
+-- clocks
+abbrev at_mono : List ℕ → Option Clock
+at_mono field = cond (bytes_eq field (codes "mono")) (Some Mono) None
+
+mono_found :
+    (field : List ℕ) (clock : Clock) → at_mono field ≡ Some clock → field ≡ clock_name clock
+mono_found field clock h =
+    let test = bytes_eq field (codes "mono") in
+    elim (cond_some test Mono clock None h) as (λ _. field ≡ clock_name clock) [
+      | inl e ↦ subst (λ k. field ≡ clock_name k) e.1 (bytes_are field (codes "mono") e.0)
+      | inr none ↦ none_some none
+    ]
+
+pub clock_found :
+    (field : List ℕ) (clock : Clock) → clock_named field ≡ Some clock
+    → field ≡ clock_name clock
+clock_found field clock h =
+    let test = bytes_eq field (codes "real") in
+    elim (cond_some test Real clock (at_mono field) h) as (λ _. field ≡ clock_name clock) [
+      | inl e ↦ subst (λ k. field ≡ clock_name k) e.1 (bytes_are field (codes "real") e.0)
+      | inr more ↦ mono_found field clock more
+    ]
+
+pub clock_again : (clock : Clock) → clock_named (clock_name clock) ≡ Some clock
+clock_again Real = refl
+clock_again Mono = refl
+
+pub clock_is_word : (clock : Clock) → is_word (clock_name clock) ≡ true
+clock_is_word Real = refl
+clock_is_word Mono = refl
+
+pub length-clock_name : (clock : Clock) → length (clock_name clock) ≡ 4
+length-clock_name Real = refl
+length-clock_name Mono = refl
+
 -- priorities
-pub priority_found : (n p : ℕ) → priority_of n ≡ Some p → (n ≡ p) × (1 ≤ p) × (p ≤ 32)
+pub priority_found : (n p : ℕ) → priority_of n ≡ Some p → (n ≡ p) × (1 ≤ p) × (p ≤ 99)
 priority_found n p h = by _ refl h
   where
     by :
-        (b : Bool) → (nat_le 1 n && nat_le n 32) ≡ b → cond b (Some n) None ≡ Some p
-        → (n ≡ p) × (1 ≤ p) × (p ≤ 32)
+        (b : Bool) → (nat_le 1 n && nat_le n 99) ≡ b → cond b (Some n) None ≡ Some p
+        → (n ≡ p) × (1 ≤ p) × (p ≤ 99)
     by false e h = cc
     by true e h =
         let same : n ≡ p = some_inj h in
-        let parts = and_parts (nat_le 1 n) (nat_le n 32) e in
+        let parts = and_parts (nat_le 1 n) (nat_le n 99) e in
         let low : nat_le 1 n ≡ true = parts.0 in
-        let high : nat_le n 32 ≡ true = parts.1 in
+        let high : nat_le n 99 ≡ true = parts.1 in
         (same, grind arith, grind arith)
 
-pub priority_again : (p : ℕ) → 1 ≤ p → p ≤ 32 → priority_of p ≡ Some p
+pub priority_again : (p : ℕ) → 1 ≤ p → p ≤ 99 → priority_of p ≡ Some p
 priority_again p low high =
     let a : nat_le 1 p ≡ true = grind arith in
-    let b : nat_le p 32 ≡ true = grind arith in
-    ap (λ t. cond t (Some p) None) (and_true (nat_le 1 p) (nat_le p 32) a b)
+    let b : nat_le p 99 ≡ true = grind arith in
+    ap (λ t. cond t (Some p) None) (and_true (nat_le 1 p) (nat_le p 99) a b)
 
 -- moments
 pub moment_found :
@@ -314,3 +351,24 @@ pub one_deadline_again :
     (d : Timespec) → IsNumber d.sec → IsNumber d.nsec
     → one_deadline (decimal d.sec ∷ decimal d.nsec ∷ []) ≡ Some d
 one_deadline_again d h g = ap (option_map deadline_of) (two_numbers_again d.sec d.nsec h g)
+
+-- a clock and a deadline
+pub record AreDue (args : List (List ℕ)) (due : Clock × Timespec) : Type 0 where
+  pub args_are :
+      args ≡ clock_name due.0 ∷ decimal due.1.sec ∷ decimal due.1.nsec ∷ []
+  pub sec_fits : IsNumber due.1.sec
+  pub nsec_fits : IsNumber due.1.nsec
+
+pub due_found :
+    (args : List (List ℕ)) (due : Clock × Timespec) → clock_and_deadline args ≡ Some due
+    → AreDue args due
+due_found args due h =
+    let a = first_then-some clock_named one_deadline args due h in
+    let clock = clock_found a.field due.0 a.first_is in
+    let d = one_deadline_found a.more due.1 a.rest_is in
+    record {
+      args_are =
+          a.args_are ∙ ap (λ f. f ∷ a.more) clock ∙ ap (λ fs. clock_name due.0 ∷ fs) d.args_are;
+      sec_fits = d.sec_fits;
+      nsec_fits = d.nsec_fits;
+    }

@@ -1,6 +1,8 @@
 -- CallLemmas: each call is spelled by its verb.
 use Rattle.std.proofs.Common.{ℕ, List}
 use Rattle.pt_types.specs.Times.{Timespec}
+use Rattle.pt_types.specs.declared.time.Clock.{Clock}
+use Rattle.pt_types.specs.declared.time.Clock.TheVariants.{Real, Mono}
 use Rattle.pt_types.specs.declared.call.Call.{Call}
 use Rattle.pt_types.specs.declared.call.Call.TheVariants as call
 use Rattle.pt_lines.specs.declared.call_line.CallLine.TheVariants as line
@@ -8,9 +10,11 @@ use Rattle.pt_lines.specs.declared.verb.NamedVerb.{NamedVerb}
 use Rattle.pt_lines.specs.declared.verb.NamedVerb.TheVariants.{Lock, Trylock, Unlock, Consistent, MutexDestroy, RwlockInit, Rdlock, Tryrdlock, Wrlock, Trywrlock, Rwunlock, RwlockDestroy, CondInit, CondDestroy, Signal, Broadcast, Bwait, BarrierDestroy}
 use Rattle.pt_lines.specs.declared.verb.TimedVerb.{TimedVerb}
 use Rattle.pt_lines.specs.declared.verb.TimedVerb.TheVariants.{Timedlock, Timedrdlock, Timedwrlock}
-use Rattle.pt_lines.specs.Verbs.{named_word, timed_word, call_on, call_until}
-use Rattle.pt_lines.specs.Grammar.{OnName, OnNameUntil, SpellsCall}
-use Rattle.pt_lines.proofs.SpelledLemmas.{IsSpelled, by_name, by_deadline, by_new_mutex, by_new_barrier, by_wait, by_timedwait}
+use Rattle.pt_lines.specs.declared.verb.ClockedVerb.{ClockedVerb}
+use Rattle.pt_lines.specs.declared.verb.ClockedVerb.TheVariants.{Clocklock, Clockrdlock, Clockwrlock}
+use Rattle.pt_lines.specs.Verbs.{named_word, timed_word, clocked_word, moment_word, call_on, call_until, call_by_clock}
+use Rattle.pt_lines.specs.Grammar.{OnName, OnNameUntil, OnNameByClock, OnMoment, Spells, SpellsCall}
+use Rattle.pt_lines.proofs.SpelledLemmas.{IsSpelled, by_name, by_deadline, by_new_mutex, by_new_barrier, by_wait, by_timedwait, by_clock, by_clockwait, by_moment}
 
 -- a word and a name spell the call of the word
 pub spells-call_on :
@@ -43,6 +47,28 @@ spells-call_until Timedlock text name d h = h
 spells-call_until Timedrdlock text name d h = h
 spells-call_until Timedwrlock text name d h = h
 
+-- and with a clock
+pub spells-call_by_clock :
+    (verb : ClockedVerb) (text name : List ℕ) (clock : Clock) (d : Timespec)
+    → OnNameByClock text (clocked_word verb) name clock d
+    → SpellsCall text (call_by_clock verb name clock d)
+spells-call_by_clock Clocklock text name clock d h = h
+spells-call_by_clock Clockrdlock text name clock d h = h
+spells-call_by_clock Clockwrlock text name clock d h = h
+
+-- the word of a clock's moment, and the moment
+pub spells-moment :
+    (clock : Clock) (text : List ℕ) (t : ℕ) → OnMoment text (moment_word clock) t
+    → Spells text (line.Tick clock t)
+spells-moment Real text t h = h
+spells-moment Mono text t h = h
+
+pub spelled_moment :
+    (text : List ℕ) (clock : Clock) (t : ℕ) → Spells text (line.Tick clock t)
+    → IsSpelled text (line.Tick clock t)
+spelled_moment text Real t h = by_moment Real text t h
+spelled_moment text Mono t h = by_moment Mono text t h
+
 -- the text of each call is its verb's word and what it is read from
 pub spelled_call :
     (text : List ℕ) (asked : Call) → SpellsCall text asked → IsSpelled text (line.Ask asked)
@@ -50,6 +76,7 @@ spelled_call text (call.MutexInit name kind robust) h = by_new_mutex text name k
 spelled_call text (call.Lock name) h = by_name Lock text name h
 spelled_call text (call.Trylock name) h = by_name Trylock text name h
 spelled_call text (call.Timedlock name d) h = by_deadline Timedlock text name d h
+spelled_call text (call.Clocklock name k d) h = by_clock Clocklock text name k d h
 spelled_call text (call.Unlock name) h = by_name Unlock text name h
 spelled_call text (call.Consistent name) h = by_name Consistent text name h
 spelled_call text (call.MutexDestroy name) h = by_name MutexDestroy text name h
@@ -57,15 +84,18 @@ spelled_call text (call.RwlockInit name) h = by_name RwlockInit text name h
 spelled_call text (call.Rdlock name) h = by_name Rdlock text name h
 spelled_call text (call.Tryrdlock name) h = by_name Tryrdlock text name h
 spelled_call text (call.Timedrdlock name d) h = by_deadline Timedrdlock text name d h
+spelled_call text (call.Clockrdlock name k d) h = by_clock Clockrdlock text name k d h
 spelled_call text (call.Wrlock name) h = by_name Wrlock text name h
 spelled_call text (call.Trywrlock name) h = by_name Trywrlock text name h
 spelled_call text (call.Timedwrlock name d) h = by_deadline Timedwrlock text name d h
+spelled_call text (call.Clockwrlock name k d) h = by_clock Clockwrlock text name k d h
 spelled_call text (call.Rwunlock name) h = by_name Rwunlock text name h
 spelled_call text (call.RwlockDestroy name) h = by_name RwlockDestroy text name h
 spelled_call text (call.CondInit name) h = by_name CondInit text name h
 spelled_call text (call.CondDestroy name) h = by_name CondDestroy text name h
 spelled_call text (call.Wait cond mutex) h = by_wait text cond mutex h
 spelled_call text (call.Timedwait cond mutex d) h = by_timedwait text cond mutex d h
+spelled_call text (call.Clockwait cond mutex k d) h = by_clockwait text cond mutex k d h
 spelled_call text (call.Signal name) h = by_name Signal text name h
 spelled_call text (call.Broadcast name) h = by_name Broadcast text name h
 spelled_call text (call.BarrierInit name count) h = by_new_barrier text name count h

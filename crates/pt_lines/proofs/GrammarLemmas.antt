@@ -3,6 +3,7 @@ use Rattle.std.proofs.Common.{◌≡◌, ◌≤◌, ◌∙◌, ℕ, Bool, List, 
 use Rattle.std.specs.Option.{option_and_then, ok_or}
 use Rattle.std.specs.Str.{bytes_eq}
 use Rattle.pt_types.specs.Times.{Timespec}
+use Rattle.pt_types.specs.declared.time.Clock.{Clock}
 use Rattle.pt_types.specs.declared.call.MutexKind.{MutexKind}
 use Rattle.pt_types.specs.declared.call.Call.TheVariants as call
 use Rattle.pt_types.specs.declared.outcome.Refusal.{Refusal}
@@ -11,17 +12,17 @@ use Rattle.pt_lines.specs.declared.call_line.CallLine.{CallLine}
 use Rattle.pt_lines.specs.declared.call_line.CallLine.TheVariants as line
 use Rattle.pt_lines.specs.declared.verb.TheConstants.{VERBS}
 use Rattle.pt_lines.specs.declared.verb.Verb.{Verb}
-use Rattle.pt_lines.specs.declared.verb.Verb.TheVariants.{Hello, Moment, MutexInit, BarrierInit, Wait, Timedwait, Named, Timed}
-use Rattle.pt_lines.specs.Arguments.{name_of, kind_of, robust_of, alone, first_then, priority_of, moment_of, name_and_deadline, one_deadline, two_numbers}
+use Rattle.pt_lines.specs.declared.verb.Verb.TheVariants.{Hello, Moment, MutexInit, BarrierInit, Wait, Timedwait, Clockwait, Named, Timed, Clocked}
+use Rattle.pt_lines.specs.Arguments.{name_of, kind_of, robust_of, alone, first_then, priority_of, moment_of, name_and_deadline, one_deadline, two_numbers, clock_and_deadline, name_clock_and_deadline}
 use Rattle.pt_lines.specs.Fields.{fields, spaced, behind_spaces}
-use Rattle.pt_lines.specs.Grammar.{Spells, robust_word}
+use Rattle.pt_lines.specs.Grammar.{Spells, robust_word, clock_name}
 use Rattle.pt_lines.specs.Numbers.{number_of}
 use Rattle.pt_lines.specs.Reading.{line_of, line_of_fields, line_read, call_read}
-use Rattle.pt_lines.specs.Verbs.{word_of, verb_of, call_on, call_until}
-use Rattle.pt_lines.proofs.ArgumentLemmas.{bytes_are, alone-some, first_then-some, name_found, kind_found, robust_found, priority_found, moment_found, one_number_found, two_numbers_found, one_deadline_found}
-use Rattle.pt_lines.proofs.CallLemmas.{spells-call_on, spells-call_until, spelled_call}
+use Rattle.pt_lines.specs.Verbs.{word_of, verb_of, call_on, call_until, call_by_clock}
+use Rattle.pt_lines.proofs.ArgumentLemmas.{bytes_are, alone-some, first_then-some, name_found, kind_found, robust_found, priority_found, moment_found, one_number_found, two_numbers_found, one_deadline_found, due_found}
+use Rattle.pt_lines.proofs.CallLemmas.{spells-call_on, spells-call_until, spells-call_by_clock, spells-moment, spelled_call, spelled_moment}
 use Rattle.pt_lines.proofs.FieldLemmas.{fields-spaced, spaced_fields}
-use Rattle.pt_lines.proofs.SpelledLemmas.{IsSpelled, by_hello, by_moment, short_word}
+use Rattle.pt_lines.proofs.SpelledLemmas.{IsSpelled, by_hello, short_word}
 use Rattle.pt_lines.proofs.TestLemmas.{map_some, then_some, find-passes}
 use Rattle.pt_lines.proofs.VerbLemmas.{verb_of-word, word_is_short}
 
@@ -29,7 +30,7 @@ use Rattle.pt_lines.proofs.VerbLemmas.{verb_of-word, word_is_short}
 pub spelled : (text : List ℕ) (read : CallLine) → Spells text read → IsSpelled text read
 spelled text (line.Hello p) h = by_hello text p h
 spelled text (line.Ask asked) h = spelled_call text asked h
-spelled text (line.Tick t) h = by_moment text t h
+spelled text (line.Tick clock t) h = spelled_moment text clock t h
 
 -- a text is read as the line that it spells
 pub line_read-spelled :
@@ -76,19 +77,21 @@ line_found Hello args read h =
       high = p.2;
       spelled = ap (spaced (word_of Hello)) (n.0 ∙ ap (λ m. decimal m ∷ []) p.0);
     })
-line_found Moment args read h =
-    let a = map_some line.Tick (option_and_then moment_of (two_numbers args)) read h in
+line_found (Moment clock) args read h =
+    let a = map_some (line.Tick clock) (option_and_then moment_of (two_numbers args)) read h in
     let b = then_some moment_of (two_numbers args) a.0 a.1 in
     let n = two_numbers_found args b.0 b.1 in
     let t = moment_found b.0 a.0 b.2 in
-    subst (Spells (spaced (word_of Moment) args)) a.2 (record {
+    let text = spaced (word_of (Moment clock)) args in
+    subst (Spells text) a.2
+    (spells-moment clock text a.0 (record {
       sec = b.0.0;
       nsec = b.0.1;
       sec_fits = n.sec_fits;
       nsec_fits = t.0;
       time = t.1;
-      spelled = ap (spaced (word_of Moment)) n.args_are;
-    })
+      spelled = ap (spaced (word_of (Moment clock))) n.args_are;
+    }))
 line_found MutexInit args read h =
     let rest = first_then kind_of (alone robust_of) in
     let a = map_some (λ (a : List ℕ × (MutexKind × Bool)).
@@ -152,6 +155,26 @@ line_found Timedwait args read h =
       nsec = d.nsec_fits;
       spelled = ap (spaced (word_of Timedwait)) all;
     })
+line_found Clockwait args read h =
+    let a = map_some (λ (a : List ℕ × (List ℕ × (Clock × Timespec))).
+    line.Ask (call.Clockwait a.0 a.1.0 a.1.1.0 a.1.1.1))
+    (first_then name_of name_clock_and_deadline args) read h in
+    let b = first_then-some name_of name_clock_and_deadline args a.0 a.1 in
+    let n = name_found b.field a.0.0 b.first_is in
+    let r = first_then-some name_of clock_and_deadline b.more a.0.1 b.rest_is in
+    let m = name_found r.field a.0.1.0 r.first_is in
+    let due = a.0.1.1 in
+    let d = due_found r.more due r.rest_is in
+    let fields = clock_name due.0 ∷ decimal due.1.sec ∷ decimal due.1.nsec ∷ [] in
+    let more = parts_are b.more r.field a.0.1.0 r.more fields r.args_are m.0 d.args_are in
+    let all = parts_are args b.field a.0.0 b.more (a.0.1.0 ∷ fields) b.args_are n.0 more in
+    subst (Spells (spaced (word_of Clockwait) args)) a.2 (record {
+      cond_named = n.1;
+      mutex_named = m.1;
+      sec = d.sec_fits;
+      nsec = d.nsec_fits;
+      spelled = ap (spaced (word_of Clockwait)) all;
+    })
 line_found (Named verb) args read h =
     let a = map_some (λ n. line.Ask (call_on verb n)) (alone name_of args) read h in
     let r = alone-some name_of args a.0 a.1 in
@@ -176,6 +199,23 @@ line_found (Timed verb) args read h =
       sec = d.sec_fits;
       nsec = d.nsec_fits;
       spelled = ap (spaced (word_of (Timed verb))) all;
+    }))
+line_found (Clocked verb) args read h =
+    let a = map_some (λ (a : List ℕ × (Clock × Timespec)).
+    line.Ask (call_by_clock verb a.0 a.1.0 a.1.1)) (name_clock_and_deadline args) read h in
+    let b = first_then-some name_of clock_and_deadline args a.0 a.1 in
+    let n = name_found b.field a.0.0 b.first_is in
+    let due = a.0.1 in
+    let d = due_found b.more due b.rest_is in
+    let fields = clock_name due.0 ∷ decimal due.1.sec ∷ decimal due.1.nsec ∷ [] in
+    let all = parts_are args b.field a.0.0 b.more fields b.args_are n.0 d.args_are in
+    let text = spaced (word_of (Clocked verb)) args in
+    subst (Spells text) a.2
+    (spells-call_by_clock verb text a.0.0 due.0 due.1 (record {
+      named = n.1;
+      sec = d.sec_fits;
+      nsec = d.nsec_fits;
+      spelled = ap (spaced (word_of (Clocked verb))) all;
     }))
 
 verb_found : (word : List ℕ) (verb : Verb) → verb_of word ≡ Some verb → word ≡ word_of verb

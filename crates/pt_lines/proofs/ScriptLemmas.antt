@@ -73,7 +73,7 @@ body_found name rest (Named text) n = by (bytes_eq rest (codes "die")) refl
     from (Err why) s = tt
     from (Ok (line.Hello p)) s = (n.1, s)
     from (Ok (line.Ask asked)) s = (n.1, s)
-    from (Ok (line.Tick t)) s = tt
+    from (Ok (line.Tick clock t)) s = tt
 
     by :
         (b : Bool) → bytes_eq rest (codes "die") ≡ b
@@ -89,16 +89,16 @@ body_found name rest Star n = from (call_read rest) (call_found rest)
     from (Err why) s = tt
     from (Ok (line.Hello p)) s = tt
     from (Ok (line.Ask asked)) s = tt
-    from (Ok (line.Tick t)) s = s
+    from (Ok (line.Tick clock t)) s = s
 body_found name rest Unknown n = tt
 
 body_of_why : (who : Who) (read : CallLine) → IfErr (body_of who read) (λ why. why ≡ refusal.Syntax)
 body_of_why (Named text) (line.Hello p) = tt
 body_of_why (Named text) (line.Ask asked) = tt
-body_of_why (Named text) (line.Tick t) = refl
+body_of_why (Named text) (line.Tick clock t) = refl
 body_of_why Star (line.Hello p) = refl
 body_of_why Star (line.Ask asked) = refl
-body_of_why Star (line.Tick t) = tt
+body_of_why Star (line.Tick clock t) = tt
 body_of_why Unknown read = refl
 
 body_from_why :
@@ -146,11 +146,12 @@ body_again :
 body_again (Named text) rest (Hello p) h = called_again text rest (line.Hello p) h.1
 body_again (Named text) rest (Ask asked) h = called_again text rest (line.Ask asked) h.1
 body_again (Named text) rest Die h = ap (body_read (Named text)) h.1
-body_again (Named text) rest (Tick t) h = absurd h
+body_again (Named text) rest (Tick clock t) h = absurd h
 body_again Star rest (Hello p) h = absurd h
 body_again Star rest (Ask asked) h = absurd h
 body_again Star rest Die h = absurd h
-body_again Star rest (Tick t) h = ap (body_from Star) (call_read-spelled rest (line.Tick t) h)
+body_again Star rest (Tick clock t) h =
+    ap (body_from Star) (call_read-spelled rest (line.Tick clock t) h)
 body_again Unknown rest body h = absurd h
 
 -- the client of a line that says something
@@ -164,7 +165,7 @@ client_of :
 client_of (Named text) rest (Hello p) h = h.0
 client_of (Named text) rest (Ask asked) h = h.0
 client_of (Named text) rest Die h = h.0
-client_of (Named text) rest (Tick t) h = absurd h
+client_of (Named text) rest (Tick clock t) h = absurd h
 client_of Star rest body h = tt
 client_of Unknown rest body h = absurd h
 
@@ -190,11 +191,11 @@ says_short :
 says_short (Named text) rest (Hello p) h = length-spelled rest (line.Hello p) h.1
 says_short (Named text) rest (Ask asked) h = length-spelled rest (line.Ask asked) h.1
 says_short (Named text) rest Die h = let e : length rest ≡ 3 = ap length h.1 in omega arith
-says_short (Named text) rest (Tick t) h = absurd h
+says_short (Named text) rest (Tick clock t) h = absurd h
 says_short Star rest (Hello p) h = absurd h
 says_short Star rest (Ask asked) h = absurd h
 says_short Star rest Die h = absurd h
-says_short Star rest (Tick t) h = length-spelled rest (line.Tick t) h
+says_short Star rest (Tick clock t) h = length-spelled rest (line.Tick clock t) h
 says_short Unknown rest body h = absurd h
 
 spelled_short :

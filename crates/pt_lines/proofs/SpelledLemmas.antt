@@ -2,21 +2,23 @@
 use Rattle.std.proofs.Common.{◌≡◌, ◌≤◌, ◌+◌, ◌∙◌, ℕ, true, Bool, List, [], ◌∷◌, length, nat_le, ap, sym, arith, Some, decimal, length-append}
 use Rattle.std.specs.Option.{option_map, option_and_then}
 use Rattle.pt_types.specs.Times.{Timespec}
+use Rattle.pt_types.specs.declared.time.Clock.{Clock}
 use Rattle.pt_types.specs.declared.call.MutexKind.{MutexKind}
 use Rattle.pt_types.specs.declared.call.Call.TheVariants as call
 use Rattle.pt_lines.specs.declared.call_line.CallLine.{CallLine}
 use Rattle.pt_lines.specs.declared.call_line.CallLine.TheVariants as line
 use Rattle.pt_lines.specs.declared.verb.Verb.{Verb}
-use Rattle.pt_lines.specs.declared.verb.Verb.TheVariants.{Hello, Moment, MutexInit, BarrierInit, Wait, Timedwait, Named, Timed}
+use Rattle.pt_lines.specs.declared.verb.Verb.TheVariants.{Hello, Moment, MutexInit, BarrierInit, Wait, Timedwait, Clockwait, Named, Timed, Clocked}
 use Rattle.pt_lines.specs.declared.verb.NamedVerb.{NamedVerb}
 use Rattle.pt_lines.specs.declared.verb.TimedVerb.{TimedVerb}
-use Rattle.pt_lines.specs.Arguments.{name_of, kind_of, robust_of, alone, first_then, priority_of, moment_of, name_and_deadline, one_deadline}
+use Rattle.pt_lines.specs.declared.verb.ClockedVerb.{ClockedVerb}
+use Rattle.pt_lines.specs.Arguments.{name_of, kind_of, robust_of, clock_named, alone, first_then, priority_of, moment_of, name_and_deadline, one_deadline, clock_and_deadline, name_clock_and_deadline}
 use Rattle.pt_lines.specs.Fields.{spaced, behind_spaces}
-use Rattle.pt_lines.specs.Grammar.{robust_word, OnName, OnNameUntil, OnNewMutex, OnNewBarrier, OnWait, OnTimedwait, OnHello, OnMoment}
+use Rattle.pt_lines.specs.Grammar.{robust_word, clock_name, OnName, OnNameUntil, OnNameByClock, OnNewMutex, OnNewBarrier, OnWait, OnTimedwait, OnClockwait, OnHello, OnMoment}
 use Rattle.pt_lines.specs.Numbers.{IsNumber, number_of}
 use Rattle.pt_lines.specs.Reading.{line_of}
-use Rattle.pt_lines.specs.Verbs.{named_word, timed_word, word_of, call_on, call_until}
-use Rattle.pt_lines.proofs.ArgumentLemmas.{first_then-again, name_again, name_is_word, kind_again, kind_is_word, robust_again, robust_is_word, priority_again, moment_again, two_numbers_again, one_deadline_again}
+use Rattle.pt_lines.specs.Verbs.{named_word, timed_word, clocked_word, moment_word, word_of, call_on, call_until, call_by_clock}
+use Rattle.pt_lines.proofs.ArgumentLemmas.{first_then-again, name_again, name_is_word, kind_again, kind_is_word, robust_again, robust_is_word, clock_again, clock_is_word, length-clock_name, priority_again, moment_again, two_numbers_again, one_deadline_again}
 use Rattle.pt_lines.proofs.FieldLemmas.{is_word, is_short_word, AreWords}
 use Rattle.pt_lines.proofs.NumberLemmas.{number_of-decimal, decimal_is_word, length-decimal}
 use Rattle.pt_lines.proofs.TestLemmas.{and_parts}
@@ -82,6 +84,55 @@ by_deadline verb text name d h = record {
       (first_then-again name_of one_deadline name (decimal d.sec ∷ decimal d.nsec ∷ []) name d
       (name_again name h.named) (one_deadline_again d h.sec h.nsec));
 }
+
+-- a clock and a deadline are read again
+due_again :
+    (clock : Clock) (d : Timespec) → IsNumber d.sec → IsNumber d.nsec
+    → clock_and_deadline (clock_name clock ∷ decimal d.sec ∷ decimal d.nsec ∷ [])
+    ≡ Some (clock, d)
+due_again clock d h g =
+    first_then-again clock_named one_deadline (clock_name clock)
+    (decimal d.sec ∷ decimal d.nsec ∷ []) clock d (clock_again clock) (one_deadline_again d h g)
+
+-- their fields are words, and this long at most
+due_words :
+    (clock : Clock) (d : Timespec) → IsNumber d.sec → IsNumber d.nsec
+    → AreWords (clock_name clock ∷ decimal d.sec ∷ decimal d.nsec ∷ [])
+due_words clock d h g =
+    (clock_is_word clock, (decimal_is_word d.sec h, (decimal_is_word d.nsec g, tt)))
+
+due_short :
+    (clock : Clock) (d : Timespec) → IsNumber d.sec → IsNumber d.nsec
+    → length (behind_spaces (clock_name clock ∷ decimal d.sec ∷ decimal d.nsec ∷ [])) ≤ 27
+due_short clock d h g =
+    omega (
+      arith,
+      longer (clock_name clock) (decimal d.sec ∷ decimal d.nsec ∷ []),
+      longer (decimal d.sec) (decimal d.nsec ∷ []),
+      longer (decimal d.nsec) [],
+      length-clock_name clock,
+      length-decimal d.sec h,
+      length-decimal d.nsec g,
+    )
+
+pub by_clock :
+    (verb : ClockedVerb) (text name : List ℕ) (clock : Clock) (d : Timespec)
+    → OnNameByClock text (clocked_word verb) name clock d
+    → IsSpelled text (line.Ask (call_by_clock verb name clock d))
+by_clock verb text name clock d h =
+    let due = clock_name clock ∷ decimal d.sec ∷ decimal d.nsec ∷ [] in
+    record {
+      verb = Clocked verb;
+      args = name ∷ due;
+      text_is = h.spelled;
+      words = (name_is_word name h.named, due_words clock d h.sec h.nsec);
+      short = omega (arith, longer name due, h.named.fits, due_short clock d h.sec h.nsec);
+      line_is =
+          ap (option_map (λ (a : List ℕ × (Clock × Timespec)).
+          line.Ask (call_by_clock verb a.0 a.1.0 a.1.1)))
+          (first_then-again name_of clock_and_deadline name due name (clock, d)
+          (name_again name h.named) (due_again clock d h.sec h.nsec));
+    }
 
 pub by_new_mutex :
     (text name : List ℕ) (kind : MutexKind) (robust : Bool) → OnNewMutex text name kind robust
@@ -195,6 +246,38 @@ by_timedwait text cond mutex d h =
           (name_again mutex h.mutex_named) (one_deadline_again d h.sec h.nsec)));
     }
 
+pub by_clockwait :
+    (text cond mutex : List ℕ) (clock : Clock) (d : Timespec)
+    → OnClockwait text cond mutex clock d
+    → IsSpelled text (line.Ask (call.Clockwait cond mutex clock d))
+by_clockwait text cond mutex clock d h =
+    let due = clock_name clock ∷ decimal d.sec ∷ decimal d.nsec ∷ [] in
+    record {
+      verb = Clockwait;
+      args = cond ∷ mutex ∷ due;
+      text_is = h.spelled;
+      words = (
+        name_is_word cond h.cond_named,
+        (name_is_word mutex h.mutex_named, due_words clock d h.sec h.nsec),
+      );
+      short =
+          omega (
+            arith,
+            longer cond (mutex ∷ due),
+            longer mutex due,
+            h.cond_named.fits,
+            h.mutex_named.fits,
+            due_short clock d h.sec h.nsec,
+          );
+      line_is =
+          ap (option_map (λ (a : List ℕ × (List ℕ × (Clock × Timespec))).
+          line.Ask (call.Clockwait a.0 a.1.0 a.1.1.0 a.1.1.1)))
+          (first_then-again name_of name_clock_and_deadline cond (mutex ∷ due) cond
+          (mutex, (clock, d)) (name_again cond h.cond_named)
+          (first_then-again name_of clock_and_deadline mutex due mutex (clock, d)
+          (name_again mutex h.mutex_named) (due_again clock d h.sec h.nsec)));
+    }
+
 pub by_hello : (text : List ℕ) (p : ℕ) → OnHello text p → IsSpelled text (line.Hello p)
 by_hello text p h =
     let fits : IsNumber p = let high = h.high in omega arith in
@@ -209,11 +292,13 @@ by_hello text p h =
           ∙ ap (option_map line.Hello) (priority_again p h.low h.high);
     }
 
-pub by_moment : (text : List ℕ) (t : ℕ) → OnMoment text t → IsSpelled text (line.Tick t)
-by_moment text t h =
+pub by_moment :
+    (clock : Clock) (text : List ℕ) (t : ℕ) → OnMoment text (moment_word clock) t
+    → IsSpelled text (line.Tick clock t)
+by_moment clock text t h =
     let fits : IsNumber h.nsec = let low = h.nsec_fits in omega arith in
     record {
-      verb = Moment;
+      verb = Moment clock;
       args = decimal h.sec ∷ decimal h.nsec ∷ [];
       text_is = h.spelled;
       words = (decimal_is_word h.sec h.sec_fits, (decimal_is_word h.nsec fits, tt));
@@ -226,8 +311,8 @@ by_moment text t h =
             length-decimal h.nsec fits,
           );
       line_is =
-          ap (λ o. option_map line.Tick (option_and_then moment_of o))
+          ap (λ o. option_map (line.Tick clock) (option_and_then moment_of o))
           (two_numbers_again h.sec h.nsec h.sec_fits fits)
-          ∙ ap (option_map line.Tick) (moment_again h.sec h.nsec h.nsec_fits)
-          ∙ ap (λ m. Some (line.Tick m)) (sym h.time);
+          ∙ ap (option_map (line.Tick clock)) (moment_again h.sec h.nsec h.nsec_fits)
+          ∙ ap (λ m. Some (line.Tick clock m)) (sym h.time);
     }

@@ -1,20 +1,24 @@
 -- VerbLemmas: each verb is found by its word, and its word is short and has no space.
 use Rattle.std.proofs.Common.{◌≡◌, true, Some, refl}
+use Rattle.pt_types.specs.declared.time.Clock.TheVariants.{Real, Mono}
 use Rattle.pt_lines.specs.declared.verb.NamedVerb.TheVariants.{Lock, Trylock, Unlock, Consistent, MutexDestroy, RwlockInit, Rdlock, Tryrdlock, Wrlock, Trywrlock, Rwunlock, RwlockDestroy, CondInit, CondDestroy, Signal, Broadcast, Bwait, BarrierDestroy}
 use Rattle.pt_lines.specs.declared.verb.TimedVerb.TheVariants.{Timedlock, Timedrdlock, Timedwrlock}
+use Rattle.pt_lines.specs.declared.verb.ClockedVerb.TheVariants.{Clocklock, Clockrdlock, Clockwrlock}
 use Rattle.pt_lines.specs.declared.verb.Verb.{Verb}
-use Rattle.pt_lines.specs.declared.verb.Verb.TheVariants.{Hello, Moment, MutexInit, BarrierInit, Wait, Timedwait, Named, Timed}
+use Rattle.pt_lines.specs.declared.verb.Verb.TheVariants.{Hello, Moment, MutexInit, BarrierInit, Wait, Timedwait, Clockwait, Named, Timed, Clocked}
 use Rattle.pt_lines.specs.Verbs.{word_of, verb_of}
 use Rattle.pt_lines.proofs.FieldLemmas.{is_short_word}
 
 -- each verb is found by its word
 pub verb_of-word : (verb : Verb) → verb_of (word_of verb) ≡ Some verb
 verb_of-word Hello = refl
-verb_of-word Moment = refl
+verb_of-word (Moment Real) = refl
+verb_of-word (Moment Mono) = refl
 verb_of-word MutexInit = refl
 verb_of-word BarrierInit = refl
 verb_of-word Wait = refl
 verb_of-word Timedwait = refl
+verb_of-word Clockwait = refl
 verb_of-word (Named Lock) = refl
 verb_of-word (Named Trylock) = refl
 verb_of-word (Named Unlock) = refl
@@ -36,15 +40,20 @@ verb_of-word (Named BarrierDestroy) = refl
 verb_of-word (Timed Timedlock) = refl
 verb_of-word (Timed Timedrdlock) = refl
 verb_of-word (Timed Timedwrlock) = refl
+verb_of-word (Clocked Clocklock) = refl
+verb_of-word (Clocked Clockrdlock) = refl
+verb_of-word (Clocked Clockwrlock) = refl
 
 -- each word is short, and has no space
 pub word_is_short : (verb : Verb) → is_short_word (word_of verb) ≡ true
 word_is_short Hello = refl
-word_is_short Moment = refl
+word_is_short (Moment Real) = refl
+word_is_short (Moment Mono) = refl
 word_is_short MutexInit = refl
 word_is_short BarrierInit = refl
 word_is_short Wait = refl
 word_is_short Timedwait = refl
+word_is_short Clockwait = refl
 word_is_short (Named Lock) = refl
 word_is_short (Named Trylock) = refl
 word_is_short (Named Unlock) = refl
@@ -66,3 +75,6 @@ word_is_short (Named BarrierDestroy) = refl
 word_is_short (Timed Timedlock) = refl
 word_is_short (Timed Timedrdlock) = refl
 word_is_short (Timed Timedwrlock) = refl
+word_is_short (Clocked Clocklock) = refl
+word_is_short (Clocked Clockrdlock) = refl
+word_is_short (Clocked Clockwrlock) = refl

@@ -6,6 +6,8 @@ use Rattle.std.specs.Str.{bytes_eq}
 use Rattle.pt_types.specs.Limits.{second}
 use Rattle.pt_types.specs.Names.{is_name_byte}
 use Rattle.pt_types.specs.Times.{Timespec, nanos}
+use Rattle.pt_types.specs.declared.time.Clock.{Clock}
+use Rattle.pt_types.specs.declared.time.Clock.TheVariants.{Real, Mono}
 use Rattle.pt_types.specs.declared.call.MutexKind.{MutexKind}
 use Rattle.pt_types.specs.declared.call.MutexKind.TheVariants.{Normal, Errorcheck, Recursive}
 use Rattle.pt_lines.specs.Numbers.{number_of}
@@ -32,6 +34,13 @@ robust_of field =
     else if bytes_eq field (codes "stalled") then Some false
     else None
 
+-- the clock that a field names  [profile]
+abbrev pub clock_named : List ℕ → Option Clock
+clock_named field =
+    if bytes_eq field (codes "real") then Some Real
+    else if bytes_eq field (codes "mono") then Some Mono
+    else None
+
 -- one field, read in this way, and no more  [profile]
 abbrev pub alone : {X : Type 0} → (List ℕ → Option X) → List (List ℕ) → Option X
 alone read [] = None
@@ -48,7 +57,7 @@ first_then first rest (field ∷ more) =
 
 -- a priority  [profile]
 abbrev pub priority_of : ℕ → Option ℕ
-priority_of n = if nat_le 1 n && nat_le n 32 then Some n else None
+priority_of n = if nat_le 1 n && nat_le n 99 then Some n else None
 
 -- the moment of seconds and nanoseconds  [profile]
 abbrev pub moment_of : ℕ × ℕ → Option ℕ
@@ -69,3 +78,11 @@ one_deadline args = option_map deadline_of (two_numbers args)
 -- a name and a deadline  [profile]
 abbrev pub name_and_deadline : List (List ℕ) → Option (List ℕ × Timespec)
 name_and_deadline args = first_then name_of one_deadline args
+
+-- a clock and a deadline  [profile]
+abbrev pub clock_and_deadline : List (List ℕ) → Option (Clock × Timespec)
+clock_and_deadline args = first_then clock_named one_deadline args
+
+-- a name, a clock and a deadline  [profile]
+abbrev pub name_clock_and_deadline : List (List ℕ) → Option (List ℕ × (Clock × Timespec))
+name_clock_and_deadline args = first_then name_of clock_and_deadline args

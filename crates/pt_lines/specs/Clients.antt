@@ -5,7 +5,7 @@ use Rattle.pt_lines.specs.declared.client.Who.{Who}
 use Rattle.pt_lines.specs.declared.client.Who.TheVariants.{Named, Star, Unknown}
 use Rattle.pt_lines.specs.ClientNames.{is_client_name}
 
--- whose a name is: `*` is the clock's  [profile]
+-- whose a name is: `*` is the clocks'  [profile]
 abbrev pub who_named : List ℕ → Who
 who_named name =
     if bytes_eq name (codes "*") then Star

@@ -9,18 +9,19 @@ use Rattle.pt_lines.specs.declared.call_line.CallLine.TheVariants as line
 use Rattle.pt_lines.specs.declared.cutter.Cut.{Cut}
 use Rattle.pt_lines.specs.declared.cutter.Cut.TheVariants as cut
 use Rattle.pt_lines.specs.declared.verb.Verb.{Verb}
-use Rattle.pt_lines.specs.declared.verb.Verb.TheVariants.{Hello, Moment, MutexInit, BarrierInit, Wait, Timedwait, Named, Timed}
-use Rattle.pt_lines.specs.Verbs.{verb_of, call_on, call_until}
+use Rattle.pt_lines.specs.declared.verb.Verb.TheVariants.{Hello, Moment, MutexInit, BarrierInit, Wait, Timedwait, Clockwait, Named, Timed, Clocked}
+use Rattle.pt_lines.specs.Verbs.{verb_of, call_on, call_until, call_by_clock}
 use Rattle.pt_lines.specs.Fields.{fields}
 use Rattle.pt_lines.specs.Grammar.{Spells}
 use Rattle.pt_lines.specs.Numbers.{number_of}
-use Rattle.pt_lines.specs.Arguments.{name_of, kind_of, robust_of, alone, first_then, priority_of, moment_of, two_numbers, name_and_deadline}
+use Rattle.pt_lines.specs.Arguments.{name_of, kind_of, robust_of, alone, first_then, priority_of, moment_of, two_numbers, name_and_deadline, name_clock_and_deadline}
 
 -- the line of a verb and the fields after it  [profile]
 abbrev pub line_of : Verb → List (List ℕ) → Option CallLine
 line_of Hello args =
     option_map line.Hello (option_and_then priority_of (alone number_of args))
-line_of Moment args = option_map line.Tick (option_and_then moment_of (two_numbers args))
+line_of (Moment clock) args =
+    option_map (line.Tick clock) (option_and_then moment_of (two_numbers args))
 line_of MutexInit args =
     option_map (λ a. line.Ask (call.MutexInit a.0 a.1.0 a.1.1))
     (first_then name_of (first_then kind_of (alone robust_of)) args)
@@ -32,9 +33,14 @@ line_of Wait args =
 line_of Timedwait args =
     option_map (λ a. line.Ask (call.Timedwait a.0 a.1.0 a.1.1))
     (first_then name_of name_and_deadline args)
+line_of Clockwait args =
+    option_map (λ a. line.Ask (call.Clockwait a.0 a.1.0 a.1.1.0 a.1.1.1))
+    (first_then name_of name_clock_and_deadline args)
 line_of (Named verb) args = option_map (λ n. line.Ask (call_on verb n)) (alone name_of args)
 line_of (Timed verb) args =
     option_map (λ a. line.Ask (call_until verb a.0 a.1)) (name_and_deadline args)
+line_of (Clocked verb) args =
+    option_map (λ a. line.Ask (call_by_clock verb a.0 a.1.0 a.1.1)) (name_clock_and_deadline args)
 
 -- the line of these fields  [profile]
 abbrev pub line_of_fields : List (List ℕ) → Option CallLine

@@ -22,7 +22,7 @@ abbrev pub SpellsBody : Who → List ℕ → ScriptBody → Type 0
 SpellsBody (Named name) rest (Hello p) = IsClientName name × Spells rest (line.Hello p)
 SpellsBody (Named name) rest (Ask asked) = IsClientName name × Spells rest (line.Ask asked)
 SpellsBody (Named name) rest Die = IsClientName name × (rest ≡ codes "die")
-SpellsBody Star rest (Tick t) = Spells rest (line.Tick t)
+SpellsBody Star rest (Tick clock t) = Spells rest (line.Tick clock t)
 SpellsBody who rest body = ⊥
 
 -- the text of a line of a script: the client, one space, and what it says  [profile]
@@ -56,7 +56,7 @@ IsReadOf Long read = read ≡ long_line
 abbrev pub body_of : Who → CallLine → Result ScriptBody Refusal
 body_of (Named name) (line.Hello p) = Ok (Hello p)
 body_of (Named name) (line.Ask asked) = Ok (Ask asked)
-body_of Star (line.Tick t) = Ok (Tick t)
+body_of Star (line.Tick clock t) = Ok (Tick clock t)
 body_of who read = Err refusal.Syntax
 
 -- the same, where it may not be read  [profile]

@@ -2,14 +2,18 @@
 use Rattle.std.specs.Prelude.{ℕ, List, Option, codes, find}
 use Rattle.std.specs.Str.{bytes_eq}
 use Rattle.pt_types.specs.Times.{Timespec}
+use Rattle.pt_types.specs.declared.time.Clock.{Clock}
+use Rattle.pt_types.specs.declared.time.Clock.TheVariants.{Real, Mono}
 use Rattle.pt_types.specs.declared.call.Call.{Call}
 use Rattle.pt_types.specs.declared.call.Call.TheVariants as call
 use Rattle.pt_lines.specs.declared.verb.NamedVerb.{NamedVerb}
 use Rattle.pt_lines.specs.declared.verb.NamedVerb.TheVariants.{Lock, Trylock, Unlock, Consistent, MutexDestroy, RwlockInit, Rdlock, Tryrdlock, Wrlock, Trywrlock, Rwunlock, RwlockDestroy, CondInit, CondDestroy, Signal, Broadcast, Bwait, BarrierDestroy}
 use Rattle.pt_lines.specs.declared.verb.TimedVerb.{TimedVerb}
 use Rattle.pt_lines.specs.declared.verb.TimedVerb.TheVariants.{Timedlock, Timedrdlock, Timedwrlock}
+use Rattle.pt_lines.specs.declared.verb.ClockedVerb.{ClockedVerb}
+use Rattle.pt_lines.specs.declared.verb.ClockedVerb.TheVariants.{Clocklock, Clockrdlock, Clockwrlock}
 use Rattle.pt_lines.specs.declared.verb.Verb.{Verb}
-use Rattle.pt_lines.specs.declared.verb.Verb.TheVariants.{Hello, Moment, MutexInit, BarrierInit, Wait, Timedwait, Named, Timed}
+use Rattle.pt_lines.specs.declared.verb.Verb.TheVariants.{Hello, Moment, MutexInit, BarrierInit, Wait, Timedwait, Clockwait, Named, Timed, Clocked}
 use Rattle.pt_lines.specs.declared.verb.TheConstants.{VERBS}
 
 -- the word of a call that one name follows  [XSH, the call's page, without `pthread_`; profile]
@@ -39,16 +43,29 @@ timed_word Timedlock = codes "timedlock"
 timed_word Timedrdlock = codes "timedrdlock"
 timed_word Timedwrlock = codes "timedwrlock"
 
+-- the word of a call that a name, a clock and a deadline follow  [profile]
+abbrev pub clocked_word : ClockedVerb → List ℕ
+clocked_word Clocklock = codes "clocklock"
+clocked_word Clockrdlock = codes "clockrdlock"
+clocked_word Clockwrlock = codes "clockwrlock"
+
+-- the word of a moment of a clock  [profile]
+abbrev pub moment_word : Clock → List ℕ
+moment_word Real = codes "moment"
+moment_word Mono = codes "mono-moment"
+
 -- the word that a line begins with  [profile]
 abbrev pub word_of : Verb → List ℕ
 word_of Hello = codes "hello"
-word_of Moment = codes "moment"
+word_of (Moment clock) = moment_word clock
 word_of MutexInit = codes "mutex-init"
 word_of BarrierInit = codes "barrier-init"
 word_of Wait = codes "wait"
 word_of Timedwait = codes "timedwait"
+word_of Clockwait = codes "clockwait"
 word_of (Named verb) = named_word verb
 word_of (Timed verb) = timed_word verb
+word_of (Clocked verb) = clocked_word verb
 
 -- the verb with this word  [profile]
 abbrev pub verb_of : List ℕ → Option Verb
@@ -80,3 +97,9 @@ abbrev pub call_until : TimedVerb → List ℕ → Timespec → Call
 call_until Timedlock name deadline = call.Timedlock name deadline
 call_until Timedrdlock name deadline = call.Timedrdlock name deadline
 call_until Timedwrlock name deadline = call.Timedwrlock name deadline
+
+-- the call of a word on one name with a deadline of a clock  [profile]
+abbrev pub call_by_clock : ClockedVerb → List ℕ → Clock → Timespec → Call
+call_by_clock Clocklock name clock deadline = call.Clocklock name clock deadline
+call_by_clock Clockrdlock name clock deadline = call.Clockrdlock name clock deadline
+call_by_clock Clockwrlock name clock deadline = call.Clockwrlock name clock deadline

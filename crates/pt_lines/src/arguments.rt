@@ -1,11 +1,11 @@
 ghost use Rattle.std.specs.Prelude.{◌≡◌, IfSome, Some};
 ghost use Rattle.std.specs.Option.{option_and_then, option_copied};
-ghost use Rattle.pt_lines.specs.Arguments.{name_of, kind_of, robust_of, alone, first_then, priority_of, moment_of, two_numbers, one_deadline, name_and_deadline};
+ghost use Rattle.pt_lines.specs.Arguments.{name_of, kind_of, robust_of, clock_named, alone, first_then, priority_of, moment_of, two_numbers, one_deadline, name_and_deadline, clock_and_deadline, name_clock_and_deadline};
 ghost use Rattle.pt_lines.specs.Numbers.{number_of, IsNumber};
 
 use crate::fields::Fields;
 use crate::number::read_number;
-use pt_types::{Deadline, Moment, MutexKind, Name, Priority};
+use pt_types::{Clock, Deadline, Moment, MutexKind, Name, Priority};
 
 // A name.
 fn read_name(field: &[u8]) -> Option<Name>
@@ -37,6 +37,19 @@ fn read_robust(field: &[u8]) -> Option<bool>
         Some(true)
     } else if field == b"stalled".as_slice() {
         Some(false)
+    } else {
+        None
+    }
+}
+
+// The clock that a field names.
+fn read_clock(field: &[u8]) -> Option<Clock>
+    ensures { result ≡ clock_named field.now }
+{
+    if field == b"real".as_slice() {
+        Some(Clock::Real)
+    } else if field == b"mono".as_slice() {
+        Some(Clock::Mono)
     } else {
         None
     }
@@ -110,6 +123,24 @@ pub fn name_and_deadline(mut args: Fields) -> Option<(Name, Deadline)>
     Some((name, deadline))
 }
 
+// A clock and a deadline.
+fn clock_and_deadline(mut args: Fields) -> Option<(Clock, Deadline)>
+    ensures { result ≡ clock_and_deadline args.entry }
+{
+    let clock = read_clock(args.next()?)?;
+    let deadline = only_deadline(args)?;
+    Some((clock, deadline))
+}
+
+/// A name, a clock and a deadline.
+pub fn name_clock_and_deadline(mut args: Fields) -> Option<(Name, (Clock, Deadline))>
+    ensures { result ≡ name_clock_and_deadline args.entry }
+{
+    let name = read_name(args.next()?)?;
+    let due = clock_and_deadline(args)?;
+    Some((name, due))
+}
+
 /// Two names.
 pub fn two_names(mut args: Fields) -> Option<(Name, Name)>
     ensures { result ≡ first_then name_of (alone name_of) args.entry }
@@ -125,6 +156,15 @@ pub fn two_names_and_deadline(mut args: Fields) -> Option<(Name, (Name, Deadline
 {
     let first = read_name(args.next()?)?;
     let rest = name_and_deadline(args)?;
+    Some((first, rest))
+}
+
+/// Two names, a clock and a deadline.
+pub fn two_names_clock_and_deadline(mut args: Fields) -> Option<(Name, (Name, (Clock, Deadline)))>
+    ensures { result ≡ first_then name_of name_clock_and_deadline args.entry }
+{
+    let first = read_name(args.next()?)?;
+    let rest = name_clock_and_deadline(args)?;
     Some((first, rest))
 }
 

@@ -4,20 +4,20 @@ ghost use Rattle.pt_lines.specs.Grammar.{Spells};
 ghost use Rattle.pt_lines.specs.Reading.{line_of, line_read, call_read};
 
 use crate::arguments::{
-    name_and_count, name_and_deadline, name_and_kind, only_moment, only_name, only_priority,
-    two_names, two_names_and_deadline,
+    name_and_count, name_and_deadline, name_and_kind, name_clock_and_deadline, only_moment,
+    only_name, only_priority, two_names, two_names_and_deadline, two_names_clock_and_deadline,
 };
 use crate::cutter::Cut;
 use crate::fields::Fields;
 use crate::verb::Verb;
-use pt_types::{Call, Moment, Priority, Refusal};
+use pt_types::{Call, Clock, Moment, Priority, Refusal};
 
-/// A line of a connection: a hello, a call, or a reading of the clock.  [profile]
+/// A line of a connection: a hello, a call, or a reading of a clock.  [profile]
 #[derive(Debug, PartialEq, Eq, Drop)]
 pub enum CallLine {
     Hello(Priority),
     Ask(Call),
-    Tick(Moment),
+    Tick(Clock, Moment),
 }
 
 // The line of a verb and the fields after it.
@@ -26,7 +26,7 @@ fn read_arguments(verb: Verb, args: Fields) -> Option<CallLine>
 {
     match verb {
         Verb::Hello => Some(CallLine::Hello(only_priority(args)?)),
-        Verb::Moment => Some(CallLine::Tick(only_moment(args)?)),
+        Verb::Moment(clock) => Some(CallLine::Tick(clock, only_moment(args)?)),
         Verb::MutexInit => {
             let (name, (kind, robust)) = name_and_kind(args)?;
             Some(CallLine::Ask(Call::MutexInit(name, kind, robust)))
@@ -43,10 +43,18 @@ fn read_arguments(verb: Verb, args: Fields) -> Option<CallLine>
             let (cond, (mutex, deadline)) = two_names_and_deadline(args)?;
             Some(CallLine::Ask(Call::Timedwait(cond, mutex, deadline)))
         }
+        Verb::Clockwait => {
+            let (cond, (mutex, (clock, deadline))) = two_names_clock_and_deadline(args)?;
+            Some(CallLine::Ask(Call::Clockwait(cond, mutex, clock, deadline)))
+        }
         Verb::Named(verb) => Some(CallLine::Ask(verb.on(only_name(args)?))),
         Verb::Timed(verb) => {
             let (name, deadline) = name_and_deadline(args)?;
             Some(CallLine::Ask(verb.on(name, deadline)))
+        }
+        Verb::Clocked(verb) => {
+            let (name, (clock, deadline)) = name_clock_and_deadline(args)?;
+            Some(CallLine::Ask(verb.on(name, clock, deadline)))
         }
     }
 }

@@ -69,7 +69,7 @@ impl ClientName {
 pub enum Who {
     /// A client's.
     Named(ClientName),
-    /// The clock's, written `*`.
+    /// The clocks', written `*`.
     Star,
     /// That of no client that can be read, written `?`.
     Unknown,

@@ -7,7 +7,7 @@ use crate::call_line::{CallLine, read_call};
 use crate::client::Who;
 use crate::cutter::Cut;
 use memchr::memchr;
-use pt_types::{Call, Moment, Priority, Refusal};
+use pt_types::{Call, Clock, Moment, Priority, Refusal};
 
 /// What a line of a script says.  [profile]
 #[derive(Debug, PartialEq, Eq, Drop)]
@@ -16,7 +16,7 @@ pub enum ScriptBody {
     Ask(Call),
     /// The client's process ends.
     Die,
-    Tick(Moment),
+    Tick(Clock, Moment),
 }
 
 /// A line of a script: whose it is, and what it says, or SYNTAX or LONG.  [profile]
@@ -44,7 +44,7 @@ fn body_of(who: &Who, line: CallLine) -> Result<ScriptBody, Refusal>
     match (who, line) {
         (Who::Named(_), CallLine::Hello(priority)) => Ok(ScriptBody::Hello(priority)),
         (Who::Named(_), CallLine::Ask(call)) => Ok(ScriptBody::Ask(call)),
-        (Who::Star, CallLine::Tick(moment)) => Ok(ScriptBody::Tick(moment)),
+        (Who::Star, CallLine::Tick(clock, moment)) => Ok(ScriptBody::Tick(clock, moment)),
         _ => Err(Refusal::Syntax),
     }
 }

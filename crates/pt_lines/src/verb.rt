@@ -1,8 +1,8 @@
 ghost use Rattle.std.specs.Prelude.{◌≡◌, IfSome, Some};
 ghost use Rattle.pt_lines.specs.declared.verb.Verb.{Verb};
-ghost use Rattle.pt_lines.specs.Verbs.{named_word, timed_word, word_of, verb_of, call_on, call_until};
+ghost use Rattle.pt_lines.specs.Verbs.{named_word, timed_word, clocked_word, moment_word, word_of, verb_of, call_on, call_until, call_by_clock};
 
-use pt_types::{Call, Deadline, Name};
+use pt_types::{Call, Clock, Deadline, Name};
 
 /// The word of a call that one name follows.
 #[derive(Clone, Copy, Debug, PartialEq, Eq)]
@@ -35,26 +35,38 @@ pub enum TimedVerb {
     Timedwrlock,
 }
 
+/// The word of a call that a name, a clock and a deadline follow.
+#[derive(Clone, Copy, Debug, PartialEq, Eq)]
+pub enum ClockedVerb {
+    Clocklock,
+    Clockrdlock,
+    Clockwrlock,
+}
+
 /// The first word of a line, by what follows it.
 #[derive(Clone, Copy, Debug, PartialEq, Eq)]
 pub enum Verb {
     Hello,
-    Moment,
+    Moment(Clock),
     MutexInit,
     BarrierInit,
     Wait,
     Timedwait,
+    Clockwait,
     Named(NamedVerb),
     Timed(TimedVerb),
+    Clocked(ClockedVerb),
 }
 
-const VERBS: [Verb; 27] = [
+const VERBS: [Verb; 32] = [
     Verb::Hello,
-    Verb::Moment,
+    Verb::Moment(Clock::Real),
+    Verb::Moment(Clock::Mono),
     Verb::MutexInit,
     Verb::BarrierInit,
     Verb::Wait,
     Verb::Timedwait,
+    Verb::Clockwait,
     Verb::Named(NamedVerb::Lock),
     Verb::Named(NamedVerb::Trylock),
     Verb::Named(NamedVerb::Unlock),
@@ -76,6 +88,9 @@ const VERBS: [Verb; 27] = [
     Verb::Timed(TimedVerb::Timedlock),
     Verb::Timed(TimedVerb::Timedrdlock),
     Verb::Timed(TimedVerb::Timedwrlock),
+    Verb::Clocked(ClockedVerb::Clocklock),
+    Verb::Clocked(ClockedVerb::Clockrdlock),
+    Verb::Clocked(ClockedVerb::Clockwrlock),
 ];
 
 impl NamedVerb {
@@ -156,6 +171,40 @@ impl TimedVerb {
     }
 }
 
+impl ClockedVerb {
+    /// The word.
+    pub fn word(self) -> &'static [u8]
+        ensures { result.now ≡ clocked_word self }
+    {
+        match self {
+            ClockedVerb::Clocklock => b"clocklock",
+            ClockedVerb::Clockrdlock => b"clockrdlock",
+            ClockedVerb::Clockwrlock => b"clockwrlock",
+        }
+    }
+
+    /// The call on this name, with this deadline of this clock.
+    pub fn on(self, name: Name, clock: Clock, deadline: Deadline) -> Call
+        ensures { result ≡ call_by_clock self name clock deadline }
+    {
+        match self {
+            ClockedVerb::Clocklock => Call::Clocklock(name, clock, deadline),
+            ClockedVerb::Clockrdlock => Call::Clockrdlock(name, clock, deadline),
+            ClockedVerb::Clockwrlock => Call::Clockwrlock(name, clock, deadline),
+        }
+    }
+}
+
+// The word of a moment of this clock.
+fn word_of_moment(clock: Clock) -> &'static [u8]
+    ensures { result.now ≡ moment_word clock }
+{
+    match clock {
+        Clock::Real => b"moment",
+        Clock::Mono => b"mono-moment",
+    }
+}
+
 impl Verb {
     /// The word.
     pub fn word(self) -> &'static [u8]
@@ -163,13 +212,15 @@ impl Verb {
     {
         match self {
             Verb::Hello => b"hello",
-            Verb::Moment => b"moment",
+            Verb::Moment(clock) => word_of_moment(clock),
             Verb::MutexInit => b"mutex-init",
             Verb::BarrierInit => b"barrier-init",
             Verb::Wait => b"wait",
             Verb::Timedwait => b"timedwait",
+            Verb::Clockwait => b"clockwait",
             Verb::Named(verb) => verb.word(),
             Verb::Timed(verb) => verb.word(),
+            Verb::Clocked(verb) => verb.word(),
         }
     }
 

@@ -3,6 +3,7 @@ mod generated_2;
 mod generated_3;
 mod generated_4;
 mod generated_5;
+mod generated_6;
 mod longer;
 mod play;
 mod read;
@@ -13,7 +14,7 @@ use play::check;
 use pt_deciding::queries::{answer_of, caller, latest, least_deadline};
 use pt_deciding::room::need;
 use pt_plain::answers::open_place;
-use pt_types::{ClientId, Outcome};
+use pt_types::{ClientId, Clock, Outcome};
 use std::test::Fail;
 
 /// The events of a script, one a line, and what comes of them: entries, or the word of a refusal.
@@ -35,6 +36,13 @@ fn worked_rows(rt: HostRuntime) -> Result<(), Fail> {
 }
 
 #[test]
+fn two_clocks_and_the_highest_priorities(rt: HostRuntime) -> Result<(), Fail> {
+    let _ = check(&rt, rt.alloc(), &rows::ROW_36, 1 << 20)?;
+    let _ = check(&rt, rt.alloc(), &rows::ROW_37, 1 << 20)?;
+    Ok(())
+}
+
+#[test]
 fn a_full_history(rt: HostRuntime) -> Result<(), Fail> {
     let _ = check(&rt, rt.alloc(), &rows::LIMIT_7, 7)?;
     let _ = check(&rt, rt.alloc(), &rows::LIMIT_7_OWNED, 7)?;
@@ -45,7 +53,8 @@ fn a_full_history(rt: HostRuntime) -> Result<(), Fail> {
 fn queries_of_a_history(rt: HostRuntime) -> Result<(), Fail> {
     let entries = check(&rt, rt.alloc(), &rows::TIMED, 1 << 20)?;
     assert_eq!(rt; need(&entries), 6);
-    assert_eq!(rt; least_deadline(&entries), Some(5_000_000_007));
+    assert_eq!(rt; least_deadline(&entries, Clock::Real), Some(5_000_000_007));
+    assert_eq!(rt; least_deadline(&entries, Clock::Mono), None);
     assert_eq!(rt; latest(&entries, ClientId(0)), Some(3));
     assert!(rt; caller(&entries, 5) == Some(ClientId(1)));
     assert_eq!(rt; open_place(&entries, ClientId(1)), Some(5));
@@ -53,6 +62,14 @@ fn queries_of_a_history(rt: HostRuntime) -> Result<(), Fail> {
     let told = answer_of(&entries, ClientId(0)).ok_or("an answer")?;
     assert_eq!(rt; (told.client, told.place), (0, 3));
     assert!(rt; told.outcome == Outcome::Done);
+    Ok(())
+}
+
+#[test]
+fn least_deadlines_of_both_clocks(rt: HostRuntime) -> Result<(), Fail> {
+    let entries = check(&rt, rt.alloc(), &rows::TIMED_BY_BOTH, 1 << 20)?;
+    assert_eq!(rt; least_deadline(&entries, Clock::Real), Some(5_000_000_007));
+    assert_eq!(rt; least_deadline(&entries, Clock::Mono), Some(3_000_000_001));
     Ok(())
 }
 
@@ -120,5 +137,13 @@ fn seeds_717_to_720(rt: HostRuntime) -> Result<(), Fail> {
     for played in [generated_5::SEED_719, generated_5::SEED_720] {
         let _ = check(&rt, rt.alloc(), &played, 1 << 20)?;
     }
+    Ok(())
+}
+
+#[test]
+fn seeds_with_two_clocks(rt: HostRuntime) -> Result<(), Fail> {
+    let _ = check(&rt, rt.alloc(), &generated_6::SEED_888, 1 << 20)?;
+    let _ = check(&rt, rt.alloc(), &generated_6::SEED_987, 1 << 20)?;
+    let _ = check(&rt, rt.alloc(), &generated_6::SEED_1052, 1 << 20)?;
     Ok(())
 }

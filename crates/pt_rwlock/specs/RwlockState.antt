@@ -5,7 +5,7 @@ use Rattle.std.specs.Ordering.{nat_cmp}
 use Rattle.std.specs.Map.{lookup, set_value, keys_of}
 use Rattle.std.specs.BTreeMap.{is_at, insert_entry}
 use Rattle.pt_lanes.specs.Counts.{AnyFrom}
-use Rattle.pt_types.specs.Limits.{most_reads}
+use Rattle.pt_types.specs.Limits.{most_priority, most_reads}
 use Rattle.pt_types.specs.MutexTable.{is_number}
 use Rattle.pt_types.specs.RwlockTable.{RwlockView, may_read, may_write}
 use Rattle.pt_waitq.specs.declared.waiter.Waiter.{Waiter}
@@ -19,10 +19,10 @@ pub record RwlockState : Type 0 where
   pub rows : List (ℕ × ℕ)
   pub waiting : List ℕ
 
--- a lock as it is made: nobody holds it, and none of the 32 priorities has a waiting writer
+-- a lock as it is made: nobody holds it, and no priority has a waiting writer
 -- [XSH pthread_rwlock_init]
 abbrev pub made : RwlockState
-made = record { writer = None; rows = []; waiting = replicate 32 0 }
+made = record { writer = None; rows = []; waiting = replicate most_priority 0 }
 
 -- the read locks in the client's row, if it has one  [XSH pthread_rwlock_rdlock]
 abbrev pub row_of : RwlockState → (client : ℕ) → Option ℕ
@@ -65,8 +65,8 @@ writers_at r p = slice_index r.waiting (p - 1)
 -- a writer waits that is of this priority or a higher one exactly where their counts say so
 -- [XSH pthread_rwlock_rdlock]
 abbrev pub BlockedByCounts : Type 0
-BlockedByCounts = (r : RwlockState) (p : ℕ) → length r.waiting ≡ 32 → 1 ≤ p
-    → AnyFrom r.waiting (p - 1) ↔ ((q : ℕ) × (p ≤ q) × (q ≤ 32) × (0 < writers_at r q))
+BlockedByCounts = (r : RwlockState) (p : ℕ) → length r.waiting ≡ most_priority → 1 ≤ p
+    → AnyFrom r.waiting (p - 1) ↔ ((q : ℕ) × (p ≤ q) × (q ≤ most_priority) × (0 < writers_at r q))
 
 -- so many writers of this priority wait, and of each other one as many as before  [profile]
 abbrev pub with_writers : RwlockState → (priority : ℕ) → ℕ → RwlockState
@@ -75,7 +75,7 @@ with_writers r p n = record r { waiting = slice_set r.waiting (p - 1) n }
 -- so many writers of this priority wait, and each other priority has its count  [profile]
 abbrev pub ChangesCount : (old new : RwlockState) (priority count : ℕ) → Type 0
 ChangesCount old new p n =
-    (other : ℕ) → 1 ≤ other → other ≤ 32
+    (other : ℕ) → 1 ≤ other → other ≤ most_priority
     → writers_at new other ≡ (if p == other then n else writers_at old other)
 
 -- the client has a row: its own as it was, or a new one without read locks  [profile]

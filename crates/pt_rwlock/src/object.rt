@@ -2,11 +2,12 @@ ghost use Rattle.std.specs.Prelude.{◌≡◌, ◌==◌, ◌<◌, length, ◌+�
 ghost use Rattle.std.specs.List.{list_any};
 ghost use Rattle.std.specs.Ordering.{nat_cmp};
 ghost use Rattle.std.specs.BTreeMap.{values, IsOrdered};
+ghost use Rattle.pt_types.specs.Limits.{most_priority};
 ghost use Rattle.pt_types.specs.MutexTable.{is_number};
 ghost use Rattle.pt_types.specs.RwlockTable.{read_verdict, write_verdict, rwunlock_verdict, holds, is_free};
 
 use pt_lanes::any_from;
-use pt_types::{ClientId, How, Outcome, Priority, Refusal, Verdict};
+use pt_types::{ClientId, How, MOST_PRIORITY, Outcome, Priority, Refusal, Verdict};
 use pt_waitq::Waiter;
 use std::alloc::{Allocator, Global};
 use std::collections::BTreeMap;
@@ -40,7 +41,7 @@ pub struct RwObj<A: Allocator + Copy = Global> {
     /// By the number of the client.
     reads: BTreeMap<u64, u8, A>,
     /// Priority p stands at index p - 1.
-    waiting_writers: [u32; 32],
+    waiting_writers: [u32; MOST_PRIORITY],
 }
 
 // Whether a row has a read lock.
@@ -73,7 +74,7 @@ impl<A: Allocator + Copy> RwObj<A> {
         RwObj {
             writer: None,
             reads: BTreeMap::new(alloc),
-            waiting_writers: [0; 32],
+            waiting_writers: [0; MOST_PRIORITY],
         }
     }
 
@@ -233,7 +234,7 @@ impl<A: Allocator + Copy> RwObj<A> {
             self.new ≡ with_writers self.old priority (before + 1) }
         ensures count { let before = writers_at self.old priority in
             ChangesCount self.old self.new priority (before + 1) }
-        ensures priorities { length self.new.waiting ≡ 32 }
+        ensures priorities { length self.new.waiting ≡ most_priority }
     {
         self.waiting_writers[priority.level() as usize - 1] += 1;
     }
@@ -245,7 +246,7 @@ impl<A: Allocator + Copy> RwObj<A> {
             self.new ≡ with_writers self.old priority (before - 1) }
         ensures count { let before = writers_at self.old priority in
             ChangesCount self.old self.new priority (before - 1) }
-        ensures priorities { length self.new.waiting ≡ 32 }
+        ensures priorities { length self.new.waiting ≡ most_priority }
     {
         self.waiting_writers[priority.level() as usize - 1] -= 1;
     }

@@ -1,2 +1,3 @@
+mod DueLemmas
 mod RemovalLemmas
 mod TimerLemmas

@@ -4,14 +4,24 @@ ghost use Rattle.pt_timers.specs.Deadlines.{deadline_at};
 
 use super::*;
 use pt_refusing::{Refusing, refuse_each};
-use pt_types::{Deadline, Moment, Refusal};
+use pt_types::{Clock, Deadline, Moment, Refusal};
 use std::alloc::Global;
 use std::test::Fail;
 
-// What can be seen at the end of second 20.
-fn seen(timers: &Timers<&Refusing<Global>>) -> Result<(Option<Deadline>, Option<u64>), Fail> {
+// What can be seen at the end of second 20 of both clocks.
+fn seen(timers: &Timers<&Refusing<Global>>) -> Result<([Option<Deadline>; 2], Option<u64>), Fail> {
     let now = Moment::new(20, 999_999_999).ok_or("moment")?;
-    Ok((timers.least(), timers.least_due(now)))
+    let least = [timers.least(Clock::Real), timers.least(Clock::Mono)];
+    Ok((least, timers.least_due(Some(now), Some(now))))
+}
+
+// The one clock for even numbers, the other for odd ones.
+fn clock_of(number: u64) -> Clock {
+    if number % 2 == 0 {
+        Clock::Real
+    } else {
+        Clock::Mono
+    }
 }
 
 // Sets the deadline of the next place, once more where there was no memory for it.
@@ -25,26 +35,31 @@ fn set_next(
     ensures { OnOk result ((p : ℕ) → place + 1 ≤ p → deadline_at timers.new p ≡ None) }
 {
     let before = seen(timers)?;
-    let Err(refusal) = timers.set(place, deadline) else {
+    let clock = clock_of(place);
+    let Err(refusal) = timers.set(place, clock, deadline) else {
         return Ok(false);
     };
     if refusal != Refusal::Enomem || seen(timers)? != before {
         return Err("a refused deadline changes nothing".into());
     }
-    timers.set(place, deadline).ok().ok_or("the second time")?;
+    timers
+        .set(place, clock, deadline)
+        .ok()
+        .ok_or("the second time")?;
     Ok(true)
 }
 
 // Takes the soonest of 20 timers away, one by one.
 fn take_all(timers: &mut Timers<&Refusing<Global>>) -> Result<(), Fail> {
     for left in 0..20 {
-        let deadline = Deadline::new(left + 1, 0).ok_or("deadline")?;
-        if seen(timers)? != (Some(deadline), Some(19 - left)) {
+        let place = 19 - left;
+        let deadline = Deadline::new(left + 1, 0);
+        if timers.least(clock_of(place)) != deadline || seen(timers)?.1 != Some(place) {
             return Err("each is there in its turn".into());
         }
-        timers.cancel(19 - left);
+        timers.cancel(place);
     }
-    if seen(timers)? != (None, None) {
+    if seen(timers)? != ([None, None], None) {
         return Err("there is no other".into());
     }
     Ok(())
@@ -67,21 +82,48 @@ fn due_at_their_nanosecond_by_deadline_then_place(rt: HostRuntime) -> Result<(),
     let mut timers = Timers::new(rt.alloc());
     let late = Deadline::new(9, 1).ok_or("deadline")?;
     let soon = Deadline::new(5, 0).ok_or("deadline")?;
-    assert!(rt; timers.least().is_none());
-    timers.set(4, late).ok().ok_or("room")?;
-    timers.set(7, soon).ok().ok_or("room")?;
-    timers.set(3, soon).ok().ok_or("room")?;
-    assert_eq!(rt; timers.least(), Some(soon));
+    assert!(rt; timers.least(Clock::Real).is_none());
+    timers.set(4, Clock::Real, late).ok().ok_or("room")?;
+    timers.set(7, Clock::Real, soon).ok().ok_or("room")?;
+    timers.set(3, Clock::Real, soon).ok().ok_or("room")?;
+    assert_eq!(rt; timers.least(Clock::Real), Some(soon));
     let before = Moment::new(4, 999_999_999).ok_or("moment")?;
     let at = Moment::new(5, 0).ok_or("moment")?;
-    assert_eq!(rt; timers.least_due(before), None);
-    assert_eq!(rt; timers.least_due(at), Some(3));
+    assert_eq!(rt; timers.least_due(Some(before), None), None);
+    assert_eq!(rt; timers.least_due(Some(at), None), Some(3));
     timers.cancel(3);
     timers.cancel(3);
-    assert_eq!(rt; timers.least_due(at), Some(7));
+    assert_eq!(rt; timers.least_due(Some(at), None), Some(7));
     timers.cancel(7);
-    assert_eq!(rt; timers.least_due(at), None);
-    assert_eq!(rt; timers.least(), Some(late));
+    assert_eq!(rt; timers.least_due(Some(at), None), None);
+    assert_eq!(rt; timers.least(Clock::Real), Some(late));
+    Ok(())
+}
+
+#[test]
+fn each_deadline_is_due_by_its_own_clock(rt: HostRuntime) -> Result<(), Fail> {
+    let mut timers = Timers::new(rt.alloc());
+    let soon = Deadline::new(5, 0).ok_or("deadline")?;
+    let late = Deadline::new(9, 0).ok_or("deadline")?;
+    timers.set(2, Clock::Real, late).ok().ok_or("room")?;
+    timers.set(3, Clock::Mono, soon).ok().ok_or("room")?;
+    timers.set(4, Clock::Real, soon).ok().ok_or("room")?;
+    assert_eq!(rt; timers.least_due(None, None), None);
+    let five = Moment::new(5, 0).ok_or("moment")?;
+    let nine = Moment::new(9, 0).ok_or("moment")?;
+    assert_eq!(rt; timers.least_due(Some(nine), None), Some(4));
+    assert_eq!(rt; timers.least_due(None, Some(nine)), Some(3));
+    assert_eq!(rt;
+        timers.least_due(Some(nine), Moment::new(4, 999_999_999)),
+        Some(4)
+    );
+    assert_eq!(rt; timers.least_due(Some(five), Some(five)), Some(3));
+    timers.cancel(4);
+    assert_eq!(rt; timers.least_due(Some(nine), Some(five)), Some(3));
+    assert_eq!(rt; timers.least(Clock::Real), Some(late));
+    assert_eq!(rt; timers.least(Clock::Mono), Some(soon));
+    timers.cancel(3);
+    assert_eq!(rt; timers.least(Clock::Mono), None);
     Ok(())
 }
 

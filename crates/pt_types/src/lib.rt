@@ -13,9 +13,9 @@ mod time;
 
 pub use call::{Call, How, MutexKind, ObjectKind};
 pub use name::Name;
-pub use number::{ClientId, ObjectId, Priority};
+pub use number::{ClientId, MOST_PRIORITY, ObjectId, Priority};
 pub use outcome::{Condition, Outcome, Refusal, Verdict};
-pub use time::{Deadline, Moment};
+pub use time::{Clock, Deadline, Moment};
 
 #[cfg(test)]
 mod tests;

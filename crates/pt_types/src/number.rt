@@ -28,7 +28,10 @@ impl Model for ObjectId {
     ghost inverse = { λ n. record { 0 = n } };
 }
 
-/// A priority of SCHED_FIFO, from 1 to 32, of which 32 is the highest.  [XSH 2.8.4]
+/// The highest priority; the lowest is 1.  [XSH 2.8.4, the number is profile]
+pub const MOST_PRIORITY: usize = 99;
+
+/// A priority of SCHED_FIFO, from 1 to the highest.  [XSH 2.8.4]
 #[derive(Clone, Copy, Debug, PartialEq, Eq)]
 pub struct Priority {
     level: u8,
@@ -36,35 +39,37 @@ pub struct Priority {
 
 impl Model for Priority {
     ghost use Rattle.std.specs.Prelude.{ℕ, ◌≤◌};
+    ghost use Rattle.pt_types.specs.Limits.{most_priority};
 
     ghost Value = { ℕ };
 
     ghost view = { λ p. p.level };
 
-    ghost invariant = { λ p. (1 ≤ p.level) × (p.level ≤ 32) };
+    ghost invariant = { λ p. (1 ≤ p.level) × (p.level ≤ most_priority) };
 
     ghost inverse = { λ n. record { level = n } };
 }
 
 impl Priority {
     ghost use Rattle.std.specs.Prelude.{◌≡◌, ◌≤◌, ◌↔◌, IsSome, IfSome};
+    ghost use Rattle.pt_types.specs.Limits.{most_priority};
 
-    /// The priority of this level; None below 1 and above 32.  [profile]
+    /// The priority of this level; None below 1 and above the highest.  [profile]
     pub fn new(level: u64) -> Option<Priority>
-        ensures valid { IsSome result ↔ ((1 ≤ level) × (level ≤ 32)) }
+        ensures valid { IsSome result ↔ ((1 ≤ level) × (level ≤ most_priority)) }
         ensures value { IfSome result (λ p. p ≡ level) }
     {
-        if level < 1 || level > 32 {
+        if level < 1 || level > MOST_PRIORITY as u64 {
             return None;
         }
         Some(Priority { level: level as u8 })
     }
 
-    /// The level, from 1 to 32.
+    /// The level, from 1 to the highest.
     pub fn level(self) -> u8
         ensures value { result ≡ self }
         ensures least { 1 ≤ result }
-        ensures greatest { result ≤ 32 }
+        ensures greatest { result ≤ most_priority }
     {
         self.level
     }

@@ -19,5 +19,13 @@ pub mod Row20
 pub mod Row32
 pub mod Row33
 pub mod Row34
+pub mod Row36
+pub mod Row37
 pub mod Row23
 pub mod TableLimits
+pub mod SealedPlay
+pub mod SealedRows
+pub mod SealedAlike
+pub mod Row39
+pub mod Row40
+pub mod Row41

@@ -1,6 +1,7 @@
 -- Row11: a deadline that has passed still releases the mutex.
 use Rattle.std.specs.Prelude.{◌≡◌, List, [], ◌∷◌, ℕ, false, Some, None, Result, Ok, codes}
 use Rattle.pt_types.specs.Times.{nanos}
+use Rattle.pt_types.specs.declared.time.Clock.TheVariants.{Real}
 use Rattle.pt_types.specs.declared.call.Call.TheVariants as call
 use Rattle.pt_types.specs.declared.call.MutexKind.TheVariants.{Normal}
 use Rattle.pt_types.specs.declared.outcome.Outcome.{Outcome}
@@ -24,7 +25,7 @@ named_m = codes "m"
 -- what happens
 abbrev pub events : List Event
 events =
-    event.Moment (nanos 10 0)
+    event.Moment Real (nanos 10 0)
     ∷ event.Join 10
     ∷ event.Join 10
     ∷ event.Call 1 (call.MutexInit named_m Normal false)
@@ -38,7 +39,7 @@ events =
 -- what each event writes, or why it is refused
 abbrev pub entered : List (Result (List Entry) Refusal)
 entered =
-    Ok (Moment (nanos 10 0) ∷ [])
+    Ok (Moment Real (nanos 10 0) ∷ [])
     ∷ Ok (Join 1 10 ∷ [])
     ∷ Ok (Join 2 10 ∷ [])
     ∷ Ok (Call 1 (call.MutexInit named_m Normal false) (Some Done) ∷ [])

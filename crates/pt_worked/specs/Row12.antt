@@ -1,6 +1,7 @@
 -- Row12: a writer's deadline passes and lets a reader in.
 use Rattle.std.specs.Prelude.{◌≡◌, List, [], ◌∷◌, ℕ, Some, None, Result, Ok, codes}
 use Rattle.pt_types.specs.Times.{nanos}
+use Rattle.pt_types.specs.declared.time.Clock.TheVariants.{Real}
 use Rattle.pt_types.specs.declared.call.Call.TheVariants as call
 use Rattle.pt_types.specs.declared.outcome.Outcome.{Outcome}
 use Rattle.pt_types.specs.declared.outcome.Outcome.TheVariants.{Done, Etimedout}
@@ -26,8 +27,8 @@ events =
     ∷ event.Call 0 (call.Rdlock named_r)
     ∷ event.Call 1 (call.Timedwrlock named_r (at 5 0))
     ∷ event.Call 2 (call.Timedrdlock named_r (at 5 0))
-    ∷ event.Moment (nanos 4 999999999)
-    ∷ event.Moment (nanos 5 0)
+    ∷ event.Moment Real (nanos 4 999999999)
+    ∷ event.Moment Real (nanos 5 0)
     ∷ []
 
 -- what each event writes, or why it is refused
@@ -40,8 +41,8 @@ entered =
     ∷ Ok (Call 0 (call.Rdlock named_r) None ∷ Grant 4 Done ∷ [])
     ∷ Ok (Call 1 (call.Timedwrlock named_r (at 5 0)) None ∷ [])
     ∷ Ok (Call 2 (call.Timedrdlock named_r (at 5 0)) None ∷ [])
-    ∷ Ok (Moment (nanos 4 999999999) ∷ [])
-    ∷ Ok (Moment (nanos 5 0) ∷ Expire 6 ∷ Grant 7 Done ∷ [])
+    ∷ Ok (Moment Real (nanos 4 999999999) ∷ [])
+    ∷ Ok (Moment Real (nanos 5 0) ∷ Expire 6 ∷ Grant 7 Done ∷ [])
     ∷ []
 
 -- who is told what by each accepted event

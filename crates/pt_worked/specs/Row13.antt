@@ -1,6 +1,7 @@
 -- Row13: a wait whose deadline passed learns of an owner's death.
 use Rattle.std.specs.Prelude.{◌≡◌, List, [], ◌∷◌, ℕ, true, Some, None, Result, Ok, codes}
 use Rattle.pt_types.specs.Times.{nanos}
+use Rattle.pt_types.specs.declared.time.Clock.TheVariants.{Real}
 use Rattle.pt_types.specs.declared.call.Call.TheVariants as call
 use Rattle.pt_types.specs.declared.call.MutexKind.TheVariants.{Normal}
 use Rattle.pt_types.specs.declared.outcome.Outcome.{Outcome}
@@ -30,7 +31,7 @@ events =
     ∷ event.Call 0 (call.Lock named_m)
     ∷ event.Call 0 (call.Timedwait named_c named_m (at 5 0))
     ∷ event.Call 1 (call.Lock named_m)
-    ∷ event.Moment (nanos 5 0)
+    ∷ event.Moment Real (nanos 5 0)
     ∷ event.Death 1
     ∷ []
 
@@ -44,7 +45,7 @@ entered =
     ∷ Ok (Call 0 (call.Lock named_m) None ∷ Grant 4 Done ∷ [])
     ∷ Ok (Call 0 (call.Timedwait named_c named_m (at 5 0)) None ∷ [])
     ∷ Ok (Call 1 (call.Lock named_m) None ∷ Grant 7 Done ∷ [])
-    ∷ Ok (Moment (nanos 5 0) ∷ Expire 6 ∷ [])
+    ∷ Ok (Moment Real (nanos 5 0) ∷ Expire 6 ∷ [])
     ∷ Ok (Death 1 ∷ Yield 2 ∷ Grant 6 Eownerdead ∷ [])
     ∷ []
 

@@ -1,6 +1,7 @@
 -- Row16: a dead owner of a stalled mutex keeps it.
 use Rattle.std.specs.Prelude.{◌≡◌, List, [], ◌∷◌, ℕ, false, Some, None, Result, Ok, Err, codes}
 use Rattle.pt_types.specs.Times.{nanos}
+use Rattle.pt_types.specs.declared.time.Clock.TheVariants.{Real}
 use Rattle.pt_types.specs.declared.call.Call.TheVariants as call
 use Rattle.pt_types.specs.declared.call.MutexKind.TheVariants.{Normal}
 use Rattle.pt_types.specs.declared.outcome.Outcome.{Outcome}
@@ -30,7 +31,7 @@ events =
     ∷ event.Death 0
     ∷ event.Call 1 (call.Trylock named_m)
     ∷ event.Call 1 (call.Timedlock named_m (at 5 0))
-    ∷ event.Moment (nanos 5 0)
+    ∷ event.Moment Real (nanos 5 0)
     ∷ event.Call 1 (call.MutexDestroy named_m)
     ∷ event.Call 1 (call.MutexInit named_m Normal false)
     ∷ []
@@ -47,7 +48,7 @@ entered =
     ∷ Ok (Death 0 ∷ [])
     ∷ Ok (Call 1 (call.Trylock named_m) (Some Ebusy) ∷ [])
     ∷ Ok (Call 1 (call.Timedlock named_m (at 5 0)) None ∷ [])
-    ∷ Ok (Moment (nanos 5 0) ∷ Expire 8 ∷ [])
+    ∷ Ok (Moment Real (nanos 5 0) ∷ Expire 8 ∷ [])
     ∷ Ok (Call 1 (call.MutexDestroy named_m) (Some Done) ∷ [])
     ∷ Ok (Call 1 (call.MutexInit named_m Normal false) (Some Done) ∷ [])
     ∷ []

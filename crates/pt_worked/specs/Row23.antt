@@ -1,6 +1,7 @@
 -- Row23: the room in a short history, and the refusal FULL.
 use Rattle.std.specs.Prelude.{◌≡◌, ℕ, true, List, [], ◌∷◌, ◌++◌, Ok, Err, codes}
 use Rattle.pt_types.specs.Times.{nanos}
+use Rattle.pt_types.specs.declared.time.Clock.TheVariants.{Real}
 use Rattle.pt_types.specs.declared.call.Call.TheVariants as call
 use Rattle.pt_types.specs.declared.call.MutexKind.TheVariants.{Normal}
 use Rattle.pt_types.specs.declared.outcome.Refusal.TheVariants.{Dead, Nohello, Full}
@@ -24,15 +25,15 @@ abbrev pub second : List Event
 second =
     event.Call 0 (call.Unlock named_m)
     ∷ event.Call 0 (call.Lock named_m)
-    ∷ event.Moment (nanos 1 0)
-    ∷ event.Moment (nanos 2 0)
+    ∷ event.Moment Real (nanos 1 0)
+    ∷ event.Moment Real (nanos 2 0)
     ∷ event.Death 0
     ∷ event.Death 0
     ∷ event.Death 9
     ∷ []
 
 abbrev pub third : List Event
-third = event.Moment (nanos 1 0) ∷ event.Moment (nanos 2 0) ∷ event.Death 0 ∷ []
+third = event.Moment Real (nanos 1 0) ∷ event.Moment Real (nanos 2 0) ∷ event.Death 0 ∷ []
 
 -- with seven entries at most  [profile]
 abbrev pub IsFullAtSeven : Type 0
@@ -54,9 +55,9 @@ IsFullAtSix = lengths 6 (Begin nothing) first ≡ Ok (1, 1) ∷ Ok (2, 1) ∷ Er
 -- with one entry at most nobody can join  [profile]
 abbrev pub IsFullAtOne : Type 0
 IsFullAtOne =
-    lengths 1 (Begin nothing) (event.Join 10 ∷ event.Moment 1 ∷ event.Moment 2 ∷ [])
+    lengths 1 (Begin nothing) (event.Join 10 ∷ event.Moment Real 1 ∷ event.Moment Real 2 ∷ [])
     ≡ Err Full ∷ Ok (1, 0) ∷ Err Full ∷ []
 
 -- with none nothing is accepted  [profile]
 abbrev pub IsFullAtNone : Type 0
-IsFullAtNone = lengths 0 (Begin nothing) (event.Moment 1 ∷ []) ≡ Err Full ∷ []
+IsFullAtNone = lengths 0 (Begin nothing) (event.Moment Real 1 ∷ []) ≡ Err Full ∷ []

@@ -1,6 +1,7 @@
 -- Row32: deadlines of one moment, and a clock that never goes back.
 use Rattle.std.specs.Prelude.{◌≡◌, List, [], ◌∷◌, ℕ, false, Some, None, Result, Ok, codes}
 use Rattle.pt_types.specs.Times.{nanos}
+use Rattle.pt_types.specs.declared.time.Clock.TheVariants.{Real}
 use Rattle.pt_types.specs.declared.call.Call.TheVariants as call
 use Rattle.pt_types.specs.declared.call.MutexKind.TheVariants.{Normal}
 use Rattle.pt_types.specs.declared.outcome.Outcome.{Outcome}
@@ -27,8 +28,8 @@ events =
     ∷ event.Call 0 (call.Lock named_m)
     ∷ event.Call 1 (call.Timedlock named_m (at 5 0))
     ∷ event.Call 2 (call.Timedlock named_m (at 5 0))
-    ∷ event.Moment (nanos 9 0)
-    ∷ event.Moment (nanos 3 0)
+    ∷ event.Moment Real (nanos 9 0)
+    ∷ event.Moment Real (nanos 3 0)
     ∷ event.Call 1 (call.Timedlock named_m (at 8 999999999))
     ∷ event.Call 1 (call.Timedlock named_m (at 9 1))
     ∷ event.Call 0 (call.Unlock named_m)
@@ -44,8 +45,8 @@ entered =
     ∷ Ok (Call 0 (call.Lock named_m) None ∷ Grant 4 Done ∷ [])
     ∷ Ok (Call 1 (call.Timedlock named_m (at 5 0)) None ∷ [])
     ∷ Ok (Call 2 (call.Timedlock named_m (at 5 0)) None ∷ [])
-    ∷ Ok (Moment (nanos 9 0) ∷ Expire 6 ∷ Expire 7 ∷ [])
-    ∷ Ok (Moment (nanos 3 0) ∷ [])
+    ∷ Ok (Moment Real (nanos 9 0) ∷ Expire 6 ∷ Expire 7 ∷ [])
+    ∷ Ok (Moment Real (nanos 3 0) ∷ [])
     ∷ Ok (Call 1 (call.Timedlock named_m (at 8 999999999)) None ∷ Expire 12 ∷ [])
     ∷ Ok (Call 1 (call.Timedlock named_m (at 9 1)) None ∷ [])
     ∷ Ok (Call 0 (call.Unlock named_m) (Some Done) ∷ Grant 14 Done ∷ [])

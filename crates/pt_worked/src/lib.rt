@@ -23,7 +23,14 @@ ghost use Rattle.pt_worked.specs.Row20.{IsPlayed20};
 ghost use Rattle.pt_worked.specs.Row32.{IsPlayed32};
 ghost use Rattle.pt_worked.specs.Row33.{IsPlayed33};
 ghost use Rattle.pt_worked.specs.Row34.{IsPlayed34};
+ghost use Rattle.pt_worked.specs.Row36.{IsPlayed36};
+ghost use Rattle.pt_worked.specs.Row37.{IsPlayed37};
+ghost use Rattle.pt_worked.specs.Row39.{IsPlayed39, IsTold39};
+ghost use Rattle.pt_worked.specs.Row40.{IsPlayed40};
+ghost use Rattle.pt_worked.specs.Row41.{IsPlayed41};
 ghost use Rattle.pt_worked.specs.Row23.{IsFullAtSeven, IsFullBeforeYield, IsFullAtSix, IsFullAtOne, IsFullAtNone};
+ghost use Rattle.pt_worked.specs.SealedRows.{IsSealedAtSeven, IsTwiceSealed, IsSealedBeforeYield, IsSealedAtSix, IsSealedAtFour, IsSealedAtOne, IsSealedAtNone};
+ghost use Rattle.pt_worked.specs.SealedAlike.{IsAlike2, IsAlike3, IsAlike5, IsAlike6, IsAlike7, IsAlike8, IsAlike9, IsAlike10, IsAlike11, IsAlike12, IsAlike13, IsAlike14, IsAlike15, IsAlike16, IsAlike18, IsAlike19, IsAlike20};
 ghost use Rattle.pt_worked.specs.TableLimits.{HasMostLocks, HasMostReads, HasMostObjects, HasMostAtBarrier};
 
 /// Row 2: the reply comes before the grant.
@@ -129,6 +136,16 @@ pub fn row_34()
     ensures { IsPlayed34 }
 {}
 
+/// Row 36: two clocks, of which each has deadlines of its own.
+pub fn row_36()
+    ensures { IsPlayed36 }
+{}
+
+/// Row 37: the highest priorities.
+pub fn row_37()
+    ensures { IsPlayed37 }
+{}
+
 /// Row 23: the room in a short history, and the refusal FULL.
 pub fn row_23()
     ensures seven { IsFullAtSeven }
@@ -136,6 +153,55 @@ pub fn row_23()
     ensures six { IsFullAtSix }
     ensures one { IsFullAtOne }
     ensures none { IsFullAtNone }
+{}
+
+/// Row 38: the room in short histories that are sealed where they need it.
+pub fn row_38()
+    ensures seven { IsSealedAtSeven }
+    ensures twice { IsTwiceSealed }
+    ensures seven_and_a_yield { IsSealedBeforeYield }
+    ensures six { IsSealedAtSix }
+    ensures four { IsSealedAtFour }
+    ensures one { IsSealedAtOne }
+    ensures none { IsSealedAtNone }
+{}
+
+/// Row 39: what a dead client held is held, and is told of, behind a seal.
+pub fn row_39()
+    ensures played { IsPlayed39 }
+    ensures told { IsTold39 }
+{}
+
+/// Row 40: when and why a wait was moved is known behind a seal.
+pub fn row_40()
+    ensures { IsPlayed40 }
+{}
+
+/// Row 41: both clocks count on behind a seal.
+pub fn row_41()
+    ensures { IsPlayed41 }
+{}
+
+/// Rows 2 to 20 with 30 entries at most behind each seal, and with as few as they need: they are
+/// the same.
+pub fn rows_behind_seals()
+    ensures row_2 { IsAlike2 }
+    ensures row_3 { IsAlike3 }
+    ensures row_5 { IsAlike5 }
+    ensures row_6 { IsAlike6 }
+    ensures row_7 { IsAlike7 }
+    ensures row_8 { IsAlike8 }
+    ensures row_9 { IsAlike9 }
+    ensures row_10 { IsAlike10 }
+    ensures row_11 { IsAlike11 }
+    ensures row_12 { IsAlike12 }
+    ensures row_13 { IsAlike13 }
+    ensures row_14 { IsAlike14 }
+    ensures row_15 { IsAlike15 }
+    ensures row_16 { IsAlike16 }
+    ensures row_18 { IsAlike18 }
+    ensures row_19 { IsAlike19 }
+    ensures row_20 { IsAlike20 }
 {}
 
 /// The verdict tables at their limits, from both sides.

@@ -18,6 +18,12 @@ fn calls_on_mutexes(rt: HostRuntime) -> Result<(), Fail> {
     assert!(rt; asks(b"lock m", Call::Lock(m.same())));
     assert!(rt; asks(b"trylock m", Call::Trylock(m.same())));
     assert!(rt; asks(b"timedlock m 5 9999999999", Call::Timedlock(m.same(), late)));
+    for (text, clock) in [
+        (b"clocklock m real 5 9999999999".as_slice(), Clock::Real),
+        (b"clocklock m mono 5 9999999999".as_slice(), Clock::Mono),
+    ] {
+        assert!(rt; asks(text, Call::Clocklock(m.same(), clock, late)));
+    }
     assert!(rt; asks(b"unlock m", Call::Unlock(m.same())));
     assert!(rt; asks(b"consistent m", Call::Consistent(m.same())));
     assert!(rt; asks(b"mutex-destroy m", Call::MutexDestroy(m.same())));
@@ -60,12 +66,24 @@ fn calls_on_read_write_locks(rt: HostRuntime) -> Result<(), Fail> {
             Call::Timedrdlock(r.same(), due)
         )
     );
+    assert!(rt;
+        asks(
+            b"clockrdlock r mono 0 1000000000",
+            Call::Clockrdlock(r.same(), Clock::Mono, due)
+        )
+    );
     assert!(rt; asks(b"wrlock r", Call::Wrlock(r.same())));
     assert!(rt; asks(b"trywrlock r", Call::Trywrlock(r.same())));
     assert!(rt;
         asks(
             b"timedwrlock r 0 1000000000",
             Call::Timedwrlock(r.same(), due)
+        )
+    );
+    assert!(rt;
+        asks(
+            b"clockwrlock r real 0 1000000000",
+            Call::Clockwrlock(r.same(), Clock::Real, due)
         )
     );
     assert!(rt; asks(b"rwunlock r", Call::Rwunlock(r.same())));
@@ -87,6 +105,12 @@ fn calls_on_conditions_and_barriers(rt: HostRuntime) -> Result<(), Fail> {
             Call::Timedwait(c.same(), m.same(), due)
         )
     );
+    for (text, clock) in [
+        (b"clockwait c m real 9999999999 7".as_slice(), Clock::Real),
+        (b"clockwait c m mono 9999999999 7".as_slice(), Clock::Mono),
+    ] {
+        assert!(rt; asks(text, Call::Clockwait(c.same(), m.same(), clock, due)));
+    }
     assert!(rt; asks(b"signal c", Call::Signal(c.same())));
     assert!(rt; asks(b"broadcast c", Call::Broadcast(c.same())));
     assert!(rt;
@@ -103,13 +127,37 @@ fn calls_on_conditions_and_barriers(rt: HostRuntime) -> Result<(), Fail> {
 
 #[test]
 fn hellos_and_moments(rt: HostRuntime) -> Result<(), Fail> {
-    for level in [1, 32] {
+    for level in [1, 33, 99] {
         let text = format!(in rt.alloc(); "hello {level}")?;
         let priority = Priority::new(level).ok_or("priority")?;
         assert!(rt; read_call(text.as_str().as_bytes()) == Ok(CallLine::Hello(priority)));
     }
     let moment = Moment::new(9_999_999_999, 999_999_999).ok_or("moment")?;
-    assert!(rt; read_call(b"moment 9999999999 999999999") == Ok(CallLine::Tick(moment)));
+    for (text, clock) in [
+        (b"moment 9999999999 999999999".as_slice(), Clock::Real),
+        (b"mono-moment 9999999999 999999999".as_slice(), Clock::Mono),
+    ] {
+        assert!(rt; read_call(text) == Ok(CallLine::Tick(clock, moment)));
+    }
+    Ok(())
+}
+
+// The name of an object, as long as one may be.
+const LONGEST: [u8; 32] = [b'x'; 32];
+
+#[test]
+fn the_longest_line(rt: HostRuntime) -> Result<(), Fail> {
+    let alloc = rt.alloc();
+    let mut text = Vec::from_slice(alloc, b"clockwait ")?;
+    text.extend_from_slice(&LONGEST)?;
+    text.extend_from_slice(b" ")?;
+    text.extend_from_slice(&LONGEST)?;
+    text.extend_from_slice(b" mono 9999999999 9999999999")?;
+    assert_eq!(rt; text.len(), 102);
+    let name = object(&LONGEST)?;
+    let due = Deadline::new(9_999_999_999, 9_999_999_999).ok_or("deadline")?;
+    let call = Call::Clockwait(name.same(), name.same(), Clock::Mono, due);
+    assert!(rt; asks(text.as_slice(), call));
     Ok(())
 }
 
@@ -125,7 +173,7 @@ fn names_of_1_to_32_bytes(rt: HostRuntime) -> Result<(), Fail> {
     Ok(())
 }
 
-const NO_LINES: [&[u8]; 48] = [
+const NO_LINES: [&[u8]; 69] = [
     b"",
     b" ",
     b"lock",
@@ -159,7 +207,7 @@ const NO_LINES: [&[u8]; 48] = [
     b"moment 1 0x1",
     b"hello",
     b"hello 0",
-    b"hello 33",
+    b"hello 100",
     b"hello 01",
     b"hello 1 ",
     b"hello 4294967297",
@@ -174,6 +222,27 @@ const NO_LINES: [&[u8]; 48] = [
     b"wait c m 1 0",
     b"timedwait c m 1",
     b"timedlock m 1 00",
+    b"timedlock m real 1 0",
+    b"clocklock m 1 0",
+    b"clocklock m boot 9 0",
+    b"clocklock m Real 9 0",
+    b"clocklock m realtime 9 0",
+    b"clocklock m mon 9 0",
+    b"clocklock m real 9",
+    b"clocklock m real 9 0 1",
+    b"clocklock mono m 9 0",
+    b"clockrdlock r boot 1 0",
+    b"clockrdlock r  mono 1 0",
+    b"clockwrlock r boot 1 0",
+    b"clockwait c mono 1 0",
+    b"clockwait c m 1 0",
+    b"clockwait c m boot 1 0",
+    b"clockwait c m mono 1 00",
+    b"mono-moment",
+    b"mono-moment 1 1000000000",
+    b"mono-moment 10000000000 0",
+    b"real-moment 1 0",
+    b"moment mono 1 0",
 ];
 
 #[test]

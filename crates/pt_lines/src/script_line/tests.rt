@@ -12,7 +12,7 @@ fn is_refused(text: &[u8], who: &[u8], refusal: Refusal) -> bool {
 
 #[test]
 fn script_lines_with_faults(rt: HostRuntime) {
-    let table: [(&[u8], &[u8]); 22] = [
+    let table: [(&[u8], &[u8]); 26] = [
         (b"", b"?"),
         (b" ", b"?"),
         (b" A lock m", b"?"),
@@ -31,7 +31,11 @@ fn script_lines_with_faults(rt: HostRuntime) {
         (b"* hello 1", b"*"),
         (b"* die", b"*"),
         (b"* moment 1 1000000000", b"*"),
+        (b"* mono-moment 1 1000000000", b"*"),
+        (b"* clocklock m mono 1 0", b"*"),
         (b"A moment 1 0", b"A"),
+        (b"A mono-moment 1 0", b"A"),
+        (b"A clocklock m boot 1 0", b"A"),
         (b"A die now", b"A"),
         (b"abcdefghi lock m", b"?"),
         (b"? lock m", b"?"),
@@ -45,17 +49,40 @@ fn script_lines_with_faults(rt: HostRuntime) {
 }
 
 #[test]
-fn script_lines_of_clients_and_the_clock(rt: HostRuntime) -> Result<(), Fail> {
+fn script_lines_of_clients_and_the_clocks(rt: HostRuntime) -> Result<(), Fail> {
     let line = read_script_line(b"abcdEF90 lock m");
     assert!(rt; line.who.as_bytes() == b"abcdEF90".as_slice());
     assert!(rt; line.body == Ok(ScriptBody::Ask(Call::Lock(Name::new(b"m").ok_or("name")?))));
-    let line = read_script_line(b"0 hello 32");
+    let line = read_script_line(b"0 hello 99");
     assert!(rt; line.who == Who::Named(ClientName::new(b"0").ok_or("client")?));
-    assert!(rt; line.body == Ok(ScriptBody::Hello(Priority::new(32).ok_or("priority")?)));
+    assert!(rt; line.body == Ok(ScriptBody::Hello(Priority::new(99).ok_or("priority")?)));
     assert!(rt; read_script_line(b"A die").body == Ok(ScriptBody::Die));
-    let line = read_script_line(b"* moment 1 0");
-    assert!(rt; line.who.same() == Who::Star);
-    assert!(rt; line.body == Ok(ScriptBody::Tick(Moment::new(1, 0).ok_or("moment")?)));
+    for (text, clock) in [
+        (b"* moment 1 0".as_slice(), Clock::Real),
+        (b"* mono-moment 1 0".as_slice(), Clock::Mono),
+    ] {
+        let line = read_script_line(text);
+        assert!(rt; line.who.same() == Who::Star);
+        assert!(rt; line.body == Ok(ScriptBody::Tick(clock, Moment::new(1, 0).ok_or("moment")?)));
+    }
+    Ok(())
+}
+
+#[test]
+fn the_longest_line_has_111_bytes(rt: HostRuntime) -> Result<(), Fail> {
+    let alloc = rt.alloc();
+    let mut text = Vec::from_slice(alloc, b"abcdefgh clockwait ")?;
+    text.extend_from_slice(&[b'x'; 32])?;
+    text.extend_from_slice(b" ")?;
+    text.extend_from_slice(&[b'y'; 32])?;
+    text.extend_from_slice(b" real 9999999999 9999999999")?;
+    assert_eq!(rt; text.len(), 111);
+    assert!(rt;
+        matches!(
+            read_script_line(text.as_slice()).body,
+            Ok(ScriptBody::Ask(_))
+        )
+    );
     Ok(())
 }
 

@@ -43,7 +43,7 @@ die 2
 10 Trip(5), 3 6 0, 2 7 0, 1 8 0, 0 9 SERIAL
 11 Call(0, trylock, none)
 12 Grant(11, 0), 0 11 0
-13 Moment(7, 0)
+13 Moment(Real, 7, 0)
 14 Call(2, mutex-init, 0), 2 14 0
 15 Call(2, cond-init, 0), 2 15 0
 16 Call(2, lock, none)
@@ -121,7 +121,7 @@ BLOCKED
 BLOCKED
 BLOCKED
 BLOCKED
-17 Moment(3, 0)
+17 Moment(Real, 3, 0)
 BLOCKED
 BLOCKED
 BLOCKED
@@ -184,7 +184,7 @@ die 4
 17 Call(3, lock, none)
 18 Grant(17, 0), 3 17 0
 19 Call(3, timedwait, none)
-20 Moment(6, 999999999)
+20 Moment(Real, 6, 999999999)
 21 Expire(13)
 22 Grant(13, ETIMEDOUT), 2 13 ETIMEDOUT
 23 Expire(16)

@@ -28,7 +28,7 @@ moment 3 0
     history: "0 Join(0, 32)
 1 Join(1, 2)
 2 Join(2, 32)
-3 Moment(2, 999999999)
+3 Moment(Real, 2, 999999999)
 4 Call(1, mutex-init, 0), 1 4 0
 5 Call(0, cond-init, 0), 0 5 0
 6 Call(1, lock, none)
@@ -50,7 +50,7 @@ moment 3 0
 22 Call(17, trylock, EBUSY), 17 22 EBUSY
 23 Call(17, timedlock, none)
 24 Expire(23), 17 23 ETIMEDOUT
-25 Moment(3, 0)
+25 Moment(Real, 3, 0)
 26 Expire(9), 0 9 ETIMEDOUT
 27 Call(0, unlock, EPERM), 0 27 EPERM",
 };
@@ -91,15 +91,15 @@ moment 10 0",
 2 Join(2, 31)
 3 Death(1)
 4 Call(0, cond-init, 0), 0 4 0
-5 Moment(1, 1)
+5 Moment(Real, 1, 1)
 6 Call(0, rwlock-init, 0), 0 6 0
-7 Moment(11, 0)
-8 Moment(10, 999999999)
+7 Moment(Real, 11, 0)
+8 Moment(Real, 10, 999999999)
 9 Call(0, rdlock, none)
 10 Grant(9, 0), 0 9 0
 11 Call(0, mutex-init, 0), 0 11 0
 12 Call(0, rwunlock, 0), 0 12 0
-13 Moment(1, 0)
+13 Moment(Real, 1, 0)
 14 Call(0, signal, EINVAL), 0 14 EINVAL
 15 Call(0, rwlock-destroy, 0), 0 15 0
 16 Call(0, rdlock, EINVAL), 0 16 EINVAL
@@ -116,7 +116,7 @@ BLOCKED
 BLOCKED
 26 Call(18, signal, 0), 18 26 0
 27 Call(18, broadcast, 0), 18 27 0
-28 Moment(10, 0)",
+28 Moment(Real, 10, 0)",
 };
 
 /// A generated script, seed 707.
@@ -148,18 +148,18 @@ moment 1 1
 3 Join(3, 31)
 4 Call(2, mutex-init, 0), 2 4 0
 5 Call(3, lock, EINVAL), 3 5 EINVAL
-6 Moment(2, 0)
-7 Moment(5, 1)
+6 Moment(Real, 2, 0)
+7 Moment(Real, 5, 1)
 8 Call(2, mutex-init, EBUSY), 2 8 EBUSY
-9 Moment(3, 0)
-10 Moment(4, 0)
+9 Moment(Real, 3, 0)
+10 Moment(Real, 4, 0)
 11 Call(2, timedlock, EINVAL), 2 11 EINVAL
 12 Call(0, cond-init, 0), 0 12 0
-13 Moment(8, 999999999)
-14 Moment(4, 999999999)
+13 Moment(Real, 8, 999999999)
+14 Moment(Real, 4, 999999999)
 15 Call(2, mutex-init, 0), 2 15 0
 16 Join(16, 31)
-17 Moment(1, 1)
+17 Moment(Real, 1, 1)
 18 Call(3, timedlock, none)
 19 Grant(18, 0), 3 18 0
 20 Call(16, cond-init, 0), 16 20 0
@@ -211,7 +211,7 @@ join 2
 10 Call(4, timedlock, none)
 11 Grant(10, 0), 4 10 0
 12 Call(7, rwlock-init, 0), 7 12 0
-13 Moment(8, 999999999)
+13 Moment(Real, 8, 999999999)
 14 Call(8, lock, none)
 15 Call(7, mutex-init, 0), 7 15 0
 16 Death(4)

@@ -59,7 +59,7 @@ moment 6 0
 26 Call(2, unlock, 0), 2 26 0
 27 Call(2, trylock, none)
 28 Grant(27, 0), 2 27 0
-29 Moment(6, 0)
+29 Moment(Real, 6, 0)
 30 Call(2, unlock, 0), 2 30 0
 31 Call(14, rwlock-init, 0), 14 31 0
 32 Call(2, lock, none)
@@ -101,7 +101,7 @@ die 0",
     history: "0 Join(0, 10)
 1 Join(1, 10)
 2 Call(0, mutex-init, 0), 0 2 0
-3 Moment(2, 999999999)
+3 Moment(Real, 2, 999999999)
 4 Call(0, lock, none)
 5 Grant(4, 0), 0 4 0
 6 Call(1, lock, none)
@@ -114,7 +114,7 @@ die 0",
 13 Call(0, lock, none)
 14 Grant(13, 0), 0 13 0
 15 Call(1, lock, none)
-16 Moment(3, 0)
+16 Moment(Real, 3, 0)
 17 Call(0, consistent, EINVAL), 0 17 EINVAL
 18 Call(0, unlock, 0), 0 18 0
 19 Grant(15, 0), 1 15 0
@@ -205,7 +205,7 @@ die 16",
 32 Grant(31, 0), 16 31 0
 33 Call(16, rwunlock, 0), 16 33 0
 34 Call(16, bwait, none)
-35 Moment(6, 0)
+35 Moment(Real, 6, 0)
 36 Death(16)
 37 Yield(6)",
 };

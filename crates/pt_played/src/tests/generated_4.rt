@@ -30,7 +30,7 @@ join 1
     history: "0 Join(0, 32)
 1 Join(1, 32)
 2 Join(2, 1)
-3 Moment(2, 0)
+3 Moment(Real, 2, 0)
 4 Join(4, 32)
 5 Call(4, cond-init, 0), 4 5 0
 6 Call(2, mutex-init, 0), 2 6 0
@@ -97,27 +97,27 @@ moment 4 0
 5 Call(0, barrier-init, 0), 0 5 0
 6 Call(2, bwait, none)
 7 Call(3, bwait, none)
-8 Moment(2, 0)
+8 Moment(Real, 2, 0)
 9 Call(1, rwlock-init, 0), 1 9 0
 10 Call(0, bwait, none)
 11 Trip(5), 2 6 0, 0 10 SERIAL
-12 Moment(2, 0)
+12 Moment(Real, 2, 0)
 13 Call(1, rwlock-init, 0), 1 13 0
 14 Call(2, bwait, none)
 15 Trip(4), 3 7 0, 2 14 SERIAL
 16 Call(0, bwait, none)
-17 Moment(2, 0)
+17 Moment(Real, 2, 0)
 18 Call(1, bwait, none)
 19 Trip(5), 0 16 0, 1 18 SERIAL
 20 Call(0, bwait, none)
 21 Call(3, bwait, none)
-22 Moment(8, 0)
+22 Moment(Real, 8, 0)
 23 Call(2, barrier-init, EBUSY), 2 23 EBUSY
 24 Call(1, bwait, none)
 25 Trip(5), 3 21 0, 1 24 SERIAL
 26 Call(3, bwait, none)
 27 Trip(4), 0 20 0, 3 26 SERIAL
-28 Moment(4, 0)
+28 Moment(Real, 4, 0)
 29 Call(2, bwait, none)
 30 Call(1, bwait, none)
 31 Trip(4), 2 29 0, 1 30 SERIAL

@@ -46,7 +46,7 @@ join 31
 11 Call(6, rwunlock, EPERM), 6 11 EPERM
 12 Call(4, lock, none)
 13 Grant(12, 0), 4 12 0
-14 Moment(2, 1)
+14 Moment(Real, 2, 1)
 15 Call(2, timedlock, none)
 16 Call(3, lock, none)
 17 Call(7, rdlock, none)
@@ -115,7 +115,7 @@ moment 1 0
 12 Grant(11, 0), 5 11 0
 13 Join(13, 2)
 14 Call(5, cond-init, 0), 5 14 0
-15 Moment(2, 0)
+15 Moment(Real, 2, 0)
 16 Call(13, rwlock-init, 0), 13 16 0
 17 Call(13, timedlock, none)
 18 Call(0, timedlock, none)
@@ -130,7 +130,7 @@ moment 1 0
 27 Call(3, timedlock, none)
 28 Join(28, 2)
 29 Call(1, barrier-init, 0), 1 29 0
-30 Moment(1, 0)
+30 Moment(Real, 1, 0)
 31 Call(28, timedlock, EINVAL), 28 31 EINVAL
 32 Call(28, bwait, none)
 33 Trip(29), 28 32 SERIAL",
@@ -252,7 +252,7 @@ join 32
 12 Death(1)
 13 Call(5, rwlock-init, 0), 5 13 0
 14 Call(5, timedlock, none)
-15 Moment(11, 1)
+15 Moment(Real, 11, 1)
 16 Expire(14), 5 14 ETIMEDOUT
 17 Death(0)
 18 Call(5, mutex-init, 0), 5 18 0

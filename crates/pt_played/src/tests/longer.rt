@@ -64,13 +64,13 @@ moment 2 999999999
 8 Call(1, wait, EINVAL), 1 8 EINVAL
 9 Call(1, cond-destroy, 0), 1 9 0
 10 Call(1, cond-init, 0), 1 10 0
-11 Moment(10, 0)
+11 Moment(Real, 10, 0)
 12 Call(2, cond-init, 0), 2 12 0
 13 Call(0, mutex-init, 0), 0 13 0
 14 Call(4, mutex-init, EBUSY), 4 14 EBUSY
 15 Call(2, lock, EINVAL), 2 15 EINVAL
 16 Join(16, 32)
-17 Moment(3, 1)
+17 Moment(Real, 3, 1)
 18 Call(16, lock, none)
 19 Grant(18, 0), 16 18 0
 20 Call(0, mutex-destroy, EBUSY), 0 20 EBUSY
@@ -92,15 +92,15 @@ BLOCKED
 35 Call(16, signal, 0), 16 35 0
 36 Grant(23, 0), 2 23 0
 37 Call(16, wait, EINVAL), 16 37 EINVAL
-38 Moment(6, 999999999)
+38 Moment(Real, 6, 999999999)
 39 Call(16, unlock, 0), 16 39 0
 40 Call(16, lock, none)
 41 Grant(40, 0), 16 40 0
 42 Call(2, wait, none)
-43 Moment(8, 999999999)
+43 Moment(Real, 8, 999999999)
 BLOCKED
 44 Join(44, 31)
-45 Moment(2, 999999999)
+45 Moment(Real, 2, 999999999)
 46 Call(44, broadcast, 0), 44 46 0
 47 Grant(26, 0), 0 26 0
 48 Call(0, wait, none)
@@ -194,13 +194,13 @@ moment 1 999999999",
 1 Join(1, 10)
 2 Join(2, 31)
 3 Join(3, 31)
-4 Moment(4, 999999999)
+4 Moment(Real, 4, 999999999)
 5 Join(5, 31)
 6 Join(6, 31)
 7 Call(0, cond-init, 0), 0 7 0
 8 Join(8, 10)
 9 Call(6, mutex-init, 0), 6 9 0
-10 Moment(7, 0)
+10 Moment(Real, 7, 0)
 11 Call(2, barrier-init, 0), 2 11 0
 12 Call(2, bwait, none)
 13 Call(1, bwait, none)
@@ -222,7 +222,7 @@ moment 1 999999999",
 29 Call(1, timedlock, none)
 30 Join(30, 31)
 31 Call(6, unlock, EPERM), 6 31 EPERM
-32 Moment(8, 0)
+32 Moment(Real, 8, 0)
 33 Expire(29), 1 29 ETIMEDOUT
 BLOCKED
 34 Call(8, mutex-init, 0), 8 34 0
@@ -264,9 +264,9 @@ BLOCKED
 69 Call(6, wrlock, none)
 70 Call(3, lock, none)
 71 Death(30)
-72 Moment(2, 1)
+72 Moment(Real, 2, 1)
 BLOCKED
-73 Moment(8, 99999999)
+73 Moment(Real, 8, 99999999)
 BLOCKED
 74 Call(2, rwunlock, 0), 2 74 0
 BLOCKED
@@ -278,7 +278,7 @@ BLOCKED
 80 Expire(79), 76 79 ETIMEDOUT
 81 Call(76, lock, none)
 82 Join(82, 31)
-83 Moment(0, 0)
+83 Moment(Real, 0, 0)
 84 Call(82, lock, none)
-85 Moment(1, 999999999)",
+85 Moment(Real, 1, 999999999)",
 };

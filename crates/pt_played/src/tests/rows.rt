@@ -97,7 +97,7 @@ join 10
 2 lock m
 1 timedwait c m 5 0
 2 unlock m",
-    history: "0 Moment(10, 0)
+    history: "0 Moment(Real, 10, 0)
 1 Join(1, 10)
 2 Join(2, 10)
 3 Call(1, mutex-init, 0), 1 3 0
@@ -200,6 +200,58 @@ join 10
 27 Grant(12, 0), 1 12 0",
 };
 
+/// Two clocks, of which each has deadlines of its own.
+pub const ROW_36: Played = Played {
+    events: "join 10
+join 10
+0 mutex-init m normal stalled
+0 lock m
+1 clocklock m mono 5 0
+moment 9 0
+mono-moment 4 999999999
+mono-moment 5 0
+1 timedlock m 9 0
+1 clocklock m real 9 1
+0 unlock m",
+    history: "0 Join(0, 10)
+1 Join(1, 10)
+2 Call(0, mutex-init, 0), 0 2 0
+3 Call(0, lock, none)
+4 Grant(3, 0), 0 3 0
+5 Call(1, clocklock, none)
+6 Moment(Real, 9, 0)
+7 Moment(Mono, 4, 999999999)
+8 Moment(Mono, 5, 0)
+9 Expire(5), 1 5 ETIMEDOUT
+10 Call(1, timedlock, none)
+11 Expire(10), 1 10 ETIMEDOUT
+12 Call(1, clocklock, none)
+13 Call(0, unlock, 0), 0 13 0
+14 Grant(12, 0), 1 12 0",
+};
+
+/// The highest priorities.
+pub const ROW_37: Played = Played {
+    events: "join 99
+join 98
+join 98
+0 mutex-init m normal stalled
+0 lock m
+1 lock m
+2 lock m
+0 unlock m",
+    history: "0 Join(0, 99)
+1 Join(1, 98)
+2 Join(2, 98)
+3 Call(0, mutex-init, 0), 0 3 0
+4 Call(0, lock, none)
+5 Grant(4, 0), 0 4 0
+6 Call(1, lock, none)
+7 Call(2, lock, none)
+8 Call(0, unlock, 0), 0 8 0
+9 Grant(6, 0), 1 6 0",
+};
+
 /// A history of seven entries at most.
 pub const LIMIT_7: Played = Played {
     events: "join 10
@@ -217,7 +269,7 @@ join 10",
 3 Grant(2, 0), 0 2 0
 4 Call(0, unlock, 0), 0 4 0
 FULL
-5 Moment(1, 0)
+5 Moment(Real, 1, 0)
 FULL
 6 Death(0)
 FULL",
@@ -235,7 +287,7 @@ die 0",
 1 Call(0, mutex-init, 0), 0 1 0
 2 Call(0, lock, none)
 3 Grant(2, 0), 0 2 0
-4 Moment(1, 0)
+4 Moment(Real, 1, 0)
 FULL
 5 Death(0)
 6 Yield(1)",
@@ -255,5 +307,26 @@ moment 4 0",
 3 Call(0, lock, none)
 4 Grant(3, 0), 0 3 0
 5 Call(1, timedlock, none)
-6 Moment(4, 0)",
+6 Moment(Real, 4, 0)",
+};
+
+/// Calls with deadlines by both clocks.
+pub const TIMED_BY_BOTH: Played = Played {
+    events: "join 10
+join 20
+join 20
+0 mutex-init m normal robust
+0 lock m
+1 timedlock m 5 7
+2 clocklock m mono 3 1
+mono-moment 3 0",
+    history: "0 Join(0, 10)
+1 Join(1, 20)
+2 Join(2, 20)
+3 Call(0, mutex-init, 0), 0 3 0
+4 Call(0, lock, none)
+5 Grant(4, 0), 0 4 0
+6 Call(1, timedlock, none)
+7 Call(2, clocklock, none)
+8 Moment(Mono, 3, 0)",
 };

@@ -1,5 +1,5 @@
 use pt_model::Entry;
-use pt_types::Call;
+use pt_types::{Call, Clock};
 use std::alloc::{AllocError, Global};
 
 fn word_of(call: &Call) -> &'static str {
@@ -8,6 +8,7 @@ fn word_of(call: &Call) -> &'static str {
         Call::Lock(_) => "lock",
         Call::Trylock(_) => "trylock",
         Call::Timedlock(..) => "timedlock",
+        Call::Clocklock(..) => "clocklock",
         Call::Unlock(_) => "unlock",
         Call::Consistent(_) => "consistent",
         Call::MutexDestroy(_) => "mutex-destroy",
@@ -15,20 +16,30 @@ fn word_of(call: &Call) -> &'static str {
         Call::Rdlock(_) => "rdlock",
         Call::Tryrdlock(_) => "tryrdlock",
         Call::Timedrdlock(..) => "timedrdlock",
+        Call::Clockrdlock(..) => "clockrdlock",
         Call::Wrlock(_) => "wrlock",
         Call::Trywrlock(_) => "trywrlock",
         Call::Timedwrlock(..) => "timedwrlock",
+        Call::Clockwrlock(..) => "clockwrlock",
         Call::Rwunlock(_) => "rwunlock",
         Call::RwlockDestroy(_) => "rwlock-destroy",
         Call::CondInit(_) => "cond-init",
         Call::CondDestroy(_) => "cond-destroy",
         Call::Wait(..) => "wait",
         Call::Timedwait(..) => "timedwait",
+        Call::Clockwait(..) => "clockwait",
         Call::Signal(_) => "signal",
         Call::Broadcast(_) => "broadcast",
         Call::BarrierInit(..) => "barrier-init",
         Call::Bwait(_) => "bwait",
         Call::BarrierDestroy(_) => "barrier-destroy",
+    }
+}
+
+fn clock_of(clock: &Clock) -> &'static str {
+    match clock {
+        Clock::Real => "Real",
+        Clock::Mono => "Mono",
     }
 }
 
@@ -51,9 +62,10 @@ pub fn shown(alloc: Global, i: usize, entry: &Entry) -> Result<String, AllocErro
             let c = c.0;
             format!(in alloc; "{i} Death({c})")
         }
-        Entry::Moment(t) => {
+        Entry::Moment(clock, t) => {
+            let clock = clock_of(clock);
             let (sec, nsec) = (t.nanos() / 1_000_000_000, t.nanos() % 1_000_000_000);
-            format!(in alloc; "{i} Moment({sec}, {nsec})")
+            format!(in alloc; "{i} Moment({clock}, {sec}, {nsec})")
         }
         Entry::Grant(j, x) => {
             let word = x.word();

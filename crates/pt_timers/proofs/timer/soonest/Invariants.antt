@@ -1,6 +1,8 @@
-use Rattle.std.proofs.Common.{◌≡◌, drop}
-use Rattle.pt_timers.specs.Deadlines.{soonest_from, soonest_of}
+use Rattle.std.proofs.Common.{◌≡◌, drop, filter}
+use Rattle.pt_timers.specs.Deadlines.{is_on, soonest_from, soonest_of}
 use Rattle.pt_timers.proofs.timer.soonest.Given as goal
 
-abbrev pub invariant-loop-i : goal.invariant-loop-i
-invariant-loop-i l = soonest_from l.best (drop l.i l.timers) ≡ soonest_of l.timers
+abbrev pub invariant-loop-timer : goal.invariant-loop-timer
+invariant-loop-timer l =
+    soonest_from l.best (filter (is_on l.clock) (drop l.timer-index l.timers))
+    ≡ soonest_of (filter (is_on l.clock) l.timers)

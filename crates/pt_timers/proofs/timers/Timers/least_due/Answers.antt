@@ -1,21 +1,18 @@
-use Rattle.std.proofs.Common.{sym, ap, ◌∙◌, arith}
-use Rattle.pt_timers.specs.Deadlines.{soonest_of}
-use Rattle.pt_timers.proofs.TimerLemmas.{due, not-due, none-due}
+use Rattle.std.proofs.Common.{sym, subst, Option, Some}
+use Rattle.pt_types.specs.declared.time.Clock.TheVariants.{Mono}
+use Rattle.pt_timers.specs.declared.timer.Timer.{Timer}
+use Rattle.pt_timers.specs.Deadlines.{reading, IsFirstDue, IsLeastDue}
+use Rattle.pt_timers.proofs.DueLemmas.{sooner-due}
 use Rattle.pt_timers.proofs.timers.Timers.least_due.Goals as goal
 
-pub returns-then-nanos : goal.returns-then-nanos
-returns-then-nanos g c =
-    let found = sym (c.in-Some.ensures ∙ ap soonest_of c.deref.ensures.value) in
-    due c.self.inside.timers.items c.args.self.now c.self.view_is c.in-Some.timer c.args.now
-    c.self.invariant found (omega (arith, c.nanos.ensures, c.nanos-2.ensures, c.if-nanos.true))
-
-pub returns-else-nanos : goal.returns-else-nanos
-returns-else-nanos g c =
-    let found = sym (c.in-Some.ensures ∙ ap soonest_of c.deref.ensures.value) in
-    not-due c.self.inside.timers.items c.args.self.now c.self.view_is c.in-Some.timer c.args.now
-    found (omega (arith, c.nanos.ensures, c.nanos-2.ensures, c.if-nanos.false))
-
-pub returns-in_default : goal.returns-in_default
-returns-in_default g c =
-    let none = sym (c.in_default.ensures ∙ ap soonest_of c.deref.ensures.value) in
-    none-due c.self.inside.timers.items c.args.self.now c.self.view_is c.args.now none
+-- the sooner of the two that are due
+pub returns-in-Some : goal.returns-in-Some
+returns-in-Some g c =
+    let w = c.args.self.now in
+    let due =
+    subst (λ (found : Option Timer). IsFirstDue w Mono c.args.mono found) c.in-Some.is
+    c.first_due.ensures in
+    subst (λ (t : Timer). IsLeastDue w (reading c.args.real c.args.mono) (Some t.place))
+    (sym c.sooner.ensures)
+    (sooner-due w c.args.real c.args.mono c.first_due-by_real.result c.in-Some.timer
+    c.first_due-by_real.ensures due)

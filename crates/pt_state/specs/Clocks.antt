@@ -1,0 +1,17 @@
+-- Clocks: the two clocks as they are kept, and as they are read off a history.
+use Rattle.std.specs.Prelude.{ℕ, ◌≡◌, Option}
+use Rattle.pt_types.specs.declared.time.Clock.{Clock}
+use Rattle.pt_types.specs.declared.time.Clock.TheVariants.{Real, Mono}
+use Rattle.pt_model.specs.Histories.{History}
+use Rattle.pt_model.specs.Clients.{clock}
+use Rattle.pt_state.specs.declared.clocks.Clocks.{Clocks}
+
+-- what is kept of a clock: its greatest moment, in nanoseconds; before its first there is none
+-- [profile]
+abbrev pub reading : Clocks → Clock → Option ℕ
+reading kept Real = kept.real
+reading kept Mono = kept.mono
+
+-- the clocks are those of the history  [profile]
+abbrev pub AreClocks : History → Clocks → Type 0
+AreClocks h kept = (k : Clock) → reading kept k ≡ clock h k
