@@ -23,7 +23,7 @@ impl<A: Allocator + Copy> Model for History<A> {
 }
 
 impl<A: Allocator + Copy> History<A> {
-    ghost use Rattle.std.specs.Prelude.{◌≡◌, ◌↔◌, ◌+◌, ◌-◌, ◌<◌, ◌≤◌, [], ◌∷◌, ◌++◌, length, slice_get, option_copied, OnOk, OnErr, IfErr, ◌≢◌};
+    ghost use Rattle.std.specs.Prelude.{◌≡◌, ◌↔◌, ◌+◌, ◌-◌, ◌<◌, ◌≤◌, [], ◌∷◌, ◌++◌, length, slice_get, option_copied, IsOk, OnOk, OnErr, IfErr, ◌≢◌};
     ghost use Rattle.pt_history.specs.Stored.{Stored};
 
     /// An empty history of at most so many entries. It takes no memory.
@@ -38,13 +38,15 @@ impl<A: Allocator + Copy> History<A> {
     }
 
     /// Makes room for so many entries more. FULL exactly where the history would pass its limit
-    /// with them; else ENOMEM where the growth is refused. A refusal changes nothing.  [profile]
+    /// with them; else ENOMEM where the growth is refused. A refusal changes nothing. Room that is
+    /// there already is never refused.  [profile]
     pub fn reserve_for(&mut self, room: u64) -> Result<(), Refusal>
         ensures ok { OnOk result (self.new ≡ record self.old { room = room }) }
         ensures full { (result ≡ Err Refusal.Full)
             ↔ (self.old.limit < length self.old.entries + room) }
         ensures err { OnErr result (self.new ≡ self.old) }
         ensures memory { IfErr result (λ r. r ≢ Refusal.Full → r ≡ Refusal.Enomem) }
+        ensures enough { room ≤ self.old.room → IsOk result }
     {
         if room > self.limit as u64 - self.entries.len() as u64 {
             return Err(Refusal::Full);

@@ -1,4 +1,4 @@
-ghost use Rattle.std.specs.Prelude.{◌≡◌, ◌≤◌, ◌++◌, OnOk, OnErr, IfErr, length};
+ghost use Rattle.std.specs.Prelude.{◌≡◌, ◌≤◌, ◌+◌, ◌++◌, IsOk, OnOk, OnErr, IfErr, length, vec_len, vec_capacity};
 ghost use Rattle.std.specs.Option.{option_copied};
 ghost use Rattle.pt_lines.specs.Replies.{reply_line};
 
@@ -31,7 +31,8 @@ impl Word {
 }
 
 /// Appends the answer to the client's line of this number, `who` where it stands in a script.
-/// ENOMEM where a growth was refused: nothing is appended.  [profile]
+/// ENOMEM where a growth was refused: nothing is appended. A line for which there is room is never
+/// refused.  [profile]
 pub fn write_reply<A: Allocator + Copy>(
     out: &mut Vec<u8, A>,
     who: Option<&Who>,
@@ -42,6 +43,8 @@ pub fn write_reply<A: Allocator + Copy>(
         (out.new.items ≡ out.old.items ++ reply_line (option_copied who.entry) n word) }
     ensures err { OnErr result (out.new.items ≡ out.old.items) }
     ensures why { IfErr result (λ refusal. refusal ≡ Refusal.Enomem) }
+    ensures enough { vec_len out.old + length (reply_line (option_copied who.entry) n word)
+        ≤ vec_capacity out.old → IsOk result }
 {
     let mut line: ArrayVec<u8, 64> = ArrayVec::new();
     if let Some(who) = who {
