@@ -36,7 +36,7 @@ fn worked_rows(rt: HostRuntime) -> Result<(), Fail> {
 }
 
 #[test]
-fn two_clocks_and_the_highest_priorities(rt: HostRuntime) -> Result<(), Fail> {
+fn two_clocks_and_priorities_to_99(rt: HostRuntime) -> Result<(), Fail> {
     let _ = check(&rt, rt.alloc(), &rows::ROW_36, 1 << 20)?;
     let _ = check(&rt, rt.alloc(), &rows::ROW_37, 1 << 20)?;
     Ok(())

@@ -271,9 +271,9 @@ timers-more t (u ∷ us) a good n =
     Each-more [] b apart = (apart, tt)
     Each-more (v ∷ vs) b apart = (b.0, Each-more vs b.1 apart)
 
-pub push-timers : (ts us : List Timer) (t : Timer) (w : List (ℕ × (Clock × ℕ))) → map entry_of ts ≡ w
-    → AreTimers ts → is_bad_deadline t.deadline ≡ false → deadline_at w t.place ≡ None
-    → us ≡ ts ++ t ∷ [] → AreTimers us
+pub push-timers : (ts us : List Timer) (t : Timer) (w : List (ℕ × (Clock × ℕ)))
+    → map entry_of ts ≡ w → AreTimers ts → is_bad_deadline t.deadline ≡ false
+    → deadline_at w t.place ≡ None → us ≡ ts ++ t ∷ [] → AreTimers us
 push-timers ts us t w view a good n is =
     let none = ap (λ v. deadline_at v t.place) view ∙ n in
     subst AreTimers (sym is) (timers-more t ts a good none)

@@ -1,5 +1,4 @@
 ghost use Rattle.std.specs.Prelude.{◌≡◌, filter};
-ghost use Rattle.pt_types.specs.Deeds.{same_clock};
 ghost use Rattle.pt_types.specs.Times.{pair_before};
 ghost use Rattle.pt_timers.specs.Deadlines.{is_on, key_of, pair_of, sooner_of, soonest_of};
 

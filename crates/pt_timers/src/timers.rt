@@ -81,8 +81,8 @@ impl<A: Allocator + Copy> Timers<A> {
         }
     }
 
-    /// The place that is due: of the deadlines at or before the moment of their own clock the least,
-    /// whichever the clock, and of equal ones that of the least place.
+    /// The place that is due: of the deadlines at or before the moment of their own clock the
+    /// least, whichever the clock, and of equal ones that of the least place.
     /// [XSH pthread_mutex_clocklock; the order is profile]
     pub fn least_due(&self, real: Option<Moment>, mono: Option<Moment>) -> Option<u64>
         ensures { IsLeastDue self.now (reading real mono) result }

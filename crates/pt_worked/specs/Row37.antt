@@ -1,4 +1,4 @@
--- Row37: the highest priorities.
+-- Row37: priorities to 99.
 use Rattle.std.specs.Prelude.{◌≡◌, List, [], ◌∷◌, ℕ, false, Some, None, Result, Ok, codes}
 use Rattle.pt_types.specs.declared.call.Call.TheVariants as call
 use Rattle.pt_types.specs.declared.call.MutexKind.TheVariants.{Normal}

@@ -1,5 +1,5 @@
 -- Row40: when and why a wait was moved is known behind a seal.
-use Rattle.std.specs.Prelude.{List, [], ◌∷◌, ℕ, false, Some, None, Result, Ok, codes}
+use Rattle.std.specs.Prelude.{◌≡◌, List, [], ◌∷◌, ℕ, false, Option, Some, None, Result, Ok, codes}
 use Rattle.pt_types.specs.Times.{nanos}
 use Rattle.pt_types.specs.declared.time.Clock.TheVariants.{Real}
 use Rattle.pt_types.specs.declared.call.Call.TheVariants as call
@@ -13,6 +13,8 @@ use Rattle.pt_model.specs.declared.entry.Event.{Event}
 use Rattle.pt_model.specs.declared.entry.Event.TheVariants as event
 use Rattle.pt_model.specs.Histories.{Begin, history}
 use Rattle.pt_model.specs.Starts.{nothing}
+use Rattle.pt_model.specs.Records.{Told}
+use Rattle.pt_model.specs.Queries.{answer_of}
 use Rattle.pt_worked.specs.Play.{entries_in, at}
 use Rattle.pt_worked.specs.SealedPlay.{Plays, behind_seal}
 
@@ -109,3 +111,13 @@ IsPlayed40 =
     Plays (Begin nothing) events entered told
     × Plays (behind_seal (history (entries_in entered))) later_events later_entered later_told
     × Plays (history (entries_in entered)) later_events later_entered later_told
+
+-- an answer that was told before the seal
+abbrev pub answered : Option Told
+answered = Some (record { client = 2; place = 17; outcome = Done })
+
+-- behind the seal the latest calls have the answers that they had, or none still
+abbrev pub IsAnswered40 : Type 0
+IsAnswered40 =
+    let h = behind_seal (history (entries_in entered)) in
+    (answer_of h 2 ≡ answered) × (answer_of h 0 ≡ None)

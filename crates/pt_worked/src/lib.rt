@@ -26,7 +26,7 @@ ghost use Rattle.pt_worked.specs.Row34.{IsPlayed34};
 ghost use Rattle.pt_worked.specs.Row36.{IsPlayed36};
 ghost use Rattle.pt_worked.specs.Row37.{IsPlayed37};
 ghost use Rattle.pt_worked.specs.Row39.{IsPlayed39, IsTold39};
-ghost use Rattle.pt_worked.specs.Row40.{IsPlayed40};
+ghost use Rattle.pt_worked.specs.Row40.{IsPlayed40, IsAnswered40};
 ghost use Rattle.pt_worked.specs.Row41.{IsPlayed41};
 ghost use Rattle.pt_worked.specs.Row23.{IsFullAtSeven, IsFullBeforeYield, IsFullAtSix, IsFullAtOne, IsFullAtNone};
 ghost use Rattle.pt_worked.specs.SealedRows.{IsSealedAtSeven, IsTwiceSealed, IsSealedBeforeYield, IsSealedAtSix, IsSealedAtFour, IsSealedAtOne, IsSealedAtNone};
@@ -141,7 +141,7 @@ pub fn row_36()
     ensures { IsPlayed36 }
 {}
 
-/// Row 37: the highest priorities.
+/// Row 37: priorities to 99.
 pub fn row_37()
     ensures { IsPlayed37 }
 {}
@@ -174,7 +174,8 @@ pub fn row_39()
 
 /// Row 40: when and why a wait was moved is known behind a seal.
 pub fn row_40()
-    ensures { IsPlayed40 }
+    ensures played { IsPlayed40 }
+    ensures answered { IsAnswered40 }
 {}
 
 /// Row 41: both clocks count on behind a seal.

@@ -230,7 +230,7 @@ mono-moment 5 0
 14 Grant(12, 0), 1 12 0",
 };
 
-/// The highest priorities.
+/// Priorities to 99.
 pub const ROW_37: Played = Played {
     events: "join 99
 join 98
