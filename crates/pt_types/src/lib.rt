@@ -16,6 +16,3 @@ pub use name::Name;
 pub use number::{ClientId, ObjectId, Priority};
 pub use outcome::{Condition, Outcome, Refusal, Verdict};
 pub use time::{Deadline, Moment};
-
-#[cfg(test)]
-mod tests;

@@ -2,8 +2,8 @@ ghost use Rattle.std.specs.Prelude.{ℕ, ◌≡◌, ◌+◌, ◌≤◌, false, N
 ghost use Rattle.pt_types.specs.Times.{is_bad_deadline};
 ghost use Rattle.pt_timers.specs.Deadlines.{deadline_at};
 
-use super::*;
 use pt_refusing::{Refusing, refuse_each};
+use pt_timers::Timers;
 use pt_types::{Deadline, Moment, Refusal};
 use std::alloc::Global;
 use std::test::Fail;
@@ -51,29 +51,35 @@ fn take_all(timers: &mut Timers<&Refusing<Global>>) -> Result<(), Fail> {
 }
 
 // Sets 20 timers, each sooner than those before it.
-fn set_timers(heap: &Refusing<Global>) -> Result<bool, Fail> {
-    let mut timers = Timers::new(heap);
+fn set_20_timers(timers: &mut Timers<&Refusing<Global>>) -> Result<bool, Fail>
+    requires { (p : ℕ) → deadline_at timers.old p ≡ None }
+{
     let mut met = false;
     for place in 0..20 {
         let deadline = Deadline::new(20 - place, 0).ok_or("deadline")?;
-        met = set_next(&mut timers, place, deadline)? || met;
+        met = set_next(timers, place, deadline)? || met;
     }
-    take_all(&mut timers)?;
+    take_all(timers)?;
     Ok(met)
+}
+
+fn set_timers(heap: &Refusing<Global>) -> Result<bool, Fail> {
+    let mut timers = Timers::new(heap);
+    set_20_timers(&mut timers)
 }
 
 #[test]
 fn due_at_their_nanosecond_by_deadline_then_place(rt: HostRuntime) -> Result<(), Fail> {
-    let mut timers = Timers::new(rt.alloc());
     let late = Deadline::new(9, 1).ok_or("deadline")?;
     let soon = Deadline::new(5, 0).ok_or("deadline")?;
-    assert!(rt; timers.least().is_none());
-    timers.set(4, late).ok().ok_or("room")?;
-    timers.set(7, soon).ok().ok_or("room")?;
-    timers.set(3, soon).ok().ok_or("room")?;
-    assert_eq!(rt; timers.least(), Some(soon));
     let before = Moment::new(4, 999_999_999).ok_or("moment")?;
     let at = Moment::new(5, 0).ok_or("moment")?;
+    let mut timers = Timers::new(rt.alloc());
+    assert!(rt; timers.least().is_none());
+    assert!(rt; timers.set(4, late).is_ok());
+    assert!(rt; timers.set(7, soon).is_ok());
+    assert!(rt; timers.set(3, soon).is_ok());
+    assert_eq!(rt; timers.least(), Some(soon));
     assert_eq!(rt; timers.least_due(before), None);
     assert_eq!(rt; timers.least_due(at), Some(3));
     timers.cancel(3);
