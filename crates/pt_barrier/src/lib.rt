@@ -10,6 +10,3 @@
 mod object;
 
 pub use object::{BarrierObj, verdict_init};
-
-#[cfg(test)]
-mod tests;

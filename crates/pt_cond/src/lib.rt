@@ -9,6 +9,3 @@
 mod object;
 
 pub use object::CondObj;
-
-#[cfg(test)]
-mod tests;

@@ -9,6 +9,3 @@ mod kernel;
 pub mod plain;
 
 pub use kernel::{all_zero, any_from, highest};
-
-#[cfg(test)]
-mod tests;

@@ -11,6 +11,3 @@
 mod object;
 
 pub use object::MutexObj;
-
-#[cfg(test)]
-mod tests;

@@ -1,17 +1,14 @@
 //! An allocator for tests, which refuses one growth, and a walk over all growths of a run.
 //!
 //! Contracts see that it is an allocator, so every collection works over it, and what a walk
-//! answers. Which growth is refused only the tests of this crate show, since a count that threads
-//! share has no contract.
+//! answers. Which growth is refused only tests show, since a count that threads share has no
+//! contract.
 #![tactic(auto)]
 
 ghost use Rattle.std.specs.Prelude.{◌≡◌, ◌<◌, IsTrue, IfOk, IfSome};
 
 use std::alloc::{AllocError, Allocator, Global};
 use std::sync::atomic::{AtomicU64, Ordering};
-
-#[cfg(test)]
-mod tests;
 
 // The growths so far, and the number of the one to refuse, counted from 1.
 #[derive(Drop)]

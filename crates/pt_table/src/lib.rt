@@ -15,6 +15,3 @@ mod rows;
 pub use clients::{ClientRow, Clients, MOST_CLIENTS};
 pub use fault::TableFault;
 pub use objects::{MOST_OBJECTS, ObjectRow, Objects};
-
-#[cfg(test)]
-mod tests;

@@ -8,6 +8,3 @@ mod timer;
 mod timers;
 
 pub use timers::Timers;
-
-#[cfg(test)]
-mod tests;

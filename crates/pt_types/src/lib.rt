@@ -16,6 +16,3 @@ pub use name::Name;
 pub use number::{ClientId, MOST_PRIORITY, ObjectId, Priority};
 pub use outcome::{Condition, Outcome, Refusal, Verdict};
 pub use time::{Clock, Deadline, Moment};
-
-#[cfg(test)]
-mod tests;

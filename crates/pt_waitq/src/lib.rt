@@ -14,6 +14,3 @@ mod waiter;
 pub use plain_list::PlainList;
 pub use wait_list::WaitList;
 pub use waiter::Waiter;
-
-#[cfg(test)]
-mod tests;

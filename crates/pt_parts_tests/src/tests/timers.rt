@@ -2,8 +2,8 @@ ghost use Rattle.std.specs.Prelude.{ℕ, ◌≡◌, ◌+◌, ◌≤◌, false, N
 ghost use Rattle.pt_types.specs.Times.{is_bad_deadline};
 ghost use Rattle.pt_timers.specs.Deadlines.{deadline_at};
 
-use super::*;
 use pt_refusing::{Refusing, refuse_each};
+use pt_timers::Timers;
 use pt_types::{Clock, Deadline, Moment, Refusal};
 use std::alloc::Global;
 use std::test::Fail;
@@ -66,29 +66,35 @@ fn take_all(timers: &mut Timers<&Refusing<Global>>) -> Result<(), Fail> {
 }
 
 // Sets 20 timers, each sooner than those before it.
-fn set_timers(heap: &Refusing<Global>) -> Result<bool, Fail> {
-    let mut timers = Timers::new(heap);
+fn set_20_timers(timers: &mut Timers<&Refusing<Global>>) -> Result<bool, Fail>
+    requires { (p : ℕ) → deadline_at timers.old p ≡ None }
+{
     let mut met = false;
     for place in 0..20 {
         let deadline = Deadline::new(20 - place, 0).ok_or("deadline")?;
-        met = set_next(&mut timers, place, deadline)? || met;
+        met = set_next(timers, place, deadline)? || met;
     }
-    take_all(&mut timers)?;
+    take_all(timers)?;
     Ok(met)
+}
+
+fn set_timers(heap: &Refusing<Global>) -> Result<bool, Fail> {
+    let mut timers = Timers::new(heap);
+    set_20_timers(&mut timers)
 }
 
 #[test]
 fn due_at_their_nanosecond_by_deadline_then_place(rt: HostRuntime) -> Result<(), Fail> {
-    let mut timers = Timers::new(rt.alloc());
     let late = Deadline::new(9, 1).ok_or("deadline")?;
     let soon = Deadline::new(5, 0).ok_or("deadline")?;
-    assert!(rt; timers.least(Clock::Real).is_none());
-    timers.set(4, Clock::Real, late).ok().ok_or("room")?;
-    timers.set(7, Clock::Real, soon).ok().ok_or("room")?;
-    timers.set(3, Clock::Real, soon).ok().ok_or("room")?;
-    assert_eq!(rt; timers.least(Clock::Real), Some(soon));
     let before = Moment::new(4, 999_999_999).ok_or("moment")?;
     let at = Moment::new(5, 0).ok_or("moment")?;
+    let mut timers = Timers::new(rt.alloc());
+    assert!(rt; timers.least(Clock::Real).is_none());
+    assert!(rt; timers.set(4, Clock::Real, late).is_ok());
+    assert!(rt; timers.set(7, Clock::Real, soon).is_ok());
+    assert!(rt; timers.set(3, Clock::Real, soon).is_ok());
+    assert_eq!(rt; timers.least(Clock::Real), Some(soon));
     assert_eq!(rt; timers.least_due(Some(before), None), None);
     assert_eq!(rt; timers.least_due(Some(at), None), Some(3));
     timers.cancel(3);
@@ -102,15 +108,15 @@ fn due_at_their_nanosecond_by_deadline_then_place(rt: HostRuntime) -> Result<(),
 
 #[test]
 fn each_deadline_is_due_by_its_own_clock(rt: HostRuntime) -> Result<(), Fail> {
-    let mut timers = Timers::new(rt.alloc());
     let soon = Deadline::new(5, 0).ok_or("deadline")?;
     let late = Deadline::new(9, 0).ok_or("deadline")?;
-    timers.set(2, Clock::Real, late).ok().ok_or("room")?;
-    timers.set(3, Clock::Mono, soon).ok().ok_or("room")?;
-    timers.set(4, Clock::Real, soon).ok().ok_or("room")?;
-    assert_eq!(rt; timers.least_due(None, None), None);
     let five = Moment::new(5, 0).ok_or("moment")?;
     let nine = Moment::new(9, 0).ok_or("moment")?;
+    let mut timers = Timers::new(rt.alloc());
+    assert!(rt; timers.set(2, Clock::Real, late).is_ok());
+    assert!(rt; timers.set(3, Clock::Mono, soon).is_ok());
+    assert!(rt; timers.set(4, Clock::Real, soon).is_ok());
+    assert_eq!(rt; timers.least_due(None, None), None);
     assert_eq!(rt; timers.least_due(Some(nine), None), Some(4));
     assert_eq!(rt; timers.least_due(None, Some(nine)), Some(3));
     assert_eq!(rt;

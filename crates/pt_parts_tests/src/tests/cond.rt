@@ -1,6 +1,6 @@
 ghost use Rattle.std.specs.Prelude.{◌≡◌, Some};
 
-use super::*;
+use pt_cond::CondObj;
 use pt_types::{ClientId, Deadline, ObjectId, Outcome, Priority, Verdict};
 use pt_waitq::{PlainList, WaitList, Waiter};
 use std::test::Fail;
@@ -63,8 +63,8 @@ fn the_least_is_the_first_of_its_queue(rt: HostRuntime) -> Result<(), Fail> {
     let prio = Priority::new(10).ok_or("priority")?;
     let cond = bound_to(M);
     let mut list = PlainList::new(rt.alloc());
-    list.make(N).ok().ok_or("queue")?;
-    list.admit(ClientId(7)).ok().ok_or("room")?;
+    assert!(rt; list.make(N).is_ok());
+    assert!(rt; list.admit(ClientId(7)).is_ok());
     assert!(rt; cond.least(&list, N).is_none());
     let waiter = Waiter {
         client: ClientId(7),

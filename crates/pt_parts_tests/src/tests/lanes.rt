@@ -1,4 +1,4 @@
-use super::*;
+use pt_lanes::{all_zero, any_from, highest, plain};
 
 #[test]
 fn no_counts(rt: HostRuntime) {

@@ -1,14 +1,21 @@
-use super::*;
+use pt_refusing::{Refusing, refuse_each};
+use std::alloc::{AllocError, Global};
 use std::test::Fail;
+
+fn is_refused(heap: &Refusing<Global>, len: usize) -> bool {
+    let block: Result<Vec<u8, &Refusing<Global>>, AllocError> = Vec::with_capacity(heap, len);
+    block.is_err()
+}
 
 // Asks for three blocks, each once more where it was refused.
 fn three_blocks(heap: &Refusing<Global>) -> Result<bool, AllocError> {
     let mut met = false;
     for len in 1..4 {
-        let block: Result<Vec<u8, &Refusing<Global>>, AllocError> = Vec::with_capacity(heap, len);
-        if block.is_err() {
+        if is_refused(heap, len) {
             met = true;
-            let _again: Vec<u8, &Refusing<Global>> = Vec::with_capacity(heap, len)?;
+            if is_refused(heap, len) {
+                return Err(AllocError);
+            }
         }
     }
     Ok(met)

@@ -1,4 +1,4 @@
-use super::*;
+use pt_barrier::{BarrierObj, verdict_init};
 use pt_types::{Outcome, Verdict};
 
 #[test]

@@ -1,4 +1,4 @@
-use super::*;
+use pt_mutex::MutexObj;
 use pt_types::{ClientId, Condition, Deadline, MutexKind, Outcome, Verdict};
 use std::test::Fail;
 
