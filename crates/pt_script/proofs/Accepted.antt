@@ -41,20 +41,20 @@ clients_as : (v : Event) (who : Who) (place : ℕ) (rows : List (List ℕ × ℕ
 clients_as (event.Join p) who place rows = refl
 clients_as (event.Call c call) who place rows = refl
 clients_as (event.Death c) who place rows = refl
-clients_as (event.Moment t) who place rows = refl
+clients_as (event.Moment clock t) who place rows = refl
 
 calls_as : (v : Event) (line : Asking) (place : ℕ) (rows : List (ℕ × Asking))
     → calls_marked (mark_of v) line place rows ≡ calls_with v line place rows
 calls_as (event.Join p) line place rows = refl
 calls_as (event.Call c call) line place rows = refl
 calls_as (event.Death c) line place rows = refl
-calls_as (event.Moment t) line place rows = refl
+calls_as (event.Moment clock t) line place rows = refl
 
 greeting_as : (v : Event) (line : Asking) → greeting_marked (mark_of v) line ≡ greeting v line
 greeting_as (event.Join p) line = refl
 greeting_as (event.Call c call) line = refl
 greeting_as (event.Death c) line = refl
-greeting_as (event.Moment t) line = refl
+greeting_as (event.Moment clock t) line = refl
 
 -- the answers from the first new place on are those of the new entries
 pub answers_added : (old added : List Entry)

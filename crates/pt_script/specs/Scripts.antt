@@ -82,7 +82,7 @@ event_for s (Named name) (Hello p) = join_for s.entries p (number_named s.client
 event_for s (Named name) (Ask call) =
     of_client (λ c. event.Call c call) (number_named s.clients name)
 event_for s (Named name) Die = of_client (λ c. event.Death c) (number_named s.clients name)
-event_for s Star (Tick t) = Ok (event.Moment t)
+event_for s Star (Tick clock t) = Ok (event.Moment clock t)
 event_for s _ _ = Err Syntax
 
 -- the same of a line that may not be readable  [profile]

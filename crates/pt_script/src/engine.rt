@@ -30,7 +30,7 @@ fn mark_of(event: &Event) -> Mark
     match event {
         Event::Join(_) => Mark::Client,
         Event::Call(_, _) => Mark::Call,
-        Event::Death(_) | Event::Moment(_) => Mark::Nothing,
+        Event::Death(_) | Event::Moment(_, _) => Mark::Nothing,
     }
 }
 
@@ -199,7 +199,7 @@ impl<A: Allocator + Copy> Engine<A> {
             (Who::Named(name), ScriptBody::Hello(priority)) => self.join_for(name, priority),
             (Who::Named(name), ScriptBody::Ask(call)) => Ok(Event::Call(self.client(name)?, call)),
             (Who::Named(name), ScriptBody::Die) => Ok(Event::Death(self.client(name)?)),
-            (Who::Star, ScriptBody::Tick(moment)) => Ok(Event::Moment(moment)),
+            (Who::Star, ScriptBody::Tick(clock, moment)) => Ok(Event::Moment(clock, moment)),
             _ => Err(Refusal::Syntax),
         }
     }

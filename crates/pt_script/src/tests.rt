@@ -52,7 +52,7 @@ fn refused_lines_are_answered_and_counted(rt: HostRuntime) -> Result<(), Fail> {
     let mut input = Vec::from_slice(alloc, b"A lock m\n")?;
     input.extend_from_slice(&[b'x'; 129])?;
     input.extend_from_slice(
-        b"\nA hello 33\nA hello 32\nA hello 32\nA lokc m\nA lock m\nA die\nA lock m\nB die\n\
+        b"\nA hello 100\nA hello 99\nA hello 99\nA lokc m\nA lock m\nA die\nA lock m\nB die\n\
         \n* moment 1 1000000000\nB hello 1",
     )?;
     for step in [1, 4096] {

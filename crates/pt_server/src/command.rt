@@ -8,17 +8,19 @@ priority. Every answer is proved to be what the rules say.";
 const SCRIPT: &str = "Answers the lines of standard input on standard output, each as it comes";
 
 const LINES: &str = "\
-A line is a client's name and a call, `NAME die`, or the clock's `* moment SECONDS NANOSECONDS`:
+A line is a client's name and a call, `NAME die`, or a reading of one of the two clocks, in seconds
+and nanoseconds: `* moment S N` of the clock real, `* mono-moment S N` of the clock mono.
 
-  A hello 10                     client A joins with priority 10 (1 to 32, 32 the highest)
+  A hello 10                     client A joins with priority 10 (1 to 99, 99 the highest)
   A mutex-init m normal robust   makes the mutex m
   A lock m                       is answered once A has the mutex
   A die                          A's process ends
 
 Calls: mutex-init NAME KIND ROBUST (normal, errorcheck, recursive; stalled, robust), lock, trylock,
-timedlock NAME S N, unlock, consistent, mutex-destroy; rwlock-init, rdlock, tryrdlock, timedrdlock,
-wrlock, trywrlock, timedwrlock, rwunlock, rwlock-destroy; cond-init, wait COND MUTEX,
-timedwait COND MUTEX S N, signal, broadcast, cond-destroy; barrier-init NAME COUNT, bwait,
+timedlock NAME S N, clocklock NAME CLOCK S N (real, mono), unlock, consistent, mutex-destroy;
+rwlock-init, rdlock, tryrdlock, timedrdlock, clockrdlock, wrlock, trywrlock, timedwrlock,
+clockwrlock, rwunlock, rwlock-destroy; cond-init, wait COND MUTEX, timedwait COND MUTEX S N,
+clockwait COND MUTEX CLOCK S N, signal, broadcast, cond-destroy; barrier-init NAME COUNT, bwait,
 barrier-destroy.
 
 An answer is the client's name, the number of its line, and a result:
