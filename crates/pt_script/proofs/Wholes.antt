@@ -6,7 +6,7 @@ use Rattle.std.proofs.Math.Seq.{take-append_seam}
 use Rattle.std.proofs.lemmas.Bool.Decides.{Decides-eqb}
 use mathlib.Core.List.{IsPrefix}
 use Rattle.std.specs.Prelude.{Result, Ok, Err, OnOk}
-use Rattle.pt_io.specs.Devices.{is_end}
+use Rattle.pt_io.specs.Devices.{moves_none}
 use Rattle.pt_lines.specs.declared.cutter.Cut.{Cut}
 use Rattle.pt_lines.specs.Cuts.{cut_of}
 use Rattle.pt_lines.specs.Lines.{Held, IsBegun, lines, lines_after, lines_past_newline, to_come}
@@ -203,7 +203,7 @@ stopped_why bytes more held next s text c Memory b gives same read stop =
 
 -- a read that gave a byte told no end
 pub not_ended : (n : ℕ) (buf : List ℕ) (before after : Bool) → (n ≡ 0 → ⊥)
-    → after ≡ (before || is_end n buf) → after ≡ before
+    → after ≡ (before || moves_none n buf) → after ≡ before
 not_ended n buf before after some says = says ∙ by (n == 0) (Decides-eqb n 0).0 before
   where
     by : (b : Bool) → (b ≡ true → n ≡ 0) → (e : Bool) → (e || (b && nat_lt 0 (length buf))) ≡ e
@@ -228,9 +228,9 @@ begun_held held e =
 
 -- a read of no byte into a buffer that has room tells the end
 pub has_ended : (n : ℕ) (buf : List ℕ) (before after : Bool) → n ≡ 0 → length buf ≡ 4096
-    → after ≡ (before || is_end n buf) → after ≡ true
+    → after ≡ (before || moves_none n buf) → after ≡ true
 has_ended n buf before after e room says =
-    says ∙ (ap (λ k. before || is_end k buf) e ∙ (ap (λ k. before || nat_lt 0 k) room ∙ by before))
+    says ∙ (ap (λ k. before || moves_none k buf) e ∙ (ap (λ k. before || nat_lt 0 k) room ∙ by before))
   where
     by : (b : Bool) → (b || nat_lt 0 4096) ≡ true
     by true = refl
