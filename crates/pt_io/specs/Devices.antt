@@ -1,7 +1,9 @@
--- Devices: what went through one, how often it failed, and whether it told its end.
-use Rattle.std.specs.Prelude.{ℕ, ◌==◌, ◌≤◌, Bool, true, false, ◌&&◌, List, map, length, nat_lt, Result, Ok, Err}
+-- Devices: what went through one, how often it was asked and failed, and whether it ended.
+use Rattle.std.specs.Prelude.{ℕ, ◌-◌, ◌==◌, ◌≤◌, Bool, true, false, ◌&&◌, List, map, length, take, drop, nat_lt, Result, Ok, Err}
 use Prim.{Unit}
 use Rattle.std.proofs.Common.{lit≤}
+use Rattle.std.proofs.lemmas.List.{take-append-drop}
+use mathlib.Core.List.{IsPrefix}
 
 -- the failures of a device that fails at most once  [profile]
 abbrev pub count_of : Bool → ℕ
@@ -16,30 +18,52 @@ count_of_once false = lit≤ tt
 abbrev pub bytes_of : List (ℕ × Unit {0}) → List ℕ
 bytes_of ps = map (λ p. p.0) ps
 
--- whether n bytes read into a buffer tell the end: none came, though there was room  [XSH read]
-abbrev pub is_end : ℕ → List ℕ → Bool
-is_end n buf = (n == 0) && nat_lt 0 (length buf)
+-- all of these bytes but the last n  [profile]
+abbrev pub all_but : ℕ → List ℕ → List ℕ
+all_but n bytes = take (length bytes - n) bytes
 
--- whether an answer to a read tells the end; an error does not  [XSH read]
+pub all_but_begins : (n : ℕ) (bytes : List ℕ) → IsPrefix (all_but n bytes) bytes
+all_but_begins n bytes =
+    (drop (length bytes - n) bytes, take-append-drop (length bytes - n) bytes)
+
+-- whether no byte of a buffer moved, though it has some: a read that is at the end, or a write that
+-- is rejected  [XSH read, write]
+abbrev pub moves_none : ℕ → List ℕ → Bool
+moves_none n buf = (n == 0) && nat_lt 0 (length buf)
+
+-- whether an answer to a read reports the end; an error does not  [XSH read]
 abbrev pub tells_end : {E : Type 0} → Result ℕ E → List ℕ → Bool
-tells_end (Ok n) buf = is_end n buf
+tells_end (Ok n) buf = moves_none n buf
 tells_end (Err e) buf = false
 
--- a device of std, the bytes that it gave or took so far, and whether it failed or told its
--- end  [profile]
+-- how many rejections an answer to a write adds; an error is none  [XSH write]
+abbrev pub rejections_in : {E : Type 0} → Result ℕ E → List ℕ → ℕ
+rejections_in (Ok n) buf = count_of (moves_none n buf)
+rejections_in (Err e) buf = 0
+
+-- a device of std, and the bytes that it gave or took so far; how many of them its latest read gave,
+-- or it took since its latest flush; how many reads and rejections there were; and whether it failed
+-- or reported its end  [profile]
 pub record Tally (D : Type 0) : Type 0 where
   pub device : D
   pub bytes : List ℕ
+  pub recent : ℕ
+  pub reads : ℕ
+  pub rejections : ℕ
   pub has_failed : Bool
   pub has_ended : Bool
 
 -- a device in memory: the bytes that it gave, those that reads will give, and those that it took;
--- how many bytes a call moves at most, which call from here on fails (0 for none), and how it
--- stands  [profile]
+-- how many its latest read gave, how many it took since its latest flush, and how many reads there
+-- were; how many bytes a call moves at most, which call from here on fails (0 for none), and whether
+-- it failed or reported its end  [profile]
 pub record Memory : Type 0 where
   pub given : List ℕ
   pub left : List ℕ
   pub taken : List ℕ
+  pub latest : ℕ
+  pub unflushed : ℕ
+  pub reads : ℕ
   pub step : ℕ
   pub until_fault : ℕ
   pub has_failed : Bool

@@ -1,32 +1,37 @@
-ghost use Rattle.std.specs.Prelude.{◌≡◌, ◌++◌, [], take, false, ◌||◌, MatchResult};
+ghost use Rattle.std.specs.Prelude.{◌≡◌, ◌+◌, ◌++◌, [], take, false, ◌||◌, length, MatchResult};
 ghost use Rattle.std.specs.Io.{ReadsAtMost, WritesAtMost};
-ghost use Rattle.std.specs.Io.KnownBytes.{ReadConsumes, WriteAppends};
-ghost use Rattle.pt_io.specs.Devices.{bytes_of, count_of, count_of_once, tells_end};
+ghost use Rattle.std.specs.Io.KnownBytes.{Keeps, ReadConsumes, WriteAppends};
+ghost use Rattle.pt_io.specs.Devices.{all_but, all_but_begins, bytes_of, count_of, count_of_once, moves_none, rejections_in, tells_end};
 
 use crate::sink::Sink;
-use crate::source::{Source, is_end};
+use crate::source::{Source, moves_none};
 use http_server::Log;
 use std::io;
 use std::io::{ErrorKind, Read, Write};
 use std::marker::Model;
 
-/// How often a read or a write that a signal interrupts is tried again before it counts as a
-/// failure, the first try not counted.  [XSH read, EINTR; the number is profile]
+/// How often a read, a write or a flush that a signal interrupts is tried again before it counts as
+/// a failure, the first try not counted.  [XSH read, EINTR; the number is profile]
 pub const TRIES_AGAIN: u32 = 16;
 
 /// A reader of std as a `Source`, or a writer as a `Sink`.
 ///
-/// Contracts see it as its device, the bytes that went through, whether it failed, and whether it
-/// told its end. The bytes are noted for proofs alone and take no memory.
+/// Contracts see it as its device, the bytes that went through, how many of them went since its
+/// latest read or flush, how many reads and rejections there were, and whether it failed or reported
+/// its end. All but the last two are noted for proofs alone and take no memory.
 #[derive(Drop)]
 pub struct Counted<D> {
     device: D,
     has_failed: bool,
     has_ended: bool,
     log: Log<u8, ()>,
+    recent: Log<u8, ()>,
+    reads: Log<(), ()>,
+    rejections: Log<(), ()>,
 }
 
 impl<D> Model for Counted<D> {
+    ghost use Rattle.std.specs.Prelude.{length};
     ghost use Rattle.pt_io.specs.Devices.{Tally, bytes_of};
 
     ghost Value = { Tally D };
@@ -34,17 +39,23 @@ impl<D> Model for Counted<D> {
     ghost view = { λ c. record {
       device = c.device;
       bytes = bytes_of c.log.items;
+      recent = length (bytes_of c.recent.items);
+      reads = length c.reads.items;
+      rejections = length c.rejections.items;
       has_failed = c.has_failed;
       has_ended = c.has_ended;
     } };
 }
 
 impl<D> Counted<D> {
-    /// A device that has moved no byte yet, and has neither failed nor told its end.
+    /// A device that has moved no byte yet, and has neither failed nor reported its end.
     pub fn new(device: D) -> Counted<D>
         ensures { result ≡ record {
           device = device;
           bytes = [];
+          recent = 0;
+          reads = 0;
+          rejections = 0;
           has_failed = false;
           has_ended = false;
         } }
@@ -54,6 +65,9 @@ impl<D> Counted<D> {
             has_failed: false,
             has_ended: false,
             log: Log::new(),
+            recent: Log::new(),
+            reads: Log::new(),
+            rejections: Log::new(),
         }
     }
 
@@ -71,14 +85,14 @@ impl<D> Counted<D> {
         self.device
     }
 
-    /// Whether a read or a write has failed.
+    /// Whether a read, a write or a flush has failed.
     pub fn has_failed(&self) -> bool
         ensures { result ≡ self.now.has_failed }
     {
         self.has_failed
     }
 
-    /// Whether a read has told the end.
+    /// Whether a read has reported the end.
     pub fn has_ended(&self) -> bool
         ensures { result ≡ self.now.has_ended }
     {
@@ -95,7 +109,17 @@ fn note(log: &mut Log<u8, ()>, piece: &[u8])
     }
 }
 
-/// A read that is tried again where it is interrupted: nothing has moved then.
+/// Counts a write that took none of these bytes.
+fn note_rejection(rejections: &mut Log<(), ()>, n: usize, buf: &[u8])
+    ensures { length rejections.new.items
+        ≡ length rejections.old.items + count_of (moves_none n buf.now) }
+{
+    if moves_none(n, buf) {
+        *rejections = rejections.and(&(), &());
+    }
+}
+
+/// A read that is tried again if it is interrupted: nothing has moved then.
 fn read_again<R: Read>(device: &mut R, buf: &mut [u8]) -> io::Result<usize>
     ensures bound { ReadsAtMost result buf.new }
     ensures device { ReadConsumes (R.remaining device.old) (R.remaining device.new) result buf.new }
@@ -109,7 +133,7 @@ fn read_again<R: Read>(device: &mut R, buf: &mut [u8]) -> io::Result<usize>
     device.read(buf)
 }
 
-/// A write that is tried again where it is interrupted: nothing has moved then.
+/// A write that is tried again if it is interrupted: nothing has moved then.
 fn write_again<W: Write>(device: &mut W, buf: &[u8]) -> io::Result<usize>
     ensures bound { WritesAtMost result buf.now }
     ensures device { WriteAppends (W.contents device.old) (W.contents device.new) result buf.now }
@@ -123,8 +147,25 @@ fn write_again<W: Write>(device: &mut W, buf: &[u8]) -> io::Result<usize>
     device.write(buf)
 }
 
+/// A flush that is tried again if it is interrupted.
+fn flush_again<W: Write>(device: &mut W) -> io::Result<()>
+    ensures { Keeps (W.contents device.old) (W.contents device.new) }
+{
+    for _ in 0..TRIES_AGAIN {
+        match device.flush() {
+            Err(error) if error.kind() == ErrorKind::Interrupted => {}
+            answer => return answer,
+        }
+    }
+    device.flush()
+}
+
 impl<R: Read> Source for Counted<R> {
     ghost given = { λ s. s.bytes };
+
+    ghost earlier = { λ s. all_but s.recent s.bytes };
+
+    ghost reads = { λ s. s.reads };
 
     ghost failures = { λ s. count_of s.has_failed };
 
@@ -137,27 +178,38 @@ impl<R: Read> Source for Counted<R> {
         ensures bytes { MatchResult result
             (λ n. self.new.bytes ≡ self.old.bytes ++ take n buf.new)
             (λ _. self.new.bytes ≡ self.old.bytes) }
+        ensures before { all_but self.new.recent self.new.bytes ≡ self.old.bytes }
         ensures count { MatchResult result
             (λ _. count_of self.new.has_failed ≡ 0)
             (λ _. count_of self.new.has_failed ≡ 1) }
+        ensures calls { self.new.reads ≡ self.old.reads + 1 }
         ensures end { self.new.has_ended ≡ (self.old.has_ended || tells_end result buf.new) }
         ensures device { ReadConsumes
             (R.remaining self.old.device) (R.remaining self.new.device) result buf.new }
     {
         let read = read_again(&mut self.device, buf);
         self.has_failed = read.is_err();
+        self.reads = self.reads.and(&(), &());
+        self.recent = Log::new();
         if let Ok(n) = read {
-            self.has_ended |= is_end(n, buf);
+            self.has_ended |= moves_none(n, buf);
             note(&mut self.log, &buf[..n]);
+            note(&mut self.recent, &buf[..n]);
         }
         read
     }
 
     ghost fails_once = { λ s. count_of_once s.has_failed };
+
+    ghost earlier_given = { λ s. all_but_begins s.recent s.bytes };
 }
 
 impl<W: Write> Sink for Counted<W> {
     ghost taken = { λ s. s.bytes };
+
+    ghost flushed = { λ s. all_but s.recent s.bytes };
+
+    ghost rejections = { λ s. s.rejections };
 
     ghost failures = { λ s. count_of s.has_failed };
 
@@ -168,9 +220,13 @@ impl<W: Write> Sink for Counted<W> {
         ensures bytes { MatchResult result
             (λ n. self.new.bytes ≡ self.old.bytes ++ take n buf.now)
             (λ _. self.new.bytes ≡ self.old.bytes) }
+        ensures out { all_but self.new.recent self.new.bytes
+            ≡ all_but self.old.recent self.old.bytes }
         ensures count { MatchResult result
             (λ _. count_of self.new.has_failed ≡ 0)
             (λ _. count_of self.new.has_failed ≡ 1) }
+        ensures none { self.new.rejections
+            ≡ self.old.rejections + rejections_in result buf.now }
         ensures device { WriteAppends
             (W.contents self.old.device) (W.contents self.new.device) result buf.now }
         ensures end { self.new.has_ended ≡ self.old.has_ended }
@@ -178,10 +234,37 @@ impl<W: Write> Sink for Counted<W> {
         let wrote = write_again(&mut self.device, buf);
         self.has_failed = wrote.is_err();
         if let Ok(n) = wrote {
+            note_rejection(&mut self.rejections, n, buf);
             note(&mut self.log, &buf[..n]);
+            note(&mut self.recent, &buf[..n]);
         }
         wrote
     }
 
+    /// An interrupted flush is tried again up to `TRIES_AGAIN` times.
+    fn flush(&mut self) -> io::Result<()>
+        requires { count_of self.old.has_failed ≡ 0 }
+        ensures bytes { self.new.bytes ≡ self.old.bytes }
+        ensures out { MatchResult result
+            (λ _. all_but self.new.recent self.new.bytes ≡ self.old.bytes)
+            (λ _. all_but self.new.recent self.new.bytes
+            ≡ all_but self.old.recent self.old.bytes) }
+        ensures count { MatchResult result
+            (λ _. count_of self.new.has_failed ≡ 0)
+            (λ _. count_of self.new.has_failed ≡ 1) }
+        ensures none { self.new.rejections ≡ self.old.rejections }
+        ensures device { Keeps (W.contents self.old.device) (W.contents self.new.device) }
+        ensures end { self.new.has_ended ≡ self.old.has_ended }
+    {
+        let flushed = flush_again(&mut self.device);
+        self.has_failed = flushed.is_err();
+        if flushed.is_ok() {
+            self.recent = Log::new();
+        }
+        flushed
+    }
+
     ghost fails_once = { λ s. count_of_once s.has_failed };
+
+    ghost flushed_taken = { λ s. all_but_begins s.recent s.bytes };
 }

@@ -2,10 +2,11 @@ ghost use Rattle.std.specs.Prelude.{◌≡◌, ◌↔◌, ◌+◌, ◌-◌, ◌<
 ghost use Rattle.std.specs.IoError.{error_kind};
 ghost use Rattle.std.specs.declared.io.ErrorKind.TheVariants.{Other, OutOfMemory};
 ghost use Rattle.std.specs.Io.{ReadsAtMost, WritesAtMost};
-ghost use Rattle.pt_io.specs.Devices.{count_of, count_of_once, tells_end};
+ghost use Rattle.pt_io.specs.Devices.{all_but, all_but_begins, count_of, count_of_once, rejections_in, tells_end};
 
 use crate::sink::Sink;
-use crate::source::{Source, is_end};
+use crate::source::{Source, moves_none};
+use http_server::Log;
 use std::alloc::{Allocator, Global};
 use std::io;
 use std::io::ErrorKind;
@@ -14,12 +15,16 @@ use std::marker::Model;
 /// A device in memory that moves few bytes at a time and fails at a set call, for tests.
 ///
 /// Reads give the bytes that it was made with, and after them those that were written. Contracts
-/// see the bytes given, left and taken, how many move at most, and which call from here on fails.
+/// see the bytes given, left and taken, how many of them moved since its latest read or flush, how
+/// many reads there were, how many bytes move at most, and which call from here on fails.
 #[derive(Drop)]
 pub struct Faulty<A: Allocator + Copy = Global> {
     bytes: Vec<u8, A>,
     first: usize,
     given: usize,
+    latest: usize,
+    flushed: usize,
+    reads: Log<(), ()>,
     step: usize,
     until_fault: u64,
     has_failed: bool,
@@ -27,7 +32,7 @@ pub struct Faulty<A: Allocator + Copy = Global> {
 }
 
 impl<A: Allocator + Copy> Model for Faulty<A> {
-    ghost use Rattle.std.specs.Prelude.{◌<◌, ◌≤◌, length, take, drop};
+    ghost use Rattle.std.specs.Prelude.{◌-◌, ◌<◌, ◌≤◌, length, take, drop};
     ghost use Rattle.pt_io.specs.Devices.{Memory};
 
     ghost Value = { Memory };
@@ -36,25 +41,31 @@ impl<A: Allocator + Copy> Model for Faulty<A> {
       given = take m.given m.bytes.items;
       left = drop m.given m.bytes.items;
       taken = drop m.first m.bytes.items;
+      latest = m.latest;
+      unflushed = length m.bytes.items - m.flushed;
+      reads = length m.reads.items;
       step = m.step;
       until_fault = m.until_fault;
       has_failed = m.has_failed;
       has_ended = m.has_ended;
     } };
 
-    ghost invariant = { λ m.
-        (m.first ≤ length m.bytes.items) × (m.given ≤ length m.bytes.items) × (0 < m.step) };
+    ghost invariant = { λ m. (m.first ≤ length m.bytes.items) × (m.given ≤ length m.bytes.items)
+        × (m.flushed ≤ length m.bytes.items) × (0 < m.step) };
 }
 
 impl<A: Allocator + Copy> Faulty<A> {
     /// A device that will give these bytes, and moves up to `step` bytes per call. Its call number
-    /// `fails_at` fails, reads and writes counted together from 1; with 0 none does.
+    /// `fails_at` fails, reads, writes and flushes counted together from 1; with 0 none does.
     pub fn new(bytes: Vec<u8, A>, step: usize, fails_at: u64) -> Faulty<A>
         requires { 0 < step }
         ensures { result ≡ record {
           given = [];
           left = bytes.items;
           taken = [];
+          latest = 0;
+          unflushed = 0;
+          reads = 0;
           step = step;
           until_fault = fails_at;
           has_failed = false;
@@ -66,6 +77,9 @@ impl<A: Allocator + Copy> Faulty<A> {
             bytes,
             first,
             given: 0,
+            latest: 0,
+            flushed: first,
+            reads: Log::new(),
             step,
             until_fault: fails_at,
             has_failed: false,
@@ -95,7 +109,7 @@ impl<A: Allocator + Copy> Faulty<A> {
     }
 }
 
-/// Counts a call, and tells whether it is the one that fails.
+/// Counts a call, and returns whether it is the one that fails.
 fn is_due(until_fault: &mut u64) -> bool
     ensures now { result ≡ (until_fault.old == 1) }
     ensures fewer { until_fault.new ≡ until_fault.old - 1 }
@@ -133,6 +147,10 @@ fn give(bytes: &[u8], at: usize, step: usize, buf: &mut [u8]) -> usize
 impl<A: Allocator + Copy> Source for Faulty<A> {
     ghost given = { λ s. s.given };
 
+    ghost earlier = { λ s. all_but s.latest s.given };
+
+    ghost reads = { λ s. s.reads };
+
     ghost failures = { λ s. count_of s.has_failed };
 
     ghost ended = { λ s. s.has_ended };
@@ -143,9 +161,11 @@ impl<A: Allocator + Copy> Source for Faulty<A> {
         ensures bytes { MatchResult result
             (λ n. self.new.given ≡ self.old.given ++ take n buf.new)
             (λ _. self.new.given ≡ self.old.given) }
+        ensures before { all_but self.new.latest self.new.given ≡ self.old.given }
         ensures count { MatchResult result
             (λ _. count_of self.new.has_failed ≡ 0)
             (λ _. count_of self.new.has_failed ≡ 1) }
+        ensures calls { self.new.reads ≡ self.old.reads + 1 }
         ensures end { self.new.has_ended ≡ (self.old.has_ended || tells_end result buf.new) }
 
         // Which answer comes, and what is left.
@@ -161,21 +181,30 @@ impl<A: Allocator + Copy> Source for Faulty<A> {
         ensures still { (self.new.taken ≡ self.old.taken) × (self.new.step ≡ self.old.step) }
         ensures fewer { self.new.until_fault ≡ self.old.until_fault - 1 }
     {
+        self.latest = 0;
+        self.reads = self.reads.and(&(), &());
         if is_due(&mut self.until_fault) {
             self.has_failed = true;
             return Err(io::Error::from(ErrorKind::Other));
         }
         let n = give(&self.bytes, self.given, self.step, buf);
         self.given += n;
-        self.has_ended |= is_end(n, buf);
+        self.latest = n;
+        self.has_ended |= moves_none(n, buf);
         Ok(n)
     }
 
     ghost fails_once = { λ s. count_of_once s.has_failed };
+
+    ghost earlier_given = { λ s. all_but_begins s.latest s.given };
 }
 
 impl<A: Allocator + Copy> Sink for Faulty<A> {
     ghost taken = { λ s. s.taken };
+
+    ghost flushed = { λ s. all_but s.unflushed s.taken };
+
+    ghost rejections = { λ _. 0 };
 
     ghost failures = { λ s. count_of s.has_failed };
 
@@ -186,9 +215,12 @@ impl<A: Allocator + Copy> Sink for Faulty<A> {
         ensures bytes { MatchResult result
             (λ n. self.new.taken ≡ self.old.taken ++ take n buf.now)
             (λ _. self.new.taken ≡ self.old.taken) }
+        ensures out { all_but self.new.unflushed self.new.taken
+            ≡ all_but self.old.unflushed self.old.taken }
         ensures count { MatchResult result
             (λ _. count_of self.new.has_failed ≡ 0)
             (λ _. count_of self.new.has_failed ≡ 1) }
+        ensures none { rejections_in result buf.now ≡ 0 }
 
         // Which answer comes, and what is left for reads.
         ensures fault { self.old.until_fault ≡ 1 → IsErr result }
@@ -216,5 +248,35 @@ impl<A: Allocator + Copy> Sink for Faulty<A> {
         Ok(n)
     }
 
+    fn flush(&mut self) -> io::Result<()>
+        requires { count_of self.old.has_failed ≡ 0 }
+        ensures bytes { self.new.taken ≡ self.old.taken }
+        ensures out { MatchResult result
+            (λ _. self.new.unflushed ≡ 0)
+            (λ _. self.new.unflushed ≡ self.old.unflushed) }
+        ensures count { MatchResult result
+            (λ _. count_of self.new.has_failed ≡ 0)
+            (λ _. count_of self.new.has_failed ≡ 1) }
+
+        // Which answer comes.
+        ensures fault { IsErr result ↔ (self.old.until_fault ≡ 1) }
+        ensures kind { IfErr result (λ e. error_kind e ≡ Other) }
+
+        // The rest stays, and the fault comes nearer.
+        ensures still { (self.new.given ≡ self.old.given) × (self.new.left ≡ self.old.left)
+            × (self.new.step ≡ self.old.step) }
+        ensures end { self.new.has_ended ≡ self.old.has_ended }
+        ensures fewer { self.new.until_fault ≡ self.old.until_fault - 1 }
+    {
+        if is_due(&mut self.until_fault) {
+            self.has_failed = true;
+            return Err(io::Error::from(ErrorKind::Other));
+        }
+        self.flushed = self.bytes.len();
+        Ok(())
+    }
+
     ghost fails_once = { λ s. count_of_once s.has_failed };
+
+    ghost flushed_taken = { λ s. all_but_begins s.unflushed s.taken };
 }

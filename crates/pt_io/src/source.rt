@@ -1,6 +1,7 @@
-ghost use Rattle.std.specs.Prelude.{◌≡◌, ℕ, ◌≤◌, List, ◌++◌, Bool, ◌||◌, take, MatchResult};
+ghost use Rattle.std.specs.Prelude.{◌≡◌, ℕ, ◌+◌, ◌≤◌, List, ◌++◌, Bool, ◌||◌, take, MatchResult};
 ghost use Rattle.std.specs.Io.{ReadsAtMost};
-ghost use Rattle.pt_io.specs.Devices.{is_end, tells_end};
+ghost use Rattle.pt_io.specs.Devices.{moves_none, tells_end};
+ghost use mathlib.Core.List.{IsPrefix};
 
 use std::io;
 
@@ -11,14 +12,20 @@ pub trait Source {
     // The bytes that it gave so far.
     ghost given: { Self → List ℕ };
 
+    // The bytes that it gave before its latest read.
+    ghost earlier: { Self → List ℕ };
+
+    // How many reads there were, a failed one included.
+    ghost reads: { Self → ℕ };
+
     // How many of its reads failed: 0 or 1.
     ghost failures: { Self → ℕ };
 
-    // Whether it has told its end.
+    // Whether it has reported its end.
     ghost ended: { Self → Bool };
 
-    /// Reads up to `buf.len()` bytes to the front of `buf`, and answers how many. Where `buf` has
-    /// room, 0 tells the end.  [XSH read]
+    /// Reads up to `buf.len()` bytes to the front of `buf`, and returns how many. If `buf` has room,
+    /// 0 reports the end.  [XSH read]
     ///
     /// An error gives no byte, and is the last answer.
     fn read(&mut self, buf: &mut [u8]) -> io::Result<usize>
@@ -27,17 +34,22 @@ pub trait Source {
         ensures bytes { MatchResult result
             (λ n. given self.new ≡ given self.old ++ take n buf.new)
             (λ _. given self.new ≡ given self.old) }
+        ensures before { earlier self.new ≡ given self.old }
         ensures count { MatchResult result
             (λ _. failures self.new ≡ 0)
             (λ _. failures self.new ≡ 1) }
+        ensures calls { reads self.new ≡ reads self.old + 1 }
         ensures end { ended self.new ≡ (ended self.old || tells_end result buf.new) };
 
     ghost fails_once: { (s : Self) → failures s ≤ 1 };
+
+    ghost earlier_given: { (s : Self) → IsPrefix (earlier s) (given s) };
 }
 
-/// Whether n bytes read into this buffer tell the end.  [XSH read]
-pub(crate) fn is_end(n: usize, buf: &[u8]) -> bool
-    ensures { result ≡ is_end n buf.now }
+/// Whether none of a buffer's bytes moved, although it has some: a read reports the end this way,
+/// and a write that it accepts nothing.  [XSH read, write]
+pub(crate) fn moves_none(n: usize, buf: &[u8]) -> bool
+    ensures { result ≡ moves_none n buf.now }
 {
     n == 0 && !buf.is_empty()
 }

@@ -8,6 +8,8 @@ use std::io::{ErrorKind, Read, Write};
 use std::os::unix::net::UnixStream;
 use std::test::Fail;
 
+mod faults;
+
 /// Writes all the bytes.
 fn put<W: Sink>(writer: &mut W, bytes: &[u8]) -> io::Result<()>
     requires { W.failures writer.old ≡ 0 }

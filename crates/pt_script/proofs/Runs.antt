@@ -13,7 +13,7 @@ use Rattle.pt_script.specs.declared.asking.Asking.{Asking}
 use Rattle.pt_script.specs.declared.fault.ScriptFault.{ScriptFault}
 use Rattle.pt_script.specs.Scripts.{Script, asking, event_of_line}
 use Rattle.pt_script.specs.Says.{Says, SaysAll, SaysOf, SaysTo, counted, refuses, lacks, accepts}
-use Rattle.pt_script.specs.Texts.{IsCutShort}
+use Rattle.pt_script.specs.Texts.{BreaksOff, Writing}
 use Rattle.pt_script.specs.Engines.{Adds, Answers, IsAnswered, IsCutOff}
 
 -- one line
@@ -118,18 +118,26 @@ onto_taken s cuts begun last out shown old a empty shows = record {
   grows = ap (λ xs. old ++ xs) (shows ∙ a.grows ∙ ap (λ xs. xs ++ a.text) empty);
 }
 
--- an answer that not all of was taken
+-- a buffer that began empty is the text that was answered
+shown_text : (s : Script) (cuts : List Cut) (begun : List ℕ) (last : Script) (out shown : List ℕ)
+    (a : IsAnswered s cuts begun last out) → begun ≡ [] → shown ≡ out → shown ≡ a.text
+shown_text s cuts begun last out shown a empty shows =
+    shows ∙ a.grows ∙ ap (λ xs. xs ++ a.text) empty
+
+-- answers that the writer broke at
 pub cut_off : (held fed : Held) (s : Script) (begun : List ℕ) (next : Held) (last : Script)
-    (out shown old new : List ℕ) → Answers fed s begun next last out → fed ≡ held → begun ≡ []
-    → shown ≡ out → IsCutShort new (old ++ shown) → IsCutOff held s old new
-cut_off held fed s begun next last out shown old new a feeds empty shows short = record {
+    (out shown old : List ℕ) (w : Writing) → Answers fed s begun next last out → fed ≡ held
+    → begun ≡ [] → shown ≡ out → BreaksOff old shown w → IsCutOff held s old w
+cut_off held fed s begun next last out shown old w a feeds empty shows breaks = record {
   cuts = a.cuts;
   later = to_come next [];
   last = last;
-  whole = old ++ shown;
+  text = a.answered.text;
   given = ap (λ h. to_come h []) (sym feeds) ∙ a.given [];
-  answered = onto_taken s a.cuts begun last out shown old a.answered empty shows;
-  short = short;
+  says = a.answered.says;
+  breaks =
+      subst (λ bytes. BreaksOff old bytes w)
+      (shown_text s a.cuts begun last out shown a.answered empty shows) breaks;
 }
 
 -- a fault that is told is this one
@@ -159,18 +167,20 @@ last_none s cuts out is = record {
   grows = sym (append-nil out);
 }
 
--- the last answer that not all of was taken
-pub last_cut_off : (held : Held) (s : Script) (last : Script) (whole old new : List ℕ)
-    → IsAnswered s (to_come held []) old last whole → IsCutShort new whole
-    → IsCutOff held s old new
-last_cut_off held s last whole old new a short = record {
+-- the last answer, that the writer broke at
+pub last_cut_off : (held : Held) (s : Script) (begun : List ℕ) (last : Script)
+    (out shown old : List ℕ) (w : Writing) → IsAnswered s (to_come held []) begun last out
+    → begun ≡ [] → shown ≡ out → BreaksOff old shown w → IsCutOff held s old w
+last_cut_off held s begun last out shown old w a empty shows breaks = record {
   cuts = to_come held [];
   later = [];
   last = last;
-  whole = whole;
+  text = a.text;
   given = sym (append-nil (to_come held []));
-  answered = a;
-  short = short;
+  says = a.says;
+  breaks =
+      subst (λ bytes. BreaksOff old bytes w)
+      (shown_text s (to_come held []) begun last out shown a empty shows) breaks;
 }
 
 -- what holds of each good answer

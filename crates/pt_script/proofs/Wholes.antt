@@ -6,7 +6,7 @@ use Rattle.std.proofs.Math.Seq.{take-append_seam}
 use Rattle.std.proofs.lemmas.Bool.Decides.{Decides-eqb}
 use mathlib.Core.List.{IsPrefix}
 use Rattle.std.specs.Prelude.{Result, Ok, Err, OnOk}
-use Rattle.pt_io.specs.Devices.{is_end}
+use Rattle.pt_io.specs.Devices.{moves_none}
 use Rattle.pt_lines.specs.declared.cutter.Cut.{Cut}
 use Rattle.pt_lines.specs.Cuts.{cut_of}
 use Rattle.pt_lines.specs.Lines.{Held, IsBegun, lines, lines_after, lines_past_newline, to_come}
@@ -15,8 +15,9 @@ use Rattle.pt_script.specs.Scripts.{Script, begun}
 use Rattle.pt_script.specs.Says.{SaysAll}
 use Rattle.pt_script.specs.declared.fault.ScriptFault.{ScriptFault}
 use Rattle.pt_script.specs.declared.fault.ScriptFault.TheVariants.{Read, Write, Memory}
-use Rattle.pt_script.specs.Ends.{Course, lines_of, IsScriptText, BeginsScriptText, IsFaultOf}
-use Rattle.pt_script.specs.Engines.{Answers, IsBehind, IsCutOff, IsEnd, IsStopped}
+use Rattle.pt_script.specs.Ends.{AnswersWhole, BeginsScriptText, Course, IsBehind, IsFaultOf, IsScriptText, IsWantOfMemory, lines_of}
+use Rattle.pt_script.specs.Engines.{Answers, IsCutOff, IsEnd, IsStopped}
+use Rattle.pt_script.specs.Texts.{Writing}
 use Rattle.pt_script.proofs.Runs.{says_join, says_all_seen}
 
 -- each line has a byte of its own, but a begun one
@@ -122,27 +123,31 @@ behind_begins bytes held s text more b =
     (begins_at (bytes ++ more) b.cuts (to_come held more) s text text (b.given more) b.says
     ([], append-nil text)).0
 
--- not all that was to be written was taken
-pub behind_cut_off : (bytes : List ℕ) (held next : Held) (s : Script) (text more new : List ℕ)
-    → IsBehind bytes held s text → to_come next [] ≡ to_come held more → IsCutOff next s text new
-    → (b : BeginsScriptText (bytes ++ more) new) × (length new < length b.whole)
-behind_cut_off bytes held next s text more new b same off =
-    let begins = begins_at (bytes ++ more) (b.cuts ++ off.cuts) off.later off.last off.whole new
+-- the writer broke at the answers to the next lines
+pub behind_cut_off : (bytes : List ℕ) (held next : Held) (s : Script) (text more : List ℕ)
+    (w : Writing) → IsBehind bytes held s text → to_come next [] ≡ to_come held more
+    → IsCutOff next s text w
+    → (b : BeginsScriptText (bytes ++ more) w.taken) × (length w.flushed < length b.whole)
+behind_cut_off bytes held next s text more w b same off =
+    let begins = begins_at (bytes ++ more) (b.cuts ++ off.cuts) off.later off.last
+    (text ++ off.text) w.taken
     (b.given more
     ∙ ap (λ xs. b.cuts ++ xs) (sym same ∙ off.given)
     ∙ sym (append_assoc b.cuts off.cuts off.later))
-    (subst (λ t. SaysAll begun (map script_of (b.cuts ++ off.cuts)) off.last t)
-    (sym off.answered.grows)
-    (subst (λ xs. SaysAll begun xs off.last (text ++ off.answered.text))
+    (subst (λ xs. SaysAll begun xs off.last (text ++ off.text))
     (sym (map-append script_of b.cuts off.cuts))
-    (says_join begun (map script_of b.cuts) s text (map script_of off.cuts) off.last
-    off.answered.text b.says off.answered.says)))
-    (off.short.rest, off.short.joins) in
-    let long = ap length off.short.joins in
-    let parts = length-append new off.short.rest in
-    let some = off.short.some in
+    (says_join begun (map script_of b.cuts) s text (map script_of off.cuts) off.last off.text
+    b.says off.says)) (
+      off.breaks.rest,
+      ap (λ xs. xs ++ off.breaks.rest) off.breaks.taken
+          ∙ append_assoc text off.breaks.front off.breaks.rest
+          ∙ ap (λ xs. text ++ xs) (sym off.breaks.parts),
+    ) in
+    let some = off.breaks.some in
+    let flushed = ap length off.breaks.flushed in
+    let parts = length-append text off.text in
     let whole = ap length begins.1 in
-    (begins.0, omega (arith, long, parts, some, whole))
+    (begins.0, omega (arith, flushed, parts, some, whole))
 
 -- all was answered
 pub behind_end : (bytes : List ℕ) (held : Held) (s : Script) (text new : List ℕ) (count entries : ℕ)
@@ -175,41 +180,76 @@ begins_given bytes given more held s text b gives =
     subst (λ bs. BeginsScriptText bs text) (sym gives) (behind_begins bytes held s text more b)
 
 -- what was written, where the answers were stopped
-pub stopped_begins : (bytes given more : List ℕ) (held next : Held) (s : Script) (text new : List ℕ)
-    (failures : ℕ) (fault : ScriptFault) → IsBehind bytes held s text → given ≡ bytes ++ more
-    → to_come next [] ≡ to_come held more → IsStopped fault next s text new failures
-    → BeginsScriptText given new
-stopped_begins bytes given more held next s text new failures Read b gives same stop = absurd stop
-stopped_begins bytes given more held next s text new failures Write b gives same stop =
-    subst (λ bs. BeginsScriptText bs new) (sym gives)
-    (behind_cut_off bytes held next s text more new b same stop).0
-stopped_begins bytes given more held next s text new failures Memory b gives same stop =
-    subst (λ t. BeginsScriptText given t) (sym stop.0)
+pub stopped_begins : (bytes given more : List ℕ) (held next : Held) (s : Script) (text : List ℕ)
+    (w : Writing) (fault : ScriptFault) → IsBehind bytes held s text → given ≡ bytes ++ more
+    → to_come next [] ≡ to_come held more → IsStopped fault next s text w
+    → BeginsScriptText given w.taken
+stopped_begins bytes given more held next s text w Read b gives same stop = absurd stop
+stopped_begins bytes given more held next s text w Write b gives same stop =
+    subst (λ bs. BeginsScriptText bs w.taken) (sym gives)
+    (behind_cut_off bytes held next s text more w b same stop).0
+stopped_begins bytes given more held next s text w Memory b gives same stop =
+    subst (λ t. BeginsScriptText given t) (sym stop.taken)
     (begins_given bytes given more held s text b gives)
+
+-- all lines that are whole in these bytes were answered
+pub whole_answered : (bytes : List ℕ) (held : Held) (s : Script) (text given new : List ℕ)
+    → IsBehind bytes held s text → IsBegun held → given ≡ bytes → new ≡ text
+    → AnswersWhole given new
+whole_answered bytes held s text given new b begins same wrote =
+    subst (λ bs. AnswersWhole bs new) (sym same)
+    (subst (λ t. AnswersWhole bytes t) (sym wrote)
+    (record { rest = held; last = s; behind = b; begun = begins }))
 
 -- why they were
 pub stopped_why : (bytes more : List ℕ) (held next : Held) (s : Script) (text : List ℕ) (c : Course)
-    (fault : ScriptFault) → IsBehind bytes held s text → c.given ≡ bytes ++ more
-    → to_come next [] ≡ to_come held more → c.read_failures ≡ 0
-    → IsStopped fault next s text c.taken c.write_failures → IsFaultOf c fault
-stopped_why bytes more held next s text c Read b gives same read stop = absurd stop
-stopped_why bytes more held next s text c Write b gives same read stop =
+    (fault : ScriptFault) → IsBehind bytes held s text → IsBegun held
+    → c.reader.given ≡ bytes ++ more → c.reader.earlier ≡ bytes
+    → to_come next [] ≡ to_come held more → c.reader.failures ≡ 0
+    → IsStopped fault next s text c.writer → IsFaultOf c fault
+stopped_why bytes more held next s text c Read b begins gives before same read stop = absurd stop
+stopped_why bytes more held next s text c Write b begins gives before same read stop =
     let off =
-    subst (λ bs. (w : BeginsScriptText bs c.taken) × (length c.taken < length w.whole)) (sym gives)
-    (behind_cut_off bytes held next s text more c.taken b same stop) in
-    record { begins = off.0; short = off.1; read = read }
-stopped_why bytes more held next s text c Memory b gives same read stop =
-    record { read = read; wrote = stop.1 }
+    subst
+    (λ bs. (t : BeginsScriptText bs c.writer.taken)
+    × (length c.writer.flushed < length t.whole)) (sym gives)
+    (behind_cut_off bytes held next s text more c.writer b same stop) in
+    record {
+      cause = stop.breaks.cause;
+      begins = off.0;
+      short = off.1;
+      answers = whole_answered bytes held s text c.reader.earlier c.writer.flushed b begins
+          before stop.breaks.flushed;
+      read = read;
+    }
+stopped_why bytes more held next s text c Memory b begins gives before same read stop = record {
+  read = read;
+  wrote = stop.failures;
+  accepted = stop.rejections;
+  answers = whole_answered bytes held s text c.reader.earlier c.writer.taken b begins before
+      stop.taken;
+  flushed = stop.flushed ∙ sym stop.taken;
+}
+
+-- before the first read the reader gave nothing, and no writer flushed what it did not take
+pub nothing_before : (front bytes : List ℕ) → IsPrefix front bytes → bytes ≡ [] → front ≡ []
+nothing_before [] bytes begins none = refl
+nothing_before (b ∷ front) bytes begins none = absurd (let no = begins.1 ∙ none in cc)
 
 -- a read that gave a byte told no end
 pub not_ended : (n : ℕ) (buf : List ℕ) (before after : Bool) → (n ≡ 0 → ⊥)
-    → after ≡ (before || is_end n buf) → after ≡ before
+    → after ≡ (before || moves_none n buf) → after ≡ before
 not_ended n buf before after some says = says ∙ by (n == 0) (Decides-eqb n 0).0 before
   where
     by : (b : Bool) → (b ≡ true → n ≡ 0) → (e : Bool) → (e || (b && nat_lt 0 (length buf))) ≡ e
     by true none e = absurd (some (none refl))
     by false none true = refl
     by false none false = refl
+
+-- an error reports no end
+pub never_ended : (before after : Bool) → before ≡ false → after ≡ (before || false)
+    → after ≡ false
+never_ended before after none says = says ∙ ap (λ b. b || false) none
 
 -- before the first byte no line came, and none is begun
 pub behind_begun : (given : List ℕ) (held : Held) (s : Script) (text : List ℕ) → given ≡ []
@@ -226,11 +266,29 @@ begun_held held e =
       dropped = λ d. refl;
     })
 
+-- memory is wanted before the first read
+pub wanted_at_once : (c : Course) → IsPrefix c.reader.earlier c.reader.given
+    → IsPrefix c.writer.flushed c.writer.taken → c.reader.given ≡ [] → c.writer.taken ≡ []
+    → c.reader.failures ≡ 0 → c.writer.failures ≡ 0 → c.writer.rejections ≡ 0
+    → IsWantOfMemory c
+wanted_at_once c before out given taken read wrote accepted = record {
+  read = read;
+  wrote = wrote;
+  accepted = accepted;
+  answers = whole_answered [] empty begun [] c.reader.earlier c.writer.taken
+      (behind_begun [] empty begun [] refl refl refl refl) (begun_held empty refl)
+      (nothing_before c.reader.earlier c.reader.given before given) taken;
+  flushed = nothing_before c.writer.flushed c.writer.taken out taken ∙ sym taken;
+}
+  where
+    empty : Held
+    empty = record { rest = []; dropping = false }
+
 -- a read of no byte into a buffer that has room tells the end
 pub has_ended : (n : ℕ) (buf : List ℕ) (before after : Bool) → n ≡ 0 → length buf ≡ 4096
-    → after ≡ (before || is_end n buf) → after ≡ true
+    → after ≡ (before || moves_none n buf) → after ≡ true
 has_ended n buf before after e room says =
-    says ∙ (ap (λ k. before || is_end k buf) e ∙ (ap (λ k. before || nat_lt 0 k) room ∙ by before))
+    says ∙ (ap (λ k. before || moves_none k buf) e ∙ (ap (λ k. before || nat_lt 0 k) room ∙ by before))
   where
     by : (b : Bool) → (b || nat_lt 0 4096) ≡ true
     by true = refl

@@ -1,13 +1,15 @@
 -- Ends: what a whole script has read and written.
-use Rattle.std.specs.Prelude.{◌≡◌, ℕ, ◌≤◌, ◌<◌, ◌⊎◌, List, length, take, map, Bool}
+use Rattle.std.specs.Prelude.{◌≡◌, ℕ, ◌≤◌, ◌<◌, ◌⊎◌, ◌++◌, List, length, take, map, Bool, false}
 use mathlib.Core.List.{IsPrefix}
 use Rattle.pt_lines.specs.declared.script_line.ScriptLine.{ScriptLine}
-use Rattle.pt_lines.specs.Lines.{lines}
+use Rattle.pt_lines.specs.declared.cutter.Cut.{Cut}
+use Rattle.pt_lines.specs.Lines.{Held, IsBegun, lines, to_come}
 use Rattle.pt_lines.specs.Script.{script_of}
 use Rattle.pt_script.specs.declared.fault.ScriptFault.{ScriptFault}
 use Rattle.pt_script.specs.declared.fault.ScriptFault.TheVariants.{Read, Write, Memory}
 use Rattle.pt_script.specs.Scripts.{Script, begun}
 use Rattle.pt_script.specs.Says.{SaysAll}
+use Rattle.pt_script.specs.Texts.{IsBroken, Writing}
 
 -- the lines of a script's bytes, as they are read  [profile]
 abbrev pub lines_of : List ℕ → List ScriptLine
@@ -29,34 +31,70 @@ pub record BeginsScriptText (bytes text : List ℕ) : Type 0 where
   pub says : SaysAll begun (take count (lines_of bytes)) last whole
   pub begins : IsPrefix text whole
 
--- how a run went: what was read and written, how often each device failed, whether the reader had
--- told an end before and has by now, and how many reads there may be  [profile]
-pub record Course : Type 0 where
+-- the lines that are whole in these bytes were answered by this text, and a cutter holds the rest of
+-- the bytes  [profile]
+pub record IsBehind (bytes : List ℕ) (held : Held) (s : Script) (text : List ℕ) : Type 0 where
+  pub cuts : List Cut
+  pub given : (more : List ℕ) → lines (bytes ++ more) ≡ cuts ++ to_come held more
+  pub says : SaysAll begun (map script_of cuts) s text
+
+-- each line that is whole in these bytes was answered, by this text and nothing else; the rest of
+-- the bytes is the beginning of a line  [profile]
+pub record AnswersWhole (bytes text : List ℕ) : Type 0 where
+  pub rest : Held
+  pub last : Script
+  pub behind : IsBehind bytes rest last text
+  pub begun : IsBegun rest
+
+-- what a reader gave, and what it gave before its latest read; how often it failed, how many reads
+-- there were meanwhile, and whether it has reported its end  [profile]
+pub record Reading : Type 0 where
   pub given : List ℕ
-  pub taken : List ℕ
-  pub read_failures : ℕ
-  pub write_failures : ℕ
-  pub had_ended : Bool
-  pub has_ended : Bool
+  pub earlier : List ℕ
+  pub failures : ℕ
   pub reads : ℕ
+  pub has_ended : Bool
 
--- a read fault: a read failed, or each of the reads that there may be gave a byte or more; no end
--- was told  [profile]
+-- how a run went: the reader and the writer after it, and how many reads there may be  [profile]
+pub record Course : Type 0 where
+  pub reader : Reading
+  pub writer : Writing
+  pub limit : ℕ
+
+-- why the input is given up: a read failed; or there were as many reads as there may be, and each
+-- gave a byte or more  [profile]
+abbrev pub IsCutInput : Course → Type 0
+IsCutInput c =
+    (c.reader.failures ≡ 1)
+    ⊎ ((c.reader.failures ≡ 0) × (c.reader.reads ≡ c.limit) × (c.limit ≤ length c.reader.given))
+
+-- a read fault: no end was reported, and each line that had come whole is answered, written and
+-- flushed  [profile]
 pub record IsReadFault (c : Course) : Type 0 where
-  pub cause : (c.read_failures ≡ 1) ⊎ ((c.read_failures ≡ 0) × (c.reads ≤ length c.given))
-  pub no_end : c.has_ended ≡ c.had_ended
-  pub wrote : c.write_failures ≡ 0
+  pub cause : IsCutInput c
+  pub no_end : c.reader.has_ended ≡ false
+  pub answers : AnswersWhole c.reader.given c.writer.taken
+  pub flushed : c.writer.flushed ≡ c.writer.taken
+  pub wrote : c.writer.failures ≡ 0
+  pub accepted : c.writer.rejections ≡ 0
 
--- a write fault: not all that had to be written was taken  [profile]
+-- a write fault: the writer broke, and not all that had to be written is flushed; but the answers
+-- to each line that was whole before the latest read are  [profile]
 pub record IsWriteFault (c : Course) : Type 0 where
-  pub begins : BeginsScriptText c.given c.taken
-  pub short : length c.taken < length begins.whole
-  pub read : c.read_failures ≡ 0
+  pub cause : IsBroken c.writer.failures c.writer.rejections
+  pub begins : BeginsScriptText c.reader.given c.writer.taken
+  pub short : length c.writer.flushed < length begins.whole
+  pub answers : AnswersWhole c.reader.earlier c.writer.flushed
+  pub read : c.reader.failures ≡ 0
 
--- want of memory: neither device failed  [profile]
+-- want of memory: neither device failed, and each line that was whole before the latest read is
+-- answered, written and flushed  [profile]
 pub record IsWantOfMemory (c : Course) : Type 0 where
-  pub read : c.read_failures ≡ 0
-  pub wrote : c.write_failures ≡ 0
+  pub read : c.reader.failures ≡ 0
+  pub wrote : c.writer.failures ≡ 0
+  pub accepted : c.writer.rejections ≡ 0
+  pub answers : AnswersWhole c.reader.earlier c.writer.taken
+  pub flushed : c.writer.flushed ≡ c.writer.taken
 
 -- where each fault comes  [profile]
 abbrev pub IsFaultOf : Course → ScriptFault → Type 0

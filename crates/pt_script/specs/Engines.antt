@@ -7,7 +7,7 @@ use Rattle.pt_lines.specs.declared.client.Who.{Who}
 use Rattle.pt_lines.specs.declared.cutter.Cut.{Cut}
 use Rattle.pt_lines.specs.declared.reply.Word.TheVariants as word
 use Rattle.pt_lines.specs.Replies.{reply_line}
-use Rattle.pt_lines.specs.Lines.{Held, lines, to_come}
+use Rattle.pt_lines.specs.Lines.{Held, to_come}
 use Rattle.pt_lines.specs.Script.{script_of}
 use Rattle.pt_model.specs.declared.entry.Event.{Event}
 use Rattle.pt_model.specs.declared.entry.Event.TheVariants as event
@@ -16,9 +16,9 @@ use Rattle.pt_script.specs.declared.fault.ScriptFault.{ScriptFault}
 use Rattle.pt_script.specs.declared.fault.ScriptFault.TheVariants.{Read, Write, Memory}
 use Rattle.pt_script.specs.declared.engine.Mark.{Mark}
 use Rattle.pt_script.specs.declared.engine.Mark.TheVariants.{Client, Call, Nothing}
-use Rattle.pt_script.specs.Scripts.{Script, begun, line_at, clients_joined}
+use Rattle.pt_script.specs.Scripts.{Script, line_at, clients_joined}
 use Rattle.pt_script.specs.Says.{SaysAll}
-use Rattle.pt_script.specs.Texts.{IsCutShort}
+use Rattle.pt_script.specs.Texts.{BreaksOff, IsUntouched, Writing}
 
 -- a text of which this holds was appended  [profile]
 pub record Adds (Holds : List ℕ → Type 0) (old new : List ℕ) : Type 0 where
@@ -70,28 +70,22 @@ pub record Answers (held : Held) (s : Script) (old : List ℕ) (next : Held) (la
   pub given : (more : List ℕ) → to_come held more ≡ cuts ++ to_come next more
   pub answered : IsAnswered s cuts old last new
 
--- all lines were answered that are whole in these bytes, of which the cutter holds the rest
--- [profile]
-pub record IsBehind (bytes : List ℕ) (held : Held) (s : Script) (text : List ℕ) : Type 0 where
-  pub cuts : List Cut
-  pub given : (more : List ℕ) → lines (bytes ++ more) ≡ cuts ++ to_come held more
-  pub says : SaysAll begun (map script_of cuts) s text
-
--- the first of the lines to come were answered, and not all of it was taken  [profile]
-pub record IsCutOff (held : Held) (s : Script) (old new : List ℕ) : Type 0 where
+-- the first of the lines to come were answered, and the writer broke while the answers were written
+-- after the old text, or flushed  [profile]
+pub record IsCutOff (held : Held) (s : Script) (old : List ℕ) (w : Writing) : Type 0 where
   pub cuts : List Cut
   pub later : List Cut
   pub last : Script
-  pub whole : List ℕ
+  pub text : List ℕ
   pub given : to_come held [] ≡ cuts ++ later
-  pub answered : IsAnswered s cuts old last whole
-  pub short : IsCutShort new whole
+  pub says : SaysAll s (map script_of cuts) last text
+  pub breaks : BreaksOff old text w
 
 -- how the answers to lines to come are stopped; no reader has a part in it  [profile]
-abbrev pub IsStopped : ScriptFault → Held → Script → List ℕ → List ℕ → ℕ → Type 0
-IsStopped Read held s old new failures = ⊥
-IsStopped Write held s old new failures = IsCutOff held s old new
-IsStopped Memory held s old new failures = (new ≡ old) × (failures ≡ 0)
+abbrev pub IsStopped : ScriptFault → Held → Script → List ℕ → Writing → Type 0
+IsStopped Read held s old w = ⊥
+IsStopped Write held s old w = IsCutOff held s old w
+IsStopped Memory held s old w = IsUntouched old w
 
 -- all lines to come were answered, and these are the counts of all lines and all entries  [profile]
 pub record IsEnd (held : Held) (s : Script) (old new : List ℕ) (count entries : ℕ) : Type 0 where

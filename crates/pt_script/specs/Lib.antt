@@ -6,7 +6,9 @@ pub mod Says
 pub mod Ends
 -- Names: what is kept of the clients of a script
 pub mod Names
--- Texts: what was taken of a text
+-- Texts: how a text is written, and how its writing breaks off
 pub mod Texts
 -- Engines: what the parts of the engine do, one line at a time
 pub mod Engines
+-- Programs: how a program that answers a script ends, and what it reports
+pub mod Programs

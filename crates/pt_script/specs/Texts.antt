@@ -1,8 +1,42 @@
--- Texts: what was taken of a text.
-use Rattle.std.specs.Prelude.{◌≡◌, ℕ, ◌<◌, ◌++◌, List, length}
+-- Texts: how a text is written, and how its writing breaks off.
+use Rattle.std.specs.Prelude.{◌≡◌, ℕ, ◌<◌, ◌++◌, ◌⊎◌, List, length}
 
--- not all of a whole text was taken, and nothing else  [profile]
-pub record IsCutShort (text whole : List ℕ) : Type 0 where
+-- a front of these bytes was taken after the old text, and not all of them  [profile]
+pub record IsCutShort (old bytes text : List ℕ) : Type 0 where
+  pub front : List ℕ
   pub rest : List ℕ
   pub some : 0 < length rest
-  pub joins : text ++ rest ≡ whole
+  pub parts : bytes ≡ front ++ rest
+  pub taken : text ≡ old ++ front
+
+-- why a writer is given up: a write or a flush failed, or else a write took none of its bytes; with
+-- the count of failures, and of such writes  [XSH write]
+abbrev pub IsBroken : ℕ → ℕ → Type 0
+IsBroken failures rejections =
+    ((failures ≡ 1) × (rejections ≡ 0)) ⊎ ((failures ≡ 0) × (rejections ≡ 1))
+
+-- what a writer took, what of it is flushed, how often it failed, and how many writes took none of
+-- their bytes meanwhile  [profile]
+pub record Writing : Type 0 where
+  pub taken : List ℕ
+  pub flushed : List ℕ
+  pub failures : ℕ
+  pub rejections : ℕ
+
+-- the writer broke while these bytes were written after the old text, or flushed: some were taken,
+-- in order, and none of them is flushed  [profile]
+pub record BreaksOff (old bytes : List ℕ) (w : Writing) : Type 0 where
+  pub front : List ℕ
+  pub rest : List ℕ
+  pub some : 0 < length bytes
+  pub parts : bytes ≡ front ++ rest
+  pub taken : w.taken ≡ old ++ front
+  pub flushed : w.flushed ≡ old
+  pub cause : IsBroken w.failures w.rejections
+
+-- the writer has taken and flushed the old text, and was not given up  [profile]
+pub record IsUntouched (old : List ℕ) (w : Writing) : Type 0 where
+  pub taken : w.taken ≡ old
+  pub flushed : w.flushed ≡ old
+  pub failures : w.failures ≡ 0
+  pub rejections : w.rejections ≡ 0

@@ -3,10 +3,10 @@ use thiserror::Error;
 /// Why a script ends before its input does.  [profile]
 #[derive(Clone, Copy, Debug, PartialEq, Eq, Error)]
 pub enum ScriptFault {
-    /// A read failed, or the input has not ended with as many reads as there may be.
+    /// A read failed, or the input did not end within as many reads as there may be.
     #[error("read failed")]
     Read,
-    /// A write failed, or took no byte.
+    /// A write or a flush failed, or a write took no byte.
     #[error("write failed")]
     Write,
     /// A growth was refused that no line can be answered ENOMEM for.

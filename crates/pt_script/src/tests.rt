@@ -2,9 +2,11 @@ ghost use Rattle.std.specs.Prelude.{◌≡◌, ◌<◌, [], false, IfOk};
 
 use super::*;
 use pt_io::Faulty;
-use pt_refusing::refuse_each;
+use pt_refusing::{Refusing, refuse_each};
 use std::alloc::{Allocator, Global};
 use std::test::Fail;
+
+mod faults;
 
 // Two clients, of which the second waits for a mutex of the first.
 const TWO_CLIENTS: &[u8] = b"A hello 10\nB hello 20\nA mutex-init m normal stalled\n\
@@ -20,7 +22,8 @@ fn reader<A: Allocator + Copy>(
     fails_at: u64,
 ) -> Result<Faulty<A>, Fail>
     requires { 0 < step }
-    ensures { IfOk result (λ r. (r.given ≡ []) × (r.has_failed ≡ false)) }
+    ensures { IfOk result
+        (λ r. (r.given ≡ []) × (r.has_failed ≡ false) × (r.has_ended ≡ false)) }
 {
     Ok(Faulty::new(Vec::from_slice(alloc, bytes)?, step, fails_at))
 }
@@ -92,10 +95,8 @@ fn a_failing_read_leaves_the_answers_of_the_lines_before(rt: HostRuntime) -> Res
         let mut writer = Faulty::new(Vec::new(alloc), 4096, 0);
         let ended = script(alloc, &mut reader, &mut writer);
         assert!(rt; matches!(ended, Err(ScriptFault::Read)), "at {fails_at}");
-        assert!(rt;
-            TWO_CLIENTS_TOLD.starts_with(writer.written()),
-            "at {fails_at}"
-        );
+        let due = faults::due(fails_at as usize - 1);
+        assert_eq!(rt; writer.written(), &TWO_CLIENTS_TOLD[..due], "at {fails_at}");
     }
     Ok(())
 }

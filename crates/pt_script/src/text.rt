@@ -1,8 +1,8 @@
-ghost use Rattle.std.specs.Prelude.{◌≡◌, ◌++◌, map, OnOk, OnErr, IfErr, Some};
+ghost use Rattle.std.specs.Prelude.{◌≡◌, ◌-◌, ◌++◌, map, OnOk, OnErr, IfErr, Some};
 ghost use Rattle.pt_lines.specs.Replies.{reply_line};
 ghost use Rattle.pt_core.specs.Replies.{told_of};
 ghost use Rattle.pt_script.specs.Scripts.{told_text};
-ghost use Rattle.pt_script.specs.Texts.{IsCutShort};
+ghost use Rattle.pt_script.specs.Texts.{BreaksOff, IsBroken, IsCutShort};
 
 use crate::asking::Asking;
 use crate::fault::ScriptFault;
@@ -56,8 +56,12 @@ pub fn put<W: Sink>(writer: &mut W, bytes: &[u8]) -> Result<(), ScriptFault>
     requires { W.failures writer.old ≡ 0 }
     ensures ok { OnOk result
         ((W.taken writer.new ≡ W.taken writer.old ++ bytes.now) × (W.failures writer.new ≡ 0)) }
+    ensures accepted { OnOk result (W.rejections writer.new ≡ W.rejections writer.old) }
     ensures err { OnErr result
-        (IsCutShort (W.taken writer.new) (W.taken writer.old ++ bytes.now)) }
+        (IsCutShort (W.taken writer.old) bytes.now (W.taken writer.new)) }
+    ensures cause { OnErr result
+        (IsBroken (W.failures writer.new) (W.rejections writer.new - W.rejections writer.old)) }
+    ensures out { W.flushed writer.new ≡ W.flushed writer.old }
     ensures why { IfErr result (λ fault. fault ≡ ScriptFault.Write) }
 {
     let mut rest = bytes;
@@ -69,4 +73,30 @@ pub fn put<W: Sink>(writer: &mut W, bytes: &[u8]) -> Result<(), ScriptFault>
         }
     }
     Ok(())
+}
+
+/// Writes all the bytes, and flushes them, so that none waits in a buffer.
+pub fn deliver<W: Sink>(writer: &mut W, bytes: &[u8]) -> Result<(), ScriptFault>
+    requires working { W.failures writer.old ≡ 0 }
+    requires out { W.flushed writer.old ≡ W.taken writer.old }
+    ensures ok { OnOk result
+        ((W.taken writer.new ≡ W.taken writer.old ++ bytes.now) × (W.failures writer.new ≡ 0)) }
+    ensures accepted { OnOk result (W.rejections writer.new ≡ W.rejections writer.old) }
+    ensures out { OnOk result (W.flushed writer.new ≡ W.taken writer.new) }
+    ensures err { OnErr result (BreaksOff (W.taken writer.old) bytes.now (record {
+      taken = W.taken writer.new;
+      flushed = W.flushed writer.new;
+      failures = W.failures writer.new;
+      rejections = W.rejections writer.new - W.rejections writer.old;
+    })) }
+    ensures why { IfErr result (λ fault. fault ≡ ScriptFault.Write) }
+{
+    if bytes.is_empty() {
+        return Ok(());
+    }
+    put(writer, bytes)?;
+    match writer.flush() {
+        Ok(()) => Ok(()),
+        Err(_) => Err(ScriptFault::Write),
+    }
 }

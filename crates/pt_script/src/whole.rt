@@ -1,4 +1,4 @@
-ghost use Rattle.std.specs.Prelude.{◌≡◌, ◌≤◌, ◌<◌, ◌+◌, ◌^◌, ◌++◌, [], length, true, OnOk, OnErr, IfOk, IfErr};
+ghost use Rattle.std.specs.Prelude.{◌≡◌, ◌≤◌, ◌<◌, ◌+◌, ◌-◌, ◌^◌, ◌++◌, [], length, true, false, OnOk, OnErr, IfOk, IfErr};
 ghost use Rattle.pt_lines.specs.Lines.{to_come, IsBegun};
 ghost use Rattle.pt_script.specs.Ends.{IsScriptText, BeginsScriptText, IsFaultOf};
 ghost use Rattle.pt_script.specs.Engines.{Answers, IsStopped, IsEnd};
@@ -6,7 +6,7 @@ ghost use Rattle.pt_script.specs.Scripts.{begun};
 
 use crate::engine::Engine;
 use crate::fault::ScriptFault;
-use crate::text::put;
+use crate::text::deliver;
 use pt_io::{Sink, Source};
 use pt_lines::Cutter;
 use std::alloc::Allocator;
@@ -35,22 +35,30 @@ fn take_in<W: Sink, A: Allocator + Copy>(
     writer: &mut W,
 ) -> Result<(), ScriptFault>
     requires working { W.failures writer.old ≡ 0 }
+    requires out { W.flushed writer.old ≡ W.taken writer.old }
     requires few { length engine.old.seen
         + length (to_come (record cutter.old { rest = cutter.old.rest ++ piece.now }) []) < 2 ^ 53 }
     ensures ok { OnOk result (Answers (record cutter.old { rest = cutter.old.rest ++ piece.now })
         engine.old (W.taken writer.old) cutter.new engine.new (W.taken writer.new)) }
     ensures begun { OnOk result (IsBegun cutter.new) }
-    ensures wrote { OnOk result (W.failures writer.new ≡ 0) }
+    ensures wrote { OnOk result
+        ((W.failures writer.new ≡ 0) × (W.rejections writer.new ≡ W.rejections writer.old)) }
+    ensures out { OnOk result (W.flushed writer.new ≡ W.taken writer.new) }
     ensures err { IfErr result (λ fault. IsStopped fault
         (record cutter.old { rest = cutter.old.rest ++ piece.now })
-        engine.old (W.taken writer.old) (W.taken writer.new) (W.failures writer.new)) }
+        engine.old (W.taken writer.old) (record {
+          taken = W.taken writer.new;
+          flushed = W.flushed writer.new;
+          failures = W.failures writer.new;
+          rejections = W.rejections writer.new - W.rejections writer.old;
+        })) }
 {
     let Ok(()) = cutter.feed(piece) else {
         return Err(ScriptFault::Memory);
     };
     let mut out = Vec::new(alloc);
     engine.answer_all(cutter, &mut out)?;
-    put(writer, &out)?;
+    deliver(writer, &out)?;
     Ok(())
 }
 
@@ -62,17 +70,25 @@ fn finish<W: Sink, A: Allocator + Copy>(
     writer: &mut W,
 ) -> Result<ScriptEnd, ScriptFault>
     requires working { W.failures writer.old ≡ 0 }
+    requires out { W.flushed writer.old ≡ W.taken writer.old }
     requires begun { IsBegun cutter }
     requires few { length engine.old.seen + length (to_come cutter []) < 2 ^ 53 }
     ensures ok { IfOk result (λ end. IsEnd
         cutter engine.old (W.taken writer.old) (W.taken writer.new) end.lines end.entries) }
-    ensures wrote { OnOk result (W.failures writer.new ≡ 0) }
+    ensures wrote { OnOk result
+        ((W.failures writer.new ≡ 0) × (W.rejections writer.new ≡ W.rejections writer.old)) }
+    ensures out { OnOk result (W.flushed writer.new ≡ W.taken writer.new) }
     ensures err { IfErr result (λ fault. IsStopped fault cutter engine.old
-        (W.taken writer.old) (W.taken writer.new) (W.failures writer.new)) }
+        (W.taken writer.old) (record {
+          taken = W.taken writer.new;
+          flushed = W.flushed writer.new;
+          failures = W.failures writer.new;
+          rejections = W.rejections writer.new - W.rejections writer.old;
+        })) }
 {
     let mut out = Vec::new(alloc);
     engine.answer_last(cutter, &mut out)?;
-    put(writer, &out)?;
+    deliver(writer, &out)?;
     Ok(ScriptEnd {
         lines: engine.lines(),
         entries: engine.entries(),
@@ -88,7 +104,8 @@ fn run_within<R: Source, W: Sink, A: Allocator + Copy>(
     writer: &mut W,
 ) -> Result<ScriptEnd, ScriptFault>
     requires new { engine.old ≡ begun }
-    requires fresh { (R.given reader.old ≡ []) × (W.taken writer.old ≡ []) }
+    requires fresh { (R.given reader.old ≡ []) × (W.taken writer.old ≡ [])
+        × (R.ended reader.old ≡ false) }
     requires working { (R.failures reader.old ≡ 0) × (W.failures writer.old ≡ 0) }
     requires few { reads ≤ 2 ^ 40 }
 
@@ -96,18 +113,27 @@ fn run_within<R: Source, W: Sink, A: Allocator + Copy>(
     ensures ok { IfOk result (λ end. IsScriptText
         (R.given reader.new) (W.taken writer.new) end.lines end.entries) }
     ensures ended { OnOk result (R.ended reader.new ≡ true) }
+    ensures out { OnOk result (W.flushed writer.new ≡ W.taken writer.new) }
     ensures working { OnOk result ((R.failures reader.new ≡ 0) × (W.failures writer.new ≡ 0)) }
+    ensures calls { R.reads reader.new ≤ R.reads reader.old + reads }
 
-    // A fault: what is written begins such a text, and the fault tells what stopped it.
+    // A fault: what is written begins such a text, and the fault says what stopped it.
     ensures err { OnErr result (BeginsScriptText (R.given reader.new) (W.taken writer.new)) }
     ensures why { IfErr result (λ fault. IsFaultOf (record {
-      given = R.given reader.new;
-      taken = W.taken writer.new;
-      read_failures = R.failures reader.new;
-      write_failures = W.failures writer.new;
-      had_ended = R.ended reader.old;
-      has_ended = R.ended reader.new;
-      reads = reads;
+      reader = record {
+        given = R.given reader.new;
+        earlier = R.earlier reader.new;
+        failures = R.failures reader.new;
+        reads = R.reads reader.new - R.reads reader.old;
+        has_ended = R.ended reader.new;
+      };
+      writer = record {
+        taken = W.taken writer.new;
+        flushed = W.flushed writer.new;
+        failures = W.failures writer.new;
+        rejections = W.rejections writer.new - W.rejections writer.old;
+      };
+      limit = reads;
     }) fault) }
 {
     let mut cutter = Cutter::new(alloc);
@@ -127,16 +153,19 @@ fn run_within<R: Source, W: Sink, A: Allocator + Copy>(
 /// Runs a script with at most so many reads, of at most 4,096 bytes each.  [profile]
 ///
 /// Each line is answered once it has come; the answers to the lines of one read are written
-/// together. `Read` is told where a read failed or the last of these reads did not tell the end,
-/// `Write` where a write failed or took no byte, and `Memory` where a growth was refused that no
-/// line is answered ENOMEM for. The answers not written by then are lost.
+/// together, and flushed before the next read. `Read` is returned if a read failed or the last of
+/// these reads did not report the end: all lines that had come whole are answered by then. `Write`
+/// is returned if a write or a flush failed or a write took no byte, and `Memory` if a growth was
+/// refused that no line is answered ENOMEM for: at most the answers to the lines of the latest read
+/// are lost.
 pub fn script_within<R: Source, W: Sink, A: Allocator + Copy>(
     alloc: A,
     reads: u64,
     reader: &mut R,
     writer: &mut W,
 ) -> Result<ScriptEnd, ScriptFault>
-    requires fresh { (R.given reader.old ≡ []) × (W.taken writer.old ≡ []) }
+    requires fresh { (R.given reader.old ≡ []) × (W.taken writer.old ≡ [])
+        × (R.ended reader.old ≡ false) }
     requires working { (R.failures reader.old ≡ 0) × (W.failures writer.old ≡ 0) }
     requires few { reads ≤ 2 ^ 40 }
 
@@ -144,18 +173,27 @@ pub fn script_within<R: Source, W: Sink, A: Allocator + Copy>(
     ensures ok { IfOk result (λ end. IsScriptText
         (R.given reader.new) (W.taken writer.new) end.lines end.entries) }
     ensures ended { OnOk result (R.ended reader.new ≡ true) }
+    ensures out { OnOk result (W.flushed writer.new ≡ W.taken writer.new) }
     ensures working { OnOk result ((R.failures reader.new ≡ 0) × (W.failures writer.new ≡ 0)) }
+    ensures calls { R.reads reader.new ≤ R.reads reader.old + reads }
 
-    // A fault: what is written begins such a text, and the fault tells what stopped it.
+    // A fault: what is written begins such a text, and the fault says what stopped it.
     ensures err { OnErr result (BeginsScriptText (R.given reader.new) (W.taken writer.new)) }
     ensures why { IfErr result (λ fault. IsFaultOf (record {
-      given = R.given reader.new;
-      taken = W.taken writer.new;
-      read_failures = R.failures reader.new;
-      write_failures = W.failures writer.new;
-      had_ended = R.ended reader.old;
-      has_ended = R.ended reader.new;
-      reads = reads;
+      reader = record {
+        given = R.given reader.new;
+        earlier = R.earlier reader.new;
+        failures = R.failures reader.new;
+        reads = R.reads reader.new - R.reads reader.old;
+        has_ended = R.ended reader.new;
+      };
+      writer = record {
+        taken = W.taken writer.new;
+        flushed = W.flushed writer.new;
+        failures = W.failures writer.new;
+        rejections = W.rejections writer.new - W.rejections writer.old;
+      };
+      limit = reads;
     }) fault) }
 {
     let mut engine = Engine::new(alloc)?;
@@ -168,25 +206,35 @@ pub fn script<R: Source, W: Sink, A: Allocator + Copy>(
     reader: &mut R,
     writer: &mut W,
 ) -> Result<ScriptEnd, ScriptFault>
-    requires fresh { (R.given reader.old ≡ []) × (W.taken writer.old ≡ []) }
+    requires fresh { (R.given reader.old ≡ []) × (W.taken writer.old ≡ [])
+        × (R.ended reader.old ≡ false) }
     requires working { (R.failures reader.old ≡ 0) × (W.failures writer.old ≡ 0) }
 
     // All is read, and all of its text written and nothing else.
     ensures ok { IfOk result (λ end. IsScriptText
         (R.given reader.new) (W.taken writer.new) end.lines end.entries) }
     ensures ended { OnOk result (R.ended reader.new ≡ true) }
+    ensures out { OnOk result (W.flushed writer.new ≡ W.taken writer.new) }
     ensures working { OnOk result ((R.failures reader.new ≡ 0) × (W.failures writer.new ≡ 0)) }
+    ensures calls { R.reads reader.new ≤ R.reads reader.old + 2 ^ 40 }
 
-    // A fault: what is written begins such a text, and the fault tells what stopped it.
+    // A fault: what is written begins such a text, and the fault says what stopped it.
     ensures err { OnErr result (BeginsScriptText (R.given reader.new) (W.taken writer.new)) }
     ensures why { IfErr result (λ fault. IsFaultOf (record {
-      given = R.given reader.new;
-      taken = W.taken writer.new;
-      read_failures = R.failures reader.new;
-      write_failures = W.failures writer.new;
-      had_ended = R.ended reader.old;
-      has_ended = R.ended reader.new;
-      reads = MOST_READS;
+      reader = record {
+        given = R.given reader.new;
+        earlier = R.earlier reader.new;
+        failures = R.failures reader.new;
+        reads = R.reads reader.new - R.reads reader.old;
+        has_ended = R.ended reader.new;
+      };
+      writer = record {
+        taken = W.taken writer.new;
+        flushed = W.flushed writer.new;
+        failures = W.failures writer.new;
+        rejections = W.rejections writer.new - W.rejections writer.old;
+      };
+      limit = 2 ^ 40;
     }) fault) }
 {
     script_within(alloc, MOST_READS, reader, writer)

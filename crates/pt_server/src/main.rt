@@ -1,10 +1,9 @@
 //! The program `ptserver`: scripts of POSIX synchronisation calls in, their answers out.
 //!
-//! What a script is answered is the contract of `pt_script`. Only tests and runs show what stands
-//! here: the words of the command line, the texts on standard error, and the exit statuses.
+//! What a script is answered, what is reported of a fault, and the exit status of both is the
+//! contract of `pt_script`, whose `answer` is handed the three standard streams. Only tests and runs
+//! show the rest: the words of the command line, their texts, and the status of a fault in them.
 #![tactic(auto)]
-
-ghost use Rattle.std.specs.Prelude.{◌≡◌, ◌⊎◌};
 
 mod command;
 
@@ -12,39 +11,22 @@ use clap::Error;
 use clap::error::ErrorKind;
 use command::command;
 use pt_io::Counted;
-use pt_script::{ScriptFault, script};
+use pt_script::answer;
 use std::process::ExitCode;
 use std::{env, io};
 
-// The exit statuses that are not 0.  [profile]
+// The exit status of a fault of the command line.  [profile]
 const USAGE: u8 = 2;
 
-const DEVICE: u8 = 3;
-
+// The exit status of want of memory, as `answer` has it.  [profile]
 const MEMORY: u8 = 5;
 
-// The status of a fault: that of want of memory, or of a device.
-fn status_of(fault: ScriptFault) -> u8
-    ensures device { (fault ≡ ScriptFault.Read) ⊎ (fault ≡ ScriptFault.Write) → result ≡ 3 }
-    ensures memory { fault ≡ ScriptFault.Memory → result ≡ 5 }
-{
-    match fault {
-        ScriptFault::Memory => MEMORY,
-        ScriptFault::Read | ScriptFault::Write => DEVICE,
-    }
-}
-
-// Answers standard input on standard output.
+// Answers standard input on standard output, and reports a fault on standard error.
 fn run_script(rt: &HostRuntime) -> ExitCode {
     let mut reader = Counted::new(rt.stdin());
     let mut writer = Counted::new(io::writer(rt));
-    match script(rt.alloc(), &mut reader, &mut writer) {
-        Ok(_) => ExitCode::SUCCESS,
-        Err(fault) => {
-            let _ = eprintln!(rt; "ptserver: {fault}");
-            ExitCode::from(status_of(fault))
-        }
-    }
+    let mut errors = Counted::new(rt.stderr());
+    ExitCode::from(answer(rt.alloc(), &mut reader, &mut writer, &mut errors))
 }
 
 // Shows what was asked for, or what is wrong with the words.

@@ -21,11 +21,3 @@ fn command_lines(rt: HostRuntime) -> Result<(), Fail> {
     assert_eq!(rt; exit_of(alloc, &["ptserver", "script", "more"])?, 2);
     Ok(())
 }
-
-#[test]
-fn statuses_of_faults(rt: HostRuntime) -> Result<(), Fail> {
-    assert_eq!(rt; status_of(ScriptFault::Read), 3);
-    assert_eq!(rt; status_of(ScriptFault::Write), 3);
-    assert_eq!(rt; status_of(ScriptFault::Memory), 5);
-    Ok(())
-}

@@ -1,6 +1,7 @@
-use Rattle.std.proofs.Common.{◌++◌, [], refl, sym, subst}
+use Rattle.std.proofs.Common.{◌-◌, [], refl, sym, subst, arith}
 use Rattle.pt_lines.specs.Lines.{to_come}
 use Rattle.pt_script.specs.declared.fault.ScriptFault.TheVariants.{Write, Memory}
+use Rattle.pt_script.specs.Texts.{Writing}
 use Rattle.pt_script.specs.Engines.{IsAnswered, IsStopped}
 use Rattle.pt_script.proofs.Runs.{onto_taken, last_cut_off, told_fault}
 use Rattle.pt_script.proofs.whole.finish.Goals as goal
@@ -10,26 +11,40 @@ returns-in_err-answer_last-clause-err g c =
     let gives = c.from_residual.ensures in
     let why = c.in_err-answer_last.ensures.why in
     let old = g.W.Sink.taken c.args.writer.now in
+    let rejections = g.W.Sink.rejections c.args.writer.now in
+    let writing : Writing = record {
+      taken = old;
+      flushed = g.W.Sink.flushed c.args.writer.now;
+      failures = g.W.Sink.failures c.args.writer.now;
+      rejections = rejections - rejections;
+    } in
     told_fault c.from_residual.result Memory
-    (λ fault. IsStopped fault c.args.cutter c.args.engine.now old old
-    (g.W.Sink.failures c.args.writer.now)) (rw why at gives.1)
-    (refl, c.requires.working)
+    (λ fault. IsStopped fault c.args.cutter c.args.engine.now old writing) (rw why at gives.1)
+    (record {
+      taken = refl;
+      flushed = c.requires.out;
+      failures = c.requires.working;
+      rejections = omega arith;
+    })
 
-pub returns-in_err-put-clause-err : goal.returns-in_err-put-clause-err
-returns-in_err-put-clause-err g c =
-    let gives = c.from_residual-in_err-put.ensures in
-    let why = c.in_err-put.ensures.why in
+pub returns-in_err-deliver-clause-err : goal.returns-in_err-deliver-clause-err
+returns-in_err-deliver-clause-err g c =
+    let gives = c.from_residual-in_err-deliver.ensures in
+    let why = c.in_err-deliver.ensures.why in
     let old = g.W.Sink.taken c.args.writer.now in
-    let new = g.W.Sink.taken c.put.new.writer in
-    told_fault c.from_residual-in_err-put.result Write
-    (λ fault. IsStopped fault c.args.cutter c.args.engine.now old new
-    (g.W.Sink.failures c.put.new.writer)) (rw why at gives.1)
-    (last_cut_off c.args.cutter c.args.engine.now c.answer_last.new.self
-    (old ++ c.deref.result.now) old new
-    (onto_taken c.args.engine.now (to_come c.args.cutter []) c.new-out.result.items
-    c.answer_last.new.self c.answer_last.new.out.items c.deref.result.now old
-    c.in_ok-answer_last.ensures.ok c.new-out.ensures.items c.deref.ensures.value)
-    c.in_err-put.ensures.err)
+    let writing : Writing = record {
+      taken = g.W.Sink.taken c.deliver.new.writer;
+      flushed = g.W.Sink.flushed c.deliver.new.writer;
+      failures = g.W.Sink.failures c.deliver.new.writer;
+      rejections =
+          g.W.Sink.rejections c.deliver.new.writer - g.W.Sink.rejections c.args.writer.now;
+    } in
+    told_fault c.from_residual-in_err-deliver.result Write
+    (λ fault. IsStopped fault c.args.cutter c.args.engine.now old writing) (rw why at gives.1)
+    (last_cut_off c.args.cutter c.args.engine.now c.new-out.result.items
+    c.answer_last.new.self c.answer_last.new.out.items c.deref.result.now old writing
+    c.in_ok-answer_last.ensures.ok c.new-out.ensures.items c.deref.ensures.value
+    c.in_err-deliver.ensures.err)
 
 pub returns-clause-ok : goal.returns-clause-ok
 returns-clause-ok g c =
@@ -39,7 +54,7 @@ returns-clause-ok g c =
       answered =
           subst
           (IsAnswered c.args.engine.now (to_come c.args.cutter []) old c.answer_last.new.self)
-          (sym c.in_ok-put.ensures.ok.0)
+          (sym c.in_ok-deliver.ensures.ok.0)
           (onto_taken c.args.engine.now (to_come c.args.cutter []) c.new-out.result.items
           c.answer_last.new.self c.answer_last.new.out.items c.deref.result.now old
           c.in_ok-answer_last.ensures.ok c.new-out.ensures.items c.deref.ensures.value);

@@ -1,9 +1,10 @@
-use Rattle.std.proofs.Common.{◌≡◌, ◌++◌, [], true, ◌∙◌, sym, ap, subst, refl, take, length, append-nil, length-append, arith}
+use Rattle.std.proofs.Common.{◌≡◌, ◌-◌, ◌++◌, [], true, ◌∙◌, sym, ap, subst, refl, take, length, inl, inr, append-nil, length-append, arith}
 use Rattle.pt_lines.specs.Lines.{Held}
-use Rattle.pt_script.specs.Ends.{Course, IsScriptText, BeginsScriptText, IsFaultOf}
-use Rattle.pt_script.specs.Engines.{IsBehind, IsEnd, IsStopped}
+use Rattle.pt_script.specs.Texts.{Writing}
+use Rattle.pt_script.specs.Ends.{BeginsScriptText, Course, IsBehind, IsFaultOf, IsReadFault, IsScriptText}
+use Rattle.pt_script.specs.Engines.{IsEnd, IsStopped}
 use Rattle.pt_script.proofs.Runs.{on_ok, on_err, told_fault}
-use Rattle.pt_script.proofs.Wholes.{fed_end, behind_few, behind_fed, behind_end, begins_given, stopped_begins, stopped_why, not_ended, behind_begun, begun_held, has_ended, done_if}
+use Rattle.pt_script.proofs.Wholes.{fed_end, behind_few, behind_fed, behind_end, begins_given, stopped_begins, stopped_why, not_ended, behind_begun, begun_held, has_ended, done_if, whole_answered, nothing_before, never_ended}
 use Rattle.pt_script.proofs.whole.run_within.Goals as goal
 
 pub loop-init : goal.loop-init
@@ -15,7 +16,13 @@ loop-init g c =
       begun = begun_held c.new-cutter.result c.new-cutter.ensures;
       read = c.requires.working.0;
       wrote = c.requires.working.1;
-      no_end = refl;
+      accepted = refl;
+      out =
+          nothing_before (g.W.Sink.flushed c.args.writer.now) (g.W.Sink.taken c.args.writer.now)
+          (g.met.W.Sink.flushed_taken c.args.writer.now) c.requires.fresh.1
+          ∙ sym c.requires.fresh.1;
+      calls = omega arith;
+      no_end = c.requires.fresh.2;
       some = omega arith;
       few = omega (arith, ap length c.requires.fresh.0);
       room = refl;
@@ -26,6 +33,39 @@ returns-in_default-clause-err g c =
     begins_given (g.R.Source.given c.loop.reader) (g.R.Source.given c.read.new.self) []
     c.loop.cutter c.loop.engine (g.W.Sink.taken c.loop.writer) c.loop.invariant.behind
     (c.in_default.ensures.bytes ∙ sym (append-nil (g.R.Source.given c.loop.reader)))
+
+pub returns-in_default-clause-why : goal.returns-in_default-clause-why
+returns-in_default-clause-why g c =
+    let course : Course = record {
+      reader = record {
+        given = g.R.Source.given c.read.new.self;
+        earlier = g.R.Source.earlier c.read.new.self;
+        failures = g.R.Source.failures c.read.new.self;
+        reads = g.R.Source.reads c.read.new.self - g.R.Source.reads c.args.reader.now;
+        has_ended = g.R.Source.ended c.read.new.self;
+      };
+      writer = record {
+        taken = g.W.Sink.taken c.loop.writer;
+        flushed = g.W.Sink.flushed c.loop.writer;
+        failures = g.W.Sink.failures c.loop.writer;
+        rejections = g.W.Sink.rejections c.loop.writer - g.W.Sink.rejections c.args.writer.now;
+      };
+      limit = c.args.reads;
+    } in
+    let fault : IsReadFault course = record {
+      cause = inl c.in_default.ensures.count;
+      no_end =
+          never_ended (g.R.Source.ended c.loop.reader) (g.R.Source.ended c.read.new.self)
+          c.loop.invariant.no_end c.in_default.ensures.end;
+      answers =
+          whole_answered (g.R.Source.given c.loop.reader) c.loop.cutter c.loop.engine
+          course.writer.taken course.reader.given course.writer.taken c.loop.invariant.behind
+          c.loop.invariant.begun c.in_default.ensures.bytes refl;
+      flushed = c.loop.invariant.out;
+      wrote = c.loop.invariant.wrote;
+      accepted = omega (arith, c.loop.invariant.accepted);
+    } in
+    fault
 
 pub finish-requires-clause-few : goal.finish-requires-clause-few
 finish-requires-clause-few g c =
@@ -61,14 +101,18 @@ returns-then-n-eq0-clause-err g c =
     let bytes = g.R.Source.given c.loop.reader in
     let given = g.R.Source.given c.read.new.self in
     let text = g.W.Sink.taken c.loop.writer in
-    let new = g.W.Sink.taken c.finish.new.writer in
-    let failures = g.W.Sink.failures c.finish.new.writer in
+    let writing : Writing = record {
+      taken = g.W.Sink.taken c.finish.new.writer;
+      flushed = g.W.Sink.flushed c.finish.new.writer;
+      failures = g.W.Sink.failures c.finish.new.writer;
+      rejections = g.W.Sink.rejections c.finish.new.writer - g.W.Sink.rejections c.loop.writer;
+    } in
     let same = c.in-Ok.ensures.bytes
     ∙ ap (λ n. bytes ++ take n c.read.new.buf) c.if-n-eq0.true in
-    on_err (λ fault. IsStopped fault c.loop.cutter c.loop.engine text new failures)
-    (λ fault. BeginsScriptText given new) c.finish.result
+    on_err (λ fault. IsStopped fault c.loop.cutter c.loop.engine text writing)
+    (λ fault. BeginsScriptText given writing.taken) c.finish.result
     (λ fault stop. stopped_begins bytes given [] c.loop.cutter c.loop.cutter c.loop.engine text
-    new failures fault c.loop.invariant.behind same refl stop)
+    writing fault c.loop.invariant.behind same refl stop)
     c.finish.ensures.err
 
 pub returns-then-n-eq0-clause-why : goal.returns-then-n-eq0-clause-why
@@ -78,20 +122,40 @@ returns-then-n-eq0-clause-why g c =
     let same = c.in-Ok.ensures.bytes
     ∙ ap (λ n. bytes ++ take n c.read.new.buf) c.if-n-eq0.true in
     let course : Course = record {
-      given = g.R.Source.given c.read.new.self;
-      taken = g.W.Sink.taken c.finish.new.writer;
-      read_failures = g.R.Source.failures c.read.new.self;
-      write_failures = g.W.Sink.failures c.finish.new.writer;
-      had_ended = g.R.Source.ended c.args.reader.now;
-      has_ended = g.R.Source.ended c.read.new.self;
-      reads = c.args.reads;
+      reader = record {
+        given = g.R.Source.given c.read.new.self;
+        earlier = g.R.Source.earlier c.read.new.self;
+        failures = g.R.Source.failures c.read.new.self;
+        reads = g.R.Source.reads c.read.new.self - g.R.Source.reads c.args.reader.now;
+        has_ended = g.R.Source.ended c.read.new.self;
+      };
+      writer = record {
+        taken = g.W.Sink.taken c.finish.new.writer;
+        flushed = g.W.Sink.flushed c.finish.new.writer;
+        failures = g.W.Sink.failures c.finish.new.writer;
+        rejections = g.W.Sink.rejections c.finish.new.writer - g.W.Sink.rejections c.args.writer.now;
+      };
+      limit = c.args.reads;
     } in
-    on_err
-    (λ fault. IsStopped fault c.loop.cutter c.loop.engine text course.taken
-    course.write_failures)
+    let writing : Writing = record {
+      taken = g.W.Sink.taken c.finish.new.writer;
+      flushed = g.W.Sink.flushed c.finish.new.writer;
+      failures = g.W.Sink.failures c.finish.new.writer;
+      rejections = g.W.Sink.rejections c.finish.new.writer - g.W.Sink.rejections c.loop.writer;
+    } in
+    on_err (λ fault. IsStopped fault c.loop.cutter c.loop.engine text writing)
     (λ fault. IsFaultOf course fault) c.finish.result
     (λ fault stop. stopped_why bytes [] c.loop.cutter c.loop.cutter c.loop.engine text course
-    fault c.loop.invariant.behind same refl c.in-Ok.ensures.count stop)
+    fault c.loop.invariant.behind c.loop.invariant.begun same c.in-Ok.ensures.before refl
+    c.in-Ok.ensures.count
+    (subst
+    (λ n. IsStopped fault c.loop.cutter c.loop.engine text (record {
+      taken = course.writer.taken;
+      flushed = course.writer.flushed;
+      failures = course.writer.failures;
+      rejections = g.W.Sink.rejections c.finish.new.writer - n;
+    }))
+    c.loop.invariant.accepted stop))
     c.finish.ensures.err
 
 pub take_in-requires-clause-few : goal.take_in-requires-clause-few
@@ -112,13 +176,17 @@ returns-in_err-take_in-clause-err g c =
     let given = g.R.Source.given c.read.new.self in
     let more = take c.in-Ok.n c.read.new.buf in
     let next : Held = record c.loop.cutter { rest = c.loop.cutter.rest ++ more } in
-    let new = g.W.Sink.taken c.take_in.new.writer in
+    let writing : Writing = record {
+      taken = g.W.Sink.taken c.take_in.new.writer;
+      flushed = g.W.Sink.flushed c.take_in.new.writer;
+      failures = g.W.Sink.failures c.take_in.new.writer;
+      rejections = g.W.Sink.rejections c.take_in.new.writer - g.W.Sink.rejections c.loop.writer;
+    } in
     told_fault c.from_residual.result c.in_err-take_in.field-0.0
-    (λ fault. BeginsScriptText given new) c.from_residual.ensures.1
+    (λ fault. BeginsScriptText given writing.taken) c.from_residual.ensures.1
     (stopped_begins bytes given more c.loop.cutter next c.loop.engine
-    (g.W.Sink.taken c.loop.writer) new (g.W.Sink.failures c.take_in.new.writer)
-    c.in_err-take_in.field-0.0 c.loop.invariant.behind c.in-Ok.ensures.bytes
-    (fed_end c.loop.cutter more) c.in_err-take_in.ensures.err)
+    (g.W.Sink.taken c.loop.writer) writing c.in_err-take_in.field-0.0 c.loop.invariant.behind
+    c.in-Ok.ensures.bytes (fed_end c.loop.cutter more) c.in_err-take_in.ensures.err)
 
 pub returns-in_err-take_in-clause-why : goal.returns-in_err-take_in-clause-why
 returns-in_err-take_in-clause-why g c =
@@ -126,19 +194,35 @@ returns-in_err-take_in-clause-why g c =
     let more = take c.in-Ok.n c.read.new.buf in
     let next : Held = record c.loop.cutter { rest = c.loop.cutter.rest ++ more } in
     let course : Course = record {
-      given = g.R.Source.given c.read.new.self;
-      taken = g.W.Sink.taken c.take_in.new.writer;
-      read_failures = g.R.Source.failures c.read.new.self;
-      write_failures = g.W.Sink.failures c.take_in.new.writer;
-      had_ended = g.R.Source.ended c.args.reader.now;
-      has_ended = g.R.Source.ended c.read.new.self;
-      reads = c.args.reads;
+      reader = record {
+        given = g.R.Source.given c.read.new.self;
+        earlier = g.R.Source.earlier c.read.new.self;
+        failures = g.R.Source.failures c.read.new.self;
+        reads = g.R.Source.reads c.read.new.self - g.R.Source.reads c.args.reader.now;
+        has_ended = g.R.Source.ended c.read.new.self;
+      };
+      writer = record {
+        taken = g.W.Sink.taken c.take_in.new.writer;
+        flushed = g.W.Sink.flushed c.take_in.new.writer;
+        failures = g.W.Sink.failures c.take_in.new.writer;
+        rejections = g.W.Sink.rejections c.take_in.new.writer - g.W.Sink.rejections c.args.writer.now;
+      };
+      limit = c.args.reads;
     } in
     told_fault c.from_residual.result c.in_err-take_in.field-0.0
     (λ fault. IsFaultOf course fault) c.from_residual.ensures.1
     (stopped_why bytes more c.loop.cutter next c.loop.engine (g.W.Sink.taken c.loop.writer)
-    course c.in_err-take_in.field-0.0 c.loop.invariant.behind c.in-Ok.ensures.bytes
-    (fed_end c.loop.cutter more) c.in-Ok.ensures.count c.in_err-take_in.ensures.err)
+    course c.in_err-take_in.field-0.0 c.loop.invariant.behind c.loop.invariant.begun
+    c.in-Ok.ensures.bytes c.in-Ok.ensures.before (fed_end c.loop.cutter more)
+    c.in-Ok.ensures.count
+    (subst
+    (λ n. IsStopped c.in_err-take_in.field-0.0 next c.loop.engine (g.W.Sink.taken c.loop.writer) (record {
+      taken = course.writer.taken;
+      flushed = course.writer.flushed;
+      failures = course.writer.failures;
+      rejections = g.W.Sink.rejections c.take_in.new.writer - n;
+    }))
+    c.loop.invariant.accepted c.in_err-take_in.ensures.err))
 
 pub loop-preserved : goal.loop-preserved
 loop-preserved g c =
@@ -157,7 +241,10 @@ loop-preserved g c =
           c.in_ok-take_in.ensures.ok);
       begun = c.in_ok-take_in.ensures.begun;
       read = c.in-Ok.ensures.count;
-      wrote = c.in_ok-take_in.ensures.wrote;
+      wrote = c.in_ok-take_in.ensures.wrote.0;
+      accepted = c.in_ok-take_in.ensures.wrote.1 ∙ c.loop.invariant.accepted;
+      out = c.in_ok-take_in.ensures.out;
+      calls = omega (arith, c.in-Ok.ensures.calls, c.loop.invariant.calls);
       no_end =
           not_ended c.in-Ok.n c.read.new.buf (g.R.Source.ended c.loop.reader)
           (g.R.Source.ended c.read.new.self) c.if-n-eq0.false c.in-Ok.ensures.end
@@ -172,3 +259,34 @@ returns-clause-err g c =
     begins_given (g.R.Source.given c.loop.reader) (g.R.Source.given c.loop.reader) []
     c.loop.cutter c.loop.engine (g.W.Sink.taken c.loop.writer) c.loop.invariant.behind
     (sym (append-nil (g.R.Source.given c.loop.reader)))
+
+pub returns-clause-why : goal.returns-clause-why
+returns-clause-why g c =
+    let course : Course = record {
+      reader = record {
+        given = g.R.Source.given c.loop.reader;
+        earlier = g.R.Source.earlier c.loop.reader;
+        failures = g.R.Source.failures c.loop.reader;
+        reads = g.R.Source.reads c.loop.reader - g.R.Source.reads c.args.reader.now;
+        has_ended = g.R.Source.ended c.loop.reader;
+      };
+      writer = record {
+        taken = g.W.Sink.taken c.loop.writer;
+        flushed = g.W.Sink.flushed c.loop.writer;
+        failures = g.W.Sink.failures c.loop.writer;
+        rejections = g.W.Sink.rejections c.loop.writer - g.W.Sink.rejections c.args.writer.now;
+      };
+      limit = c.args.reads;
+    } in
+    let fault : IsReadFault course = record {
+      cause = inr (c.loop.invariant.read, omega arith, omega arith);
+      no_end = c.loop.invariant.no_end;
+      answers =
+          whole_answered course.reader.given c.loop.cutter c.loop.engine course.writer.taken
+          course.reader.given course.writer.taken c.loop.invariant.behind
+          c.loop.invariant.begun refl refl;
+      flushed = c.loop.invariant.out;
+      wrote = c.loop.invariant.wrote;
+      accepted = omega (arith, c.loop.invariant.accepted);
+    } in
+    fault

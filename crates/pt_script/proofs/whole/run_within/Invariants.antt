@@ -1,6 +1,6 @@
-use Rattle.std.proofs.Common.{◌≡◌, ◌*◌, ◌≤◌, length}
+use Rattle.std.proofs.Common.{◌≡◌, ◌+◌, ◌*◌, ◌≤◌, false, length}
 use Rattle.pt_lines.specs.Lines.{IsBegun}
-use Rattle.pt_script.specs.Engines.{IsBehind}
+use Rattle.pt_script.specs.Ends.{IsBehind}
 use Rattle.pt_script.proofs.whole.run_within.Given as goal
 
 abbrev pub invariant-loop : goal.invariant-loop
@@ -9,7 +9,10 @@ invariant-loop g l = record {
   begun : IsBegun l.cutter;
   read : g.R.Source.failures l.reader ≡ 0;
   wrote : g.W.Sink.failures l.writer ≡ 0;
-  no_end : g.R.Source.ended l.reader ≡ g.R.Source.ended l.fn.reader;
+  accepted : g.W.Sink.rejections l.writer ≡ g.W.Sink.rejections l.fn.writer;
+  out : g.W.Sink.flushed l.writer ≡ g.W.Sink.taken l.writer;
+  calls : g.R.Source.reads l.reader ≡ g.R.Source.reads l.fn.reader + l.counter;
+  no_end : g.R.Source.ended l.reader ≡ false;
   some : l.counter ≤ length (g.R.Source.given l.reader);
   few : length (g.R.Source.given l.reader) ≤ 4096 * l.counter;
   room : length l.piece ≡ 4096;

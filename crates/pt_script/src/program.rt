@@ -1,0 +1,97 @@
+ghost use Rattle.std.specs.Prelude.{◌≡◌, ◌≤◌, ◌+◌, ◌-◌, ◌^◌, [], false};
+ghost use Rattle.pt_script.specs.Programs.{EndsWith, Reports, report_of, status_of};
+
+use crate::fault::ScriptFault;
+use crate::text::put;
+use crate::whole::script;
+use pt_io::{Sink, Source};
+use std::alloc::Allocator;
+
+/// The exit status of a script that was read to its end.  [profile]
+const DONE: u8 = 0;
+
+/// The exit status of a fault of a device.  [profile]
+const DEVICE: u8 = 3;
+
+/// The exit status of want of memory.  [profile]
+const MEMORY: u8 = 5;
+
+fn status_of(fault: ScriptFault) -> u8
+    ensures { result ≡ status_of fault }
+{
+    match fault {
+        ScriptFault::Read | ScriptFault::Write => DEVICE,
+        ScriptFault::Memory => MEMORY,
+    }
+}
+
+fn report_of(fault: ScriptFault) -> &'static [u8]
+    ensures { result.now ≡ report_of fault }
+{
+    match fault {
+        ScriptFault::Read => b"ptserver: read failed\n",
+        ScriptFault::Write => b"ptserver: write failed\n",
+        ScriptFault::Memory => b"ptserver: out of memory\n",
+    }
+}
+
+// Writes what a fault is reported by. A fault of this writer is reported nowhere.
+fn report<E: Sink>(errors: &mut E, fault: ScriptFault)
+    requires { E.failures errors.old ≡ 0 }
+    ensures { Reports (E.taken errors.old) (report_of fault) (record {
+      taken = E.taken errors.new;
+      flushed = E.flushed errors.new;
+      failures = E.failures errors.new;
+      rejections = E.rejections errors.new - E.rejections errors.old;
+    }) }
+{
+    if put(errors, report_of(fault)).is_ok() {
+        let _ = errors.flush();
+    }
+}
+
+/// Runs a script as `script` does, and returns the exit status of a program that does nothing else.
+///
+/// The status is 0 if all lines were read and answered. A fault is reported on `errors`, and gives
+/// 3 if it is one of the reader or the writer, and 5 if it is want of memory.  [profile]
+pub fn answer<R: Source, W: Sink, E: Sink, A: Allocator + Copy>(
+    alloc: A,
+    reader: &mut R,
+    writer: &mut W,
+    errors: &mut E,
+) -> u8
+    requires fresh { (R.given reader.old ≡ []) × (W.taken writer.old ≡ [])
+        × (R.ended reader.old ≡ false) }
+    requires working { (R.failures reader.old ≡ 0) × (W.failures writer.old ≡ 0)
+        × (E.failures errors.old ≡ 0) }
+    ensures ends { EndsWith (record {
+      reader = record {
+        given = R.given reader.new;
+        earlier = R.earlier reader.new;
+        failures = R.failures reader.new;
+        reads = R.reads reader.new - R.reads reader.old;
+        has_ended = R.ended reader.new;
+      };
+      writer = record {
+        taken = W.taken writer.new;
+        flushed = W.flushed writer.new;
+        failures = W.failures writer.new;
+        rejections = W.rejections writer.new - W.rejections writer.old;
+      };
+      limit = 2 ^ 40;
+    }) (E.taken errors.old) (record {
+      taken = E.taken errors.new;
+      flushed = E.flushed errors.new;
+      failures = E.failures errors.new;
+      rejections = E.rejections errors.new - E.rejections errors.old;
+    }) result }
+    ensures calls { R.reads reader.new ≤ R.reads reader.old + 2 ^ 40 }
+{
+    match script(alloc, reader, writer) {
+        Ok(_) => DONE,
+        Err(fault) => {
+            report(errors, fault);
+            status_of(fault)
+        }
+    }
+}
