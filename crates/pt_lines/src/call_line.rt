@@ -93,6 +93,3 @@ impl CallLine {
         }
     }
 }
-
-#[cfg(test)]
-mod tests;

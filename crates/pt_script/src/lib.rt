@@ -19,6 +19,3 @@ mod whole;
 
 pub use fault::ScriptFault;
 pub use whole::{MOST_READS, ScriptEnd, script, script_within};
-
-#[cfg(test)]
-mod tests;
