@@ -20,6 +20,3 @@ pub use counted::{Counted, TRIES_AGAIN};
 pub use faulty::Faulty;
 pub use sink::Sink;
 pub use source::Source;
-
-#[cfg(test)]
-mod tests;

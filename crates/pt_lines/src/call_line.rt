@@ -101,6 +101,3 @@ impl CallLine {
         }
     }
 }
-
-#[cfg(test)]
-mod tests;

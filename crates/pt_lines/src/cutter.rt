@@ -174,6 +174,3 @@ pub fn cut_all<A: Allocator + Copy>(alloc: A, pieces: &[&[u8]]) -> Result<Vec<Cu
     }
     Ok(cuts)
 }
-
-#[cfg(test)]
-mod tests;

@@ -60,6 +60,3 @@ pub fn write_reply<A: Allocator + Copy>(
     out.extend_from_slice(line.as_slice())
         .map_err(|_| Refusal::Enomem)
 }
-
-#[cfg(test)]
-mod tests;

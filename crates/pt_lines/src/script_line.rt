@@ -110,6 +110,3 @@ impl ScriptLine {
         }
     }
 }
-
-#[cfg(test)]
-mod tests;

@@ -25,6 +25,3 @@ mod whole;
 pub use fault::ScriptFault;
 pub use program::answer;
 pub use whole::{MOST_READS, ScriptEnd, script, script_within};
-
-#[cfg(test)]
-mod tests;

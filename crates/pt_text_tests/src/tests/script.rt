@@ -1,9 +1,11 @@
 ghost use Rattle.std.specs.Prelude.{◌≡◌, ◌<◌, [], false, IfOk};
 
-use super::*;
+use super::lend;
 use pt_io::Faulty;
 use pt_refusing::{Refusing, refuse_each};
+use pt_script::{ScriptEnd, ScriptFault, answer, script, script_within};
 use std::alloc::{Allocator, Global};
+use std::process::Abort;
 use std::test::Fail;
 
 mod faults;
@@ -28,13 +30,24 @@ fn reader<A: Allocator + Copy>(
     Ok(Faulty::new(Vec::from_slice(alloc, bytes)?, step, fails_at))
 }
 
+// Writes what this input is told, which is read to its end.
+fn tell(alloc: Global, bytes: &[u8], step: usize, writer: &mut Faulty) -> Result<ScriptEnd, Fail>
+    requires step { 0 < step }
+    requires fresh { writer.old.taken ≡ [] }
+    requires working { writer.old.has_failed ≡ false }
+{
+    let mut reader = reader(alloc, bytes, step, 0)?;
+    let ended = script(alloc, &mut reader, writer);
+    drop(reader);
+    Ok(ended?)
+}
+
 // What is written for this input, which is read to its end.
 fn told(alloc: Global, bytes: &[u8], step: usize) -> Result<(Faulty, ScriptEnd), Fail>
     requires { 0 < step }
 {
-    let mut reader = reader(alloc, bytes, step, 0)?;
     let mut writer = Faulty::new(Vec::new(alloc), 4096, 0);
-    let end = script(alloc, &mut reader, &mut writer)?;
+    let end = tell(alloc, bytes, step, &mut writer)?;
     Ok((writer, end))
 }
 
@@ -49,17 +62,28 @@ fn the_answer_comes_before_the_grant(rt: HostRuntime) -> Result<(), Fail> {
     Ok(())
 }
 
-#[test]
-fn refused_lines_are_answered_and_counted(rt: HostRuntime) -> Result<(), Fail> {
-    let alloc = rt.alloc();
+// Lines that are refused among others, one of them of 129 bytes.
+fn lines_refused(alloc: Global) -> Result<Vec<u8>, Fail> {
     let mut input = Vec::from_slice(alloc, b"A lock m\n")?;
     input.extend_from_slice(&[b'x'; 129])?;
     input.extend_from_slice(
         b"\nA hello 100\nA hello 99\nA hello 99\nA lokc m\nA lock m\nA die\nA lock m\nB die\n\
         \n* moment 1 1000000000\nB hello 1",
     )?;
+    Ok(input)
+}
+
+#[test]
+fn refused_lines_are_answered_and_counted(rt: HostRuntime) -> Result<(), Fail> {
+    lend(
+        lines_refused(rt.alloc())?,
+        |input| play_refused_lines(&rt, rt.alloc(), input.as_slice()),
+    )
+}
+
+fn play_refused_lines(rt: &impl Abort, alloc: Global, input: &[u8]) -> Result<(), Fail> {
     for step in [1, 4096] {
-        let (writer, end) = told(alloc, &input, step)?;
+        let (writer, end) = told(alloc, input, step)?;
         assert_eq!(rt;
             writer.written(),
             b"A 1 NOHELLO\n? 1 LONG\nA 2 SYNTAX\nA 3 0\n\

@@ -1,15 +1,23 @@
-use super::*;
+use super::lend;
+use pt_lines::{Who, Word, write_reply};
+use pt_types::{Outcome, Refusal};
 use std::alloc::Global;
+use std::process::Abort;
 use std::test::Fail;
+
+fn write_answers(out: &mut Vec<u8>, words: &[Word]) -> Result<(), Fail> {
+    let who = Who::named(b"abcdefgh");
+    for word in words {
+        write_reply(out, None, 1, *word)?;
+        write_reply(out, Some(&who), u64::MAX, *word)?;
+    }
+    Ok(())
+}
 
 // The answer lines of these words, to line 1 of nobody and to the last line of a client.
 fn answers(alloc: Global, words: &[Word]) -> Result<Vec<u8>, Fail> {
     let mut out = Vec::new(alloc);
-    let who = Who::named(b"abcdefgh");
-    for word in words {
-        write_reply(&mut out, None, 1, *word)?;
-        write_reply(&mut out, Some(&who), u64::MAX, *word)?;
-    }
+    write_answers(&mut out, words)?;
     Ok(out)
 }
 
@@ -106,21 +114,19 @@ fn answers_of_refusals(rt: HostRuntime) -> Result<(), Fail> {
 
 #[test]
 fn answers_in_a_row(rt: HostRuntime) -> Result<(), Fail> {
-    let mut out = Vec::new(rt.alloc());
+    lend(Vec::new(rt.alloc()), |out| play_answers_in_a_row(&rt, out))
+}
+
+fn play_answers_in_a_row(rt: &impl Abort, out: &mut Vec<u8>) -> Result<(), Fail> {
     write_reply(
-        &mut out,
+        out,
         Some(&Who::named(b"A")),
         12,
         Word::Outcome(Outcome::Eperm),
     )?;
-    write_reply(&mut out, Some(&Who::Star), 1, Word::Refusal(Refusal::Full))?;
-    write_reply(
-        &mut out,
-        Some(&Who::Unknown),
-        2,
-        Word::Refusal(Refusal::Long),
-    )?;
-    write_reply(&mut out, None, 3, Word::Outcome(Outcome::Done))?;
+    write_reply(out, Some(&Who::Star), 1, Word::Refusal(Refusal::Full))?;
+    write_reply(out, Some(&Who::Unknown), 2, Word::Refusal(Refusal::Long))?;
+    write_reply(out, None, 3, Word::Outcome(Outcome::Done))?;
     assert_eq!(rt;
         out.as_slice(),
         b"A 12 EPERM\n* 1 FULL\n? 2 LONG\n3 0\n".as_slice()

@@ -1,6 +1,6 @@
-use super::*;
-use crate::cutter::Cutter;
-use pt_types::{Deadline, MutexKind, Name};
+use super::first_cut;
+use pt_lines::{CallLine, Cut, read_call};
+use pt_types::{Call, Deadline, Moment, MutexKind, Name, Priority, Refusal};
 use std::test::Fail;
 
 fn object(name: &[u8]) -> Result<Name, Fail> {
@@ -128,8 +128,8 @@ fn calls_on_conditions_and_barriers(rt: HostRuntime) -> Result<(), Fail> {
 #[test]
 fn hellos_and_moments(rt: HostRuntime) -> Result<(), Fail> {
     for level in [1, 33, 99] {
-        let text = format!(in rt.alloc(); "hello {level}")?;
         let priority = Priority::new(level).ok_or("priority")?;
+        let text = format!(in rt.alloc(); "hello {level}")?;
         assert!(rt; read_call(text.as_str().as_bytes()) == Ok(CallLine::Hello(priority)));
     }
     let moment = Moment::new(9_999_999_999, 999_999_999).ok_or("moment")?;
@@ -162,15 +162,12 @@ fn the_longest_line(rt: HostRuntime) -> Result<(), Fail> {
 }
 
 #[test]
-fn names_of_1_to_32_bytes(rt: HostRuntime) -> Result<(), Fail> {
-    let alloc = rt.alloc();
+fn names_of_1_to_32_bytes(rt: HostRuntime) {
+    let mut text = [b'x'; 38];
+    text[..5].copy_from_slice(b"lock ");
     for (count, known) in [(0, false), (1, true), (32, true), (33, false)] {
-        let mut text = Vec::from_slice(alloc, b"lock ")?;
-        let name = vec![in alloc; b'x'; count]?;
-        text.extend_from_slice(name.as_slice())?;
-        assert_eq!(rt; read_call(text.as_slice()).is_ok(), known, "{count}");
+        assert_eq!(rt; read_call(&text[..5 + count]).is_ok(), known, "{count}");
     }
-    Ok(())
 }
 
 const NO_LINES: [&[u8]; 69] = [
@@ -254,10 +251,8 @@ fn lines_that_no_connection_may_send(rt: HostRuntime) {
 
 #[test]
 fn a_cut_line_is_read(rt: HostRuntime) -> Result<(), Fail> {
-    let mut cutter = Cutter::new(rt.alloc());
-    cutter.feed(b"hello 5\n")?;
-    let cut = cutter.next_line().ok_or("line")?;
     let priority = Priority::new(5).ok_or("priority")?;
+    let cut = first_cut(rt.alloc(), b"hello 5\n")?;
     assert!(rt; CallLine::of(&cut) == Ok(CallLine::Hello(priority)));
     assert!(rt; CallLine::of(&Cut::Long) == Err(Refusal::Long));
     Ok(())

@@ -1,5 +1,5 @@
 use Rattle.std.proofs.Common.{◌≡◌, length}
-use Rattle.pt_io.proofs.tests.copy.Given as goal
+use Rattle.pt_text_tests.proofs.tests.devices.copy.Given as goal
 
 abbrev pub invariant-loop : goal.invariant-loop
 invariant-loop g l =

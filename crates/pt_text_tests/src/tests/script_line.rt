@@ -1,7 +1,6 @@
-use super::*;
-use crate::client::ClientName;
-use crate::cutter::Cutter;
-use pt_types::Name;
+use super::first_cut;
+use pt_lines::{ClientName, Cut, ScriptBody, ScriptLine, Who, read_script_line};
+use pt_types::{Call, Moment, Name, Priority, Refusal};
 use std::test::Fail;
 
 // Whether a line of a script is this client's, and is refused for this.
@@ -105,9 +104,7 @@ fn clients_of_1_to_8_letters_or_digits(rt: HostRuntime) {
 
 #[test]
 fn a_cut_line_is_read(rt: HostRuntime) -> Result<(), Fail> {
-    let mut cutter = Cutter::new(rt.alloc());
-    cutter.feed(b"A die\n")?;
-    let cut = cutter.next_line().ok_or("line")?;
+    let cut = first_cut(rt.alloc(), b"A die\n")?;
     assert!(rt; ScriptLine::of(&cut).body == Ok(ScriptBody::Die));
     Ok(())
 }

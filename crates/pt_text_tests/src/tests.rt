@@ -1,0 +1,26 @@
+mod call_line;
+mod cutter;
+mod devices;
+mod reply;
+mod script;
+mod script_line;
+
+use pt_lines::{Cut, Cutter};
+use std::alloc::Global;
+use std::test::Fail;
+
+// A test plays on a thing that it borrows. Each early end of a function that owns one has to drop
+// it, and each such drop is proved; so this function owns it.
+fn lend<T: Drop, R, F: FnOnce(&mut T) -> R>(mut thing: T, play: F) -> R
+    requires { F.IsAlwaysCallable play }
+{
+    play(&mut thing)
+}
+
+// The first line of a text.
+fn first_cut(alloc: Global, text: &[u8]) -> Result<Cut, Fail> {
+    lend(Cutter::new(alloc), |cutter| {
+        cutter.feed(text)?;
+        Ok(cutter.next_line().ok_or("line")?)
+    })
+}
