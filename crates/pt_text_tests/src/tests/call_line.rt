@@ -1,6 +1,6 @@
 use super::first_cut;
 use pt_lines::{CallLine, Cut, read_call};
-use pt_types::{Call, Deadline, Moment, MutexKind, Name, Priority, Refusal};
+use pt_types::{Call, Clock, Deadline, Moment, MutexKind, Name, Priority, Refusal};
 use std::test::Fail;
 
 fn object(name: &[u8]) -> Result<Name, Fail> {

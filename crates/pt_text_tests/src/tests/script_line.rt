@@ -1,6 +1,6 @@
 use super::first_cut;
 use pt_lines::{ClientName, Cut, ScriptBody, ScriptLine, Who, read_script_line};
-use pt_types::{Call, Moment, Name, Priority, Refusal};
+use pt_types::{Call, Clock, Moment, Name, Priority, Refusal};
 use std::test::Fail;
 
 // Whether a line of a script is this client's, and is refused for this.
