@@ -1,0 +1,83 @@
+ghost use Rattle.std.specs.Prelude.{◌<◌};
+
+use crate::case::Case;
+use crate::difference::{Difference, first_difference};
+use crate::way::Way;
+use anyhow::{Context, Result};
+use pt_io::{Counted, Faulty};
+use pt_script::script;
+use std::rt::Files;
+use std::{fs, io};
+
+// Shows where the text that is written for a case differs from the expected one.
+fn show(rt: &impl Print, case: &Case, difference: &Difference<'_>) -> io::Result<()> {
+    let path = case.path.as_str();
+    let number = difference.number;
+    println!(rt; "{path}: line {number} differs")?;
+    println!(rt;
+        "expected: {}",
+        difference.expected.unwrap_or(b"").escape_ascii()
+    )?;
+    println!(rt;
+        "written:  {}",
+        difference.written.unwrap_or(b"").escape_ascii()
+    )
+}
+
+// Whether this text is what is expected of a case; if not, shows where it differs.
+fn agrees(rt: &impl Print, case: &Case, written: &[u8]) -> Result<bool> {
+    match first_difference(&case.expected, written) {
+        None => Ok(true),
+        Some(difference) => {
+            show(rt, case, &difference)?;
+            Ok(false)
+        }
+    }
+}
+
+// Plays a script that lies in memory, in reads and writes of up to `step` bytes.
+fn agrees_in_pieces(rt: &(impl Print + AllocGlobal), step: usize, case: &Case) -> Result<bool>
+    requires { 0 < step }
+{
+    let bytes = Vec::from_slice(rt.alloc(), &case.script)?;
+    let mut reader = Faulty::new(bytes, step, 0);
+    let mut writer = Faulty::new(Vec::new(rt.alloc()), step, 0);
+    script(rt.alloc(), &mut reader, &mut writer)?;
+    agrees(rt, case, writer.written())
+}
+
+// Plays a script while its file is read.
+fn agrees_from_file(rt: &(impl Files + Print + AllocGlobal), case: &Case) -> Result<bool> {
+    let path = format!(in rt.alloc(); "{}.script", case.path)?;
+    let mut reader = Counted::new(fs::open(rt, path.as_str())?);
+    let mut writer = Faulty::new(Vec::new(rt.alloc()), 4096, 0);
+    script(rt.alloc(), &mut reader, &mut writer)?;
+    agrees(rt, case, writer.written())
+}
+
+// Plays a case in this way.
+fn agrees_by(rt: &(impl Files + Print + AllocGlobal), way: Way, case: &Case) -> Result<bool> {
+    match way {
+        Way::Large => agrees_in_pieces(rt, 4096, case),
+        Way::Odd => agrees_in_pieces(rt, 100, case),
+        Way::Bytes => agrees_in_pieces(rt, 1, case),
+        Way::File => agrees_from_file(rt, case),
+    }
+}
+
+/// Plays these cases in this way, up to the first that differs, and says how many agree if all do.
+pub fn all_agree(
+    rt: &(impl Files + Print + AllocGlobal),
+    group: &str,
+    way: Way,
+    cases: &[Case],
+) -> Result<bool> {
+    for case in cases {
+        if !agrees_by(rt, way, case).context(format_args!("{}", case.path))? {
+            return Ok(false);
+        }
+    }
+    let count = cases.len();
+    println!(rt; "{group}: {count} scripts agree {way}")?;
+    Ok(true)
+}
