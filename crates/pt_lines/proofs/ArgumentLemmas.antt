@@ -5,7 +5,7 @@ use Rattle.std.specs.List.{list_all}
 use Rattle.std.specs.Option.{option_map, option_and_then}
 use Rattle.std.specs.Str.{bytes_eq}
 use Rattle.std.proofs.lemmas.Slice.Eq.{bytes_eq-Decides}
-use Rattle.pt_types.specs.Limits.{second}
+use Rattle.pt_types.specs.Limits.{most_priority, second}
 use Rattle.pt_types.specs.Names.{IsName, is_name_byte}
 use Rattle.pt_types.specs.Times.{Timespec, nanos}
 use Rattle.pt_types.specs.declared.time.Clock.{Clock}
@@ -267,25 +267,25 @@ length-clock_name Real = refl
 length-clock_name Mono = refl
 
 -- priorities
-pub priority_found : (n p : ℕ) → priority_of n ≡ Some p → (n ≡ p) × (1 ≤ p) × (p ≤ 99)
+pub priority_found : (n p : ℕ) → priority_of n ≡ Some p → (n ≡ p) × (1 ≤ p) × (p ≤ most_priority)
 priority_found n p h = by _ refl h
   where
     by :
-        (b : Bool) → (nat_le 1 n && nat_le n 99) ≡ b → cond b (Some n) None ≡ Some p
-        → (n ≡ p) × (1 ≤ p) × (p ≤ 99)
+        (b : Bool) → (nat_le 1 n && nat_le n most_priority) ≡ b → cond b (Some n) None ≡ Some p
+        → (n ≡ p) × (1 ≤ p) × (p ≤ most_priority)
     by false e h = cc
     by true e h =
         let same : n ≡ p = some_inj h in
-        let parts = and_parts (nat_le 1 n) (nat_le n 99) e in
+        let parts = and_parts (nat_le 1 n) (nat_le n most_priority) e in
         let low : nat_le 1 n ≡ true = parts.0 in
-        let high : nat_le n 99 ≡ true = parts.1 in
+        let high : nat_le n most_priority ≡ true = parts.1 in
         (same, grind arith, grind arith)
 
-pub priority_again : (p : ℕ) → 1 ≤ p → p ≤ 99 → priority_of p ≡ Some p
+pub priority_again : (p : ℕ) → 1 ≤ p → p ≤ most_priority → priority_of p ≡ Some p
 priority_again p low high =
     let a : nat_le 1 p ≡ true = grind arith in
-    let b : nat_le p 99 ≡ true = grind arith in
-    ap (λ t. cond t (Some p) None) (and_true (nat_le 1 p) (nat_le p 99) a b)
+    let b : nat_le p most_priority ≡ true = grind arith in
+    ap (λ t. cond t (Some p) None) (and_true (nat_le 1 p) (nat_le p most_priority) a b)
 
 -- moments
 pub moment_found :

@@ -3,7 +3,7 @@ use Rattle.std.specs.Prelude.{ℕ, Bool, true, false, ◌&&◌, List, [], ◌∷
 use Rattle.std.specs.List.{list_all}
 use Rattle.std.specs.Option.{option_map, option_and_then}
 use Rattle.std.specs.Str.{bytes_eq}
-use Rattle.pt_types.specs.Limits.{second}
+use Rattle.pt_types.specs.Limits.{most_priority, second}
 use Rattle.pt_types.specs.Names.{is_name_byte}
 use Rattle.pt_types.specs.Times.{Timespec, nanos}
 use Rattle.pt_types.specs.declared.time.Clock.{Clock}
@@ -57,7 +57,7 @@ first_then first rest (field ∷ more) =
 
 -- a priority  [profile]
 abbrev pub priority_of : ℕ → Option ℕ
-priority_of n = if nat_le 1 n && nat_le n 99 then Some n else None
+priority_of n = if nat_le 1 n && nat_le n most_priority then Some n else None
 
 -- the moment of seconds and nanoseconds  [profile]
 abbrev pub moment_of : ℕ × ℕ → Option ℕ

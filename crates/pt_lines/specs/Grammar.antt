@@ -1,6 +1,6 @@
 -- Grammar: which text spells which line. Words are parted by exactly one space.
 use Rattle.std.specs.Prelude.{◌≡◌, ℕ, ◌≤◌, ◌<◌, ◌⊎◌, Bool, true, false, List, [], ◌∷◌, decimal, codes}
-use Rattle.pt_types.specs.Limits.{second}
+use Rattle.pt_types.specs.Limits.{most_priority, second}
 use Rattle.pt_types.specs.Names.{IsName}
 use Rattle.pt_types.specs.Times.{Timespec, nanos}
 use Rattle.pt_types.specs.declared.time.Clock.{Clock}
@@ -121,10 +121,10 @@ SpellsCall t (BarrierInit name count) = OnNewBarrier t name count
 SpellsCall t (Bwait name) = OnName t (codes "bwait") name
 SpellsCall t (BarrierDestroy name) = OnName t (codes "barrier-destroy") name
 
--- `hello` with a priority from 1 to 99  [profile]
+-- `hello` with a priority, from 1 to the highest  [profile]
 pub record OnHello (text : List ℕ) (p : ℕ) : Type 0 where
   pub low : 1 ≤ p
-  pub high : p ≤ 99
+  pub high : p ≤ most_priority
   pub spelled : text ≡ spaced (codes "hello") (decimal p ∷ [])
 
 -- a word with seconds, and nanoseconds below 1,000,000,000  [profile]
