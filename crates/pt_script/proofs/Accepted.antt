@@ -43,7 +43,7 @@ clients_as (event.Call c call) who place rows = refl
 clients_as (event.Death c) who place rows = refl
 clients_as (event.Moment clock t) who place rows = refl
 
-calls_as : (v : Event) (line : Asking) (place : ℕ) (rows : List (ℕ × Asking))
+pub calls_as : (v : Event) (line : Asking) (place : ℕ) (rows : List (ℕ × Asking))
     → calls_marked (mark_of v) line place rows ≡ calls_with v line place rows
 calls_as (event.Join p) line place rows = refl
 calls_as (event.Call c call) line place rows = refl

@@ -10,3 +10,11 @@ mod Accepted
 mod Runs
 -- a whole script, as its pieces come
 mod Wholes
+-- who made the call of each answer
+mod Callers
+-- the line that made a call is noted
+mod Noted
+-- a history goes on by forced entries until nothing is forced
+mod Settled
+-- there is one text for all lines
+mod OneTexts

@@ -12,3 +12,5 @@ pub mod Texts
 pub mod Engines
 -- Programs: how a program that answers a script ends, and what it reports
 pub mod Programs
+-- Laws: whose the answers are, and that there is one text for all lines
+pub mod Laws

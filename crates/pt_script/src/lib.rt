@@ -17,11 +17,13 @@
 mod asking;
 mod engine;
 mod fault;
+mod laws;
 mod names;
 mod program;
 mod text;
 mod whole;
 
 pub use fault::ScriptFault;
+pub use laws::{law_answers_have_lines, law_beginnings, law_one_text};
 pub use program::answer;
 pub use whole::{MOST_READS, ScriptEnd, script, script_within};

@@ -1,0 +1,279 @@
+-- The line that made a call is noted at its place, and is the line of the call's client.
+use Rattle.std.proofs.Common.{◌≡◌, ℕ, ◌<◌, ◌==◌, Bool, true, false, cond, List, [], ◌∷◌, ◌++◌, length, drop, Option, Some, None, Result, Ok, Err, nat_eq, refl, sym, ap, ◌∙◌, subst, length-append, arith}
+use Rattle.std.proofs.lemmas.Bool.Decides.{nat_tests}
+use Rattle.std.proofs.Math.Seq.{drop-append_seam}
+use Rattle.std.specs.List.{cons_option}
+use Rattle.std.specs.Option.{option_or}
+use Rattle.std.specs.Str.{bytes_eq}
+use Rattle.pt_types.specs.declared.outcome.Refusal.{Refusal}
+use Rattle.pt_lines.specs.declared.client.Who.{Who}
+use Rattle.pt_lines.specs.declared.client.Who.TheVariants.{Named, Star, Unknown}
+use Rattle.pt_lines.specs.declared.script_line.ScriptBody.{ScriptBody}
+use Rattle.pt_lines.specs.declared.script_line.ScriptBody.TheVariants.{Hello, Ask, Die}
+use Rattle.pt_lines.specs.declared.script_line.ScriptLine.{ScriptLine}
+use Rattle.pt_types.specs.declared.call.Call.{Call as Asked}
+use Rattle.pt_model.specs.declared.entry.Entry.{Entry}
+use Rattle.pt_model.specs.declared.entry.Entry.TheVariants.{Call}
+use Rattle.pt_model.specs.declared.entry.Event.{Event}
+use Rattle.pt_model.specs.declared.entry.Event.TheVariants as event
+use Rattle.pt_model.specs.Starts.{nothing}
+use Rattle.pt_model.specs.Histories.{History, Begin, ◌▷◌, onto, history, place}
+use Rattle.pt_model.specs.Queries.{caller}
+use Rattle.pt_model.specs.Legal.{Legal, event_of, events_of}
+use Rattle.pt_model.specs.Room.{entry_for}
+use Rattle.pt_model.specs.Answers.{replies}
+use Rattle.pt_model.proofs.Histories.{onto-append, place-history}
+use Rattle.pt_model.proofs.Legality.{events_of-legal, legal-follows}
+use Rattle.pt_model.proofs.Lists.{Each-weaker}
+use Rattle.pt_script.specs.declared.asking.Asking.{Asking}
+use Rattle.pt_script.specs.Scripts.{Script, begun, asking, calls_with, clients_with, event_for, event_of_body, event_of_line, join_for, line_at, number_named, number_of, of_client}
+use Rattle.pt_script.specs.Says.{SaysAll, SaysOf, SaysTo, IsAccepted, counted, refuses, lacks, accepts}
+use Rattle.pt_script.specs.Engines.{IsFresh, mark_of}
+use Rattle.pt_script.specs.Laws.{AnswersHaveLines, HasLine}
+use Rattle.pt_script.proofs.Accepted.{calls_as, fresh_noted}
+use Rattle.pt_script.proofs.Callers.{IsOwn, replies_own}
+use Rattle.pt_script.proofs.Counted.{lookup_push}
+
+-- the line of the call at a place is noted, and is this client's
+abbrev pub IsNoted : List (ℕ × Asking) → List (List ℕ × ℕ) → ℕ → ℕ → Type 0
+IsNoted calls clients j c =
+    (line : Asking) × ((line_at calls j ≡ Some line) × (number_of clients line.who ≡ Some c))
+
+-- a client is found, once more have joined
+number_on : (v : Event) (who other : Who) (place c : ℕ) (clients : List (List ℕ × ℕ))
+    → number_of clients other ≡ Some c → number_of (clients_with v who place clients) other ≡ Some c
+number_on (event.Join p) (Named name) (Named found) place c clients is =
+    lookup_push (bytes_eq found) clients name place
+    ∙ ap (λ o. option_or o (cond (bytes_eq found name) (Some place) None)) is
+number_on (event.Join p) (Named name) Star place c clients is = is
+number_on (event.Join p) (Named name) Unknown place c clients is = is
+number_on (event.Join p) Star other place c clients is = is
+number_on (event.Join p) Unknown other place c clients is = is
+number_on _ who other place c clients is = is
+
+-- a line is found, once more are noted
+line_on : (v : Event) (line found : Asking) (place j : ℕ) (calls : List (ℕ × Asking))
+    → line_at calls j ≡ Some found → line_at (calls_with v line place calls) j ≡ Some found
+line_on (event.Call c call) line found place j calls is =
+    lookup_push (nat_eq j) calls place line
+    ∙ ap (λ o. option_or o (cond (nat_eq j place) (Some line) None)) is
+line_on _ line found place j calls is = is
+
+-- the line that is noted now
+line_here : (c : ℕ) (call : Asked) (line : Asking) (place : ℕ) (calls : List (ℕ × Asking))
+    → line_at calls place ≡ None
+    → line_at (calls_with (event.Call c call) line place calls) place ≡ Some line
+line_here c call line place calls none =
+    let same : nat_eq place place ≡ true = grind (arith, nat_tests) in
+    lookup_push (nat_eq place) calls place line
+    ∙ ap (λ o. option_or o (cond (nat_eq place place) (Some line) None)) none
+    ∙ ap (λ b. cond b (Some line) None) same
+
+noted_on : (v : Event) (line : Asking) (place j c : ℕ) (calls : List (ℕ × Asking))
+    (clients : List (List ℕ × ℕ)) → IsNoted calls clients j c
+    → IsNoted (calls_with v line place calls) (clients_with v line.who place clients) j c
+noted_on v line place j c calls clients is = (
+  is.0,
+  (
+    line_on v line is.0 place j calls is.1.0,
+    number_on v line.who is.0.who place c clients is.1.1,
+  ),
+)
+
+-- no call comes by entries of no event
+cons_none : (o : Option Event) (vs : List Event) → cons_option o vs ≡ [] → vs ≡ []
+cons_none None vs e = e
+cons_none (Some v) vs e = absurd cc
+
+callers_kept : (h : History) (es : List Entry) (j : ℕ) → events_of es ≡ []
+    → caller (onto h es) j ≡ caller h j
+callers_kept h [] j none = refl
+callers_kept h (Call c call r ∷ es) j none = absurd cc
+callers_kept h (e ∷ es) j none = callers_kept (h ▷ e) es j (cons_none (event_of e) (events_of es) none)
+
+-- the client of a call is the one of its line
+abbrev pub IsAsked : Event → Who → List (List ℕ × ℕ) → Type 0
+IsAsked (event.Call c call) who clients = number_of clients who ≡ Some c
+IsAsked _ who clients = Unit {0}
+
+event_asked : (s : Script) (who : Who) (body : ScriptBody) (c : ℕ) (call : Asked)
+    → event_for s who body ≡ Ok (event.Call c call) → number_of s.clients who ≡ Some c
+event_asked s (Named name) (Hello p) c call e = go (number_named s.clients name) e
+  where
+    go : (o : Option ℕ) → join_for s.entries p o ≡ Ok (event.Call c call)
+        → number_named s.clients name ≡ Some c
+    go None e = absurd cc
+    go (Some d) e = absurd cc
+event_asked s (Named name) (Ask asked) c call e = go (number_named s.clients name) e
+  where
+    go : (o : Option ℕ) → of_client (λ d. event.Call d asked) o ≡ Ok (event.Call c call)
+        → o ≡ Some c
+    go None e = absurd cc
+    go (Some d) e = let same : d ≡ c = cc in ap Some same
+event_asked s (Named name) Die c call e = go (number_named s.clients name) e
+  where
+    go : (o : Option ℕ) → of_client (λ d. event.Death d) o ≡ Ok (event.Call c call)
+        → number_named s.clients name ≡ Some c
+    go None e = absurd cc
+    go (Some d) e = absurd cc
+event_asked s Star (Hello p) c call e = absurd cc
+event_asked s Star _ c call e = absurd cc
+event_asked s _ _ c call e = absurd cc
+
+asked_of : (s : Script) (who : Who) (body : Result ScriptBody Refusal) (v : Event)
+    → event_of_body s who body ≡ Ok v → IsAsked v who s.clients
+asked_of s who (Err why) v e = absurd cc
+asked_of s who (Ok body) (event.Call c call) e = event_asked s who body c call e
+asked_of s who (Ok body) _ e = tt
+
+-- the event of what an event becomes is that event
+event_back : (h : History) (v : Event) → event_of (entry_for h v) ≡ Some v
+event_back h (event.Call c call) = refl
+event_back h _ = refl
+
+events_apart : (xs ys : List Entry) → events_of (xs ++ ys) ≡ events_of xs ++ events_of ys
+events_apart [] ys = refl
+events_apart (x ∷ xs) ys =
+    ap (cons_option (event_of x)) (events_apart xs ys)
+    ∙ joins (event_of x) (events_of xs) (events_of ys)
+  where
+    joins : (o : Option Event) (us vs : List Event)
+        → cons_option o (us ++ vs) ≡ cons_option o us ++ vs
+    joins None us vs = refl
+    joins (Some v) us vs = refl
+
+-- what follows the entry of an event has no event
+none_forced : (old new fs : List Entry) (v : Event)
+    → new ≡ old ++ entry_for (history old) v ∷ fs → Legal new (events_of old ++ v ∷ [])
+    → events_of fs ≡ []
+none_forced old new fs v extends legal =
+    let all : events_of old ++ (v ∷ events_of fs) ≡ events_of old ++ v ∷ [] =
+    ap (λ o. events_of old ++ cons_option o (events_of fs)) (sym (event_back (history old) v))
+    ∙ sym (events_apart old (entry_for (history old) v ∷ fs))
+    ∙ sym (ap events_of extends)
+    ∙ events_of-legal (Begin nothing) new (events_of old ++ v ∷ []) legal in
+    let rest : v ∷ events_of fs ≡ v ∷ [] =
+    sym (drop-append_seam (events_of old) (v ∷ events_of fs))
+    ∙ ap (drop (length (events_of old))) all
+    ∙ drop-append_seam (events_of old) (v ∷ []) in
+    cc
+
+-- each call of a legal history is noted, and none that comes
+pub record IsWellNoted (s : Script) : Type 0 where
+  pub legal : Legal s.entries (events_of s.entries)
+  pub fresh : IsFresh s.calls (length s.entries)
+  pub lines : (j c : ℕ) → caller (history s.entries) j ≡ Some c → IsNoted s.calls s.clients j c
+
+-- each call is, behind the entry of an event
+lines_after : (s : Script) (v : Event) (line : Asking) → IsWellNoted s
+    → IsAsked v line.who s.clients → (j c : ℕ)
+    → caller (history s.entries ▷ entry_for (history s.entries) v) j ≡ Some c
+    → IsNoted (calls_with v line (length s.entries) s.calls)
+    (clients_with v line.who (length s.entries) s.clients) j c
+lines_after s (event.Call d call) line n asked j c e =
+    go (place (history s.entries) == j) refl e
+  where
+    h : History
+    h = history s.entries
+
+    go : (b : Bool) → (place h == j) ≡ b → cond b (Some d) (caller h j) ≡ Some c
+        → IsNoted (calls_with (event.Call d call) line (length s.entries) s.calls) s.clients j c
+    go true at e =
+        let same : d ≡ c = cc in
+        let here : place h ≡ j = grind (arith, nat_tests) in
+        let there : length s.entries ≡ j = sym (place-history s.entries) ∙ here in
+        subst
+        (λ i. IsNoted (calls_with (event.Call d call) line (length s.entries) s.calls) s.clients
+        i c) there
+        (
+          line,
+          (
+            line_here d call line (length s.entries) s.calls
+                (n.fresh (length s.entries) (omega arith)),
+            asked ∙ ap Some same,
+          ),
+        )
+    go false at e =
+        noted_on (event.Call d call) line (length s.entries) j c s.calls s.clients (n.lines j c e)
+lines_after s v line n asked j c e =
+    noted_on v line (length s.entries) j c s.calls s.clients (n.lines j c e)
+
+event_noted : (s : Script) (v : Event) (line : Asking) (next : Script) (text : List ℕ)
+    → IsWellNoted s → IsAsked v line.who s.clients → IsAccepted s v line next text
+    → IsWellNoted next
+event_noted s v line next text n asked a = record {
+  legal =
+      subst (λ vs. Legal next.entries vs)
+      (sym (events_of-legal (Begin nothing) next.entries (events_of s.entries ++ v ∷ [])
+      a.applies.legal)) a.applies.legal;
+  fresh =
+      fresh_noted s.calls next.calls (mark_of v) line (length s.entries) (length next.entries)
+      n.fresh below (a.calls ∙ sym (calls_as v line (length s.entries) s.calls));
+  lines = λ j c e.
+      subst (λ rows. IsNoted next.calls rows j c) (sym a.clients)
+      (subst
+      (λ rows. IsNoted rows (clients_with v line.who (length s.entries) s.clients) j c)
+      (sym a.calls)
+      (lines_after s v line n asked j c (sym (callers j) ∙ e)));
+}
+  where
+    h : History
+    h = history s.entries
+
+    fs : List Entry
+    fs = a.applies.extends.0
+
+    below : length s.entries < length next.entries
+    below =
+        let longer = ap length a.applies.extends.1
+        ∙ length-append s.entries (entry_for h v ∷ fs) in
+        omega (arith, longer)
+
+    callers : (j : ℕ) → caller (history next.entries) j ≡ caller (h ▷ entry_for h v) j
+    callers j =
+        ap (λ es. caller (history es) j) a.applies.extends.1
+        ∙ ap (λ g. caller g j) (onto-append (Begin nothing) s.entries (entry_for h v ∷ fs))
+        ∙ callers_kept (h ▷ entry_for h v) fs j
+        (none_forced s.entries next.entries fs v a.applies.extends.1 a.applies.legal)
+
+line_noted : (s : Script) (line : ScriptLine) (next : Script) (text : List ℕ) → IsWellNoted s
+    → (r : Result Event Refusal) → event_of_line s line ≡ r
+    → SaysTo (counted s line.who) (asking s line.who) r next text → IsWellNoted next
+line_noted s line next text n (Err why) e says =
+    subst IsWellNoted (sym says.0)
+    (record { legal = n.legal; fresh = n.fresh; lines = n.lines })
+line_noted s line next text n (Ok v) e says = go says
+  where
+    seen : IsWellNoted (counted s line.who)
+    seen = record { legal = n.legal; fresh = n.fresh; lines = n.lines }
+
+    go : SaysOf (counted s line.who) v (asking s line.who) next text → IsWellNoted next
+    go (refuses r) = subst IsWellNoted (sym r.same) seen
+    go (lacks r) = subst IsWellNoted (sym r.same) seen
+    go (accepts a) =
+        event_noted (counted s line.who) v (asking s line.who) next text seen
+        (asked_of s line.who line.body v e) a
+
+-- so it is behind all lines
+pub says_noted : (s : Script) (xs : List ScriptLine) (last : Script) (text : List ℕ)
+    → IsWellNoted s → SaysAll s xs last text → IsWellNoted last
+says_noted s [] last text n says = subst IsWellNoted (sym says.0) n
+says_noted s (x ∷ xs) last text n says =
+    says_noted says.0 xs last says.2
+    (line_noted s x says.0 says.1 n (event_of_line s x) refl says.3) says.4
+
+pub begun_noted : IsWellNoted begun
+begun_noted = record {
+  legal = (refl, refl);
+  fresh = λ j far. refl;
+  lines = λ j c e. absurd cc;
+}
+
+pub answers_have_lines : AnswersHaveLines
+answers_have_lines lines s text says =
+    let n = says_noted begun lines s text begun_noted says in
+    Each-weaker (IsOwn (history s.entries)) (HasLine s)
+    (λ t own. let line = n.lines t.place t.client own.0 in
+    record { line = line.0; noted = line.1.0; own = line.1.1 })
+    (replies s.entries)
+    (replies_own (Begin nothing) s.entries (legal-follows s.entries (events_of s.entries) n.legal))

@@ -1,0 +1,376 @@
+-- There is one text for all lines, and each of its beginnings begins it.
+use Rattle.std.proofs.Common.{◌≡◌, ℕ, zero, suc, Bool, true, false, not, ◌&&◌, List, [], ◌∷◌, ◌++◌, length, take, drop, Option, Some, None, MatchOption, Result, Ok, Err, refl, sym, ap, ◌∙◌, subst, append_assoc, arith}
+use Rattle.std.proofs.Math.Seq.{drop-append_seam}
+use Rattle.std.proofs.lemmas.Bool.{and_parts}
+use Rattle.std.proofs.lemmas.List.{take-append-drop}
+use Rattle.std.specs.Option.{option_or}
+use Rattle.pt_types.specs.Limits.{most_entries}
+use Rattle.pt_types.specs.declared.outcome.Refusal.{Refusal}
+use Rattle.pt_types.specs.declared.outcome.Refusal.TheVariants.{Enomem}
+use Rattle.pt_lines.specs.declared.client.Who.{Who}
+use Rattle.pt_lines.specs.declared.script_line.ScriptLine.{ScriptLine}
+use Rattle.pt_model.specs.declared.entry.Entry.{Entry}
+use Rattle.pt_model.specs.declared.entry.Event.{Event}
+use Rattle.pt_model.specs.Starts.{nothing}
+use Rattle.pt_model.specs.Histories.{History, Begin, ◌▷◌, history}
+use Rattle.pt_model.specs.Answers.{replies_from}
+use Rattle.pt_model.specs.Forced.{forced}
+use Rattle.pt_model.specs.Legal.{Takes, LegalFrom, Legal, events_of}
+use Rattle.pt_model.specs.Room.{need, entry_for, refusal, refusal_for_room}
+use Rattle.pt_model.proofs.Legality.{events_of-legal, legal-follows, legal-more, legal-settled}
+use Rattle.pt_model.proofs.OneList.{one_list}
+use Rattle.pt_model.proofs.Steps.{step-event}
+use Rattle.pt_core.specs.Applying.{is_death}
+use Rattle.pt_script.specs.declared.asking.Asking.{Asking}
+use Rattle.pt_script.specs.Scripts.{Script, begun, asking, calls_with, clients_with, event_of_line, greeting, refusal_text, told_text}
+use Rattle.pt_script.specs.Says.{SaysAll, SaysOf, SaysTo, IsRefused, IsAccepted, counted, refusal_of_event, refuses, lacks, accepts}
+use Rattle.pt_script.specs.Ends.{lines_of}
+use Rattle.pt_script.specs.Laws.{BeginningsOfAll, EachText, OneText, SaysAllMet, SaysMet, SaysToMet, accepted, refused, unmet}
+use Rattle.pt_script.proofs.Runs.{says_join}
+use Rattle.pt_script.proofs.Settled.{settles}
+
+-- one text and one script behind it
+abbrev Same : Script → List ℕ → Script → List ℕ → Type 0
+Same s text t other = (s ≡ t) × (text ≡ other)
+
+abbrev made : List Entry → List Who → List (List ℕ × ℕ) → List (ℕ × Asking) → Script
+made entries seen clients noted =
+    record { entries = entries; seen = seen; clients = clients; calls = noted }
+
+same_script : (s t : Script) → s.entries ≡ t.entries → s.seen ≡ t.seen → s.clients ≡ t.clients
+    → s.calls ≡ t.calls → s ≡ t
+same_script s t entries seen clients noted =
+    ap (λ x. made x s.seen s.clients s.calls) entries
+    ∙ ap (λ x. made t.entries x s.clients s.calls) seen
+    ∙ ap (λ x. made t.entries t.seen x s.calls) clients
+    ∙ ap (λ x. made t.entries t.seen t.clients x) noted
+
+same_refused : (s : Script) (v : Event) (line : Asking) (a : Script) (xs : List ℕ) (b : Script)
+    (ys : List ℕ) → IsRefused s v line a xs → IsRefused s v line b ys → Same a xs b ys
+same_refused s v line a xs b ys p q =
+    let why : ◌≡◌ {A = Option Refusal} (Some p.why) (Some q.why) = sym p.refused ∙ q.refused in
+    let same : p.why ≡ q.why = cc in
+    (
+      p.same ∙ sym q.same,
+      p.written ∙ ap (refusal_text line) same ∙ sym q.written,
+    )
+
+same_accepted : (s : Script) (v : Event) (line : Asking) (a : Script) (xs : List ℕ) (b : Script)
+    (ys : List ℕ) → IsAccepted s v line a xs → IsAccepted s v line b ys → Same a xs b ys
+same_accepted s v line a xs b ys p q = (
+  same_script a b entries (p.seen ∙ sym q.seen) (p.clients ∙ sym q.clients) calls,
+  p.written
+      ∙ ap (λ es. greeting v line ++ told_text a.calls (replies_from (history s.entries) es)) added
+      ∙ ap (λ rows. greeting v line ++ told_text rows (replies_from (history s.entries) q.added))
+      calls
+      ∙ sym q.written,
+)
+  where
+    entries : a.entries ≡ b.entries
+    entries =
+        one_list nothing (events_of s.entries ++ v ∷ []) a.entries b.entries p.applies.legal
+        q.applies.legal
+
+    calls : a.calls ≡ b.calls
+    calls = p.calls ∙ sym q.calls
+
+    added : p.added ≡ q.added
+    added =
+        sym (drop-append_seam s.entries p.added)
+        ∙ ap (drop (length s.entries)) (sym p.extends ∙ entries ∙ q.extends)
+        ∙ drop-append_seam s.entries q.added
+
+-- what is refused is not accepted
+clash : {X : Type 0} (r : Option Refusal) (why : Refusal) → r ≡ Some why → r ≡ None → X
+clash r why some none = absurd (let no = sym some ∙ none in cc)
+
+unmet_not : {X : Type 0} (wanted ends : Bool) → wanted ≡ true → ends ≡ false
+    → (wanted && not ends) ≡ false → X
+unmet_not true false w d other = absurd cc
+unmet_not true true w d other = absurd cc
+unmet_not false ends w d other = absurd cc
+
+same_met : (wanted : Bool) (s : Script) (v : Event) (line : Asking) (a : Script) (xs : List ℕ)
+    (b : Script) (ys : List ℕ) → SaysMet wanted s v line a xs → SaysMet wanted s v line b ys
+    → Same a xs b ys
+same_met wanted s v line a xs b ys (refused p) (refused q) = same_refused s v line a xs b ys p q
+same_met wanted s v line a xs b ys (refused p) (unmet w q) =
+    clash (refusal_of_event s v) p.why p.refused q.accepted
+same_met wanted s v line a xs b ys (refused p) (accepted n q) =
+    clash (refusal_of_event s v) p.why p.refused q.applies.accepted
+same_met wanted s v line a xs b ys (unmet w p) (refused q) =
+    clash (refusal_of_event s v) q.why q.refused p.accepted
+same_met wanted s v line a xs b ys (unmet w p) (unmet u q) =
+    (p.same ∙ sym q.same, p.written ∙ sym q.written)
+same_met wanted s v line a xs b ys (unmet w p) (accepted n q) =
+    unmet_not wanted (is_death v) w p.lives n
+same_met wanted s v line a xs b ys (accepted n p) (refused q) =
+    clash (refusal_of_event s v) q.why q.refused p.applies.accepted
+same_met wanted s v line a xs b ys (accepted n p) (unmet w q) =
+    unmet_not wanted (is_death v) w q.lives n
+same_met wanted s v line a xs b ys (accepted n p) (accepted m q) =
+    same_accepted s v line a xs b ys p q
+
+same_to : (wanted : Bool) (s : Script) (line : Asking) (r : Result Event Refusal) (a : Script)
+    (xs : List ℕ) (b : Script) (ys : List ℕ) → SaysToMet wanted s line r a xs
+    → SaysToMet wanted s line r b ys → Same a xs b ys
+same_to wanted s line (Err why) a xs b ys p q = (p.0 ∙ sym q.0, p.1 ∙ sym q.1)
+same_to wanted s line (Ok v) a xs b ys p q = same_met wanted s v line a xs b ys p q
+
+same_all : (wanted : ℕ → Bool) (s : Script) (lines : List ScriptLine) (a : Script) (xs : List ℕ)
+    (b : Script) (ys : List ℕ) → SaysAllMet wanted s lines a xs → SaysAllMet wanted s lines b ys
+    → Same a xs b ys
+same_all wanted s [] a xs b ys p q = (p.0 ∙ sym q.0, p.1 ∙ sym q.1)
+same_all wanted s (line ∷ more) a xs b ys p q =
+    let first =
+    same_to (wanted zero) (counted s line.who) (asking s line.who) (event_of_line s line) p.0 p.1
+    q.0 q.1 p.3 q.3 in
+    let rest =
+    same_all (λ k. wanted (suc k)) p.0 more a p.2 b q.2 p.4
+    (subst (λ t. SaysAllMet (λ k. wanted (suc k)) t more b q.2) (sym first.0) q.4) in
+    (
+      rest.0,
+      p.5 ∙ ap (λ t. t ++ p.2) first.1 ∙ ap (λ t. q.1 ++ t) rest.1 ∙ sym q.5,
+    )
+
+-- the entries are the history of their own events
+abbrev IsLegal : Script → Type 0
+IsLegal s = Legal s.entries (events_of s.entries)
+
+legal_events : (es : List Entry) (vs : List Event) → Legal es vs → Legal es (events_of es)
+legal_events es vs legal =
+    subst (λ us. Legal es us) (sym (events_of-legal (Begin nothing) es vs legal)) legal
+
+-- what is not refused for room either is not refused
+not_refused : (a b : Option Refusal) → option_or a b ≡ None → a ≡ None
+not_refused None b e = refl
+not_refused (Some why) b e = absurd cc
+
+-- an event that is not refused can be accepted
+can_accept : (s : Script) (v : Event) (line : Asking) → IsLegal s → refusal_of_event s v ≡ None
+    → (next : Script) × (text : List ℕ) × IsAccepted s v line next text × IsLegal next
+can_accept s v line legal none = (
+  next,
+  greeting v line ++ told_text next.calls (replies_from h (entry ∷ rest.0)),
+  record {
+    applies = record {
+      accepted = none;
+      extends = (rest.0, refl);
+      legal = longer;
+      same_limit = refl;
+    };
+    added = entry ∷ rest.0;
+    extends = refl;
+    seen = refl;
+    clients = refl;
+    calls = refl;
+    written = refl;
+  },
+  legal_events next.entries (events_of s.entries ++ v ∷ []) longer,
+)
+  where
+    h : History
+    h = history s.entries
+
+    entry : Entry
+    entry = entry_for h v
+
+    settled : forced h ≡ None
+    settled = legal-settled s.entries (events_of s.entries) legal
+
+    open_to : refusal h v ≡ None
+    open_to = not_refused (refusal h v) (refusal_for_room most_entries h v) none
+
+    rest : (fs : List Entry) × LegalFrom (h ▷ entry) fs []
+    rest =
+        settles (need (h ▷ entry)) (h ▷ entry)
+        (legal-follows s.entries (events_of s.entries) legal, step-event h v settled open_to)
+        (omega arith)
+
+    next : Script
+    next = record {
+      entries = s.entries ++ entry ∷ rest.0;
+      seen = s.seen;
+      clients = clients_with v line.who (length s.entries) s.clients;
+      calls = calls_with v line (length s.entries) s.calls;
+    }
+
+    longer : Legal (s.entries ++ entry ∷ rest.0) (events_of s.entries ++ v ∷ [])
+    longer =
+        legal-more (Begin nothing) s.entries (entry ∷ rest.0) (events_of s.entries) (v ∷ []) legal
+        (subst
+        (λ o. MatchOption o (Takes h entry (v ∷ []) (LegalFrom (h ▷ entry) rest.0))
+        (λ x. (entry ≡ x) × LegalFrom (h ▷ entry) rest.0 (v ∷ []))) (sym settled)
+        (open_to, refl, rest.1))
+
+-- an event has a text
+can_answer : (wanted : Bool) (s : Script) (v : Event) (line : Asking) → IsLegal s
+    → (next : Script) × (text : List ℕ) × SaysMet wanted s v line next text × IsLegal next
+can_answer wanted s v line legal = go (refusal_of_event s v) refl
+  where
+    go : (o : Option Refusal) → refusal_of_event s v ≡ o
+        → (next : Script) × (text : List ℕ) × SaysMet wanted s v line next text × IsLegal next
+    go (Some why) e =
+        (
+          s,
+          refusal_text line why,
+          refused (record { why = why; refused = e; same = refl; written = refl }),
+          legal,
+        )
+    go None e = by (wanted && not (is_death v)) refl
+      where
+        lives : (b : Bool) → not b ≡ true → b ≡ false
+        lives true e = absurd cc
+        lives false e = refl
+
+        by : (b : Bool) → (wanted && not (is_death v)) ≡ b
+            → (next : Script) × (text : List ℕ) × SaysMet wanted s v line next text
+            × IsLegal next
+        by true both =
+            let parts = and_parts wanted (not (is_death v)) both in
+            (
+              s,
+              refusal_text line Enomem,
+              unmet parts.0
+                  (record {
+                    accepted = e;
+                    lives = lives (is_death v) parts.1;
+                    same = refl;
+                    written = refl;
+                  }),
+              legal,
+            )
+        by false other =
+            let some = can_accept s v line legal e in
+            (some.0, some.1, accepted other some.2, some.3)
+
+-- so has a line
+can_say : (wanted : Bool) (s : Script) (line : Asking) (r : Result Event Refusal) → IsLegal s
+    → (next : Script) × (text : List ℕ) × SaysToMet wanted s line r next text × IsLegal next
+can_say wanted s line (Err why) legal = (s, refusal_text line why, (refl, refl), legal)
+can_say wanted s line (Ok v) legal = can_answer wanted s v line legal
+
+-- and so have all lines
+can_say_all : (wanted : ℕ → Bool) (s : Script) (lines : List ScriptLine) → IsLegal s
+    → (last : Script) × (text : List ℕ) × SaysAllMet wanted s lines last text
+can_say_all wanted s [] legal = (s, [], (refl, refl))
+can_say_all wanted s (line ∷ more) legal =
+    let first =
+    can_say (wanted zero) (counted s line.who) (asking s line.who) (event_of_line s line) legal in
+    let rest = can_say_all (λ k. wanted (suc k)) first.0 more first.3 in
+    (
+      rest.0,
+      first.1 ++ rest.1,
+      (first.0, first.1, rest.1, first.2, rest.2, refl),
+    )
+
+pub one_text : OneText
+one_text wanted lines =
+    let some = can_say_all wanted begun lines (refl, refl) in
+    record {
+      last = some.0;
+      text = some.1;
+      says = some.2;
+      one = λ other others says. same_all wanted begun lines other others some.0 some.1 says some.2;
+    }
+
+-- the first flag, and then these
+abbrev flags : Bool → (ℕ → Bool) → ℕ → Bool
+flags b wanted zero = b
+flags b wanted (suc k) = wanted k
+
+-- at which lines memory is wanted
+met_of : (s : Script) (v : Event) (line : Asking) (next : Script) (text : List ℕ)
+    → SaysOf s v line next text → (b : Bool) × SaysMet b s v line next text
+met_of s v line next text (refuses r) = (false, refused r)
+met_of s v line next text (lacks r) = (true, unmet refl r)
+met_of s v line next text (accepts a) = (false, accepted refl a)
+
+met_to : (s : Script) (line : Asking) (r : Result Event Refusal) (next : Script) (text : List ℕ)
+    → SaysTo s line r next text → (b : Bool) × SaysToMet b s line r next text
+met_to s line (Err why) next text says = (false, says)
+met_to s line (Ok v) next text says = met_of s v line next text says
+
+met_all : (s : Script) (lines : List ScriptLine) (last : Script) (text : List ℕ)
+    → SaysAll s lines last text → (wanted : ℕ → Bool) × SaysAllMet wanted s lines last text
+met_all s [] last text says = (λ k. false, says)
+met_all s (line ∷ more) last text says =
+    let first =
+    met_to (counted s line.who) (asking s line.who) (event_of_line s line) says.0 says.1 says.3 in
+    let rest = met_all says.0 more last says.2 says.4 in
+    (flags first.0 rest.0, (says.0, says.1, says.2, first.1, rest.1, says.5))
+
+-- without a word of where
+said_of : (b : Bool) (s : Script) (v : Event) (line : Asking) (next : Script) (text : List ℕ)
+    → SaysMet b s v line next text → SaysOf s v line next text
+said_of b s v line next text (refused r) = refuses r
+said_of b s v line next text (unmet w r) = lacks r
+said_of b s v line next text (accepted n a) = accepts a
+
+said_to : (b : Bool) (s : Script) (line : Asking) (r : Result Event Refusal) (next : Script)
+    (text : List ℕ) → SaysToMet b s line r next text → SaysTo s line r next text
+said_to b s line (Err why) next text says = says
+said_to b s line (Ok v) next text says = said_of b s v line next text says
+
+said_all : (wanted : ℕ → Bool) (s : Script) (lines : List ScriptLine) (last : Script)
+    (text : List ℕ) → SaysAllMet wanted s lines last text → SaysAll s lines last text
+said_all wanted s [] last text says = says
+said_all wanted s (line ∷ more) last text says = (
+  says.0,
+  says.1,
+  says.2,
+  said_to (wanted zero) (counted s line.who) (asking s line.who) (event_of_line s line) says.0
+      says.1 says.3,
+  said_all (λ k. wanted (suc k)) says.0 more last says.2 says.4,
+  says.5,
+)
+
+pub each_text : EachText
+each_text lines last text = (
+  λ says. met_all begun lines last text says,
+  λ met. said_all met.0 begun lines last text met.1,
+)
+
+-- behind lines the entries are still the history of their own events
+legal_of : (s : Script) (v : Event) (line : Asking) (next : Script) (text : List ℕ) → IsLegal s
+    → SaysOf s v line next text → IsLegal next
+legal_of s v line next text legal (refuses r) = subst IsLegal (sym r.same) legal
+legal_of s v line next text legal (lacks r) = subst IsLegal (sym r.same) legal
+legal_of s v line next text legal (accepts a) =
+    legal_events next.entries (events_of s.entries ++ v ∷ []) a.applies.legal
+
+legal_to : (s : Script) (line : Asking) (r : Result Event Refusal) (next : Script) (text : List ℕ)
+    → IsLegal s → SaysTo s line r next text → IsLegal next
+legal_to s line (Err why) next text legal says = subst IsLegal (sym says.0) legal
+legal_to s line (Ok v) next text legal says = legal_of s v line next text legal says
+
+legal_all : (s : Script) (lines : List ScriptLine) (last : Script) (text : List ℕ) → IsLegal s
+    → SaysAll s lines last text → IsLegal last
+legal_all s [] last text legal says = subst IsLegal (sym says.0) legal
+legal_all s (line ∷ more) last text legal says =
+    legal_all says.0 more last says.2
+    (legal_to (counted s line.who) (asking s line.who) (event_of_line s line) says.0 says.1 legal
+    says.3)
+    says.4
+
+pub beginnings_of_all : BeginningsOfAll
+beginnings_of_all bytes text b =
+    let lines = lines_of bytes in
+    let legal = legal_all begun (take b.count lines) b.last b.whole (refl, refl) b.says in
+    let rest = can_say_all (λ k. false) b.last (drop b.count lines) legal in
+    let says =
+    subst (λ ls. SaysAll begun ls rest.0 (b.whole ++ rest.1)) (take-append-drop b.count lines)
+    (says_join begun (take b.count lines) b.last b.whole (drop b.count lines) rest.0 rest.1 b.says
+    (said_all (λ k. false) b.last (drop b.count lines) rest.0 rest.1 rest.2)) in
+    let all = met_all begun lines rest.0 (b.whole ++ rest.1) says in
+    record {
+      wanted = all.0;
+      last = rest.0;
+      whole = b.whole ++ rest.1;
+      says = all.1;
+      begins =
+          (
+            b.begins.0 ++ rest.1,
+            sym (append_assoc text b.begins.0 rest.1) ∙ ap (λ t. t ++ rest.1) b.begins.1,
+          );
+    }

@@ -1,0 +1,82 @@
+-- Laws: whose the answers are, and that there is one text for all lines.
+use Rattle.std.specs.Prelude.{◌≡◌, ℕ, zero, suc, ◌↔◌, ◌++◌, Bool, true, false, not, ◌&&◌, List, [], ◌∷◌, Some, Result, Ok, Err}
+use mathlib.Core.List.{IsPrefix}
+use Rattle.pt_types.specs.declared.outcome.Refusal.{Refusal}
+use Rattle.pt_lines.specs.declared.script_line.ScriptLine.{ScriptLine}
+use Rattle.pt_model.specs.declared.entry.Event.{Event}
+use Rattle.pt_model.specs.Searches.{Each}
+use Rattle.pt_model.specs.Records.{Told}
+use Rattle.pt_model.specs.Answers.{replies}
+use Rattle.pt_core.specs.Applying.{is_death}
+use Rattle.pt_script.specs.declared.asking.Asking.{Asking}
+use Rattle.pt_script.specs.Scripts.{Script, begun, asking, event_of_line, line_at, number_of, refusal_text}
+use Rattle.pt_script.specs.Says.{SaysAll, IsRefused, IsUnmet, IsAccepted, counted}
+use Rattle.pt_script.specs.Ends.{BeginsScriptText, lines_of}
+
+-- the line that made the call of an answer is noted, and it is the client's own  [profile]
+pub record HasLine (s : Script) (t : Told) : Type 0 where
+  pub line : Asking
+  pub noted : line_at s.calls t.place ≡ Some line
+  pub own : number_of s.clients line.who ≡ Some t.client
+
+-- Lines of answers: each answer of the history that a script leads to has its line.
+abbrev pub AnswersHaveLines : Type 0
+AnswersHaveLines =
+    (lines : List ScriptLine) (s : Script) (text : List ℕ) → SaysAll begun lines s text
+    → Each (HasLine s) (replies s.entries)
+
+-- what is written for an event, if memory is wanted or not: ENOMEM is written only where it is, and
+-- then where there is no other refusal, and for no `die`  [profile]
+pub data SaysMet (wanted : Bool) (s : Script) (event : Event) (line : Asking) (next : Script)
+    (text : List ℕ) : Type 0 where
+  refused : IsRefused s event line next text → SaysMet wanted s event line next text
+  unmet : wanted ≡ true → IsUnmet s event line next text → SaysMet wanted s event line next text
+  accepted : (wanted && not (is_death event)) ≡ false → IsAccepted s event line next text
+      → SaysMet wanted s event line next text
+
+-- the same, where the line may have a refusal of its own  [profile]
+abbrev pub SaysToMet : Bool → Script → Asking → Result Event Refusal → Script → List ℕ → Type 0
+SaysToMet wanted s line (Err why) next text = (next ≡ s) × (text ≡ refusal_text line why)
+SaysToMet wanted s line (Ok event) next text = SaysMet wanted s event line next text
+
+-- what is written for these lines, one after the other, if memory is wanted at the lines of these
+-- numbers, from 0  [profile]
+abbrev pub SaysAllMet : (ℕ → Bool) → Script → List ScriptLine → Script → List ℕ → Type 0
+SaysAllMet wanted s [] last text = (last ≡ s) × (text ≡ [])
+SaysAllMet wanted s (line ∷ more) last text =
+    (next : Script) × (first : List ℕ) × (rest : List ℕ)
+    × SaysToMet (wanted zero) (counted s line.who) (asking s line.who) (event_of_line s line) next
+    first
+    × SaysAllMet (λ k. wanted (suc k)) next more last rest × (text ≡ first ++ rest)
+
+-- there is one script after these lines, and one text for them  [profile]
+pub record IsOneText (wanted : ℕ → Bool) (lines : List ScriptLine) : Type 0 where
+  pub last : Script
+  pub text : List ℕ
+  pub says : SaysAllMet wanted begun lines last text
+  pub one :
+      (other : Script) (others : List ℕ) → SaysAllMet wanted begun lines other others
+      → (other ≡ last) × (others ≡ text)
+
+-- One text: the lines, and those of them at which memory is wanted, have one text.
+abbrev pub OneText : Type 0
+OneText = (wanted : ℕ → Bool) (lines : List ScriptLine) → IsOneText wanted lines
+
+-- Each text: what may be written for some lines is their text, if memory is wanted at some of them.
+abbrev pub EachText : Type 0
+EachText =
+    (lines : List ScriptLine) (last : Script) (text : List ℕ)
+    → SaysAll begun lines last text
+    ↔ ((wanted : ℕ → Bool) × SaysAllMet wanted begun lines last text)
+
+-- what was written begins the text of all lines of these bytes  [profile]
+pub record BeginsAll (bytes text : List ℕ) : Type 0 where
+  pub wanted : ℕ → Bool
+  pub last : Script
+  pub whole : List ℕ
+  pub says : SaysAllMet wanted begun (lines_of bytes) last whole
+  pub begins : IsPrefix text whole
+
+-- Beginnings: what begins the text of the first lines begins the text of all lines.
+abbrev pub BeginningsOfAll : Type 0
+BeginningsOfAll = (bytes text : List ℕ) → BeginsScriptText bytes text → BeginsAll bytes text
