@@ -94,11 +94,10 @@ step_called h e ih s w i = go s (In-append_cases w (stood h) (stood_by h e) i)
 
 sealed_called : (h : History) → Follows h → AreCalled (Begin (seal h))
 sealed_called h f w i =
-    let g = start-seal h f in
-    (
+    let g = start-seal h f in (
       ap client_at (found (Begin (seal h)) g w i),
       (Each-in (Below (place (Begin (seal h)))) (stood (Begin (seal h))) w
-      (Fresh-follows (Begin (seal h)) g).stood i).0,
+          (Fresh-follows (Begin (seal h)) g).stood i).0,
     )
 
 -- each call that stood is its client's

@@ -184,8 +184,7 @@ lines_after s (event.Call d call) line n asked j c e =
         let there : length s.entries ≡ j = sym (place-history s.entries) ∙ here in
         subst
         (λ i. IsNoted (calls_with (event.Call d call) line (length s.entries) s.calls) s.clients
-        i c) there
-        (
+        i c) there (
           line,
           (
             line_here d call line (length s.entries) s.calls

@@ -49,8 +49,7 @@ same_refused : (s : Script) (v : Event) (line : Asking) (a : Script) (xs : List 
     (ys : List ℕ) → IsRefused s v line a xs → IsRefused s v line b ys → Same a xs b ys
 same_refused s v line a xs b ys p q =
     let why : ◌≡◌ {A = Option Refusal} (Some p.why) (Some q.why) = sym p.refused ∙ q.refused in
-    let same : p.why ≡ q.why = cc in
-    (
+    let same : p.why ≡ q.why = cc in (
       p.same ∙ sym q.same,
       p.written ∙ ap (refusal_text line) same ∙ sym q.written,
     )
@@ -127,8 +126,7 @@ same_all wanted s (line ∷ more) a xs b ys p q =
     q.0 q.1 p.3 q.3 in
     let rest =
     same_all (λ k. wanted (suc k)) p.0 more a p.2 b q.2 p.4
-    (subst (λ t. SaysAllMet (λ k. wanted (suc k)) t more b q.2) (sym first.0) q.4) in
-    (
+    (subst (λ t. SaysAllMet (λ k. wanted (suc k)) t more b q.2) (sym first.0) q.4) in (
       rest.0,
       p.5 ∙ ap (λ t. t ++ p.2) first.1 ∙ ap (λ t. q.1 ++ t) rest.1 ∙ sym q.5,
     )
@@ -210,13 +208,12 @@ can_answer wanted s v line legal = go (refusal_of_event s v) refl
   where
     go : (o : Option Refusal) → refusal_of_event s v ≡ o
         → (next : Script) × (text : List ℕ) × SaysMet wanted s v line next text × IsLegal next
-    go (Some why) e =
-        (
-          s,
-          refusal_text line why,
-          refused (record { why = why; refused = e; same = refl; written = refl }),
-          legal,
-        )
+    go (Some why) e = (
+      s,
+      refusal_text line why,
+      refused (record { why = why; refused = e; same = refl; written = refl }),
+      legal,
+    )
     go None e = by (wanted && not (is_death v)) refl
       where
         lives : (b : Bool) → not b ≡ true → b ≡ false
@@ -227,8 +224,7 @@ can_answer wanted s v line legal = go (refusal_of_event s v) refl
             → (next : Script) × (text : List ℕ) × SaysMet wanted s v line next text
             × IsLegal next
         by true both =
-            let parts = and_parts wanted (not (is_death v)) both in
-            (
+            let parts = and_parts wanted (not (is_death v)) both in (
               s,
               refusal_text line Enomem,
               unmet parts.0
@@ -257,8 +253,7 @@ can_say_all wanted s [] legal = (s, [], (refl, refl))
 can_say_all wanted s (line ∷ more) legal =
     let first =
     can_say (wanted zero) (counted s line.who) (asking s line.who) (event_of_line s line) legal in
-    let rest = can_say_all (λ k. wanted (suc k)) first.0 more first.3 in
-    (
+    let rest = can_say_all (λ k. wanted (suc k)) first.0 more first.3 in (
       rest.0,
       first.1 ++ rest.1,
       (first.0, first.1, rest.1, first.2, rest.2, refl),
@@ -368,9 +363,8 @@ beginnings_of_all bytes text b =
       last = rest.0;
       whole = b.whole ++ rest.1;
       says = all.1;
-      begins =
-          (
-            b.begins.0 ++ rest.1,
-            sym (append_assoc text b.begins.0 rest.1) ∙ ap (λ t. t ++ rest.1) b.begins.1,
-          );
+      begins = (
+        b.begins.0 ++ rest.1,
+        sym (append_assoc text b.begins.0 rest.1) ∙ ap (λ t. t ++ rest.1) b.begins.1,
+      );
     }

@@ -33,8 +33,7 @@ goes_on : (h : History) (o : Option Entry) → forced h ≡ o
     → (fs : List Entry) × LegalFrom h fs []
 goes_on h None e rest = ([], (e, refl))
 goes_on h (Some f) e rest =
-    let more = rest f e in
-    (
+    let more = rest f e in (
       f ∷ more.0,
       subst
           (λ o. MatchOption o (Takes h f [] (LegalFrom (h ▷ f) more.0))
