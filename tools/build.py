@@ -3,8 +3,8 @@
 
     tools/build.py pt_server
 
-A crate begins as soon as those that it uses are proved, and as many are proved at once as there
-are processors. Standard error gets a line for each crate that has to be proved. The toolchain's
+A crate begins as soon as those that it uses are proved, as many at once as there are processors,
+and with more jobs where fewer are left. Standard error gets a line for each crate that has to be proved. The toolchain's
 own output goes to a file, which is named if a crate fails.
 """
 import os
@@ -52,10 +52,12 @@ class Build:
             self.begun += 1
             print(f"proving {self.begun} of {len(self.uses)}: {name}", file=sys.stderr, flush=True)
 
-    def prove(self, name):
+    def prove(self, name, jobs):
         """Whether the crate was proved. What the toolchain writes is added to the log at the end."""
         self.announce(name)
-        words = ["rt", "run", "--", "--version"] if name == self.program else ["rt", "lib"]
+        words = ["rt", "lib", "--jobs", str(jobs)]
+        if name == self.program:
+            words = ["rt", "run", "--jobs", str(jobs), "--", "--version"]
         done = subprocess.run(
             words,
             cwd=f"{TOP}/crates/{name}",
@@ -72,13 +74,15 @@ class Build:
 
     def run(self):
         """The crate that failed, or None."""
-        proved, running = set(), {}
-        with ThreadPoolExecutor(os.cpu_count()) as pool:
+        proved, running, processors = set(), {}, os.cpu_count()
+        with ThreadPoolExecutor(processors) as pool:
             while len(proved) < len(self.uses):
                 for name in sorted(self.uses):
                     is_new = name not in proved and name not in running.values()
                     if is_new and proved.issuperset(self.uses[name]):
-                        running[pool.submit(self.prove, name)] = name
+                        # A crate that is proved alone gets all processors.
+                        jobs = max(1, processors - len(running))
+                        running[pool.submit(self.prove, name, jobs)] = name
                 for task in wait(running, return_when=FIRST_COMPLETED).done:
                     name = running.pop(task)
                     if not task.result():
