@@ -3,16 +3,14 @@
 
     tools/build.py pt_server
 
-A crate begins as soon as those that it uses are proved, as many at once as there are processors,
-and with more jobs where fewer are left. Standard error gets a line for each crate that has to be proved. The toolchain's
-own output goes to a file, which is named if a crate fails.
+Each crate comes after those that it uses, and gets all processors: the toolchain works on one
+crate at a time. Standard error gets a line for each crate. The toolchain's own output goes to a
+file, which is named if a crate fails.
 """
 import os
 import subprocess
 import sys
 import tempfile
-import threading
-from concurrent.futures import FIRST_COMPLETED, ThreadPoolExecutor, wait
 
 TOP = os.path.dirname(os.path.dirname(os.path.abspath(__file__)))
 
@@ -25,79 +23,41 @@ def read_crates():
     return {name: [use for use in uses if use in named] for name, uses in named.items()}
 
 
-def needed_by(program, crates):
-    """The program and all that it uses, directly or through others."""
-    found, left = set(), [program]
-    while left:
-        name = left.pop()
-        if name not in found:
-            found.add(name)
-            left.extend(crates[name])
-    return found
+def in_order(name, crates, ordered):
+    """Adds a crate after all that it uses, each once."""
+    for use in crates[name]:
+        in_order(use, crates, ordered)
+    if name not in ordered:
+        ordered.append(name)
+    return ordered
 
 
-class Build:
-    def __init__(self, program):
-        crates = read_crates()
-        self.program = program
-        self.uses = {name: crates[name] for name in needed_by(program, crates)}
-        self.log = tempfile.NamedTemporaryFile(
-            "w", prefix="ptserver-build-", suffix=".log", delete=False
-        )
-        self.printing = threading.Lock()
-        self.begun = 0
-
-    def announce(self, name):
-        with self.printing:
-            self.begun += 1
-            print(f"proving {self.begun} of {len(self.uses)}: {name}", file=sys.stderr, flush=True)
-
-    def prove(self, name, jobs):
-        """Whether the crate was proved. What the toolchain writes is added to the log at the end."""
-        self.announce(name)
-        words = ["rt", "lib", "--jobs", str(jobs)]
-        if name == self.program:
-            words = ["rt", "run", "--jobs", str(jobs), "--", "--version"]
-        done = subprocess.run(
-            words,
-            cwd=f"{TOP}/crates/{name}",
-            stdin=subprocess.DEVNULL,
-            stdout=subprocess.PIPE,
-            stderr=subprocess.STDOUT,
-            text=True,
-            errors="replace",
-        )
-        with self.printing:
-            self.log.write(f"== {name}\n{done.stdout}\n")
-            self.log.flush()
-        return done.returncode == 0
-
-    def run(self):
-        """The crate that failed, or None."""
-        proved, running, processors = set(), {}, os.cpu_count()
-        with ThreadPoolExecutor(processors) as pool:
-            while len(proved) < len(self.uses):
-                for name in sorted(self.uses):
-                    is_new = name not in proved and name not in running.values()
-                    if is_new and proved.issuperset(self.uses[name]):
-                        # A crate that is proved alone gets all processors.
-                        jobs = max(1, processors - len(running))
-                        running[pool.submit(self.prove, name, jobs)] = name
-                for task in wait(running, return_when=FIRST_COMPLETED).done:
-                    name = running.pop(task)
-                    if not task.result():
-                        return name
-                    proved.add(name)
-        return None
+def prove(name, is_program, log):
+    """Whether the crate was proved and built."""
+    jobs = ["--jobs", str(os.cpu_count())]
+    words = ["rt", "run", *jobs, "--", "--version"] if is_program else ["rt", "lib", *jobs]
+    done = subprocess.run(
+        words,
+        cwd=f"{TOP}/crates/{name}",
+        stdin=subprocess.DEVNULL,
+        stdout=log,
+        stderr=subprocess.STDOUT,
+    )
+    return done.returncode == 0
 
 
 def main():
-    build = Build(sys.argv[1])
-    failed = build.run()
-    if failed:
-        print(f"{failed} could not be proved; see {build.log.name}", file=sys.stderr)
-        return 1
-    os.unlink(build.log.name)
+    program = sys.argv[1]
+    names = in_order(program, read_crates(), [])
+    with tempfile.NamedTemporaryFile(
+        prefix="ptserver-build-", suffix=".log", delete=False
+    ) as log:
+        for count, name in enumerate(names, 1):
+            print(f"proving {count} of {len(names)}: {name}", file=sys.stderr, flush=True)
+            if not prove(name, name == program, log):
+                print(f"{name} could not be proved; see {log.name}", file=sys.stderr)
+                return 1
+    os.unlink(log.name)
     return 0
 
 

@@ -62,9 +62,9 @@ impl BarrierObj {
 
     /// Whether it lets the calls go that stand at it, where they are so many.
     /// [XSH pthread_barrier_wait]
-    pub fn full(&self, standing: usize) -> bool
-        ensures { IsTrue result ↔ (standing ≡ self.now) }
+    pub fn full(&self, waiting: usize) -> bool
+        ensures { IsTrue result ↔ (waiting ≡ self.now) }
     {
-        standing == self.count as usize
+        waiting == self.count as usize
     }
 }

@@ -7,7 +7,7 @@ fn list(rt: &HostRuntime, folder: &str, paths: &mut Vec<String>) -> Result<()> {
     for entry in fs::read_dir(rt, folder).context(format_args!("{folder}"))? {
         paths.push(String::from_str(rt.alloc(), entry?.path().as_str())?)?;
     }
-    paths.sort()?;
+    paths.class()?;
     Ok(())
 }
 

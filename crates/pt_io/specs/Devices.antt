@@ -41,9 +41,9 @@ abbrev pub rejections_in : {E : Type 0} → Result ℕ E → List ℕ → ℕ
 rejections_in (Ok n) buf = count_of (moves_none n buf)
 rejections_in (Err e) buf = 0
 
--- a device of std, and the bytes that it gave or took so far; how many of them its latest read gave,
--- or it took since its latest flush; how many reads and rejections there were; and whether it failed
--- or reported its end  [profile]
+-- a device of std, and the bytes that it gave or took so far; how many of them its latest read
+-- gave, or it took since its latest flush; how many reads and rejections there were; and whether it
+-- failed or reported its end  [profile]
 pub record Tally (D : Type 0) : Type 0 where
   pub device : D
   pub bytes : List ℕ
@@ -55,8 +55,8 @@ pub record Tally (D : Type 0) : Type 0 where
 
 -- a device in memory: the bytes that it gave, those that reads will give, and those that it took;
 -- how many its latest read gave, how many it took since its latest flush, and how many reads there
--- were; how many bytes a call moves at most, which call from here on fails (0 for none), and whether
--- it failed or reported its end  [profile]
+-- were; how many bytes a call moves at most, which call from here on fails (0 for none), and
+-- whether it failed or reported its end  [profile]
 pub record Memory : Type 0 where
   pub given : List ℕ
   pub left : List ℕ

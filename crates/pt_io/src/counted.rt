@@ -17,8 +17,8 @@ pub const TRIES_AGAIN: u32 = 16;
 /// A reader of std as a `Source`, or a writer as a `Sink`.
 ///
 /// Contracts see it as its device, the bytes that went through, how many of them went since its
-/// latest read or flush, how many reads and rejections there were, and whether it failed or reported
-/// its end. All but the last two are noted for proofs alone and take no memory.
+/// latest read or flush, how many reads and rejections there were, and whether it failed or
+/// reported its end. All but the last two are noted for proofs alone and take no memory.
 #[derive(Drop)]
 pub struct Counted<D> {
     device: D,

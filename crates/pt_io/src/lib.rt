@@ -3,8 +3,8 @@
 //! Contracts see the bytes that a `Source` gave and a `Sink` took so far, which of them came before
 //! the latest read or flush, how many reads there were, how many writes took none of the bytes they
 //! were given, and a count of failures, 0 or 1. `Counted` makes either from any reader or writer of
-//! std; if the bytes of that device are known, as those of one in memory, exactly these went through.
-//! `Faulty` is a device in memory for tests, and its contract gives each answer in full.
+//! std; if the bytes of that device are known, as those of one in memory, exactly these went
+//! through. `Faulty` is a device in memory for tests, and its contract gives each answer in full.
 //!
 //! Only tests show that the error of a `Counted` is its device's, that a write which takes nothing
 //! is, that a flush reaches the device, and how often an interrupted call is tried again. No

@@ -24,8 +24,8 @@ pub trait Source {
     // Whether it has reported its end.
     ghost ended: { Self → Bool };
 
-    /// Reads up to `buf.len()` bytes to the front of `buf`, and returns how many. If `buf` has room,
-    /// 0 reports the end.  [XSH read]
+    /// Reads up to `buf.len()` bytes to the front of `buf`, and returns how many. If `buf` has
+    /// room, 0 reports the end.  [XSH read]
     ///
     /// An error gives no byte, and is the last answer.
     fn read(&mut self, buf: &mut [u8]) -> io::Result<usize>

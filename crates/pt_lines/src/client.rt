@@ -57,7 +57,7 @@ impl ClientName {
     }
 
     /// A second name of the same bytes. It takes no memory.
-    pub fn same(&self) -> ClientName
+    pub fn copied(&self) -> ClientName
         ensures { result ≡ self.now }
     {
         self.clone().unwrap()
@@ -105,11 +105,11 @@ impl Who {
     }
 
     /// The same client again. It takes no memory.
-    pub fn same(&self) -> Who
+    pub fn copied(&self) -> Who
         ensures { result ≡ self.now }
     {
         match self {
-            Who::Named(name) => Who::Named(name.same()),
+            Who::Named(name) => Who::Named(name.copied()),
             Who::Star => Who::Star,
             Who::Unknown => Who::Unknown,
         }

@@ -3,8 +3,8 @@ use Rattle.std.specs.Prelude.{ℕ, Bool, ◌+◌, ◌-◌, ◌&&◌, ◌||◌, n
 use Rattle.pt_types.specs.Limits.{most_locks}
 use Rattle.pt_types.specs.MutexTable.{MutexView, owns, is_recursive, after_release, after_yield, after_consistent}
 use Rattle.pt_types.specs.declared.call.MutexKind.{MutexKind}
-use Rattle.pt_types.specs.declared.outcome.Condition.{Condition}
-use Rattle.pt_types.specs.declared.outcome.Condition.TheVariants.{Consistent}
+use Rattle.pt_types.specs.declared.outcome.Consistency.{Consistency}
+use Rattle.pt_types.specs.declared.outcome.Consistency.TheVariants.{Consistent}
 
 -- a mutex as its tables see it, and the waits that released it and aren't moved yet
 -- [XSH pthread_cond_wait]
@@ -15,7 +15,7 @@ pub record MutexState : Type 0 where
 -- a mutex as it is made: in order, and nobody holds it  [XSH pthread_mutex_init]
 abbrev pub made : MutexKind → (robust : Bool) → MutexState
 made kind robust = record {
-  seen = record { kind = kind; robust = robust; condition = Consistent; owner = None; count = 0 };
+  seen = record { kind = kind; robust = robust; consistency = Consistent; owner = None; count = 0 };
   bound_waits = 0;
 }
 
@@ -29,23 +29,23 @@ can_acquire m c =
 abbrev pub acquired : MutexView → (client : ℕ) → MutexView
 acquired m c = record m { owner = Some c; count = m.count + 1 }
 
--- nobody holds it, and its condition is this  [XSH pthread_mutex_unlock]
-abbrev pub freed : MutexView → Condition → MutexView
-freed m condition = record m { condition = condition; owner = None; count = 0 }
+-- nobody holds it, and its consistency is this  [XSH pthread_mutex_unlock]
+abbrev pub freed : MutexView → Consistency → MutexView
+freed m consistency = record m { consistency = consistency; owner = None; count = 0 }
 
 -- its owner gave one lock back, and with the last one the mutex  [XSH pthread_mutex_unlock]
 abbrev pub released : MutexView → MutexView
 released m =
     if nat_lt 1 m.count then record m { count = m.count - 1 }
-    else freed m (after_release m.condition)
+    else freed m (after_release m.consistency)
 
 -- its dead owner lost it  [XSH pthread_mutex_lock, EOWNERDEAD]
 abbrev pub yielded : MutexView → MutexView
-yielded m = freed m (after_yield m.condition)
+yielded m = freed m (after_yield m.consistency)
 
 -- what it guards was put in order  [XSH pthread_mutex_consistent]
 abbrev pub restored : MutexView → MutexView
-restored m = record m { condition = after_consistent m.condition }
+restored m = record m { consistency = after_consistent m.consistency }
 
 -- whether it can't be destroyed: a living client owns it, a call stands at it, or a wait is bound
 -- to it  [XSH pthread_mutex_destroy]

@@ -2,7 +2,7 @@ ghost use Rattle.std.specs.Prelude.{◌≡◌, ◌<◌, ◌+◌, ◌-◌, ◌↔
 ghost use Rattle.pt_types.specs.ObjectTable.{destroy_verdict};
 ghost use Rattle.pt_types.specs.MutexTable.{owns, lock_verdict, unlock_verdict, consistent_verdict};
 
-use pt_types::{ClientId, Condition, Deadline, How, MutexKind, Outcome, Verdict};
+use pt_types::{ClientId, Consistency, Deadline, How, MutexKind, Outcome, Verdict};
 use std::marker::Model;
 
 /// Locks of one owner on a RECURSIVE mutex.  [XSH pthread_mutex_lock, the number is profile]
@@ -21,7 +21,7 @@ const MOST_LOCKS: u8 = 255;
 pub struct MutexObj {
     kind: MutexKind,
     robust: bool,
-    condition: Condition,
+    consistency: Consistency,
     owner: Option<ClientId>,
     count: u8,
     bound_waits: u32,
@@ -37,7 +37,7 @@ impl Model for MutexObj {
       seen = record {
         kind = m.kind;
         robust = m.robust;
-        condition = m.condition;
+        consistency = m.consistency;
         owner = m.owner;
         count = m.count;
       };
@@ -60,7 +60,7 @@ impl MutexObj {
         MutexObj {
             kind,
             robust,
-            condition: Condition::Consistent,
+            consistency: Consistency::Consistent,
             owner: None,
             count: 0,
             bound_waits: 0,
@@ -92,7 +92,7 @@ impl MutexObj {
     fn verdict(&self, caller: ClientId, how: &How) -> Verdict
         ensures { result ≡ lock_verdict self.now.seen caller how.now }
     {
-        if self.condition == Condition::NotRecoverable || self.owner.is_none() {
+        if self.consistency == Consistency::NotRecoverable || self.owner.is_none() {
             return Verdict::Stands;
         }
         let owns = self.is_owned_by(caller);
@@ -123,7 +123,7 @@ impl MutexObj {
     pub fn verdict_consistent(&self, caller: ClientId) -> Verdict
         ensures { result ≡ consistent_verdict self.now.seen caller }
     {
-        if !self.robust || self.condition != Condition::Inconsistent {
+        if !self.robust || self.consistency != Consistency::Inconsistent {
             return Verdict::Reply(Outcome::Einval);
         }
         if !self.is_owned_by(caller) {
@@ -182,14 +182,14 @@ impl MutexObj {
             return;
         }
         self.free();
-        if self.condition == Condition::Inconsistent {
-            self.condition = Condition::NotRecoverable;
+        if self.consistency == Consistency::Inconsistent {
+            self.consistency = Consistency::NotRecoverable;
         }
     }
 
     fn free(&mut self)
         ensures { let seen = self.old.seen in
-            self.new ≡ record self.old { seen = freed seen seen.condition } }
+            self.new ≡ record self.old { seen = freed seen seen.consistency } }
     {
         self.owner = None;
         self.count = 0;
@@ -200,8 +200,8 @@ impl MutexObj {
     pub fn mark_consistent(&mut self)
         ensures { self.new ≡ record self.old { seen = restored self.old.seen } }
     {
-        if self.condition == Condition::Inconsistent {
-            self.condition = Condition::Consistent;
+        if self.consistency == Consistency::Inconsistent {
+            self.consistency = Consistency::Consistent;
         }
     }
 
@@ -211,8 +211,8 @@ impl MutexObj {
         ensures { self.new ≡ record self.old { seen = yielded self.old.seen } }
     {
         self.free();
-        if self.condition == Condition::Consistent {
-            self.condition = Condition::Inconsistent;
+        if self.consistency == Consistency::Consistent {
+            self.consistency = Consistency::Inconsistent;
         }
     }
 
@@ -248,10 +248,10 @@ impl MutexObj {
     }
 
     /// Whether what it guards is in order.  [XSH pthread_mutex_consistent]
-    pub fn condition(&self) -> Condition
-        ensures { result ≡ self.now.seen.condition }
+    pub fn consistency(&self) -> Consistency
+        ensures { result ≡ self.now.seen.consistency }
     {
-        self.condition
+        self.consistency
     }
 
     /// The client that holds it, dead or alive.  [XSH pthread_mutex_lock]

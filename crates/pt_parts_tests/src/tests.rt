@@ -13,8 +13,8 @@ mod waitq;
 
 // A test plays on a thing that it borrows. Each early end of a function that owns one has to drop
 // it, and each such drop is proved; so this function owns it.
-fn lend<T: Drop, R, F: FnOnce(&mut T) -> R>(mut thing: T, play: F) -> R
+fn lend<T: Drop, R, F: FnOnce(&mut T) -> R>(mut object_row: T, play: F) -> R
     requires { F.IsAlwaysCallable play }
 {
-    play(&mut thing)
+    play(&mut object_row)
 }

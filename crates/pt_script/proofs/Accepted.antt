@@ -18,7 +18,7 @@ use Rattle.pt_model.specs.Room.{refusal_within, entry_for}
 use Rattle.pt_core.specs.declared.applied.Applied.{Applied}
 use Rattle.pt_core.specs.Cores.{Kept}
 use Rattle.pt_core.specs.Applying.{Applies, IsApplied, IsRefusal, IsWantOfMemory}
-use Rattle.pt_script.specs.declared.asking.Asking.{Asking}
+use Rattle.pt_script.specs.declared.line_id.LineId.{LineId}
 use Rattle.pt_script.specs.declared.engine.Mark.{Mark}
 use Rattle.pt_script.specs.declared.engine.Mark.TheVariants as mark
 use Rattle.pt_script.specs.Scripts.{Script, line_at, told_text, refusal_text, greeting, clients_with, calls_with, same_who, lines_of_who}
@@ -28,7 +28,7 @@ use Rattle.pt_script.specs.Engines.{Adds, IsFresh, mark_of, clients_marked, call
 use Rattle.pt_script.proofs.Counted.{lookup_push, count_by_push}
 
 -- what an engine of these parts stands for
-abbrev pub seen_as : Kept → Known → List (ℕ × Asking) → Script
+abbrev pub seen_as : Kept → Known → List (ℕ × LineId) → Script
 seen_as core names calls = record {
   entries = core.entries;
   seen = names.seen;
@@ -43,14 +43,14 @@ clients_as (event.Call c call) who place rows = refl
 clients_as (event.Death c) who place rows = refl
 clients_as (event.Moment clock t) who place rows = refl
 
-pub calls_as : (v : Event) (line : Asking) (place : ℕ) (rows : List (ℕ × Asking))
+pub calls_as : (v : Event) (line : LineId) (place : ℕ) (rows : List (ℕ × LineId))
     → calls_marked (mark_of v) line place rows ≡ calls_with v line place rows
 calls_as (event.Join p) line place rows = refl
 calls_as (event.Call c call) line place rows = refl
 calls_as (event.Death c) line place rows = refl
 calls_as (event.Moment clock t) line place rows = refl
 
-greeting_as : (v : Event) (line : Asking) → greeting_marked (mark_of v) line ≡ greeting v line
+greeting_as : (v : Event) (line : LineId) → greeting_marked (mark_of v) line ≡ greeting v line
 greeting_as (event.Join p) line = refl
 greeting_as (event.Call c call) line = refl
 greeting_as (event.Death c) line = refl
@@ -70,7 +70,7 @@ limited core same = ap (λ n. let k : Kept = record { entries = core.entries; li
 
 -- an accepted event: its parts were noted, and its answers appended
 pub accepted : (s : Script) (core next : Kept) (names known : Known)
-    (calls noted : List (ℕ × Asking)) (v : Event) (line : Asking) (a : Applied) (m : Mark)
+    (calls noted : List (ℕ × LineId)) (v : Event) (line : LineId) (a : Applied) (m : Mark)
     (out greeted told : List ℕ)
     → s ≡ seen_as core names calls → core.limit ≡ most_entries → m ≡ mark_of v
     → IsApplied core v next a
@@ -124,7 +124,7 @@ accepted s core next names known calls noted v line a m out greeted told is limi
 
 -- a refused event: its refusal was appended, and nothing else changed
 pub refused : (s : Script) (core next : Kept) (names : Known)
-    (calls noted : List (ℕ × Asking)) (v : Event) (line : Asking) (why : Refusal)
+    (calls noted : List (ℕ × LineId)) (v : Event) (line : LineId) (why : Refusal)
     (out told : List ℕ)
     → s ≡ seen_as core names calls → core.limit ≡ most_entries → next ≡ core → noted ≡ calls
     → IsRefusal core v why → told ≡ out ++ refusal_text line why
@@ -144,11 +144,11 @@ refused s core next names calls noted v line why out told is limit stays kept re
         → MatchOption r (IsWantOfMemory v why) (λ x. why ≡ x)
         → SaysOf (seen_as core names calls) v line (seen_as next names noted)
         (refusal_text line why)
-    by None none want = lacks (record {
+    by None none lock_kind = lacks (record {
       accepted = none;
-      lives = want.1;
+      lives = lock_kind.1;
       same = same;
-      written = ap (refusal_text line) want.0;
+      written = ap (refusal_text line) lock_kind.0;
     })
     by (Some x) some is_it = refuses (record {
       why = x;
@@ -158,7 +158,7 @@ refused s core next names calls noted v line why out told is limit stays kept re
     })
 
 -- no call is noted at a place that comes, also behind an accepted event
-pub fresh_noted : (calls noted : List (ℕ × Asking)) (m : Mark) (line : Asking) (place next : ℕ)
+pub fresh_noted : (calls noted : List (ℕ × LineId)) (m : Mark) (line : LineId) (place next : ℕ)
     → IsFresh calls place → place < next → noted ≡ calls_marked m line place calls
     → IsFresh noted next
 fresh_noted calls noted m line place next fresh below notes = λ j far.
@@ -193,7 +193,7 @@ some_seen seen who =
     omega (arith, count)
 
 -- what a core and its calls keep, behind an accepted event
-pub kept_noted : (core next : Kept) (calls noted : List (ℕ × Asking)) (v : Event) (line : Asking)
+pub kept_noted : (core next : Kept) (calls noted : List (ℕ × LineId)) (v : Event) (line : LineId)
     (a : Applied) (m : Mark) → core.limit ≡ most_entries → IsFresh calls (length core.entries)
     → IsApplied core v next a → noted ≡ calls_marked m line a.first calls
     → (next.limit ≡ most_entries) × IsFresh noted (length next.entries)

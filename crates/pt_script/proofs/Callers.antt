@@ -8,8 +8,8 @@ use Rattle.pt_model.specs.declared.entry.Entry.{Entry}
 use Rattle.pt_model.specs.declared.entry.Entry.TheVariants.{Call, Grant, Trip, Expire}
 use Rattle.pt_model.specs.Searches.{In, Each}
 use Rattle.pt_model.specs.Histories.{History, Begin, ◌▷◌, onto, place}
-use Rattle.pt_model.specs.Records.{Standing, Told}
-use Rattle.pt_model.specs.Standing.{at_place, stood, stood_by, is_arrival, is_wait_if}
+use Rattle.pt_model.specs.Records.{WaitingCall, Told}
+use Rattle.pt_model.specs.WaitingCall.{at_place, stood, stood_by, is_arrival, is_wait_if}
 use Rattle.pt_model.specs.Answers.{at_barrier, client_if, told, told_by_trip, told_by_expiry, told_by, open_calls, replies_from}
 use Rattle.pt_model.specs.Grants.{grant_outcome}
 use Rattle.pt_model.specs.Queries.{caller, client_at}
@@ -50,14 +50,15 @@ called_here h c call r =
     let same : (place h == place h) ≡ true = grind (arith, nat_tests) in
     (ap (λ b. cond b (Some c) (caller h (place h))) same, omega arith)
 
--- a call that it leaves standing is its own
-stands_own : (h : History) (c : ℕ) (E : Effect) → Allowed h c E → (w : Standing) → In w (left_by E)
+-- a call that it leaves waiting is its own
+stands_own : (h : History) (c : ℕ) (E : Effect) → Allowed h c E → (w : WaitingCall)
+    → In w (left_by E)
     → w.client ≡ c
-stands_own h c (Waits v) a w (inl e) = ap (λ (u : Standing). u.client) (e ∙ a.0)
+stands_own h c (Waits v) a w (inl e) = ap (λ (u : WaitingCall). u.client) (e ∙ a.0)
 stands_own h c (Waits v) a w (inr i) = absurd i
 stands_own h c Idle a w i = absurd i
 stands_own h c (Creates n kind) a w i = absurd i
-stands_own h c (Removes n sort o) a w i = absurd i
+stands_own h c (Removes n class o) a w i = absurd i
 stands_own h c (Relocks m) a w i = absurd i
 stands_own h c (Frees m) a w i = absurd i
 stands_own h c (Mends m) a w i = absurd i
@@ -66,9 +67,9 @@ stands_own h c (Wakes n all) a w i = absurd i
 
 -- a call that stood is its client's
 abbrev AreCalled : History → Type 0
-AreCalled h = (w : Standing) → In w (stood h) → IsCalled h w.place w.client
+AreCalled h = (w : WaitingCall) → In w (stood h) → IsCalled h w.place w.client
 
-new_called : (h : History) (c : ℕ) (call : Asked) (w : Standing)
+new_called : (h : History) (c : ℕ) (call : Asked) (w : WaitingCall)
     → In w (stood_by h (Call c call (reply (verdict h c call))))
     → IsCalled (h ▷ Call c call (reply (verdict h c call))) w.place w.client
 new_called h c call w i =
@@ -110,23 +111,23 @@ stood_called h f =
 abbrev pub IsOwn : History → Told → Type 0
 IsOwn h t = IsCalled h t.place t.client
 
-replied_own : (h : History) (c : ℕ) (call : Asked) (r : Option Outcome) (ws : List Standing)
+replied_own : (h : History) (c : ℕ) (call : Asked) (r : Option Outcome) (ws : List WaitingCall)
     → Each (IsOwn (h ▷ Call c call r)) (told_by h ws (Call c call r))
 replied_own h c call None ws = tt
 replied_own h c call (Some x) ws = (called_here h c call (Some x), tt)
 
-found_own : (h : History) (e : Entry) → Follows h → (w : Standing) → In w (open_calls h)
+found_own : (h : History) (e : Entry) → Follows h → (w : WaitingCall) → In w (open_calls h)
     → IsCalled (h ▷ e) w.place (client_if (at_place w.place (stood h)))
 found_own h e f w i =
     subst (λ o. IsCalled (h ▷ e) w.place (client_if o)) (sym (found_open h f w i))
     (called_on h e w.place w.client (stood_called h f w (stood_open h w i)))
 
-tripped_own : (h : History) (ws : List Standing) → Each (λ w. IsCalled h w.place w.client) ws
+tripped_own : (h : History) (ws : List WaitingCall) → Each (λ w. IsCalled h w.place w.client) ws
     → Each (IsOwn h) (told_by_trip ws)
 tripped_own h [] all = tt
 tripped_own h (w ∷ ws) all = (all.0, tripped_own h ws all.1)
 
-expired_own : (h : History) (j : ℕ) (call : Option Standing) (waits : Bool)
+expired_own : (h : History) (j : ℕ) (call : Option WaitingCall) (waits : Bool)
     → IsCalled h j (client_if call) → Each (IsOwn h) (told_by_expiry j call waits)
 expired_own h j call true is = tt
 expired_own h j call false is = (is, tt)

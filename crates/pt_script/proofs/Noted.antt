@@ -25,8 +25,8 @@ use Rattle.pt_model.specs.Answers.{replies}
 use Rattle.pt_model.proofs.Histories.{onto-append, place-history}
 use Rattle.pt_model.proofs.Legality.{events_of-legal, legal-follows}
 use Rattle.pt_model.proofs.Lists.{Each-weaker}
-use Rattle.pt_script.specs.declared.asking.Asking.{Asking}
-use Rattle.pt_script.specs.Scripts.{Script, begun, asking, calls_with, clients_with, event_for, event_of_body, event_of_line, join_for, line_at, number_named, number_of, of_client}
+use Rattle.pt_script.specs.declared.line_id.LineId.{LineId}
+use Rattle.pt_script.specs.Scripts.{Script, begun, line_id, calls_with, clients_with, event_for, event_of_body, event_of_line, join_for, line_at, number_named, number_of, of_client}
 use Rattle.pt_script.specs.Says.{SaysAll, SaysOf, SaysTo, IsAccepted, counted, refuses, lacks, accepts}
 use Rattle.pt_script.specs.Engines.{IsFresh, mark_of}
 use Rattle.pt_script.specs.Laws.{AnswersHaveLines, HasLine}
@@ -35,9 +35,9 @@ use Rattle.pt_script.proofs.Callers.{IsOwn, replies_own}
 use Rattle.pt_script.proofs.Counted.{lookup_push}
 
 -- the line of the call at a place is noted, and is this client's
-abbrev pub IsNoted : List (ℕ × Asking) → List (List ℕ × ℕ) → ℕ → ℕ → Type 0
+abbrev pub IsNoted : List (ℕ × LineId) → List (List ℕ × ℕ) → ℕ → ℕ → Type 0
 IsNoted calls clients j c =
-    (line : Asking) × ((line_at calls j ≡ Some line) × (number_of clients line.who ≡ Some c))
+    (line : LineId) × ((line_at calls j ≡ Some line) × (number_of clients line.who ≡ Some c))
 
 -- a client is found, once more have joined
 number_on : (v : Event) (who other : Who) (place c : ℕ) (clients : List (List ℕ × ℕ))
@@ -52,7 +52,7 @@ number_on (event.Join p) Unknown other place c clients is = is
 number_on _ who other place c clients is = is
 
 -- a line is found, once more are noted
-line_on : (v : Event) (line found : Asking) (place j : ℕ) (calls : List (ℕ × Asking))
+line_on : (v : Event) (line found : LineId) (place j : ℕ) (calls : List (ℕ × LineId))
     → line_at calls j ≡ Some found → line_at (calls_with v line place calls) j ≡ Some found
 line_on (event.Call c call) line found place j calls is =
     lookup_push (nat_eq j) calls place line
@@ -60,7 +60,7 @@ line_on (event.Call c call) line found place j calls is =
 line_on _ line found place j calls is = is
 
 -- the line that is noted now
-line_here : (c : ℕ) (call : Asked) (line : Asking) (place : ℕ) (calls : List (ℕ × Asking))
+line_here : (c : ℕ) (call : Asked) (line : LineId) (place : ℕ) (calls : List (ℕ × LineId))
     → line_at calls place ≡ None
     → line_at (calls_with (event.Call c call) line place calls) place ≡ Some line
 line_here c call line place calls none =
@@ -69,7 +69,7 @@ line_here c call line place calls none =
     ∙ ap (λ o. option_or o (cond (nat_eq place place) (Some line) None)) none
     ∙ ap (λ b. cond b (Some line) None) same
 
-noted_on : (v : Event) (line : Asking) (place j c : ℕ) (calls : List (ℕ × Asking))
+noted_on : (v : Event) (line : LineId) (place j c : ℕ) (calls : List (ℕ × LineId))
     (clients : List (List ℕ × ℕ)) → IsNoted calls clients j c
     → IsNoted (calls_with v line place calls) (clients_with v line.who place clients) j c
 noted_on v line place j c calls clients is = (
@@ -89,7 +89,8 @@ callers_kept : (h : History) (es : List Entry) (j : ℕ) → events_of es ≡ []
     → caller (onto h es) j ≡ caller h j
 callers_kept h [] j none = refl
 callers_kept h (Call c call r ∷ es) j none = absurd cc
-callers_kept h (e ∷ es) j none = callers_kept (h ▷ e) es j (cons_none (event_of e) (events_of es) none)
+callers_kept h (e ∷ es) j none =
+    callers_kept (h ▷ e) es j (cons_none (event_of e) (events_of es) none)
 
 -- the client of a call is the one of its line
 abbrev pub IsAsked : Event → Who → List (List ℕ × ℕ) → Type 0
@@ -165,7 +166,7 @@ pub record IsWellNoted (s : Script) : Type 0 where
   pub lines : (j c : ℕ) → caller (history s.entries) j ≡ Some c → IsNoted s.calls s.clients j c
 
 -- each call is, behind the entry of an event
-lines_after : (s : Script) (v : Event) (line : Asking) → IsWellNoted s
+lines_after : (s : Script) (v : Event) (line : LineId) → IsWellNoted s
     → IsAsked v line.who s.clients → (j c : ℕ)
     → caller (history s.entries ▷ entry_for (history s.entries) v) j ≡ Some c
     → IsNoted (calls_with v line (length s.entries) s.calls)
@@ -197,7 +198,7 @@ lines_after s (event.Call d call) line n asked j c e =
 lines_after s v line n asked j c e =
     noted_on v line (length s.entries) j c s.calls s.clients (n.lines j c e)
 
-event_noted : (s : Script) (v : Event) (line : Asking) (next : Script) (text : List ℕ)
+event_noted : (s : Script) (v : Event) (line : LineId) (next : Script) (text : List ℕ)
     → IsWellNoted s → IsAsked v line.who s.clients → IsAccepted s v line next text
     → IsWellNoted next
 event_noted s v line next text n asked a = record {
@@ -237,7 +238,7 @@ event_noted s v line next text n asked a = record {
 
 line_noted : (s : Script) (line : ScriptLine) (next : Script) (text : List ℕ) → IsWellNoted s
     → (r : Result Event Refusal) → event_of_line s line ≡ r
-    → SaysTo (counted s line.who) (asking s line.who) r next text → IsWellNoted next
+    → SaysTo (counted s line.who) (line_id s line.who) r next text → IsWellNoted next
 line_noted s line next text n (Err why) e says =
     subst IsWellNoted (sym says.0)
     (record { legal = n.legal; fresh = n.fresh; lines = n.lines })
@@ -246,11 +247,11 @@ line_noted s line next text n (Ok v) e says = go says
     seen : IsWellNoted (counted s line.who)
     seen = record { legal = n.legal; fresh = n.fresh; lines = n.lines }
 
-    go : SaysOf (counted s line.who) v (asking s line.who) next text → IsWellNoted next
+    go : SaysOf (counted s line.who) v (line_id s line.who) next text → IsWellNoted next
     go (refuses r) = subst IsWellNoted (sym r.same) seen
     go (lacks r) = subst IsWellNoted (sym r.same) seen
     go (accepts a) =
-        event_noted (counted s line.who) v (asking s line.who) next text seen
+        event_noted (counted s line.who) v (line_id s line.who) next text seen
         (asked_of s line.who line.body v e) a
 
 -- so it is behind all lines

@@ -21,8 +21,8 @@ use Rattle.pt_model.proofs.Legality.{events_of-legal, legal-follows, legal-more,
 use Rattle.pt_model.proofs.OneList.{one_list}
 use Rattle.pt_model.proofs.Steps.{step-event}
 use Rattle.pt_core.specs.Applying.{is_death}
-use Rattle.pt_script.specs.declared.asking.Asking.{Asking}
-use Rattle.pt_script.specs.Scripts.{Script, begun, asking, calls_with, clients_with, event_of_line, greeting, refusal_text, told_text}
+use Rattle.pt_script.specs.declared.line_id.LineId.{LineId}
+use Rattle.pt_script.specs.Scripts.{Script, begun, line_id, calls_with, clients_with, event_of_line, greeting, refusal_text, told_text}
 use Rattle.pt_script.specs.Says.{SaysAll, SaysOf, SaysTo, IsRefused, IsAccepted, counted, refusal_of_event, refuses, lacks, accepts}
 use Rattle.pt_script.specs.Ends.{lines_of}
 use Rattle.pt_script.specs.Laws.{BeginningsOfAll, EachText, OneText, SaysAllMet, SaysMet, SaysToMet, accepted, refused, unmet}
@@ -33,7 +33,7 @@ use Rattle.pt_script.proofs.Settled.{settles}
 abbrev Same : Script → List ℕ → Script → List ℕ → Type 0
 Same s text t other = (s ≡ t) × (text ≡ other)
 
-abbrev made : List Entry → List Who → List (List ℕ × ℕ) → List (ℕ × Asking) → Script
+abbrev made : List Entry → List Who → List (List ℕ × ℕ) → List (ℕ × LineId) → Script
 made entries seen clients noted =
     record { entries = entries; seen = seen; clients = clients; calls = noted }
 
@@ -45,7 +45,7 @@ same_script s t entries seen clients noted =
     ∙ ap (λ x. made t.entries t.seen x s.calls) clients
     ∙ ap (λ x. made t.entries t.seen t.clients x) noted
 
-same_refused : (s : Script) (v : Event) (line : Asking) (a : Script) (xs : List ℕ) (b : Script)
+same_refused : (s : Script) (v : Event) (line : LineId) (a : Script) (xs : List ℕ) (b : Script)
     (ys : List ℕ) → IsRefused s v line a xs → IsRefused s v line b ys → Same a xs b ys
 same_refused s v line a xs b ys p q =
     let why : ◌≡◌ {A = Option Refusal} (Some p.why) (Some q.why) = sym p.refused ∙ q.refused in
@@ -54,7 +54,7 @@ same_refused s v line a xs b ys p q =
       p.written ∙ ap (refusal_text line) same ∙ sym q.written,
     )
 
-same_accepted : (s : Script) (v : Event) (line : Asking) (a : Script) (xs : List ℕ) (b : Script)
+same_accepted : (s : Script) (v : Event) (line : LineId) (a : Script) (xs : List ℕ) (b : Script)
     (ys : List ℕ) → IsAccepted s v line a xs → IsAccepted s v line b ys → Same a xs b ys
 same_accepted s v line a xs b ys p q = (
   same_script a b entries (p.seen ∙ sym q.seen) (p.clients ∙ sym q.clients) calls,
@@ -89,7 +89,7 @@ unmet_not true false w d other = absurd cc
 unmet_not true true w d other = absurd cc
 unmet_not false ends w d other = absurd cc
 
-same_met : (wanted : Bool) (s : Script) (v : Event) (line : Asking) (a : Script) (xs : List ℕ)
+same_met : (wanted : Bool) (s : Script) (v : Event) (line : LineId) (a : Script) (xs : List ℕ)
     (b : Script) (ys : List ℕ) → SaysMet wanted s v line a xs → SaysMet wanted s v line b ys
     → Same a xs b ys
 same_met wanted s v line a xs b ys (refused p) (refused q) = same_refused s v line a xs b ys p q
@@ -110,7 +110,7 @@ same_met wanted s v line a xs b ys (accepted n p) (unmet w q) =
 same_met wanted s v line a xs b ys (accepted n p) (accepted m q) =
     same_accepted s v line a xs b ys p q
 
-same_to : (wanted : Bool) (s : Script) (line : Asking) (r : Result Event Refusal) (a : Script)
+same_to : (wanted : Bool) (s : Script) (line : LineId) (r : Result Event Refusal) (a : Script)
     (xs : List ℕ) (b : Script) (ys : List ℕ) → SaysToMet wanted s line r a xs
     → SaysToMet wanted s line r b ys → Same a xs b ys
 same_to wanted s line (Err why) a xs b ys p q = (p.0 ∙ sym q.0, p.1 ∙ sym q.1)
@@ -122,7 +122,7 @@ same_all : (wanted : ℕ → Bool) (s : Script) (lines : List ScriptLine) (a : S
 same_all wanted s [] a xs b ys p q = (p.0 ∙ sym q.0, p.1 ∙ sym q.1)
 same_all wanted s (line ∷ more) a xs b ys p q =
     let first =
-    same_to (wanted zero) (counted s line.who) (asking s line.who) (event_of_line s line) p.0 p.1
+    same_to (wanted zero) (counted s line.who) (line_id s line.who) (event_of_line s line) p.0 p.1
     q.0 q.1 p.3 q.3 in
     let rest =
     same_all (λ k. wanted (suc k)) p.0 more a p.2 b q.2 p.4
@@ -145,7 +145,7 @@ not_refused None b e = refl
 not_refused (Some why) b e = absurd cc
 
 -- an event that is not refused can be accepted
-can_accept : (s : Script) (v : Event) (line : Asking) → IsLegal s → refusal_of_event s v ≡ None
+can_accept : (s : Script) (v : Event) (line : LineId) → IsLegal s → refusal_of_event s v ≡ None
     → (next : Script) × (text : List ℕ) × IsAccepted s v line next text × IsLegal next
 can_accept s v line legal none = (
   next,
@@ -202,7 +202,7 @@ can_accept s v line legal none = (
         (open_to, refl, rest.1))
 
 -- an event has a text
-can_answer : (wanted : Bool) (s : Script) (v : Event) (line : Asking) → IsLegal s
+can_answer : (wanted : Bool) (s : Script) (v : Event) (line : LineId) → IsLegal s
     → (next : Script) × (text : List ℕ) × SaysMet wanted s v line next text × IsLegal next
 can_answer wanted s v line legal = go (refusal_of_event s v) refl
   where
@@ -241,7 +241,7 @@ can_answer wanted s v line legal = go (refusal_of_event s v) refl
             (some.0, some.1, accepted other some.2, some.3)
 
 -- so has a line
-can_say : (wanted : Bool) (s : Script) (line : Asking) (r : Result Event Refusal) → IsLegal s
+can_say : (wanted : Bool) (s : Script) (line : LineId) (r : Result Event Refusal) → IsLegal s
     → (next : Script) × (text : List ℕ) × SaysToMet wanted s line r next text × IsLegal next
 can_say wanted s line (Err why) legal = (s, refusal_text line why, (refl, refl), legal)
 can_say wanted s line (Ok v) legal = can_answer wanted s v line legal
@@ -252,7 +252,7 @@ can_say_all : (wanted : ℕ → Bool) (s : Script) (lines : List ScriptLine) →
 can_say_all wanted s [] legal = (s, [], (refl, refl))
 can_say_all wanted s (line ∷ more) legal =
     let first =
-    can_say (wanted zero) (counted s line.who) (asking s line.who) (event_of_line s line) legal in
+    can_say (wanted zero) (counted s line.who) (line_id s line.who) (event_of_line s line) legal in
     let rest = can_say_all (λ k. wanted (suc k)) first.0 more first.3 in (
       rest.0,
       first.1 ++ rest.1,
@@ -275,13 +275,13 @@ flags b wanted zero = b
 flags b wanted (suc k) = wanted k
 
 -- at which lines memory is wanted
-met_of : (s : Script) (v : Event) (line : Asking) (next : Script) (text : List ℕ)
+met_of : (s : Script) (v : Event) (line : LineId) (next : Script) (text : List ℕ)
     → SaysOf s v line next text → (b : Bool) × SaysMet b s v line next text
 met_of s v line next text (refuses r) = (false, refused r)
 met_of s v line next text (lacks r) = (true, unmet refl r)
 met_of s v line next text (accepts a) = (false, accepted refl a)
 
-met_to : (s : Script) (line : Asking) (r : Result Event Refusal) (next : Script) (text : List ℕ)
+met_to : (s : Script) (line : LineId) (r : Result Event Refusal) (next : Script) (text : List ℕ)
     → SaysTo s line r next text → (b : Bool) × SaysToMet b s line r next text
 met_to s line (Err why) next text says = (false, says)
 met_to s line (Ok v) next text says = met_of s v line next text says
@@ -291,18 +291,18 @@ met_all : (s : Script) (lines : List ScriptLine) (last : Script) (text : List �
 met_all s [] last text says = (λ k. false, says)
 met_all s (line ∷ more) last text says =
     let first =
-    met_to (counted s line.who) (asking s line.who) (event_of_line s line) says.0 says.1 says.3 in
+    met_to (counted s line.who) (line_id s line.who) (event_of_line s line) says.0 says.1 says.3 in
     let rest = met_all says.0 more last says.2 says.4 in
     (flags first.0 rest.0, (says.0, says.1, says.2, first.1, rest.1, says.5))
 
 -- without a word of where
-said_of : (b : Bool) (s : Script) (v : Event) (line : Asking) (next : Script) (text : List ℕ)
+said_of : (b : Bool) (s : Script) (v : Event) (line : LineId) (next : Script) (text : List ℕ)
     → SaysMet b s v line next text → SaysOf s v line next text
 said_of b s v line next text (refused r) = refuses r
 said_of b s v line next text (unmet w r) = lacks r
 said_of b s v line next text (accepted n a) = accepts a
 
-said_to : (b : Bool) (s : Script) (line : Asking) (r : Result Event Refusal) (next : Script)
+said_to : (b : Bool) (s : Script) (line : LineId) (r : Result Event Refusal) (next : Script)
     (text : List ℕ) → SaysToMet b s line r next text → SaysTo s line r next text
 said_to b s line (Err why) next text says = says
 said_to b s line (Ok v) next text says = said_of b s v line next text says
@@ -314,7 +314,7 @@ said_all wanted s (line ∷ more) last text says = (
   says.0,
   says.1,
   says.2,
-  said_to (wanted zero) (counted s line.who) (asking s line.who) (event_of_line s line) says.0
+  said_to (wanted zero) (counted s line.who) (line_id s line.who) (event_of_line s line) says.0
       says.1 says.3,
   said_all (λ k. wanted (suc k)) says.0 more last says.2 says.4,
   says.5,
@@ -327,14 +327,14 @@ each_text lines last text = (
 )
 
 -- behind lines the entries are still the history of their own events
-legal_of : (s : Script) (v : Event) (line : Asking) (next : Script) (text : List ℕ) → IsLegal s
+legal_of : (s : Script) (v : Event) (line : LineId) (next : Script) (text : List ℕ) → IsLegal s
     → SaysOf s v line next text → IsLegal next
 legal_of s v line next text legal (refuses r) = subst IsLegal (sym r.same) legal
 legal_of s v line next text legal (lacks r) = subst IsLegal (sym r.same) legal
 legal_of s v line next text legal (accepts a) =
     legal_events next.entries (events_of s.entries ++ v ∷ []) a.applies.legal
 
-legal_to : (s : Script) (line : Asking) (r : Result Event Refusal) (next : Script) (text : List ℕ)
+legal_to : (s : Script) (line : LineId) (r : Result Event Refusal) (next : Script) (text : List ℕ)
     → IsLegal s → SaysTo s line r next text → IsLegal next
 legal_to s line (Err why) next text legal says = subst IsLegal (sym says.0) legal
 legal_to s line (Ok v) next text legal says = legal_of s v line next text legal says
@@ -344,7 +344,7 @@ legal_all : (s : Script) (lines : List ScriptLine) (last : Script) (text : List 
 legal_all s [] last text legal says = subst IsLegal (sym says.0) legal
 legal_all s (line ∷ more) last text legal says =
     legal_all says.0 more last says.2
-    (legal_to (counted s line.who) (asking s line.who) (event_of_line s line) says.0 says.1 legal
+    (legal_to (counted s line.who) (line_id s line.who) (event_of_line s line) says.0 says.1 legal
     says.3)
     says.4
 

@@ -9,9 +9,9 @@ use Rattle.pt_lines.specs.Lines.{Held, to_come}
 use Rattle.pt_lines.specs.Script.{script_of}
 use Rattle.pt_types.specs.declared.outcome.Refusal.{Refusal}
 use Rattle.pt_model.specs.declared.entry.Event.{Event}
-use Rattle.pt_script.specs.declared.asking.Asking.{Asking}
+use Rattle.pt_script.specs.declared.line_id.LineId.{LineId}
 use Rattle.pt_script.specs.declared.fault.ScriptFault.{ScriptFault}
-use Rattle.pt_script.specs.Scripts.{Script, asking, event_of_line}
+use Rattle.pt_script.specs.Scripts.{Script, line_id, event_of_line}
 use Rattle.pt_script.specs.Says.{Says, SaysAll, SaysOf, SaysTo, counted, refuses, lacks, accepts}
 use Rattle.pt_script.specs.Texts.{BreaksOff, Writing}
 use Rattle.pt_script.specs.Engines.{Adds, Answers, IsAnswered, IsCutOff}
@@ -37,13 +37,13 @@ says_join s (x ∷ xs) mid text ys last more says then = (
   ap (λ t. t ++ more) says.5 ∙ append_assoc says.1 says.2 more,
 )
 
-seen_of : (s : Script) (v : Event) (line : Asking) (next : Script) (text : List ℕ)
+seen_of : (s : Script) (v : Event) (line : LineId) (next : Script) (text : List ℕ)
     → SaysOf s v line next text → next.seen ≡ s.seen
 seen_of s v line next text (refuses h) = ap (λ n. n.seen) h.same
 seen_of s v line next text (lacks h) = ap (λ n. n.seen) h.same
 seen_of s v line next text (accepts h) = h.seen
 
-seen_to : (s : Script) (line : Asking) (r : Result Event Refusal) (next : Script) (text : List ℕ)
+seen_to : (s : Script) (line : LineId) (r : Result Event Refusal) (next : Script) (text : List ℕ)
     → SaysTo s line r next text → next.seen ≡ s.seen
 seen_to s line (Err why) next text says = ap (λ n. n.seen) says.0
 seen_to s line (Ok v) next text says = seen_of s v line next text says
@@ -53,7 +53,7 @@ pub says_seen : (s : Script) (line : ScriptLine) (next : Script) (text : List �
     → Says s line next text → length next.seen ≡ length s.seen + 1
 says_seen s line next text says =
     ap length
-    (seen_to (counted s line.who) (asking s line.who) (event_of_line s line) next text says)
+    (seen_to (counted s line.who) (line_id s line.who) (event_of_line s line) next text says)
     ∙ length-append s.seen (line.who ∷ [])
 
 -- as many more as there are

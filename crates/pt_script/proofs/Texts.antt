@@ -4,11 +4,11 @@ use Rattle.std.proofs.lemmas.Grind.{flat_map-append}
 use Rattle.std.proofs.lemmas.List.{take-append-drop, take-append-le, drop-append-le}
 use Rattle.std.proofs.Math.Seq.{take-append_seam, drop-append_seam}
 use Rattle.pt_model.specs.Records.{Told}
-use Rattle.pt_script.specs.declared.asking.Asking.{Asking}
+use Rattle.pt_script.specs.declared.line_id.LineId.{LineId}
 use Rattle.pt_script.specs.Scripts.{line_at, told_line, told_text}
 use Rattle.pt_script.specs.Texts.{IsCutShort}
 
-pub told_more : (calls : List (ℕ × Asking)) (ts : List Told) (t : Told)
+pub told_more : (calls : List (ℕ × LineId)) (ts : List Told) (t : Told)
     → told_text calls (ts ++ t ∷ [])
     ≡ told_text calls ts ++ told_line (line_at calls t.place) t.outcome
 told_more calls ts t =

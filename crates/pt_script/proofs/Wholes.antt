@@ -288,7 +288,8 @@ wanted_at_once c before out given taken read wrote accepted = record {
 pub has_ended : (n : ℕ) (buf : List ℕ) (before after : Bool) → n ≡ 0 → length buf ≡ 4096
     → after ≡ (before || moves_none n buf) → after ≡ true
 has_ended n buf before after e room says =
-    says ∙ (ap (λ k. before || moves_none k buf) e ∙ (ap (λ k. before || nat_lt 0 k) room ∙ by before))
+    says ∙ (ap (λ k. before || moves_none k buf) e
+    ∙ (ap (λ k. before || nat_lt 0 k) room ∙ by before))
   where
     by : (b : Bool) → (b || nat_lt 0 4096) ≡ true
     by true = refl

@@ -31,8 +31,8 @@ pub record BeginsScriptText (bytes text : List ℕ) : Type 0 where
   pub says : SaysAll begun (take count (lines_of bytes)) last whole
   pub begins : IsPrefix text whole
 
--- the lines that are whole in these bytes were answered by this text, and a cutter holds the rest of
--- the bytes  [profile]
+-- the lines that are whole in these bytes were answered by this text, and a cutter holds the rest
+-- of the bytes  [profile]
 pub record IsBehind (bytes : List ℕ) (held : Held) (s : Script) (text : List ℕ) : Type 0 where
   pub cuts : List Cut
   pub given : (more : List ℕ) → lines (bytes ++ more) ≡ cuts ++ to_come held more

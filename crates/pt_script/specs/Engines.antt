@@ -11,7 +11,7 @@ use Rattle.pt_lines.specs.Lines.{Held, to_come}
 use Rattle.pt_lines.specs.Script.{script_of}
 use Rattle.pt_model.specs.declared.entry.Event.{Event}
 use Rattle.pt_model.specs.declared.entry.Event.TheVariants as event
-use Rattle.pt_script.specs.declared.asking.Asking.{Asking}
+use Rattle.pt_script.specs.declared.line_id.LineId.{LineId}
 use Rattle.pt_script.specs.declared.fault.ScriptFault.{ScriptFault}
 use Rattle.pt_script.specs.declared.fault.ScriptFault.TheVariants.{Read, Write, Memory}
 use Rattle.pt_script.specs.declared.engine.Mark.{Mark}
@@ -27,7 +27,7 @@ pub record Adds (Holds : List ℕ → Type 0) (old new : List ℕ) : Type 0 wher
   pub holds : Holds text
 
 -- no call is noted at a place that comes  [profile]
-abbrev pub IsFresh : List (ℕ × Asking) → ℕ → Type 0
+abbrev pub IsFresh : List (ℕ × LineId) → ℕ → Type 0
 IsFresh calls next = (j : ℕ) → next ≤ j → line_at calls j ≡ None
 
 -- what is noted of an event, once it is accepted  [profile]
@@ -42,12 +42,12 @@ clients_marked Client who place rows = clients_joined who place rows
 clients_marked _ who place rows = rows
 
 -- the lines of calls behind it  [profile]
-abbrev pub calls_marked : Mark → Asking → ℕ → List (ℕ × Asking) → List (ℕ × Asking)
+abbrev pub calls_marked : Mark → LineId → ℕ → List (ℕ × LineId) → List (ℕ × LineId)
 calls_marked Call line place rows = rows ++ (place, line) ∷ []
 calls_marked _ line place rows = rows
 
 -- its greeting  [profile]
-abbrev pub greeting_marked : Mark → Asking → List ℕ
+abbrev pub greeting_marked : Mark → LineId → List ℕ
 greeting_marked Client line = reply_line (Some line.who) line.number (word.Outcome Done)
 greeting_marked _ line = []
 

@@ -8,14 +8,14 @@ use Rattle.pt_model.specs.Searches.{Each}
 use Rattle.pt_model.specs.Records.{Told}
 use Rattle.pt_model.specs.Answers.{replies}
 use Rattle.pt_core.specs.Applying.{is_death}
-use Rattle.pt_script.specs.declared.asking.Asking.{Asking}
-use Rattle.pt_script.specs.Scripts.{Script, begun, asking, event_of_line, line_at, number_of, refusal_text}
+use Rattle.pt_script.specs.declared.line_id.LineId.{LineId}
+use Rattle.pt_script.specs.Scripts.{Script, begun, line_id, event_of_line, line_at, number_of, refusal_text}
 use Rattle.pt_script.specs.Says.{SaysAll, IsRefused, IsUnmet, IsAccepted, counted}
 use Rattle.pt_script.specs.Ends.{BeginsScriptText, lines_of}
 
 -- the line that made the call of an answer is noted, and it is the client's own  [profile]
 pub record HasLine (s : Script) (t : Told) : Type 0 where
-  pub line : Asking
+  pub line : LineId
   pub noted : line_at s.calls t.place ≡ Some line
   pub own : number_of s.clients line.who ≡ Some t.client
 
@@ -27,7 +27,7 @@ AnswersHaveLines =
 
 -- what is written for an event, if memory is wanted or not: ENOMEM is written only where it is, and
 -- then where there is no other refusal, and for no `die`  [profile]
-pub data SaysMet (wanted : Bool) (s : Script) (event : Event) (line : Asking) (next : Script)
+pub data SaysMet (wanted : Bool) (s : Script) (event : Event) (line : LineId) (next : Script)
     (text : List ℕ) : Type 0 where
   refused : IsRefused s event line next text → SaysMet wanted s event line next text
   unmet : wanted ≡ true → IsUnmet s event line next text → SaysMet wanted s event line next text
@@ -35,7 +35,7 @@ pub data SaysMet (wanted : Bool) (s : Script) (event : Event) (line : Asking) (n
       → SaysMet wanted s event line next text
 
 -- the same, where the line may have a refusal of its own  [profile]
-abbrev pub SaysToMet : Bool → Script → Asking → Result Event Refusal → Script → List ℕ → Type 0
+abbrev pub SaysToMet : Bool → Script → LineId → Result Event Refusal → Script → List ℕ → Type 0
 SaysToMet wanted s line (Err why) next text = (next ≡ s) × (text ≡ refusal_text line why)
 SaysToMet wanted s line (Ok event) next text = SaysMet wanted s event line next text
 
@@ -45,7 +45,7 @@ abbrev pub SaysAllMet : (ℕ → Bool) → Script → List ScriptLine → Script
 SaysAllMet wanted s [] last text = (last ≡ s) × (text ≡ [])
 SaysAllMet wanted s (line ∷ more) last text =
     (next : Script) × (first : List ℕ) × (rest : List ℕ)
-    × SaysToMet (wanted zero) (counted s line.who) (asking s line.who) (event_of_line s line) next
+    × SaysToMet (wanted zero) (counted s line.who) (line_id s line.who) (event_of_line s line) next
     first
     × SaysAllMet (λ k. wanted (suc k)) next more last rest × (text ≡ first ++ rest)
 

@@ -12,8 +12,8 @@ use Rattle.pt_model.specs.Answers.{replies_from}
 use Rattle.pt_model.specs.Room.{refusal_within}
 use Rattle.pt_core.specs.Cores.{Kept}
 use Rattle.pt_core.specs.Applying.{Applies, is_death}
-use Rattle.pt_script.specs.declared.asking.Asking.{Asking}
-use Rattle.pt_script.specs.Scripts.{Script, asking, event_of_line, told_text, refusal_text, clients_with, calls_with, greeting}
+use Rattle.pt_script.specs.declared.line_id.LineId.{LineId}
+use Rattle.pt_script.specs.Scripts.{Script, line_id, event_of_line, told_text, refusal_text, clients_with, calls_with, greeting}
 
 -- the core behind these lines  [profile]
 abbrev pub core_of : Script → Kept
@@ -29,7 +29,7 @@ abbrev pub counted : Script → Who → Script
 counted s who = record s { seen = s.seen ++ who ∷ [] }
 
 -- the event is refused: its refusal is written, and it leaves no entry  [profile]
-pub record IsRefused (s : Script) (event : Event) (line : Asking) (next : Script)
+pub record IsRefused (s : Script) (event : Event) (line : LineId) (next : Script)
     (text : List ℕ) : Type 0 where
   pub why : Refusal
   pub refused : refusal_of_event s event ≡ Some why
@@ -38,7 +38,7 @@ pub record IsRefused (s : Script) (event : Event) (line : Asking) (next : Script
 
 -- a growth was refused: ENOMEM is written where there is no other refusal, and for no `die`
 -- [profile]
-pub record IsUnmet (s : Script) (event : Event) (line : Asking) (next : Script)
+pub record IsUnmet (s : Script) (event : Event) (line : LineId) (next : Script)
     (text : List ℕ) : Type 0 where
   pub accepted : refusal_of_event s event ≡ None
   pub lives : is_death event ≡ false
@@ -47,7 +47,7 @@ pub record IsUnmet (s : Script) (event : Event) (line : Asking) (next : Script)
 
 -- the event is accepted: its entries are added to the history, and their answers are written
 -- [profile]
-pub record IsAccepted (s : Script) (event : Event) (line : Asking) (next : Script)
+pub record IsAccepted (s : Script) (event : Event) (line : LineId) (next : Script)
     (text : List ℕ) : Type 0 where
   pub applies : Applies (core_of s) event (core_of next)
   pub added : List Entry
@@ -59,7 +59,7 @@ pub record IsAccepted (s : Script) (event : Event) (line : Asking) (next : Scrip
       text ≡ greeting event line ++ told_text next.calls (replies_from (history s.entries) added)
 
 -- what may be written for the event that a line asks for  [profile]
-pub data SaysOf (s : Script) (event : Event) (line : Asking) (next : Script)
+pub data SaysOf (s : Script) (event : Event) (line : LineId) (next : Script)
     (text : List ℕ) : Type 0 where
   refuses : IsRefused s event line next text → SaysOf s event line next text
   lacks : IsUnmet s event line next text → SaysOf s event line next text
@@ -67,14 +67,14 @@ pub data SaysOf (s : Script) (event : Event) (line : Asking) (next : Script)
 
 -- the same, where the line may ask for none: its own refusal is written then, and it leaves no
 -- entry  [profile]
-abbrev pub SaysTo : Script → Asking → Result Event Refusal → Script → List ℕ → Type 0
+abbrev pub SaysTo : Script → LineId → Result Event Refusal → Script → List ℕ → Type 0
 SaysTo s line (Err why) next text = (next ≡ s) × (text ≡ refusal_text line why)
 SaysTo s line (Ok event) next text = SaysOf s event line next text
 
 -- what may be written for a line: it is counted, and then what it asks for is done  [profile]
 abbrev pub Says : Script → ScriptLine → Script → List ℕ → Type 0
 Says s line next text =
-    SaysTo (counted s line.who) (asking s line.who) (event_of_line s line) next text
+    SaysTo (counted s line.who) (line_id s line.who) (event_of_line s line) next text
 
 -- what may be written for these lines, one after the other  [profile]
 abbrev pub SaysAll : Script → List ScriptLine → Script → List ℕ → Type 0

@@ -20,7 +20,7 @@ use Rattle.pt_model.specs.declared.entry.Event.TheVariants as event
 use Rattle.pt_model.specs.Histories.{history}
 use Rattle.pt_model.specs.Clients.{is_alive}
 use Rattle.pt_model.specs.Records.{Told}
-use Rattle.pt_script.specs.declared.asking.Asking.{Asking}
+use Rattle.pt_script.specs.declared.line_id.LineId.{LineId}
 
 -- behind some lines: the history of the accepted ones, whose the lines were, the number of each
 -- client that has joined under a name, and which line made the call at each place  [profile]
@@ -28,7 +28,7 @@ pub record Script : Type 0 where
   pub entries : List Entry
   pub seen : List Who
   pub clients : List (List ℕ × ℕ)
-  pub calls : List (ℕ × Asking)
+  pub calls : List (ℕ × LineId)
 
 -- before the first line  [profile]
 abbrev pub begun : Script
@@ -46,8 +46,8 @@ abbrev pub lines_of_who : List Who → Who → ℕ
 lines_of_who seen who = count_by (λ w. same_who w who) seen
 
 -- the client's next line, under its number among the client's lines, from 1  [profile]
-abbrev pub asking : Script → Who → Asking
-asking s who = record { who = who; number = suc (lines_of_who s.seen who) }
+abbrev pub line_id : Script → Who → LineId
+line_id s who = record { who = who; number = suc (lines_of_who s.seen who) }
 
 -- the number of the client with this name, if one has joined under it  [profile]
 abbrev pub number_named : List (List ℕ × ℕ) → List ℕ → Option ℕ
@@ -59,7 +59,7 @@ number_of rows (Named name) = number_named rows name
 number_of rows _ = None
 
 -- the line that made the call at a place  [profile]
-abbrev pub line_at : List (ℕ × Asking) → ℕ → Option Asking
+abbrev pub line_at : List (ℕ × LineId) → ℕ → Option LineId
 line_at rows j = lookup (nat_eq j) rows
 
 -- a hello of a name under which a client has joined: DEAD once that client has died  [profile]
@@ -95,16 +95,16 @@ abbrev pub event_of_line : Script → ScriptLine → Result Event Refusal
 event_of_line s line = event_of_body s line.who line.body
 
 -- an answer under the line that made its call  [profile]
-abbrev pub told_line : Option Asking → Outcome → List ℕ
+abbrev pub told_line : Option LineId → Outcome → List ℕ
 told_line None x = []
 told_line (Some line) x = reply_line (Some line.who) line.number (word.Outcome x)
 
 -- all these answers, in order, each under the line that made its call  [profile]
-abbrev pub told_text : List (ℕ × Asking) → List Told → List ℕ
+abbrev pub told_text : List (ℕ × LineId) → List Told → List ℕ
 told_text calls ts = flat_map (λ t. told_line (line_at calls t.place) t.outcome) ts
 
 -- a refusal, under its own line  [profile]
-abbrev pub refusal_text : Asking → Refusal → List ℕ
+abbrev pub refusal_text : LineId → Refusal → List ℕ
 refusal_text line r = reply_line (Some line.who) line.number (word.Refusal r)
 
 -- the clients behind a join, with the number of its client  [profile]
@@ -118,11 +118,11 @@ clients_with (event.Join p) who place rows = clients_joined who place rows
 clients_with _ who place rows = rows
 
 -- the lines of calls behind it  [profile]
-abbrev pub calls_with : Event → Asking → ℕ → List (ℕ × Asking) → List (ℕ × Asking)
+abbrev pub calls_with : Event → LineId → ℕ → List (ℕ × LineId) → List (ℕ × LineId)
 calls_with (event.Call c call) line place rows = rows ++ (place, line) ∷ []
 calls_with _ line place rows = rows
 
 -- an accepted hello is answered 0 under its own line  [profile]
-abbrev pub greeting : Event → Asking → List ℕ
+abbrev pub greeting : Event → LineId → List ℕ
 greeting (event.Join p) line = reply_line (Some line.who) line.number (word.Outcome Done)
 greeting _ line = []

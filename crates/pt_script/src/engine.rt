@@ -4,8 +4,8 @@ ghost use Rattle.indexmap.specs.IndexMap.{spare};
 ghost use Rattle.pt_script.specs.Scripts.{lines_of_who, number_of, line_at, told_text};
 ghost use Rattle.pt_script.specs.Engines.{mark_of, clients_marked, calls_marked, greeting_marked};
 
-use crate::asking::Asking;
 use crate::fault::ScriptFault;
+use crate::line_id::LineId;
 use crate::names::Names;
 use crate::text::{Calls, tell, tell_all};
 use indexmap::IndexMap;
@@ -39,7 +39,7 @@ fn note<A: Allocator + Copy>(
     names: &mut Names<A>,
     calls: &mut Calls<A>,
     mark: Mark,
-    line: Asking,
+    line: LineId,
     place: u64,
 )
     requires room { 0 < spare calls.old }
@@ -64,7 +64,7 @@ fn note<A: Allocator + Copy>(
 fn greet<A: Allocator + Copy>(
     out: &mut Vec<u8, A>,
     mark: Mark,
-    line: &Asking,
+    line: &LineId,
 ) -> Result<(), ScriptFault>
     ensures ok { OnOk result (out.new.items ≡ out.old.items ++ greeting_marked mark line.now) }
     ensures why { IfErr result (λ fault. fault ≡ ScriptFault.Memory) }
@@ -215,7 +215,7 @@ impl<A: Allocator + Copy> Engine<A> {
     }
 
     // Does what a counted line asks for, and appends what is told of it.
-    fn run(&mut self, event: Event, line: Asking, out: &mut Vec<u8, A>) -> Result<(), ScriptFault>
+    fn run(&mut self, event: Event, line: LineId, out: &mut Vec<u8, A>) -> Result<(), ScriptFault>
         requires counted { 0 < lines_of_who self.old.seen line.who }
         requires first { mark_of event ≡ Mark.Client → number_of self.old.clients line.who ≡ None }
         ensures ok { OnOk result
@@ -251,7 +251,7 @@ impl<A: Allocator + Copy> Engine<A> {
         let ScriptLine { who, body } = line;
         let event = self.event_of(&who, body);
         let number = self.names.count(&who)?;
-        let line = Asking { who, number };
+        let line = LineId { who, number };
         match event {
             Ok(event) => {
                 self.run(event, line, out)?;

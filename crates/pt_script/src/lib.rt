@@ -1,11 +1,11 @@
 //! The script engine: the lines of many clients in, their answers out.
 //!
-//! Contracts see the bytes that the reader gave and the writer took. If a script is read to its end,
-//! what was written is the text of its lines: each refusal or answer under its client and number, in
-//! the order of the lines and of the entries that give the answers. All of it is flushed. After a
-//! fault it is the beginning of that text: the answers to all lines that had come whole, or, if the
-//! writer failed or memory was refused, to all that had come before the latest read. If the core
-//! lacked memory for a line, the text may have ENOMEM for it.
+//! Contracts see the bytes that the reader gave and the writer took. If a script is read to its
+//! end, what was written is the text of its lines: each refusal or answer under its client and
+//! number, in the order of the lines and of the entries that give the answers. All of it is
+//! flushed. After a fault it is the beginning of that text: the answers to all lines that had come
+//! whole, or, if the writer failed or memory was refused, to all that had come before the latest
+//! read. If the core lacked memory for a line, the text may have ENOMEM for it.
 //!
 //! `answer` is the program `ptserver script` over any reader, writer and writer of errors: its
 //! contract has the exit status and the report of a fault too.
@@ -14,10 +14,10 @@
 //! input is parted into reads, and the texts of `ScriptFault`.
 #![tactic(auto)]
 
-mod asking;
 mod engine;
 mod fault;
 mod laws;
+mod line_id;
 mod names;
 mod program;
 mod text;

@@ -71,7 +71,7 @@ fn begin<A: Allocator + Copy>(rows: &mut Rows<A>, name: &ClientName) -> Result<u
         lines: 1,
         client: None,
     };
-    match rows.insert(name.same(), row) {
+    match rows.insert(name.copied(), row) {
         Ok(_) => Ok(1),
         Err(_) => Err(ScriptFault::Memory),
     }

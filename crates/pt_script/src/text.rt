@@ -4,8 +4,8 @@ ghost use Rattle.pt_core.specs.Replies.{told_of};
 ghost use Rattle.pt_script.specs.Scripts.{told_text};
 ghost use Rattle.pt_script.specs.Texts.{BreaksOff, IsBroken, IsCutShort};
 
-use crate::asking::Asking;
 use crate::fault::ScriptFault;
+use crate::line_id::LineId;
 use indexmap::IndexMap;
 use pt_core::Reply;
 use pt_io::Sink;
@@ -14,12 +14,12 @@ use std::alloc::Allocator;
 use std::hash::{BuildHasherDefault, FoldHasher};
 
 /// The line that made the call at each place.
-pub type Calls<A> = IndexMap<u64, Asking, BuildHasherDefault<FoldHasher>, A>;
+pub type Calls<A> = IndexMap<u64, LineId, BuildHasherDefault<FoldHasher>, A>;
 
 /// Appends the answer to a line.
 pub fn tell<A: Allocator + Copy>(
     out: &mut Vec<u8, A>,
-    line: &Asking,
+    line: &LineId,
     word: Word,
 ) -> Result<(), ScriptFault>
     ensures ok { OnOk result (out.new.items

@@ -2,7 +2,7 @@ use clap::{Command, Error};
 use std::alloc::Global;
 
 const ABOUT: &str = "\
-POSIX mutexes, read-write locks, condition variables and barriers, shared by clients of fixed
+POSIX mutexes, read-write locks, consistency variables and barriers, shared by clients of fixed
 priority. Every answer is proved to be what the rules say.";
 
 const SCRIPT: &str = "Answers the lines of standard input on standard output, each as it comes";

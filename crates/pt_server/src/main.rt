@@ -1,8 +1,9 @@
 //! The program `ptserver`: scripts of POSIX synchronisation calls in, their answers out.
 //!
 //! What a script is answered, what is reported of a fault, and the exit status of both is the
-//! contract of `pt_script`, whose `answer` is handed the three standard streams. Only tests and runs
-//! show the rest: the words of the command line, their texts, and the status of a fault in them.
+//! contract of `pt_script`, whose `answer` is handed the three standard streams. Only tests and
+//! runs show the rest: the words of the command line, their texts, and the status of a fault in
+//! them.
 #![tactic(auto)]
 
 mod command;

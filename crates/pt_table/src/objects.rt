@@ -104,7 +104,7 @@ fn put_named<T, A: Allocator + Copy>(
     ensures numbers { numbers.new.entries ≡ numbers.old.entries ++ (row.number, result) ∷ [] }
     ensures names { names.new.entries ≡ names.old.entries ++ (row.name, result) ∷ [] }
 {
-    let name = row.name.same();
+    let name = row.name.copied();
     let slot = put(rows, numbers, row.number, row);
     names.insert(name, slot).unwrap();
     slot

@@ -4,7 +4,7 @@ use Rattle.std.specs.List.{AllByRecursion as Each}
 use Rattle.std.proofs.lemmas.Bool.Decides.{nat_tests}
 use Rattle.pt_types.specs.declared.time.Clock.{Clock}
 use Rattle.pt_types.specs.declared.time.Clock.TheVariants.{Real, Mono}
-use Rattle.pt_types.specs.Deeds.{same_clock}
+use Rattle.pt_types.specs.Operations.{same_clock}
 use Rattle.pt_types.specs.Times.{deadline_nanos, is_bad_deadline, pair_before}
 use Rattle.pt_timers.specs.declared.timer.Timer.{Timer}
 use Rattle.pt_timers.specs.Deadlines.{deadline_at, setting_of, entry_of, is_on, key_of, sooner_of, soonest_from, soonest_of, AreTimers, IsFirstDue, IsLeast}

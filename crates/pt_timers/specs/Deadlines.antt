@@ -3,7 +3,7 @@ use Rattle.std.specs.Prelude.{ℕ, ◌≡◌, ◌≤◌, ◌==◌, Bool, true, f
 use Rattle.std.specs.List.{AllByRecursion as Each}
 use Rattle.pt_types.specs.declared.time.Clock.{Clock}
 use Rattle.pt_types.specs.declared.time.Clock.TheVariants.{Real, Mono}
-use Rattle.pt_types.specs.Deeds.{same_clock}
+use Rattle.pt_types.specs.Operations.{same_clock}
 use Rattle.pt_types.specs.Times.{Timespec, deadline_nanos, is_bad_deadline, pair_before}
 use Rattle.pt_timers.specs.declared.timer.Timer.{Timer}
 use Rattle.pt_timers.specs.declared.timer.TimerKey.{TimerKey}

@@ -14,5 +14,5 @@ mod time;
 pub use call::{Call, How, MutexKind, ObjectKind};
 pub use name::Name;
 pub use number::{ClientId, MOST_PRIORITY, ObjectId, Priority};
-pub use outcome::{Condition, Outcome, Refusal, Verdict};
+pub use outcome::{Consistency, Outcome, Refusal, Verdict};
 pub use time::{Clock, Deadline, Moment};

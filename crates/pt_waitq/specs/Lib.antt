@@ -9,4 +9,4 @@ pub mod WaitLaws
 pub mod ListLemmas
 pub mod OrderLemmas
 pub mod QueueLemmas
-pub mod StandingLemmas
+pub mod WaitingLemmas

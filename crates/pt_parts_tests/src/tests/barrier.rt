@@ -18,8 +18,8 @@ fn counts_from_1_to_1024(rt: HostRuntime) {
 #[test]
 fn full_with_its_count_alone(rt: HostRuntime) {
     let barrier = BarrierObj::new(3);
-    for (standing, full) in [(0, false), (2, false), (3, true), (4, false)] {
-        assert_eq!(rt; barrier.full(standing), full, "{standing}");
+    for (waiting, full) in [(0, false), (2, false), (3, true), (4, false)] {
+        assert_eq!(rt; barrier.full(waiting), full, "{waiting}");
     }
     assert!(rt; BarrierObj::new(1).full(1));
 }

@@ -1,5 +1,5 @@
 use pt_mutex::MutexObj;
-use pt_types::{ClientId, Condition, Deadline, MutexKind, Outcome, Verdict};
+use pt_types::{ClientId, Consistency, Deadline, MutexKind, Outcome, Verdict};
 use std::test::Fail;
 
 const A: ClientId = ClientId(0);
@@ -63,7 +63,7 @@ fn a_lost_mutex_is_told_by_a_grant(rt: HostRuntime) -> Result<(), Fail> {
         let mut mutex = inherited(kind);
         assert!(rt; mutex.is_owned_by(B));
         mutex.release(B);
-        assert_eq!(rt; mutex.condition(), Condition::NotRecoverable);
+        assert_eq!(rt; mutex.consistency(), Consistency::NotRecoverable);
         assert_eq!(rt; told(&mutex, A)?, [Verdict::Stands; 4]);
     }
     Ok(())
@@ -104,17 +104,17 @@ fn a_relock_by_the_owner(rt: HostRuntime) -> Result<(), Fail> {
 
 #[test]
 fn a_mutex_of_another_owner(rt: HostRuntime) -> Result<(), Fail> {
-    let want = [
+    let expected = [
         Verdict::Stands,
         Verdict::Reply(Outcome::Ebusy),
         Verdict::Stands,
         Verdict::Reply(Outcome::Einval),
     ];
     for kind in KINDS {
-        assert_eq!(rt; told(&held(kind, 1), B)?, want);
-        assert_eq!(rt; told(&inherited(kind), A)?, want);
+        assert_eq!(rt; told(&held(kind, 1), B)?, expected);
+        assert_eq!(rt; told(&inherited(kind), A)?, expected);
     }
-    assert_eq!(rt; told(&held(MutexKind::Recursive, 255), B)?, want);
+    assert_eq!(rt; told(&held(MutexKind::Recursive, 255), B)?, expected);
     Ok(())
 }
 
@@ -142,7 +142,7 @@ fn consistent_line_by_line(rt: HostRuntime) {
     mutex.release(B);
     assert_eq!(rt; mutex.verdict_consistent(B), einval);
     mutex.mark_consistent();
-    assert_eq!(rt; mutex.condition(), Condition::NotRecoverable);
+    assert_eq!(rt; mutex.consistency(), Consistency::NotRecoverable);
 }
 
 #[test]
@@ -160,11 +160,11 @@ fn destroy_line_by_line(rt: HostRuntime) {
 }
 
 #[test]
-fn the_condition_by_its_events(rt: HostRuntime) {
+fn the_consistency_by_its_events(rt: HostRuntime) {
     let mut mutex = inherited(MutexKind::Recursive);
-    assert_eq!(rt; mutex.condition(), Condition::Inconsistent);
+    assert_eq!(rt; mutex.consistency(), Consistency::Inconsistent);
     mutex.yield_dead();
-    assert_eq!(rt; mutex.condition(), Condition::Inconsistent);
+    assert_eq!(rt; mutex.consistency(), Consistency::Inconsistent);
     assert_eq!(rt; (mutex.owner(), mutex.count()), (None, 0));
     assert!(rt; mutex.can_acquire(A));
     mutex.acquire(A);
@@ -176,7 +176,7 @@ fn the_condition_by_its_events(rt: HostRuntime) {
     mutex.mark_consistent();
     assert!(rt; mutex.is_owned_by(A));
     mutex.release(A);
-    assert_eq!(rt; mutex.condition(), Condition::Consistent);
+    assert_eq!(rt; mutex.consistency(), Consistency::Consistent);
     assert!(rt; mutex.is_robust() && mutex.kind() == MutexKind::Recursive);
 }
 

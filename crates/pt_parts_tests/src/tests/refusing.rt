@@ -1,4 +1,4 @@
-use pt_refusing::{Refusing, refuse_each};
+use pt_failing_alloc::{Refusing, refuse_each};
 use std::alloc::{AllocError, Global};
 use std::test::Fail;
 

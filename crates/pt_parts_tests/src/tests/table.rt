@@ -3,7 +3,7 @@ ghost use Rattle.std.specs.Bool.{OnTrue};
 ghost use Rattle.pt_table.specs.ObjectRows.{has_object, with_object};
 
 use super::lend;
-use pt_refusing::{Refusing, refuse_each};
+use pt_failing_alloc::{Refusing, refuse_each};
 use pt_table::{Clients, Objects, TableFault};
 use pt_types::Name;
 use std::alloc::Global;
@@ -70,7 +70,7 @@ fn add_object(
 ) -> Result<bool, &'static str> {
     let before = objects.len();
     let name = name_of(number).ok_or("name")?;
-    let Err((value, fault)) = objects.add(number, name.same(), number) else {
+    let Err((value, fault)) = objects.add(number, name.copied(), number) else {
         return Ok(false);
     };
     if value != number || fault != TableFault::Memory || objects.len() != before {
@@ -155,7 +155,7 @@ fn play_objects_by_number_and_name(
         (5, &name, 50, Some((50, TableFault::Taken))),
     ] {
         assert_eq!(rt;
-            objects.add(number, name.same(), value).err(),
+            objects.add(number, name.copied(), value).err(),
             refused,
             "{number}"
         );
@@ -173,7 +173,7 @@ fn a_name_is_free_again(rt: &impl Abort, objects: &mut Objects<u32>, name: &Name
     assert_eq!(rt; objects.remove(3), Some(30));
     assert_eq!(rt; objects.find(name), None);
     assert_eq!(rt; objects.at(4).copied(), Some(41));
-    assert!(rt; objects.add(6, name.same(), 60).is_ok());
+    assert!(rt; objects.add(6, name.copied(), 60).is_ok());
     assert_eq!(rt; objects.find(name), Some(6));
     assert_eq!(rt; objects.find(other), Some(4));
     assert_eq!(rt; objects.len(), 2);
@@ -220,7 +220,7 @@ fn play_at_most_4096_objects(rt: &impl Abort, objects: &mut Objects<u64>) -> Res
         (4095, &more, 9, Some((9, TableFault::Taken))),
     ] {
         assert_eq!(rt;
-            objects.add(number, name.same(), value).err(),
+            objects.add(number, name.copied(), value).err(),
             refused,
             "{number}"
         );

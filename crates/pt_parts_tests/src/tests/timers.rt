@@ -2,7 +2,7 @@ ghost use Rattle.std.specs.Prelude.{ℕ, ◌≡◌, ◌+◌, ◌≤◌, false, N
 ghost use Rattle.pt_types.specs.Times.{is_bad_deadline};
 ghost use Rattle.pt_timers.specs.Deadlines.{deadline_at};
 
-use pt_refusing::{Refusing, refuse_each};
+use pt_failing_alloc::{Refusing, refuse_each};
 use pt_timers::Timers;
 use pt_types::{Clock, Deadline, Moment, Refusal};
 use std::alloc::Global;

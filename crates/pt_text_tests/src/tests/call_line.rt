@@ -15,18 +15,23 @@ fn asks(text: &[u8], call: Call) -> bool {
 fn calls_on_mutexes(rt: HostRuntime) -> Result<(), Fail> {
     let m = object(b"m")?;
     let late = Deadline::new(5, 9_999_999_999).ok_or("deadline")?;
-    assert!(rt; asks(b"lock m", Call::Lock(m.same())));
-    assert!(rt; asks(b"trylock m", Call::Trylock(m.same())));
-    assert!(rt; asks(b"timedlock m 5 9999999999", Call::Timedlock(m.same(), late)));
+    assert!(rt; asks(b"lock m", Call::Lock(m.copied())));
+    assert!(rt; asks(b"trylock m", Call::Trylock(m.copied())));
+    assert!(rt;
+        asks(
+            b"timedlock m 5 9999999999",
+            Call::Timedlock(m.copied(), late)
+        )
+    );
     for (text, clock) in [
         (b"clocklock m real 5 9999999999".as_slice(), Clock::Real),
         (b"clocklock m mono 5 9999999999".as_slice(), Clock::Mono),
     ] {
-        assert!(rt; asks(text, Call::Clocklock(m.same(), clock, late)));
+        assert!(rt; asks(text, Call::Clocklock(m.copied(), clock, late)));
     }
-    assert!(rt; asks(b"unlock m", Call::Unlock(m.same())));
-    assert!(rt; asks(b"consistent m", Call::Consistent(m.same())));
-    assert!(rt; asks(b"mutex-destroy m", Call::MutexDestroy(m.same())));
+    assert!(rt; asks(b"unlock m", Call::Unlock(m.copied())));
+    assert!(rt; asks(b"consistent m", Call::Consistent(m.copied())));
+    assert!(rt; asks(b"mutex-destroy m", Call::MutexDestroy(m.copied())));
     Ok(())
 }
 
@@ -57,37 +62,37 @@ fn new_mutexes(rt: HostRuntime) -> Result<(), Fail> {
 fn calls_on_read_write_locks(rt: HostRuntime) -> Result<(), Fail> {
     let r = object(b"r")?;
     let due = Deadline::new(0, 1_000_000_000).ok_or("deadline")?;
-    assert!(rt; asks(b"rwlock-init r", Call::RwlockInit(r.same())));
-    assert!(rt; asks(b"rdlock r", Call::Rdlock(r.same())));
-    assert!(rt; asks(b"tryrdlock r", Call::Tryrdlock(r.same())));
+    assert!(rt; asks(b"rwlock-init r", Call::RwlockInit(r.copied())));
+    assert!(rt; asks(b"rdlock r", Call::Rdlock(r.copied())));
+    assert!(rt; asks(b"tryrdlock r", Call::Tryrdlock(r.copied())));
     assert!(rt;
         asks(
             b"timedrdlock r 0 1000000000",
-            Call::Timedrdlock(r.same(), due)
+            Call::Timedrdlock(r.copied(), due)
         )
     );
     assert!(rt;
         asks(
             b"clockrdlock r mono 0 1000000000",
-            Call::Clockrdlock(r.same(), Clock::Mono, due)
+            Call::Clockrdlock(r.copied(), Clock::Mono, due)
         )
     );
-    assert!(rt; asks(b"wrlock r", Call::Wrlock(r.same())));
-    assert!(rt; asks(b"trywrlock r", Call::Trywrlock(r.same())));
+    assert!(rt; asks(b"wrlock r", Call::Wrlock(r.copied())));
+    assert!(rt; asks(b"trywrlock r", Call::Trywrlock(r.copied())));
     assert!(rt;
         asks(
             b"timedwrlock r 0 1000000000",
-            Call::Timedwrlock(r.same(), due)
+            Call::Timedwrlock(r.copied(), due)
         )
     );
     assert!(rt;
         asks(
             b"clockwrlock r real 0 1000000000",
-            Call::Clockwrlock(r.same(), Clock::Real, due)
+            Call::Clockwrlock(r.copied(), Clock::Real, due)
         )
     );
-    assert!(rt; asks(b"rwunlock r", Call::Rwunlock(r.same())));
-    assert!(rt; asks(b"rwlock-destroy r", Call::RwlockDestroy(r.same())));
+    assert!(rt; asks(b"rwunlock r", Call::Rwunlock(r.copied())));
+    assert!(rt; asks(b"rwlock-destroy r", Call::RwlockDestroy(r.copied())));
     Ok(())
 }
 
@@ -96,32 +101,32 @@ fn calls_on_conditions_and_barriers(rt: HostRuntime) -> Result<(), Fail> {
     let c = object(b"c")?;
     let m = object(b"m")?;
     let due = Deadline::new(9_999_999_999, 7).ok_or("deadline")?;
-    assert!(rt; asks(b"cond-init c", Call::CondInit(c.same())));
-    assert!(rt; asks(b"cond-destroy c", Call::CondDestroy(c.same())));
-    assert!(rt; asks(b"wait c m", Call::Wait(c.same(), m.same())));
+    assert!(rt; asks(b"cond-init c", Call::CondInit(c.copied())));
+    assert!(rt; asks(b"cond-destroy c", Call::CondDestroy(c.copied())));
+    assert!(rt; asks(b"wait c m", Call::Wait(c.copied(), m.copied())));
     assert!(rt;
         asks(
             b"timedwait c m 9999999999 7",
-            Call::Timedwait(c.same(), m.same(), due)
+            Call::Timedwait(c.copied(), m.copied(), due)
         )
     );
     for (text, clock) in [
         (b"clockwait c m real 9999999999 7".as_slice(), Clock::Real),
         (b"clockwait c m mono 9999999999 7".as_slice(), Clock::Mono),
     ] {
-        assert!(rt; asks(text, Call::Clockwait(c.same(), m.same(), clock, due)));
+        assert!(rt; asks(text, Call::Clockwait(c.copied(), m.copied(), clock, due)));
     }
-    assert!(rt; asks(b"signal c", Call::Signal(c.same())));
-    assert!(rt; asks(b"broadcast c", Call::Broadcast(c.same())));
+    assert!(rt; asks(b"signal c", Call::Signal(c.copied())));
+    assert!(rt; asks(b"broadcast c", Call::Broadcast(c.copied())));
     assert!(rt;
         asks(
             b"barrier-init c 9999999999",
-            Call::BarrierInit(c.same(), 9_999_999_999)
+            Call::BarrierInit(c.copied(), 9_999_999_999)
         )
     );
-    assert!(rt; asks(b"barrier-init c 0", Call::BarrierInit(c.same(), 0)));
-    assert!(rt; asks(b"bwait c", Call::Bwait(c.same())));
-    assert!(rt; asks(b"barrier-destroy c", Call::BarrierDestroy(c.same())));
+    assert!(rt; asks(b"barrier-init c 0", Call::BarrierInit(c.copied(), 0)));
+    assert!(rt; asks(b"bwait c", Call::Bwait(c.copied())));
+    assert!(rt; asks(b"barrier-destroy c", Call::BarrierDestroy(c.copied())));
     Ok(())
 }
 
@@ -156,7 +161,7 @@ fn the_longest_line(rt: HostRuntime) -> Result<(), Fail> {
     assert_eq!(rt; text.len(), 102);
     let name = object(&LONGEST)?;
     let due = Deadline::new(9_999_999_999, 9_999_999_999).ok_or("deadline")?;
-    let call = Call::Clockwait(name.same(), name.same(), Clock::Mono, due);
+    let call = Call::Clockwait(name.copied(), name.copied(), Clock::Mono, due);
     assert!(rt; asks(text.as_slice(), call));
     Ok(())
 }

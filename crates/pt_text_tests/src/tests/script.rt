@@ -1,8 +1,8 @@
 ghost use Rattle.std.specs.Prelude.{◌≡◌, ◌<◌, [], false, IfOk};
 
 use super::lend;
+use pt_failing_alloc::{Refusing, refuse_each};
 use pt_io::Faulty;
-use pt_refusing::{Refusing, refuse_each};
 use pt_script::{ScriptEnd, ScriptFault, answer, script, script_within};
 use std::alloc::{Allocator, Global};
 use std::process::Abort;

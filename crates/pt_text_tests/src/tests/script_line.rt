@@ -61,7 +61,7 @@ fn script_lines_of_clients_and_the_clocks(rt: HostRuntime) -> Result<(), Fail> {
         (b"* mono-moment 1 0".as_slice(), Clock::Mono),
     ] {
         let line = read_script_line(text);
-        assert!(rt; line.who.same() == Who::Star);
+        assert!(rt; line.who.copied() == Who::Star);
         assert!(rt; line.body == Ok(ScriptBody::Tick(clock, Moment::new(1, 0).ok_or("moment")?)));
     }
     Ok(())

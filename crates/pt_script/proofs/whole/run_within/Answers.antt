@@ -133,7 +133,8 @@ returns-then-n-eq0-clause-why g c =
         taken = g.W.Sink.taken c.finish.new.writer;
         flushed = g.W.Sink.flushed c.finish.new.writer;
         failures = g.W.Sink.failures c.finish.new.writer;
-        rejections = g.W.Sink.rejections c.finish.new.writer - g.W.Sink.rejections c.args.writer.now;
+        rejections = g.W.Sink.rejections c.finish.new.writer - g.W.Sink.rejections
+            c.args.writer.now;
       };
       limit = c.args.reads;
     } in
@@ -205,7 +206,8 @@ returns-in_err-take_in-clause-why g c =
         taken = g.W.Sink.taken c.take_in.new.writer;
         flushed = g.W.Sink.flushed c.take_in.new.writer;
         failures = g.W.Sink.failures c.take_in.new.writer;
-        rejections = g.W.Sink.rejections c.take_in.new.writer - g.W.Sink.rejections c.args.writer.now;
+        rejections = g.W.Sink.rejections c.take_in.new.writer - g.W.Sink.rejections
+            c.args.writer.now;
       };
       limit = c.args.reads;
     } in
@@ -216,7 +218,8 @@ returns-in_err-take_in-clause-why g c =
     c.in-Ok.ensures.bytes c.in-Ok.ensures.before (fed_end c.loop.cutter more)
     c.in-Ok.ensures.count
     (subst
-    (λ n. IsStopped c.in_err-take_in.field-0.0 next c.loop.engine (g.W.Sink.taken c.loop.writer) (record {
+    (λ n. IsStopped c.in_err-take_in.field-0.0 next c.loop.engine (g.W.Sink.taken c.loop.writer)
+    (record {
       taken = course.writer.taken;
       flushed = course.writer.flushed;
       failures = course.writer.failures;

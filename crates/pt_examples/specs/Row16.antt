@@ -1,0 +1,74 @@
+-- Row16: a dead owner of a stalled mutex keeps it.
+use Rattle.std.specs.Prelude.{◌≡◌, List, [], ◌∷◌, ℕ, false, Some, None, Result, Ok, Err, codes}
+use Rattle.pt_types.specs.Times.{nanos}
+use Rattle.pt_types.specs.declared.time.Clock.TheVariants.{Real}
+use Rattle.pt_types.specs.declared.call.Call.TheVariants as call
+use Rattle.pt_types.specs.declared.call.MutexKind.TheVariants.{Normal}
+use Rattle.pt_types.specs.declared.outcome.Outcome.{Outcome}
+use Rattle.pt_types.specs.declared.outcome.Outcome.TheVariants.{Done, Ebusy, Etimedout}
+use Rattle.pt_types.specs.declared.outcome.Refusal.{Refusal}
+use Rattle.pt_types.specs.declared.outcome.Refusal.TheVariants.{Blocked}
+use Rattle.pt_model.specs.declared.entry.Entry.{Entry}
+use Rattle.pt_model.specs.declared.entry.Entry.TheVariants.{Join, Call, Death, Moment, Grant, Expire}
+use Rattle.pt_model.specs.declared.entry.Event.{Event}
+use Rattle.pt_model.specs.declared.entry.Event.TheVariants as event
+use Rattle.pt_model.specs.Histories.{Begin}
+use Rattle.pt_model.specs.Starts.{nothing}
+use Rattle.pt_examples.specs.Play.{play, told_in, at}
+
+abbrev pub named_m : List ℕ
+named_m = codes "m"
+
+-- what happens
+abbrev pub events : List Event
+events =
+    event.Join 10
+    ∷ event.Join 10
+    ∷ event.Call 0 (call.MutexInit named_m Normal false)
+    ∷ event.Call 0 (call.Lock named_m)
+    ∷ event.Call 0 (call.Lock named_m)
+    ∷ event.Call 0 (call.Unlock named_m)
+    ∷ event.Death 0
+    ∷ event.Call 1 (call.Trylock named_m)
+    ∷ event.Call 1 (call.Timedlock named_m (at 5 0))
+    ∷ event.Moment Real (nanos 5 0)
+    ∷ event.Call 1 (call.MutexDestroy named_m)
+    ∷ event.Call 1 (call.MutexInit named_m Normal false)
+    ∷ []
+
+-- what each event writes, or why it is refused
+abbrev pub entered : List (Result (List Entry) Refusal)
+entered =
+    Ok (Join 0 10 ∷ [])
+    ∷ Ok (Join 1 10 ∷ [])
+    ∷ Ok (Call 0 (call.MutexInit named_m Normal false) (Some Done) ∷ [])
+    ∷ Ok (Call 0 (call.Lock named_m) None ∷ Grant 3 Done ∷ [])
+    ∷ Ok (Call 0 (call.Lock named_m) None ∷ [])
+    ∷ Err Blocked
+    ∷ Ok (Death 0 ∷ [])
+    ∷ Ok (Call 1 (call.Trylock named_m) (Some Ebusy) ∷ [])
+    ∷ Ok (Call 1 (call.Timedlock named_m (at 5 0)) None ∷ [])
+    ∷ Ok (Moment Real (nanos 5 0) ∷ Expire 8 ∷ [])
+    ∷ Ok (Call 1 (call.MutexDestroy named_m) (Some Done) ∷ [])
+    ∷ Ok (Call 1 (call.MutexInit named_m Normal false) (Some Done) ∷ [])
+    ∷ []
+
+-- who is told what by each accepted event
+abbrev pub told : List (List (ℕ × Outcome))
+told =
+    []
+    ∷ []
+    ∷ ((0, Done) ∷ [])
+    ∷ ((0, Done) ∷ [])
+    ∷ []
+    ∷ []
+    ∷ ((1, Ebusy) ∷ [])
+    ∷ []
+    ∷ ((1, Etimedout) ∷ [])
+    ∷ ((1, Done) ∷ [])
+    ∷ ((1, Done) ∷ [])
+    ∷ []
+
+-- the definitions alone play the events so
+abbrev pub IsPlayed16 : Type 0
+IsPlayed16 = (play (Begin nothing) events ≡ entered) × (told_in (Begin nothing) entered ≡ told)

@@ -1,0 +1,99 @@
+-- Row18: woken waits queue behind those who came before the broadcast.
+use Rattle.std.specs.Prelude.{◌≡◌, List, [], ◌∷◌, ℕ, false, Some, None, Result, Ok, codes}
+use Rattle.pt_types.specs.declared.call.Call.TheVariants as call
+use Rattle.pt_types.specs.declared.call.MutexKind.TheVariants.{Normal}
+use Rattle.pt_types.specs.declared.outcome.Outcome.{Outcome}
+use Rattle.pt_types.specs.declared.outcome.Outcome.TheVariants.{Done}
+use Rattle.pt_types.specs.declared.outcome.Refusal.{Refusal}
+use Rattle.pt_model.specs.declared.entry.Entry.{Entry}
+use Rattle.pt_model.specs.declared.entry.Entry.TheVariants.{Join, Call, Grant}
+use Rattle.pt_model.specs.declared.entry.Event.{Event}
+use Rattle.pt_model.specs.declared.entry.Event.TheVariants as event
+use Rattle.pt_model.specs.Histories.{Begin}
+use Rattle.pt_model.specs.Starts.{nothing}
+use Rattle.pt_examples.specs.Play.{play, told_in}
+
+abbrev pub named_c : List ℕ
+named_c = codes "c"
+
+abbrev pub named_m : List ℕ
+named_m = codes "m"
+
+-- what happens
+abbrev pub events : List Event
+events =
+    event.Join 10
+    ∷ event.Join 10
+    ∷ event.Join 20
+    ∷ event.Join 10
+    ∷ event.Join 10
+    ∷ event.Call 0 (call.MutexInit named_m Normal false)
+    ∷ event.Call 0 (call.CondInit named_c)
+    ∷ event.Call 0 (call.Lock named_m)
+    ∷ event.Call 0 (call.Wait named_c named_m)
+    ∷ event.Call 1 (call.Lock named_m)
+    ∷ event.Call 1 (call.Wait named_c named_m)
+    ∷ event.Call 2 (call.Lock named_m)
+    ∷ event.Call 2 (call.Wait named_c named_m)
+    ∷ event.Call 3 (call.Lock named_m)
+    ∷ event.Call 4 (call.Lock named_m)
+    ∷ event.Call 3 (call.Broadcast named_c)
+    ∷ event.Call 3 (call.Unlock named_m)
+    ∷ event.Call 2 (call.Unlock named_m)
+    ∷ event.Call 4 (call.Unlock named_m)
+    ∷ event.Call 0 (call.Unlock named_m)
+    ∷ []
+
+-- what each event writes, or why it is refused
+abbrev pub entered : List (Result (List Entry) Refusal)
+entered =
+    Ok (Join 0 10 ∷ [])
+    ∷ Ok (Join 1 10 ∷ [])
+    ∷ Ok (Join 2 20 ∷ [])
+    ∷ Ok (Join 3 10 ∷ [])
+    ∷ Ok (Join 4 10 ∷ [])
+    ∷ Ok (Call 0 (call.MutexInit named_m Normal false) (Some Done) ∷ [])
+    ∷ Ok (Call 0 (call.CondInit named_c) (Some Done) ∷ [])
+    ∷ Ok (Call 0 (call.Lock named_m) None ∷ Grant 7 Done ∷ [])
+    ∷ Ok (Call 0 (call.Wait named_c named_m) None ∷ [])
+    ∷ Ok (Call 1 (call.Lock named_m) None ∷ Grant 10 Done ∷ [])
+    ∷ Ok (Call 1 (call.Wait named_c named_m) None ∷ [])
+    ∷ Ok (Call 2 (call.Lock named_m) None ∷ Grant 13 Done ∷ [])
+    ∷ Ok (Call 2 (call.Wait named_c named_m) None ∷ [])
+    ∷ Ok (Call 3 (call.Lock named_m) None ∷ Grant 16 Done ∷ [])
+    ∷ Ok (Call 4 (call.Lock named_m) None ∷ [])
+    ∷ Ok (Call 3 (call.Broadcast named_c) (Some Done) ∷ [])
+    ∷ Ok (Call 3 (call.Unlock named_m) (Some Done) ∷ Grant 15 Done ∷ [])
+    ∷ Ok (Call 2 (call.Unlock named_m) (Some Done) ∷ Grant 18 Done ∷ [])
+    ∷ Ok (Call 4 (call.Unlock named_m) (Some Done) ∷ Grant 9 Done ∷ [])
+    ∷ Ok (Call 0 (call.Unlock named_m) (Some Done) ∷ Grant 12 Done ∷ [])
+    ∷ []
+
+-- who is told what by each accepted event
+abbrev pub told : List (List (ℕ × Outcome))
+told =
+    []
+    ∷ []
+    ∷ []
+    ∷ []
+    ∷ []
+    ∷ ((0, Done) ∷ [])
+    ∷ ((0, Done) ∷ [])
+    ∷ ((0, Done) ∷ [])
+    ∷ []
+    ∷ ((1, Done) ∷ [])
+    ∷ []
+    ∷ ((2, Done) ∷ [])
+    ∷ []
+    ∷ ((3, Done) ∷ [])
+    ∷ []
+    ∷ ((3, Done) ∷ [])
+    ∷ ((3, Done) ∷ (2, Done) ∷ [])
+    ∷ ((2, Done) ∷ (4, Done) ∷ [])
+    ∷ ((4, Done) ∷ (0, Done) ∷ [])
+    ∷ ((0, Done) ∷ (1, Done) ∷ [])
+    ∷ []
+
+-- the definitions alone play the events so
+abbrev pub IsPlayed18 : Type 0
+IsPlayed18 = (play (Begin nothing) events ≡ entered) × (told_in (Begin nothing) entered ≡ told)

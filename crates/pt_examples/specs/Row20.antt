@@ -1,0 +1,71 @@
+-- Row20: a writer's own calls, and a lock that a dead client holds.
+use Rattle.std.specs.Prelude.{◌≡◌, List, [], ◌∷◌, ℕ, Some, None, Result, Ok, codes}
+use Rattle.pt_types.specs.declared.call.Call.TheVariants as call
+use Rattle.pt_types.specs.declared.outcome.Outcome.{Outcome}
+use Rattle.pt_types.specs.declared.outcome.Outcome.TheVariants.{Done, Eperm, Ebusy, Edeadlk}
+use Rattle.pt_types.specs.declared.outcome.Refusal.{Refusal}
+use Rattle.pt_model.specs.declared.entry.Entry.{Entry}
+use Rattle.pt_model.specs.declared.entry.Entry.TheVariants.{Join, Call, Death, Grant}
+use Rattle.pt_model.specs.declared.entry.Event.{Event}
+use Rattle.pt_model.specs.declared.entry.Event.TheVariants as event
+use Rattle.pt_model.specs.Histories.{Begin}
+use Rattle.pt_model.specs.Starts.{nothing}
+use Rattle.pt_examples.specs.Play.{play, told_in}
+
+abbrev pub named_r : List ℕ
+named_r = codes "r"
+
+-- what happens
+abbrev pub events : List Event
+events =
+    event.Join 10
+    ∷ event.Join 10
+    ∷ event.Call 0 (call.RwlockInit named_r)
+    ∷ event.Call 0 (call.Wrlock named_r)
+    ∷ event.Call 0 (call.Rdlock named_r)
+    ∷ event.Call 0 (call.Wrlock named_r)
+    ∷ event.Call 0 (call.Tryrdlock named_r)
+    ∷ event.Call 1 (call.Rwunlock named_r)
+    ∷ event.Call 1 (call.RwlockDestroy named_r)
+    ∷ event.Death 0
+    ∷ event.Call 1 (call.Tryrdlock named_r)
+    ∷ event.Call 1 (call.RwlockDestroy named_r)
+    ∷ []
+
+-- what each event writes, or why it is refused
+abbrev pub entered : List (Result (List Entry) Refusal)
+entered =
+    Ok (Join 0 10 ∷ [])
+    ∷ Ok (Join 1 10 ∷ [])
+    ∷ Ok (Call 0 (call.RwlockInit named_r) (Some Done) ∷ [])
+    ∷ Ok (Call 0 (call.Wrlock named_r) None ∷ Grant 3 Done ∷ [])
+    ∷ Ok (Call 0 (call.Rdlock named_r) (Some Edeadlk) ∷ [])
+    ∷ Ok (Call 0 (call.Wrlock named_r) (Some Edeadlk) ∷ [])
+    ∷ Ok (Call 0 (call.Tryrdlock named_r) (Some Ebusy) ∷ [])
+    ∷ Ok (Call 1 (call.Rwunlock named_r) (Some Eperm) ∷ [])
+    ∷ Ok (Call 1 (call.RwlockDestroy named_r) (Some Ebusy) ∷ [])
+    ∷ Ok (Death 0 ∷ [])
+    ∷ Ok (Call 1 (call.Tryrdlock named_r) (Some Ebusy) ∷ [])
+    ∷ Ok (Call 1 (call.RwlockDestroy named_r) (Some Done) ∷ [])
+    ∷ []
+
+-- who is told what by each accepted event
+abbrev pub told : List (List (ℕ × Outcome))
+told =
+    []
+    ∷ []
+    ∷ ((0, Done) ∷ [])
+    ∷ ((0, Done) ∷ [])
+    ∷ ((0, Edeadlk) ∷ [])
+    ∷ ((0, Edeadlk) ∷ [])
+    ∷ ((0, Ebusy) ∷ [])
+    ∷ ((1, Eperm) ∷ [])
+    ∷ ((1, Ebusy) ∷ [])
+    ∷ []
+    ∷ ((1, Ebusy) ∷ [])
+    ∷ ((1, Done) ∷ [])
+    ∷ []
+
+-- the definitions alone play the events so
+abbrev pub IsPlayed20 : Type 0
+IsPlayed20 = (play (Begin nothing) events ≡ entered) × (told_in (Begin nothing) entered ≡ told)

@@ -1,0 +1,102 @@
+-- Row41: both clocks count on behind a seal.
+use Rattle.std.specs.Prelude.{List, [], ◌∷◌, ℕ, false, Some, None, Result, Ok, codes}
+use Rattle.pt_types.specs.Times.{nanos}
+use Rattle.pt_types.specs.declared.time.Clock.TheVariants.{Real, Mono}
+use Rattle.pt_types.specs.declared.call.Call.TheVariants as call
+use Rattle.pt_types.specs.declared.call.MutexKind.TheVariants.{Normal}
+use Rattle.pt_types.specs.declared.outcome.Outcome.{Outcome}
+use Rattle.pt_types.specs.declared.outcome.Outcome.TheVariants.{Done, Etimedout}
+use Rattle.pt_types.specs.declared.outcome.Refusal.{Refusal}
+use Rattle.pt_model.specs.declared.entry.Entry.{Entry}
+use Rattle.pt_model.specs.declared.entry.Entry.TheVariants.{Join, Call, Moment, Grant, Expire}
+use Rattle.pt_model.specs.declared.entry.Event.{Event}
+use Rattle.pt_model.specs.declared.entry.Event.TheVariants as event
+use Rattle.pt_model.specs.Histories.{Begin, history}
+use Rattle.pt_model.specs.Starts.{nothing}
+use Rattle.pt_examples.specs.Play.{entries_in, at}
+use Rattle.pt_examples.specs.SealedPlay.{Plays, behind_seal}
+
+abbrev pub named_m : List ℕ
+named_m = codes "m"
+
+-- what happens up to the seal
+abbrev pub events : List Event
+events =
+    event.Join 10
+    ∷ event.Join 10
+    ∷ event.Join 10
+    ∷ event.Call 0 (call.MutexInit named_m Normal false)
+    ∷ event.Call 0 (call.Lock named_m)
+    ∷ event.Moment Real (nanos 9 0)
+    ∷ event.Moment Mono (nanos 5 0)
+    ∷ event.Call 2 (call.Clocklock named_m Mono (at 6 0))
+    ∷ []
+
+-- what each event writes, or why it is refused
+abbrev pub entered : List (Result (List Entry) Refusal)
+entered =
+    Ok (Join 0 10 ∷ [])
+    ∷ Ok (Join 1 10 ∷ [])
+    ∷ Ok (Join 2 10 ∷ [])
+    ∷ Ok (Call 0 (call.MutexInit named_m Normal false) (Some Done) ∷ [])
+    ∷ Ok (Call 0 (call.Lock named_m) None ∷ Grant 4 Done ∷ [])
+    ∷ Ok (Moment Real (nanos 9 0) ∷ [])
+    ∷ Ok (Moment Mono (nanos 5 0) ∷ [])
+    ∷ Ok (Call 2 (call.Clocklock named_m Mono (at 6 0)) None ∷ [])
+    ∷ []
+
+-- who is told what by each accepted event
+abbrev pub told : List (List (ℕ × Outcome))
+told =
+    []
+    ∷ []
+    ∷ []
+    ∷ ((0, Done) ∷ [])
+    ∷ ((0, Done) ∷ [])
+    ∷ []
+    ∷ []
+    ∷ []
+    ∷ []
+
+-- what happens behind it
+abbrev pub later_events : List Event
+later_events =
+    event.Call 1 (call.Timedlock named_m (at 9 0))
+    ∷ event.Call 1 (call.Clocklock named_m Mono (at 5 0))
+    ∷ event.Moment Real (nanos 3 0)
+    ∷ event.Call 1 (call.Timedlock named_m (at 8 999999999))
+    ∷ event.Call 1 (call.Clocklock named_m Mono (at 5 1))
+    ∷ event.Moment Real (nanos 20 0)
+    ∷ event.Moment Mono (nanos 6 0)
+    ∷ []
+
+-- what each of these writes
+abbrev pub later_entered : List (Result (List Entry) Refusal)
+later_entered =
+    Ok (Call 1 (call.Timedlock named_m (at 9 0)) None ∷ Expire 9 ∷ [])
+    ∷ Ok (Call 1 (call.Clocklock named_m Mono (at 5 0)) None ∷ Expire 11 ∷ [])
+    ∷ Ok (Moment Real (nanos 3 0) ∷ [])
+    ∷ Ok (Call 1 (call.Timedlock named_m (at 8 999999999)) None ∷ Expire 14 ∷ [])
+    ∷ Ok (Call 1 (call.Clocklock named_m Mono (at 5 1)) None ∷ [])
+    ∷ Ok (Moment Real (nanos 20 0) ∷ [])
+    ∷ Ok (Moment Mono (nanos 6 0) ∷ Expire 16 ∷ Expire 8 ∷ [])
+    ∷ []
+
+-- who is told what by each of them
+abbrev pub later_told : List (List (ℕ × Outcome))
+later_told =
+    ((1, Etimedout) ∷ [])
+    ∷ ((1, Etimedout) ∷ [])
+    ∷ []
+    ∷ ((1, Etimedout) ∷ [])
+    ∷ []
+    ∷ []
+    ∷ ((1, Etimedout) ∷ (2, Etimedout) ∷ [])
+    ∷ []
+
+-- the definitions alone play the events so, with a seal between and without one
+abbrev pub IsPlayed41 : Type 0
+IsPlayed41 =
+    Plays (Begin nothing) events entered told
+    × Plays (behind_seal (history (entries_in entered))) later_events later_entered later_told
+    × Plays (history (entries_in entered)) later_events later_entered later_told

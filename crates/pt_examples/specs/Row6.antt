@@ -1,0 +1,69 @@
+-- Row6: the heir makes the mutex consistent.
+use Rattle.std.specs.Prelude.{◌≡◌, List, [], ◌∷◌, ℕ, true, Some, None, Result, Ok, codes}
+use Rattle.pt_types.specs.declared.call.Call.TheVariants as call
+use Rattle.pt_types.specs.declared.call.MutexKind.TheVariants.{Normal}
+use Rattle.pt_types.specs.declared.outcome.Outcome.{Outcome}
+use Rattle.pt_types.specs.declared.outcome.Outcome.TheVariants.{Done, Einval, Eownerdead}
+use Rattle.pt_types.specs.declared.outcome.Refusal.{Refusal}
+use Rattle.pt_model.specs.declared.entry.Entry.{Entry}
+use Rattle.pt_model.specs.declared.entry.Entry.TheVariants.{Join, Call, Death, Grant, Yield}
+use Rattle.pt_model.specs.declared.entry.Event.{Event}
+use Rattle.pt_model.specs.declared.entry.Event.TheVariants as event
+use Rattle.pt_model.specs.Histories.{Begin}
+use Rattle.pt_model.specs.Starts.{nothing}
+use Rattle.pt_examples.specs.Play.{play, told_in}
+
+abbrev pub named_m : List ℕ
+named_m = codes "m"
+
+-- what happens
+abbrev pub events : List Event
+events =
+    event.Join 10
+    ∷ event.Join 10
+    ∷ event.Join 10
+    ∷ event.Call 0 (call.MutexInit named_m Normal true)
+    ∷ event.Call 0 (call.Lock named_m)
+    ∷ event.Call 1 (call.Lock named_m)
+    ∷ event.Call 2 (call.Lock named_m)
+    ∷ event.Death 0
+    ∷ event.Call 1 (call.Consistent named_m)
+    ∷ event.Call 1 (call.Unlock named_m)
+    ∷ event.Call 2 (call.Consistent named_m)
+    ∷ []
+
+-- what each event writes, or why it is refused
+abbrev pub entered : List (Result (List Entry) Refusal)
+entered =
+    Ok (Join 0 10 ∷ [])
+    ∷ Ok (Join 1 10 ∷ [])
+    ∷ Ok (Join 2 10 ∷ [])
+    ∷ Ok (Call 0 (call.MutexInit named_m Normal true) (Some Done) ∷ [])
+    ∷ Ok (Call 0 (call.Lock named_m) None ∷ Grant 4 Done ∷ [])
+    ∷ Ok (Call 1 (call.Lock named_m) None ∷ [])
+    ∷ Ok (Call 2 (call.Lock named_m) None ∷ [])
+    ∷ Ok (Death 0 ∷ Yield 3 ∷ Grant 6 Eownerdead ∷ [])
+    ∷ Ok (Call 1 (call.Consistent named_m) (Some Done) ∷ [])
+    ∷ Ok (Call 1 (call.Unlock named_m) (Some Done) ∷ Grant 7 Done ∷ [])
+    ∷ Ok (Call 2 (call.Consistent named_m) (Some Einval) ∷ [])
+    ∷ []
+
+-- who is told what by each accepted event
+abbrev pub told : List (List (ℕ × Outcome))
+told =
+    []
+    ∷ []
+    ∷ []
+    ∷ ((0, Done) ∷ [])
+    ∷ ((0, Done) ∷ [])
+    ∷ []
+    ∷ []
+    ∷ ((1, Eownerdead) ∷ [])
+    ∷ ((1, Done) ∷ [])
+    ∷ ((1, Done) ∷ (2, Done) ∷ [])
+    ∷ ((2, Einval) ∷ [])
+    ∷ []
+
+-- the definitions alone play the events so
+abbrev pub IsPlayed6 : Type 0
+IsPlayed6 = (play (Begin nothing) events ≡ entered) × (told_in (Begin nothing) entered ≡ told)

@@ -1,0 +1,62 @@
+-- Row9: a writer before a reader of equal priority.
+use Rattle.std.specs.Prelude.{◌≡◌, List, [], ◌∷◌, ℕ, Some, None, Result, Ok, codes}
+use Rattle.pt_types.specs.declared.call.Call.TheVariants as call
+use Rattle.pt_types.specs.declared.outcome.Outcome.{Outcome}
+use Rattle.pt_types.specs.declared.outcome.Outcome.TheVariants.{Done}
+use Rattle.pt_types.specs.declared.outcome.Refusal.{Refusal}
+use Rattle.pt_model.specs.declared.entry.Entry.{Entry}
+use Rattle.pt_model.specs.declared.entry.Entry.TheVariants.{Join, Call, Grant}
+use Rattle.pt_model.specs.declared.entry.Event.{Event}
+use Rattle.pt_model.specs.declared.entry.Event.TheVariants as event
+use Rattle.pt_model.specs.Histories.{Begin}
+use Rattle.pt_model.specs.Starts.{nothing}
+use Rattle.pt_examples.specs.Play.{play, told_in}
+
+abbrev pub named_r : List ℕ
+named_r = codes "r"
+
+-- what happens
+abbrev pub events : List Event
+events =
+    event.Join 10
+    ∷ event.Join 5
+    ∷ event.Join 5
+    ∷ event.Call 0 (call.RwlockInit named_r)
+    ∷ event.Call 0 (call.Wrlock named_r)
+    ∷ event.Call 2 (call.Rdlock named_r)
+    ∷ event.Call 1 (call.Wrlock named_r)
+    ∷ event.Call 0 (call.Rwunlock named_r)
+    ∷ event.Call 1 (call.Rwunlock named_r)
+    ∷ []
+
+-- what each event writes, or why it is refused
+abbrev pub entered : List (Result (List Entry) Refusal)
+entered =
+    Ok (Join 0 10 ∷ [])
+    ∷ Ok (Join 1 5 ∷ [])
+    ∷ Ok (Join 2 5 ∷ [])
+    ∷ Ok (Call 0 (call.RwlockInit named_r) (Some Done) ∷ [])
+    ∷ Ok (Call 0 (call.Wrlock named_r) None ∷ Grant 4 Done ∷ [])
+    ∷ Ok (Call 2 (call.Rdlock named_r) None ∷ [])
+    ∷ Ok (Call 1 (call.Wrlock named_r) None ∷ [])
+    ∷ Ok (Call 0 (call.Rwunlock named_r) (Some Done) ∷ Grant 7 Done ∷ [])
+    ∷ Ok (Call 1 (call.Rwunlock named_r) (Some Done) ∷ Grant 6 Done ∷ [])
+    ∷ []
+
+-- who is told what by each accepted event
+abbrev pub told : List (List (ℕ × Outcome))
+told =
+    []
+    ∷ []
+    ∷ []
+    ∷ ((0, Done) ∷ [])
+    ∷ ((0, Done) ∷ [])
+    ∷ []
+    ∷ []
+    ∷ ((0, Done) ∷ (1, Done) ∷ [])
+    ∷ ((1, Done) ∷ (2, Done) ∷ [])
+    ∷ []
+
+-- the definitions alone play the events so
+abbrev pub IsPlayed9 : Type 0
+IsPlayed9 = (play (Begin nothing) events ≡ entered) × (told_in (Begin nothing) entered ≡ told)

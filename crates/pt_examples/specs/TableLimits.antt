@@ -1,0 +1,52 @@
+-- TableLimits: the verdict tables at their limits, from both sides.
+use Rattle.std.specs.Prelude.{◌≡◌, ℕ, true, false, Some}
+use Rattle.pt_types.specs.declared.call.How.TheVariants.{Plain, Try}
+use Rattle.pt_types.specs.declared.call.MutexKind.TheVariants.{Recursive}
+use Rattle.pt_types.specs.declared.call.ObjectKind.TheVariants.{Cond, Barrier}
+use Rattle.pt_types.specs.declared.outcome.Consistency.TheVariants.{Consistent}
+use Rattle.pt_types.specs.declared.outcome.Outcome.TheVariants.{Done, Einval, Ebusy, Eagain}
+use Rattle.pt_types.specs.declared.outcome.Verdict.TheVariants.{Reply, Stands}
+use Rattle.pt_types.specs.MutexTable.{MutexView, lock_verdict}
+use Rattle.pt_types.specs.RwlockTable.{RwlockView, read_verdict}
+use Rattle.pt_types.specs.ObjectTable.{init_verdict}
+
+-- a RECURSIVE mutex that client 0 has locked so often  [profile]
+abbrev pub locked : ℕ → MutexView
+locked n =
+    record {
+      kind = Recursive;
+      robust = false;
+      consistency = Consistent;
+      owner = Some 0;
+      count = n;
+    }
+
+-- a read-write lock that the caller has locked for reading so often  [profile]
+abbrev pub read : ℕ → RwlockView
+read n = record { writes = false; reads = n; is_written = false; is_read = true }
+
+-- 255 locks of one owner  [XSH pthread_mutex_lock, the number is profile]
+abbrev pub HasMostLocks : Type 0
+HasMostLocks =
+    (lock_verdict (locked 254) 0 Plain ≡ Reply Done)
+    × (lock_verdict (locked 255) 0 Try ≡ Reply Eagain)
+
+-- 255 read locks of one client  [XSH pthread_rwlock_rdlock, the number is profile]
+abbrev pub HasMostReads : Type 0
+HasMostReads =
+    (read_verdict (read 254) true Plain ≡ Stands)
+    × (read_verdict (read 255) false Try ≡ Reply Eagain)
+
+-- 4,096 objects; a name in use is told before the limit  [profile]
+abbrev pub HasMostObjects : Type 0
+HasMostObjects =
+    (init_verdict Cond false 4095 ≡ Reply Done)
+    × (init_verdict Cond false 4096 ≡ Reply Eagain)
+    × (init_verdict Cond true 4096 ≡ Reply Ebusy)
+
+-- 1,024 calls at a barrier; a bad count is told before the name  [profile]
+abbrev pub HasMostAtBarrier : Type 0
+HasMostAtBarrier =
+    (init_verdict (Barrier 1024) false 0 ≡ Reply Done)
+    × (init_verdict (Barrier 1025) true 4096 ≡ Reply Einval)
+    × (init_verdict (Barrier 0) false 0 ≡ Reply Einval)

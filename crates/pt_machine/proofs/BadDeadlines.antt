@@ -1,0 +1,298 @@
+-- A call whose deadline is no time is answered at once, or is granted by the next entry.
+use Rattle.std.proofs.Common.{◌≡◌, ℕ, suc, ◌⊎◌, inl, inr, nat_lt, nat_le, Bool, true, false, cond, not, ◌&&◌, ◌||◌, ◌==◌, List, [], ◌∷◌, ◌++◌, length, Option, Some, None, is_none, is_some, refl, sym, ap, ◌∙◌, subst, arith, filter, append-nil}
+use Rattle.std.proofs.lemmas.Bool.{and_parts, and_from, false≢true}
+use Rattle.std.proofs.lemmas.List.Elements.{filter-append}
+use Rattle.std.specs.Option.{option_or}
+use Rattle.pt_types.specs.declared.call.Call.{Call as Asked}
+use Rattle.pt_types.specs.declared.call.ObjectKind.{ObjectKind}
+use Rattle.pt_types.specs.declared.outcome.Consistency.{Consistency}
+use Rattle.pt_types.specs.Times.{has_bad_deadline}
+use Rattle.pt_types.specs.Operations.{operation}
+use Rattle.pt_types.specs.MutexTable.{is_number, is_recursive, is_lost, may_lock}
+use Rattle.pt_types.specs.RwlockTable.{RwlockView, is_free, may_read}
+use Rattle.pt_types.specs.Tables.{reply}
+use Rattle.pt_model.specs.declared.entry.Entry.TheVariants.{Call, Grant, Trip}
+use Rattle.pt_model.specs.Searches.{In, least}
+use Rattle.pt_model.specs.Histories.{History, ◌▷◌, place}
+use Rattle.pt_model.specs.Clients.{is_alive}
+use Rattle.pt_model.specs.Objects.{kind_of, mutex_kind, barrier_count}
+use Rattle.pt_model.specs.Records.{Role, ForMutex, ForRead, ForWrite, ForBarrier, ForCond, WaitingCall}
+use Rattle.pt_model.specs.WaitingCall.{is_arrival, is_write}
+use Rattle.pt_model.specs.Answers.{open_calls, open_place, at_barrier}
+use Rattle.pt_model.specs.Moves.{move_or, moved, is_moved, object_by, at_object, waiting_at}
+use Rattle.pt_model.specs.Mutexes.{count, owner, consistency, mutex_view}
+use Rattle.pt_model.specs.Rwlocks.{read_given_back, writes, reads, writer, reader, rwlock_view}
+use Rattle.pt_model.specs.Grants.{holds_back, is_blocked, is_complete, mutex_may, may_by, may, grant_outcome}
+use Rattle.pt_model.specs.Forced.{is_served_before, is_served, service_if, forced_yield, forced_expire, forced}
+use Rattle.pt_model.specs.Verdicts.{verdict}
+use Rattle.pt_model.specs.Steps.{Step, calls, Follows}
+use Rattle.pt_model.proofs.Lists.{In-filter, filter-in, In-append_left, In-append_right, In-append_cases, any-in, in-any}
+use Rattle.pt_model.proofs.Leasts.{least-in, least-none, none-least, first_below-same, first_below-more}
+use Rattle.pt_model.proofs.Effects.{Effect, Idle, Creates, Removes, Relocks, Frees, Mends, Returns, Wakes, Waits, effect}
+use Rattle.pt_model.proofs.Allowances.{allowed}
+use Rattle.pt_model.proofs.Changes.{left_by, kind_effect, cause_effect, gives_up, returns_it, consistency_effect, resolved}
+use Rattle.pt_model.proofs.Readings.{stood-call, kind-call, consistency-call, writes-call, reads-call}
+use Rattle.pt_model.proofs.Sound.{Fresh-follows}
+use Rattle.pt_model.proofs.Unheld.{has_read, Unheld-follows}
+use Rattle.pt_model.proofs.Opens.{open-call}
+use Rattle.pt_model.proofs.Moves.{moved-call}
+use Rattle.pt_model.proofs.Holders.{owner-call}
+use Rattle.pt_model.proofs.Services.{served, none-served}
+use Rattle.pt_model.proofs.Forcing.{served-least}
+use Rattle.pt_machine.specs.Timed.{asked}
+use Rattle.pt_machine.proofs.BadVerdicts.{is_for_lock, lock_role, call_bad}
+
+-- a call that an effect leaves waiting is its own
+left_waits : (E : Effect) (w : WaitingCall) → In w (left_by E) → E ≡ Waits w
+left_waits (Waits u) w (inl i) = ap Waits (sym i)
+left_waits (Waits u) w (inr i) = absurd i
+left_waits Idle w i = absurd i
+left_waits (Creates n kind) w i = absurd i
+left_waits (Removes n s q) w i = absurd i
+left_waits (Relocks m) w i = absurd i
+left_waits (Frees m) w i = absurd i
+left_waits (Mends m) w i = absurd i
+left_waits (Returns r) w i = absurd i
+left_waits (Wakes n all) w i = absurd i
+
+-- what a mutex lets a client have but for the order of calls
+abbrev may_from : Consistency → Option ℕ → Option ObjectKind → ℕ → Bool
+may_from k o kind d =
+    (is_lost k || (is_none o && true)) || (is_recursive (mutex_kind kind) && is_number o d)
+
+module _ (h : History) (f : Follows h) (c : ℕ) (call : Asked) (n : forced h ≡ None)
+    (a : is_alive h c ≡ true) (o : open_place h c ≡ None) (w : WaitingCall)
+    (e : effect h c call (reply (verdict h c call)) ≡ Waits w)
+    (l : is_for_lock w.role ≡ true) where
+  -- behind the call
+  abbrev g : History
+  g = h ▷ Call c call (reply (verdict h c call))
+
+  s : Step h (Call c call (reply (verdict h c call)))
+  s = calls c call n a o
+
+  kind_after : (m : ℕ) → kind_of g m ≡ kind_of h m
+  kind_after m =
+      kind-call h c call (reply (verdict h c call)) (kind_of h m) m
+      ∙ ap (λ E. kind_effect (place h) E (kind_of h m) m) e
+
+  consistency_after : (m : ℕ) → consistency g m ≡ consistency h m
+  consistency_after m =
+      consistency-call h c call (reply (verdict h c call)) (resolved h c call) m (consistency h m)
+      ∙ (ap (λ E. consistency_effect h c E m (consistency h m)) e
+      ∙ rw ((lock_role w.role l).1 m) refl)
+
+  owner_after : (m : ℕ) → owner g m ≡ owner h m
+  owner_after m =
+      owner-call h c call f s m
+      ∙ (ap (λ E. cond (gives_up E m && (count h m c == 1)) None (owner h m)) e
+      ∙ rw ((lock_role w.role l).1 m) refl)
+
+  writes_after : (r d : ℕ) → writes g r d ≡ writes h r d
+  writes_after r d =
+      writes-call h c call (reply (verdict h c call)) r d (writes h r d)
+      ∙ ap (λ E. cond (returns_it E r && (c == d)) false (writes h r d)) e
+
+  reads_after : (r d : ℕ) → reads g r d ≡ reads h r d
+  reads_after r d =
+      reads-call h c call (reply (verdict h c call)) r d (reads h r d)
+      ∙ ap (λ E. cond (returns_it E r && (c == d)) (read_given_back (writes h r d) (reads h r d))
+      (reads h r d)) e
+
+  writer_after : (r : ℕ) → writer g r ≡ writer h r
+  writer_after r =
+      first_below-same (suc (place h)) (λ d. writes g r d) (λ d. writes h r d)
+      (λ d lt. writes_after r d)
+      ∙ first_below-more (place h) (λ d. writes h r d)
+      ((Unheld-follows h f).writers r (place h) (omega arith))
+
+  reader_after : (r : ℕ) → reader g r ≡ reader h r
+  reader_after r =
+      first_below-same (suc (place h)) (λ d. has_read g r d) (λ d. has_read h r d)
+      (λ d lt. ap (nat_lt 0) (reads_after r d))
+      ∙ first_below-more (place h) (λ d. has_read h r d)
+      (ap (nat_lt 0) ((Unheld-follows h f).readers r (place h) (omega arith)))
+
+  moved_after : (j : ℕ) → moved g j ≡ moved h j
+  moved_after j =
+      moved-call h c call (reply (verdict h c call)) j
+      ∙ ap (λ E. move_or (place h) (cause_effect h (moved h) E j) (moved h j)) e
+
+  at_after : (v : WaitingCall) → at_object g v ≡ at_object h v
+  at_after v = ap (λ x. object_by v.role x v.object) (moved_after v.place)
+
+  open_after : open_calls g ≡ open_calls h ++ (w ∷ [])
+  open_after =
+      open-call h c call (reply (verdict h c call)) (Fresh-follows h f) a (allowed h c call)
+      ∙ ap (λ E. open_calls h ++ left_by E) e
+
+  open_still : (v : WaitingCall) → In v (open_calls h) → In v (open_calls g)
+  open_still v i =
+      subst (λ (us : List WaitingCall). In v us) (sym open_after)
+      (In-append_left v (open_calls h) (w ∷ []) i)
+
+  open_new : In w (open_calls g)
+  open_new =
+      subst (λ (us : List WaitingCall). In w us) (sym open_after)
+      (In-append_right w (open_calls h) (w ∷ []) (inl refl))
+
+  -- who held readers back does so still
+  blocked_still : (r p : ℕ) → is_blocked h r p ≡ true → is_blocked g r p ≡ true
+  blocked_still r p t =
+      let x = any-in (λ (v : WaitingCall). holds_back v p) (waiting_at h r) t in
+      let there = In-filter (λ (v : WaitingCall). at_object h v == r) (open_calls h) x.0 x.1.0 in
+      in-any (λ (v : WaitingCall). holds_back v p) (waiting_at g r) x.0
+      (filter-in (λ (v : WaitingCall). at_object g v == r) (open_calls g) x.0
+      (open_still x.0 there.0) (ap (λ k. k == r) (at_after x.0) ∙ there.1)) x.1.1
+
+  -- and nobody else does, unless it is the new call
+  blocked_before : (r p : ℕ) → is_write w.role ≡ false → is_blocked g r p ≡ true
+      → is_blocked h r p ≡ true
+  blocked_before r p calm t = go (In-append_cases x.0 (open_calls h) (w ∷ [])
+      (subst (λ (us : List WaitingCall). In x.0 us) open_after there.0))
+    where
+      x : (v : WaitingCall) × (In v (waiting_at g r) × (holds_back v p ≡ true))
+      x = any-in (λ (v : WaitingCall). holds_back v p) (waiting_at g r) t
+
+      there : In x.0 (open_calls g) × ((at_object g x.0 == r) ≡ true)
+      there = In-filter (λ (v : WaitingCall). at_object g v == r) (open_calls g) x.0 x.1.0
+
+      go : In x.0 (open_calls h) ⊎ In x.0 (w ∷ []) → is_blocked h r p ≡ true
+      go (inl i) =
+          in-any (λ (v : WaitingCall). holds_back v p) (waiting_at h r) x.0
+          (filter-in (λ (v : WaitingCall). at_object h v == r) (open_calls h) x.0 i
+          (ap (λ k. k == r) (sym (at_after x.0)) ∙ there.1)) x.1.1
+      go (inr (inl i)) =
+          absurd (false≢true (sym (ap (λ (v : WaitingCall). is_write v.role) i ∙ calm)
+          ∙ (and_parts (is_write x.0.role) (nat_le p x.0.priority) x.1.1).0))
+      go (inr (inr i)) = absurd i
+
+  -- what a barrier lacks it lacks still
+  complete_after : (v : WaitingCall) → is_complete g v ≡ is_complete h v
+  complete_after v =
+      ap (λ (us : List WaitingCall). is_arrival v.role && (length (at_barrier v.object us)
+      == barrier_count (kind_of g v.object))) open_after
+      ∙ (ap (λ (us : List WaitingCall). is_arrival v.role && (length us
+      == barrier_count (kind_of g v.object))) same
+      ∙ ap (λ k. is_arrival v.role && (length (at_barrier v.object (open_calls h))
+      == barrier_count k)) (kind_after v.object))
+    where
+      same : at_barrier v.object (open_calls h ++ (w ∷ [])) ≡ at_barrier v.object (open_calls h)
+      same =
+          filter-append (λ (u : WaitingCall). is_arrival u.role && (u.object == v.object))
+          (open_calls h) (w ∷ [])
+          ∙ (rw ((lock_role w.role l).0) (append-nil (at_barrier v.object (open_calls h))))
+
+  mutex_after : (v : WaitingCall) (m : ℕ) → mutex_may g v m ≡ mutex_may h v m
+  mutex_after v m =
+      ap (λ x. may_from x (owner g m) (kind_of g m) v.client) (consistency_after m)
+      ∙ (ap (λ x. may_from (consistency h m) x (kind_of g m) v.client) (owner_after m)
+      ∙ ap (λ x. may_from (consistency h m) (owner h m) x v.client) (kind_after m))
+
+  lock_after : (m : ℕ) → may_lock (mutex_view g m) true ≡ may_lock (mutex_view h m) true
+  lock_after m =
+      ap (λ x. is_lost x || (is_none (owner g m) && true)) (consistency_after m)
+      ∙ ap (λ x. is_lost (consistency h m) || (is_none x && true)) (owner_after m)
+
+  free_after : (r d : ℕ) → is_free (rwlock_view g r d) ≡ is_free (rwlock_view h r d)
+  free_after r d =
+      ap (λ x. not (is_some x) && not (is_some (reader g r))) (writer_after r)
+      ∙ ap (λ x. not (is_some (writer h r)) && not (is_some x)) (reader_after r)
+
+  read_after : (r d : ℕ) (b : Bool) → may_read (rwlock_view g r d) b
+      ≡ may_read (rwlock_view h r d) b
+  read_after r d b =
+      ap (λ x. not (is_some x) && (not b || nat_lt 0 (reads g r d))) (writer_after r)
+      ∙ ap (λ x. not (is_some (writer h r)) && (not b || nat_lt 0 x)) (reads_after r d)
+
+  -- where readers aren't held back more, they may have what they could have
+  unheld_back : (v : RwlockView) (x y : Bool) → (y ≡ true → x ≡ true) → may_read v x ≡ true
+      → may_read v y ≡ true
+  unheld_back v x true up t = subst (λ b. may_read v b ≡ true) (up refl) t
+  unheld_back v true false up t =
+      let p = and_parts (not v.is_written) (nat_lt 0 v.reads) t in
+      and_from (not v.is_written) true p.0 refl
+  unheld_back v false false up t = t
+
+  -- whoever may go on behind the call could before it
+  may_before : (v : WaitingCall) (role : Role) → may_by g v role ≡ true → may_by h v role ≡ true
+  may_before v ForMutex t = sym (lock_after v.object) ∙ t
+  may_before v (ForCond m) t =
+      sym (ap (λ x. is_some x && mutex_may g v m) (moved_after v.place)
+      ∙ ap (λ b. is_moved h v && b) (mutex_after v m)) ∙ t
+  may_before v ForWrite t = sym (free_after v.object v.client) ∙ t
+  may_before v ForRead t =
+      unheld_back (rwlock_view h v.object v.client) (is_blocked g v.object v.priority)
+      (is_blocked h v.object v.priority) (blocked_still v.object v.priority)
+      (sym (read_after v.object v.client (is_blocked g v.object v.priority)) ∙ t)
+  may_before v ForBarrier t = sym (complete_after v) ∙ t
+
+  -- and the new call may, where it could have before it came
+  may_new : (role : Role) → w.role ≡ role → is_for_lock role ≡ true → may_by h w role ≡ true
+      → may_by g w role ≡ true
+  may_new ForMutex r k t = lock_after w.object ∙ t
+  may_new ForWrite r k t = free_after w.object w.client ∙ t
+  may_new ForRead r k t =
+      read_after w.object w.client (is_blocked g w.object w.priority)
+      ∙ unheld_back (rwlock_view h w.object w.client) (is_blocked h w.object w.priority)
+      (is_blocked g w.object w.priority)
+      (blocked_before w.object w.priority (ap is_write r)) t
+  may_new ForBarrier r k t = absurd cc
+  may_new (ForCond m) r k t = absurd cc
+
+  -- nobody may go on where nothing is forced
+  none_may : (v : WaitingCall) → In v (open_calls h) → may h v ≡ true → ⊥
+  none_may v i t =
+      least-none (is_served_before h) (filter (may h) (open_calls h))
+      (sym (served-least h f) ∙ none) v (filter-in (may h) (open_calls h) v i t)
+    where
+      none : served h ≡ None
+      none =
+          none-least (is_served_before h) (filter (is_served h) (open_calls h))
+          (λ u j. let r = In-filter (is_served h) (open_calls h) u j in
+          false≢true (sym (none-served h n u r.0) ∙ r.1))
+
+  -- so the new call alone may
+  served_new : may h w ≡ true → served g ≡ Some w
+  served_new t =
+      served-least g (f, s)
+      ∙ go (least (is_served_before g) (filter (may g) (open_calls g))) refl
+    where
+      go : (x : Option WaitingCall) → least (is_served_before g) (filter (may g) (open_calls g)) ≡ x
+          → x ≡ Some w
+      go None k =
+          absurd (least-none (is_served_before g) (filter (may g) (open_calls g)) k w
+          (filter-in (may g) (open_calls g) w open_new (may_new w.role refl l t)))
+      go (Some u) k =
+          let p =
+          In-filter (may g) (open_calls g) u
+          (least-in (is_served_before g) (filter (may g) (open_calls g)) u k) in
+          old (In-append_cases u (open_calls h) (w ∷ [])
+          (subst (λ (us : List WaitingCall). In u us) open_after p.0)) p.1
+        where
+          old : In u (open_calls h) ⊎ In u (w ∷ []) → may g u ≡ true → Some u ≡ Some w
+          old (inl i) m = absurd (none_may u i (may_before u u.role m))
+          old (inr (inl i)) m = ap Some i
+          old (inr (inr i)) m = absurd i
+
+  -- and it is granted by the next entry
+  granted_new : may h w ≡ true → forced g ≡ Some (Grant w.place (grant_outcome g w))
+  granted_new t =
+      ap (λ x. option_or (service_if g x) (option_or (forced_yield g) (forced_expire g)))
+      (served_new t)
+      ∙ ap (λ b. Some (cond b (Trip w.object) (Grant w.place (grant_outcome g w))))
+      (lock_role w.role l).0
+
+-- a call that is left waiting with a deadline that is no time is granted by the next entry
+pub bad-granted : (h : History) → Follows h → (c : ℕ) (call : Asked) → forced h ≡ None
+    → is_alive h c ≡ true → open_place h c ≡ None → has_bad_deadline (asked (operation call)) ≡ true
+    → (w : WaitingCall) → In w (left_by (effect h c call (reply (verdict h c call))))
+    → forced (h ▷ Call c call (reply (verdict h c call)))
+    ≡ Some (Grant w.place (grant_outcome (h ▷ Call c call (reply (verdict h c call))) w))
+bad-granted h f c call n a o bad w i =
+    let ready =
+    call_bad h f c call (reply (verdict h c call)) refl bad w
+    (subst (λ (us : List WaitingCall). In w us)
+    (sym (stood-call h c call (reply (verdict h c call)))) i) in
+    granted_new h f c call n a o w
+    (left_waits (effect h c call (reply (verdict h c call))) w i) ready.0 ready.1

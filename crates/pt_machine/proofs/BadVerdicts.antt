@@ -1,0 +1,190 @@
+-- Which calls are left waiting with a deadline that is no time: those for a lock that is free.
+use Rattle.std.proofs.Common.{◌≡◌, ℕ, inl, inr, nat_lt, nat_le, Bool, true, false, cond, not, ◌&&◌, ◌||◌, Option, Some, None, is_none, is_some, unwrap_or, refl, sym, ◌∙◌, subst}
+use Rattle.std.proofs.lemmas.Bool.{false≢true}
+use Rattle.pt_types.specs.declared.call.Call.{Call as Asked}
+use Rattle.pt_types.specs.declared.call.How.{How}
+use Rattle.pt_types.specs.declared.outcome.Outcome.{Outcome}
+use Rattle.pt_types.specs.declared.outcome.Outcome.TheVariants.{Done, Eperm, Einval, Ebusy, Eagain, Edeadlk}
+use Rattle.pt_types.specs.declared.outcome.Verdict.TheVariants.{Reply, Stands}
+use Rattle.pt_types.specs.Times.{Timespec, has_bad_deadline}
+use Rattle.pt_types.specs.declared.time.Clock.{Clock}
+use Rattle.pt_types.specs.Operations.{Operation, Makes, Ends, Acquires, Unlocks, Restores, Rwunlocks, Awaits, Signals, Broadcasts, Arrives, operation, MutexLock, ReadLock, WriteLock, MutexClass, RwlockClass, CondClass, is_try, deadline_of, clock_of}
+use Rattle.pt_types.specs.Limits.{most_locks, most_reads}
+use Rattle.pt_types.specs.MutexTable.{MutexView, owns, is_recursive, is_errorcheck, is_lost, may_lock}
+use Rattle.pt_types.specs.RwlockTable.{RwlockView, holds, is_free, relock_outcome, may_read}
+use Rattle.pt_types.specs.CondTable.{is_elsewhere}
+use Rattle.pt_types.specs.Tables.{reply}
+use Rattle.pt_model.specs.declared.entry.Entry.TheVariants.{Call}
+use Rattle.pt_model.specs.Searches.{In}
+use Rattle.pt_model.specs.Histories.{History, place}
+use Rattle.pt_model.specs.Clients.{client}
+use Rattle.pt_model.specs.Objects.{find}
+use Rattle.pt_model.specs.Records.{Role, ForMutex, ForRead, ForWrite, ForBarrier, ForCond, WaitingCall}
+use Rattle.pt_model.specs.WaitingCall.{stood_by_operation, stood_by, is_arrival}
+use Rattle.pt_model.specs.Moves.{waiting_at}
+use Rattle.pt_model.specs.Mutexes.{owner, consistency, mutex_view}
+use Rattle.pt_model.specs.Rwlocks.{writes, reads, writer, rwlock_view}
+use Rattle.pt_model.specs.Grants.{is_blocked, may}
+use Rattle.pt_model.specs.Verdicts.{on, bound_by, lock_kind_verdict, awaits_verdict, operation_verdict, verdict}
+use Rattle.pt_model.specs.Steps.{Follows}
+use Rattle.pt_model.proofs.Leasts.{first_below-passes}
+use Rattle.pt_model.proofs.Changes.{awaited}
+use Rattle.pt_model.proofs.Rwlocks.{alone}
+use Rattle.pt_machine.specs.Timed.{asked}
+
+-- whether a role is for a lock
+abbrev pub is_for_lock : Role → Bool
+is_for_lock ForMutex = true
+is_for_lock ForRead = true
+is_for_lock ForWrite = true
+is_for_lock _ = false
+
+-- no such role gives back a mutex, or is for a barrier
+pub lock_role : (role : Role) → is_for_lock role ≡ true → (is_arrival role ≡ false)
+    × ((m : ℕ) → awaited role m ≡ false)
+lock_role ForMutex e = (refl, λ m. refl)
+lock_role ForRead e = (refl, λ m. refl)
+lock_role ForWrite e = (refl, λ m. refl)
+lock_role ForBarrier e = absurd cc
+lock_role (ForCond m) e = absurd cc
+
+-- a lock that is left waiting with such a deadline may be had but for the order of calls
+lock_bad : (h : History) (c : ℕ) (how : How) (o : Option ℕ)
+    → reply (on o (λ m. lock_kind_verdict h c m MutexLock how)) ≡ None
+    → has_bad_deadline (deadline_of how) ≡ true
+    → may_lock (mutex_view h (unwrap_or o 0)) true ≡ true
+lock_bad h c how None e bad = absurd cc
+lock_bad h c how (Some m) e bad =
+    go (is_lost (consistency h m)) (is_none (owner h m))
+    (owns v c && (is_recursive v.kind && nat_lt v.count most_locks))
+    (owns v c && is_recursive v.kind) (is_try how) (owns v c && is_errorcheck v.kind)
+    (has_bad_deadline (deadline_of how)) bad e
+  where
+    v : MutexView
+    v = mutex_view h m
+
+    go : (l f s t u x y : Bool) → y ≡ true → reply (cond l Stands (cond f Stands
+        (cond s (Reply Done) (cond t (Reply Eagain)
+        (cond u (Reply Ebusy) (cond x (Reply Edeadlk) (cond y (Reply Einval) Stands)))))))
+        ≡ None → (l || (f && true)) ≡ true
+    go true f s t u x y k e = refl
+    go false true s t u x y k e = refl
+    go false false true t u x y k e = absurd cc
+    go false false false true u x y k e = absurd cc
+    go false false false false true x y k e = absurd cc
+    go false false false false false true y k e = absurd cc
+    go false false false false false false true k e = absurd cc
+    go false false false false false false false k e = absurd cc
+
+-- whoever has read locks there keeps writers away
+unwritten : (h : History) → Follows h → (r c : ℕ) → nat_lt 0 (reads h r c) ≡ true
+    → not (is_some (writer h r)) ≡ true
+unwritten h f r c t = go (writer h r) refl
+  where
+    go : (o : Option ℕ) → writer h r ≡ o → not (is_some o) ≡ true
+    go None e = refl
+    go (Some d) e =
+        let own = first_below-passes (place h) (λ k. writes h r k) d e in
+        absurd (false≢true (sym (alone h f r d c own).1 ∙ t))
+
+-- the same of a read lock
+read_bad : (h : History) → Follows h → (c : ℕ) (how : How) (o : Option ℕ)
+    → reply (on o (λ r. lock_kind_verdict h c r ReadLock how)) ≡ None
+    → has_bad_deadline (deadline_of how) ≡ true
+    → may_read (rwlock_view h (unwrap_or o 0) c)
+    (is_blocked h (unwrap_or o 0) (unwrap_or (client h c) 0)) ≡ true
+read_bad h f c how None e bad = absurd cc
+read_bad h f c how (Some r) e bad =
+    go (relock_outcome (is_try how)) (is_try how) (writes h r c) (nat_le most_reads (reads h r c))
+    (nat_lt 0 (reads h r c)) (not (is_some (writer h r)))
+    (not (is_blocked h r (unwrap_or (client h c) 0)))
+    (has_bad_deadline (deadline_of how)) bad (unwritten h f r c) e
+  where
+    go : (x : Outcome) (u w l p a b y : Bool) → y ≡ true → (p ≡ true → a ≡ true)
+        → reply (cond w (Reply x) (cond l (Reply Eagain)
+        (cond p Stands (cond (a && b) Stands
+        (cond u (Reply Ebusy) (cond y (Reply Einval) Stands)))))) ≡ None
+        → (a && (b || p)) ≡ true
+    go x u true l p a b y k free e = absurd cc
+    go x u false true p a b y k free e = absurd cc
+    go x u false false true a true y k free e = rw (free refl) refl
+    go x u false false true a false y k free e = rw (free refl) refl
+    go x u false false false true true y k free e = refl
+    go x true false false false true false y k free e = absurd cc
+    go x false false false false true false true k free e = absurd cc
+    go x false false false false true false false k free e = absurd cc
+    go x true false false false false b y k free e = absurd cc
+    go x false false false false false b true k free e = absurd cc
+    go x false false false false false b false k free e = absurd cc
+
+-- and of the write lock
+write_bad : (h : History) (c : ℕ) (how : How) (o : Option ℕ)
+    → reply (on o (λ r. lock_kind_verdict h c r WriteLock how)) ≡ None
+    → has_bad_deadline (deadline_of how) ≡ true
+    → is_free (rwlock_view h (unwrap_or o 0) c) ≡ true
+write_bad h c how None e bad = absurd cc
+write_bad h c how (Some r) e bad =
+    go (relock_outcome (is_try how)) (is_try how) (holds v) (is_free v)
+    (has_bad_deadline (deadline_of how)) bad e
+  where
+    v : RwlockView
+    v = rwlock_view h r c
+
+    go : (x : Outcome) (u w f y : Bool) → y ≡ true → reply (cond w (Reply x) (cond f Stands
+        (cond u (Reply Ebusy) (cond y (Reply Einval) Stands)))) ≡ None → f ≡ true
+    go x u true f y k e = absurd cc
+    go x u false true y k e = refl
+    go x true false false y k e = absurd cc
+    go x false false false true k e = absurd cc
+    go x false false false false k e = absurd cc
+
+-- a wait is never left waiting with such a deadline
+wait_bad : (h : History) (c : ℕ) (d : Option Timespec) (o p : Option ℕ)
+    → reply (on o (λ q. on p (λ m. awaits_verdict h c q m d))) ≡ None
+    → has_bad_deadline d ≡ true → ⊥
+wait_bad h c d None p e bad = absurd cc
+wait_bad h c d (Some q) None e bad = absurd cc
+wait_bad h c d (Some q) (Some m) e bad =
+    go (has_bad_deadline d) (is_elsewhere (bound_by (waiting_at h q)) m)
+    (owns (mutex_view h m) c) bad e
+  where
+    go : (a b x : Bool) → a ≡ true → reply (cond a (Reply Einval)
+        (cond b (Reply Einval) (cond (not x) (Reply Eperm) Stands))) ≡ None → ⊥
+    go true b x k e = cc
+    go false b x k e = absurd cc
+
+-- what may be had at once but for the order of calls
+abbrev pub Ready : History → WaitingCall → Type 0
+Ready h w = (is_for_lock w.role ≡ true) × (may h w ≡ true)
+
+-- the call that an operation with such a deadline leaves waiting is one for such a lock
+operation_bad : (h : History) → Follows h → (c : ℕ) (z : Clock) (d : Operation)
+    → reply (operation_verdict h c d) ≡ None → has_bad_deadline (asked d) ≡ true → (w : WaitingCall)
+    → In w (stood_by_operation h c z d) → Ready h w
+operation_bad h f c z (Acquires n MutexLock how) e bad w (inl i) =
+    subst (Ready h) (sym i) (refl, lock_bad h c how (find h n MutexClass) e bad)
+operation_bad h f c z (Acquires n MutexLock how) e bad w (inr i) = absurd i
+operation_bad h f c z (Acquires n ReadLock how) e bad w (inl i) =
+    subst (Ready h) (sym i) (refl, read_bad h f c how (find h n RwlockClass) e bad)
+operation_bad h f c z (Acquires n ReadLock how) e bad w (inr i) = absurd i
+operation_bad h f c z (Acquires n WriteLock how) e bad w (inl i) =
+    subst (Ready h) (sym i) (refl, write_bad h c how (find h n RwlockClass) e bad)
+operation_bad h f c z (Acquires n WriteLock how) e bad w (inr i) = absurd i
+operation_bad h f c z (Awaits n m d) e bad w i =
+    absurd (wait_bad h c d (find h n CondClass) (find h m MutexClass) e bad)
+operation_bad h f c z (Arrives n) e bad w i = absurd cc
+operation_bad h f c z (Makes n kind) e bad w i = absurd i
+operation_bad h f c z (Ends n class) e bad w i = absurd i
+operation_bad h f c z (Unlocks n) e bad w i = absurd i
+operation_bad h f c z (Restores n) e bad w i = absurd i
+operation_bad h f c z (Rwunlocks n) e bad w i = absurd i
+operation_bad h f c z (Signals n) e bad w i = absurd i
+operation_bad h f c z (Broadcasts n) e bad w i = absurd i
+
+-- and so is the call that a call does
+pub call_bad : (h : History) → Follows h → (c : ℕ) (call : Asked) (x : Option Outcome)
+    → reply (verdict h c call) ≡ x → has_bad_deadline (asked (operation call)) ≡ true
+    → (w : WaitingCall)
+    → In w (stood_by h (Call c call x)) → Ready h w
+call_bad h f c call None e bad w i = operation_bad h f c (clock_of call) (operation call) e bad w i
+call_bad h f c call (Some x) e bad w i = absurd i

@@ -1,0 +1,292 @@
+-- The open call that came at a place: its client made the call whose entry stands there.
+use Rattle.std.proofs.Common.{◌≡◌, ℕ, zero, suc, ◌+◌, ◌<◌, ◌≤◌, ◌⊎◌, inl, inr, Bool, true, false, cond, ◌==◌, List, [], ◌∷◌, Option, Some, None, IfSome, refl, sym, ap, ◌∙◌, arith}
+use Rattle.std.proofs.lemmas.Bool.Decides.{nat_tests}
+use Rattle.std.specs.Prelude.{option_map, slice_get}
+use Rattle.pt_types.specs.declared.call.Call.{Call as Asked}
+use Rattle.pt_types.specs.declared.outcome.Outcome.{Outcome}
+use Rattle.pt_types.specs.Tables.{reply}
+use Rattle.pt_table.specs.declared.clients.ClientRow.{ClientRow}
+use Rattle.pt_table.specs.ClientRows.{client_value}
+use Rattle.pt_readings.specs.Found.{keep}
+use Rattle.pt_readings.specs.Shown.{shown}
+use Rattle.pt_readings.proofs.Lists.{Each-weaker, at_place-below}
+use Rattle.pt_model.proofs.Rising.{stood-below}
+use Rattle.pt_model.specs.Starts.{nothing}
+use Rattle.pt_model.specs.Seals.{seal}
+use Rattle.pt_model.proofs.Induction.{by_steps, start-seal}
+use Rattle.pt_model.specs.declared.entry.Entry.{Entry}
+use Rattle.pt_model.specs.declared.entry.Entry.TheVariants.{Join, Call, Death, Moment, Grant, Trip, Yield, Expire}
+use Rattle.pt_model.specs.Searches.{In}
+use Rattle.pt_model.specs.Histories.{History, Begin, ◌▷◌, place, onto}
+use Rattle.pt_model.specs.Records.{WaitingCall}
+use Rattle.pt_model.specs.WaitingCall.{stood, at_place}
+use Rattle.pt_model.specs.Answers.{open_calls}
+use Rattle.pt_model.specs.Queries.{client_at, caller}
+use Rattle.pt_model.specs.Verdicts.{verdict}
+use Rattle.pt_model.specs.Steps.{Step, joins, calls, dies, ticks, grants, trips, yields, expires, Follows}
+use Rattle.pt_model.proofs.Effects.{Effect, Idle, Creates, Removes, Relocks, Frees, Mends, Returns, Wakes, Waits, effect, Allowed}
+use Rattle.pt_model.proofs.Allowances.{allowed}
+use Rattle.pt_model.proofs.Changes.{left_by}
+use Rattle.pt_model.proofs.Sound.{Fresh-follows, below_open}
+use Rattle.pt_model.proofs.Found.{found_open, one_open}
+use Rattle.pt_model.proofs.OneEach.{one_each}
+use Rattle.pt_model.proofs.Opens.{left, was_open}
+use Rattle.pt_records.specs.declared.callers.Caller.{Caller}
+use Rattle.pt_records.specs.declared.callers.Open.{Open}
+use Rattle.pt_state.specs.declared.state.State.{State}
+use Rattle.pt_state.specs.Adds.{past}
+use Rattle.pt_records.specs.Callers.{AreCallers, call_of, open_in, opens_of}
+use Rattle.pt_state.specs.Serving.{called}
+use Rattle.pt_state.proofs.Asked.{open_of-kept}
+use Rattle.pt_state.proofs.CallerFinds.{call_of-none}
+use Rattle.pt_records.proofs.OpenRows.{look-row, row-open}
+
+-- the call that is found at a place is one of these, and came there
+pub place-in : (p : ℕ) (ws : List WaitingCall) (w : WaitingCall) → at_place p ws ≡ Some w
+    → In w ws × (w.place ≡ p)
+place-in p [] w e = absurd cc
+place-in p (v ∷ vs) w e = go (v.place == p) refl e (place-in p vs w)
+  where
+    go : (b : Bool) → (v.place == p) ≡ b → cond b (Some v) (at_place p vs) ≡ Some w
+        → (at_place p vs ≡ Some w → In w vs × (w.place ≡ p)) → In w (v ∷ vs) × (w.place ≡ p)
+    go true eb q ih =
+        let same : w ≡ v = cc in
+        let at : v.place ≡ p = grind (arith, nat_tests) in
+        (inl same, ap (λ (u : WaitingCall). u.place) same ∙ at)
+    go false eb q ih = let r = ih q in (inr r.0, r.1)
+
+-- where none is found, none came there
+place_missed : (p : ℕ) (ws : List WaitingCall) (w : WaitingCall) → at_place p ws ≡ None → In w ws
+    → w.place ≡ p → ⊥
+place_missed p [] w e i at = i
+place_missed p (v ∷ vs) w e i at = go (v.place == p) refl e i (λ q j. place_missed p vs w q j at)
+  where
+    go : (b : Bool) → (v.place == p) ≡ b → cond b (Some v) (at_place p vs) ≡ None
+        → In w (v ∷ vs) → (at_place p vs ≡ None → In w vs → ⊥) → ⊥
+    go true eb q j ih = absurd cc
+    go false eb q (inl j) ih =
+        let there : v.place ≡ p = ap (λ (u : WaitingCall). u.place) (sym j) ∙ at in
+        absurd (grind (arith, nat_tests))
+    go false eb q (inr j) ih = ih q j
+
+-- the only call that came at a place is found there
+pub place-one : (p : ℕ) (ws : List WaitingCall) (w : WaitingCall) → In w ws → w.place ≡ p
+    → ((v : WaitingCall) → In v ws → v.place ≡ p → v ≡ w) → at_place p ws ≡ Some w
+place-one p ws w i at one = go (at_place p ws) refl
+  where
+    go : (o : Option WaitingCall) → at_place p ws ≡ o → o ≡ Some w
+    go None e = absurd (place_missed p ws w e i at)
+    go (Some v) e = let r = place-in p ws v e in ap Some (one v r.0 r.1)
+
+-- where none came, none is found
+pub place-none : (p : ℕ) (ws : List WaitingCall) → ((v : WaitingCall) → In v ws → v.place ≡ p → ⊥)
+    → at_place p ws ≡ None
+place-none p ws f = go (at_place p ws) refl
+  where
+    go : (o : Option WaitingCall) → at_place p ws ≡ o → o ≡ None
+    go None e = refl
+    go (Some v) e = let r = place-in p ws v e in absurd (f v r.0 r.1)
+
+-- the client of an entry, where that is a call
+abbrev pub caller_of : Entry → Option ℕ
+caller_of (Call c call r) = Some c
+caller_of _ = None
+
+-- the same of an entry that was found
+abbrev pub caller_in : Option Entry → Option ℕ
+caller_in None = None
+caller_in (Some e) = caller_of e
+
+-- an entry at another place says nothing of it
+caller_still : (h : History) (e : Entry) (j : ℕ) → (place h == j) ≡ false
+    → caller (h ▷ e) j ≡ caller h j
+caller_still h (Call c call r) j ne = rw ne refl
+caller_still h (Join p k) j ne = refl
+caller_still h (Death c) j ne = refl
+caller_still h (Moment k t) j ne = refl
+caller_still h (Grant k x) j ne = refl
+caller_still h (Trip b) j ne = refl
+caller_still h (Yield m) j ne = refl
+caller_still h (Expire k) j ne = refl
+
+-- no call came yet at a place to come
+caller_none : (h : History) (j : ℕ) → place h ≤ j → caller h j ≡ None
+caller_none (Begin s) j le =
+    ap client_at (at_place-below j (stood (Begin s))
+    (Each-weaker (λ w. w.place < s.at) (λ w. w.place < j) (λ w lt. omega (arith, lt, le))
+    (stood (Begin s)) (stood-below (Begin s))))
+caller_none (h ▷ e) j le =
+    let ne : (place h == j) ≡ false = grind (arith, nat_tests) in
+    caller_still h e j ne ∙ caller_none h j (omega arith)
+
+-- the entry that comes now
+caller_here : (h : History) (e : Entry) → caller (h ▷ e) (place h) ≡ caller_of e
+caller_here h (Call c call r) =
+    let here : (place h == place h) ≡ true = grind (arith, nat_tests) in rw here refl
+caller_here h (Join p k) = caller_none h (place h) (omega arith)
+caller_here h (Death c) = caller_none h (place h) (omega arith)
+caller_here h (Moment k t) = caller_none h (place h) (omega arith)
+caller_here h (Grant k x) = caller_none h (place h) (omega arith)
+caller_here h (Trip b) = caller_none h (place h) (omega arith)
+caller_here h (Yield m) = caller_none h (place h) (omega arith)
+caller_here h (Expire k) = caller_none h (place h) (omega arith)
+
+-- entries to come say nothing of a place before them
+caller_before : (es : List Entry) (h : History) (j : ℕ) → j < place h
+    → caller (onto h es) j ≡ caller h j
+caller_before [] h j lt = refl
+caller_before (e ∷ es) h j lt =
+    let ne : (place h == j) ≡ false = grind (arith, nat_tests) in
+    caller_before es (h ▷ e) j (omega arith) ∙ caller_still h e j ne
+
+-- of the entries to come, the one at index i
+caller_onto : (es : List Entry) (h : History) (i j : ℕ) → j ≡ place h + i
+    → caller (onto h es) j ≡ caller_in (slice_get es i)
+caller_onto [] h i j e = caller_none h j (omega (arith, e))
+caller_onto (x ∷ xs) h zero j e =
+    let at : j ≡ place h = omega (arith, e) in
+    caller_before xs (h ▷ x) j (omega (arith, at)) ∙ ap (caller (h ▷ x)) at ∙ caller_here h x
+caller_onto (x ∷ xs) h (suc i) j e = caller_onto xs (h ▷ x) i j (omega (arith, e))
+
+-- the client of the call at a place is that of the entry that is stored there
+pub caller-stored : {A : Type 0} (s t : State A) → s ≡ t → (j : ℕ) (found : Option Entry)
+    → found ≡ slice_get s.stored.entries j → caller (past t) j ≡ caller_in found
+caller-stored {A = A} s t view j found e =
+    ap (λ (u : State A). caller (past u) j) (sym view)
+    ∙ caller_onto s.stored.entries (Begin nothing) j j (omega arith)
+    ∙ ap caller_in (sym e)
+
+-- an entry that is no call has none
+pub no-caller : (e : Entry)
+    → ((c : ℕ) (call : Asked) (r : Option Outcome) → e ≡ Call c call r → ⊥) → caller_of e ≡ None
+no-caller (Call c call r) f = absurd (f c call r refl)
+no-caller (Join p k) f = refl
+no-caller (Death c) f = refl
+no-caller (Moment k t) f = refl
+no-caller (Grant k x) f = refl
+no-caller (Trip b) f = refl
+no-caller (Yield m) f = refl
+no-caller (Expire k) f = refl
+
+-- what a call leaves waiting came at its place, and is its client's
+left_came : (h : History) (c : ℕ) (E : Effect) → Allowed h c E → (w : WaitingCall)
+    → In w (left_by E) → (w.place ≡ place h) × (w.client ≡ c)
+left_came h c (Waits v) a w (inl e) = (
+  ap (λ (u : WaitingCall). u.place) (e ∙ a.0),
+  ap (λ (u : WaitingCall). u.client) (e ∙ a.0),
+)
+left_came h c (Waits v) a w (inr i) = absurd i
+left_came h c Idle a w i = absurd i
+left_came h c (Creates n kind) a w i = absurd i
+left_came h c (Removes n class o) a w i = absurd i
+left_came h c (Relocks m) a w i = absurd i
+left_came h c (Frees m) a w i = absurd i
+left_came h c (Mends m) a w i = absurd i
+left_came h c (Returns r) a w i = absurd i
+left_came h c (Wakes n all) a w i = absurd i
+
+-- each entry keeps it so that an open call's client made the call at its place
+caller_step : (h : History) (e : Entry) → Follows h
+    → ((w : WaitingCall) → In w (open_calls h) → caller h w.place ≡ Some w.client) → Step h e
+    → (w : WaitingCall) → In w (open_calls h) ⊎ In w (left h e)
+    → caller (h ▷ e) w.place ≡ Some w.client
+caller_step h e f k s w (inl i) =
+    let lt : w.place < place h = (below_open h w (Fresh-follows h f) i).0 in
+    let ne : (place h == w.place) ≡ false = grind (arith, nat_tests) in
+    caller_still h e w.place ne ∙ k w i
+caller_step h _ f k (calls c call n a o) w (inr i) =
+    let r = reply (verdict h c call) in
+    let came = left_came h c (effect h c call r) (allowed h c call) w i in
+    ap (caller (h ▷ Call c call r)) came.0 ∙ caller_here h (Call c call r) ∙ ap Some (sym came.1)
+caller_step h _ f k (joins p n lt) w (inr i) = absurd i
+caller_step h _ f k (dies c n a) w (inr i) = absurd i
+caller_step h _ f k (ticks z t n) w (inr i) = absurd i
+caller_step h _ f k (grants u s j g) w (inr i) = absurd i
+caller_step h _ f k (trips u s j t) w (inr i) = absurd i
+caller_step h _ f k (yields m s t) w (inr i) = absurd i
+caller_step h _ f k (expires u s j t) w (inr i) = absurd i
+
+-- an open call's client made the call at its place
+pub open-caller : (h : History) → Follows h → (w : WaitingCall) → In w (open_calls h)
+    → caller h w.place ≡ Some w.client
+open-caller h f =
+    by_steps (λ h. (w : WaitingCall) → In w (open_calls h) → caller h w.place ≡ Some w.client)
+    (λ w i. absurd i) (λ h e f ih s w i. caller_step h e f ih s w (was_open h e f s w i))
+    (λ h f ih w i. ap client_at (found_open (Begin (seal h)) (start-seal h f) w i)) h f
+
+-- an open call in a client's row is one of those in the rows
+pub client-in : (rows : List (ClientRow Caller)) (c : ℕ) (o : Open)
+    → open_in (client_value rows c) ≡ Some o → In o (opens_of rows)
+client-in rows c o e = go (client_value rows c) refl e
+  where
+    go : (kept : Option Caller) → client_value rows c ≡ kept → open_in kept ≡ Some o
+        → In o (opens_of rows)
+    go None q s = absurd cc
+    go (Some v) q s =
+        let r = look-row rows c v q in
+        row-open rows r.0 o r.1.0 (ap (λ (u : Caller). u.open) r.1.2 ∙ s)
+
+-- so is one that is kept
+pub kept-in : (rows : List (ClientRow Caller)) (c p : ℕ) (found : Option Open)
+    → found ≡ keep (λ o. o.call.place == p) (open_in (client_value rows c))
+    → IfSome found (λ o. In o (opens_of rows))
+kept-in rows c p None e = tt
+kept-in rows c p (Some o) e = go (open_in (client_value rows c)) refl e
+  where
+    test : (b : Bool) (u : Open) → In u (opens_of rows) → Some o ≡ cond b (Some u) None
+        → In o (opens_of rows)
+    test true u i q = let same : o ≡ u = cc in rw same i
+    test false u i q = absurd cc
+
+    go : (kept : Option Open) → open_in (client_value rows c) ≡ kept
+        → Some o ≡ keep (λ (u : Open). u.call.place == p) kept → In o (opens_of rows)
+    go None k q = absurd cc
+    go (Some u) k q = test (u.call.place == p) u (client-in rows c u k) q
+
+module _ (h : History) (f : Follows h) where
+  -- where the entry at a place is no call, no open call came there
+  pub none-came : (p : ℕ) → None ≡ caller h p → at_place p (open_calls h) ≡ None
+  none-came p e =
+      place-none p (open_calls h)
+      (λ v i at. let both : ◌≡◌ {A = Option ℕ} None (Some v.client) =
+      e ∙ ap (caller h) (sym at) ∙ open-caller h f v i in
+      absurd cc)
+
+  -- where it is a client's call, the open call that came there is that of its row, if that did
+  pub client-came : (rows : List (ClientRow Caller)) → AreCallers h rows → (p c : ℕ)
+      → Some c ≡ caller h p
+      → option_map called (keep (λ o. o.call.place == p) (open_in (client_value rows c)))
+      ≡ at_place p (open_calls h)
+  client-came rows a p c e = go (open_in (client_value rows c)) refl
+    where
+      its : (v : WaitingCall) → In v (open_calls h) → v.place ≡ p → v.client ≡ c
+      its v i at =
+          let both : ◌≡◌ {A = Option ℕ} (Some v.client) (Some c) =
+          sym (open-caller h f v i) ∙ ap (caller h) at ∙ sym e in
+          cc
+
+      test : (o : Open) → In (called o) (open_calls h) → o.call.client ≡ c → (b : Bool)
+          → (o.call.place == p) ≡ b
+          → option_map called (cond b (Some o) None) ≡ at_place p (open_calls h)
+      test o i own true t =
+          let at : o.call.place ≡ p = grind (arith, nat_tests) in
+          sym (place-one p (open_calls h) (called o) i at
+          (λ v j k. one_open h f v (called o) j i (k ∙ sym at)))
+      test o i own false t =
+          sym (place-none p (open_calls h)
+          (λ v j at. let same : v ≡ called o = one_each h f v (called o) j i
+          (its v j at ∙ sym own) in
+          let there : o.call.place ≡ p = ap (λ (u : WaitingCall). u.place) (sym same) ∙ at in
+          absurd (grind (arith, nat_tests))))
+
+      go : (kept : Option Open) → open_in (client_value rows c) ≡ kept
+          → option_map called (keep (λ (o : Open). o.call.place == p) kept)
+          ≡ at_place p (open_calls h)
+      go None q =
+          let none : call_of (open_calls h) c ≡ None =
+          sym (a.look.calls c) ∙ ap (option_map (λ (o : Open). shown o.call)) q in
+          sym (place-none p (open_calls h)
+          (λ v i at. call_of-none (open_calls h) c none v i (its v i at)))
+      go (Some o) q =
+          let r = open_of-kept h rows a c o q in
+          test o r.0 r.1 (o.call.place == p) refl

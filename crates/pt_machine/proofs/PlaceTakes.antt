@@ -1,0 +1,122 @@
+-- What a client's row has of its open call is the call that takes its place.
+use Rattle.std.proofs.Common.{◌≡◌, ℕ, ◌==◌, Bool, true, false, cond, List, Option, Some, None, option_map, refl, sym, ap, ◌∙◌, subst}
+use Rattle.pt_table.specs.declared.clients.ClientRow.{ClientRow}
+use Rattle.pt_table.specs.ClientRows.{client_value}
+use Rattle.pt_waitq.specs.declared.waiter.Waiter.{Waiter}
+use Rattle.pt_waitq.specs.Queues.{stands_in, IsLatest, insert_in_order}
+use Rattle.pt_model.specs.Histories.{History}
+use Rattle.pt_model.specs.Searches.{In}
+use Rattle.pt_model.specs.Clients.{client}
+use Rattle.pt_model.specs.Records.{WaitingCall, Move}
+use Rattle.pt_model.specs.Answers.{open_calls}
+use Rattle.pt_model.specs.Moves.{moved, object_by, at_object}
+use Rattle.pt_model.specs.Steps.{Follows}
+use Rattle.pt_readings.specs.Shown.{shown, shown_move}
+use Rattle.pt_records.specs.declared.callers.Caller.{Caller}
+use Rattle.pt_records.specs.declared.callers.Open.{Open}
+use Rattle.pt_records.specs.Callers.{AreCallers, call_of, open_in, move_in}
+use Rattle.pt_records.specs.OpenRows.{object_of}
+use Rattle.pt_state.proofs.CallerFinds.{call_of-open}
+use Rattle.pt_machine.specs.Queued.{waiter, waiter_by, CanStand}
+use Rattle.pt_machine.proofs.OpenPriorities.{open_priority}
+
+-- an object and a waiter are those of the client's open call
+pub record Takes (h : History) (c object : ℕ) (v : Waiter) : Type 0 where
+  pub seat : (w : WaitingCall) → In w (open_calls h) → w.client ≡ c → object ≡ at_object h w
+  pub same : (w : WaitingCall) → In w (open_calls h) → w.client ≡ c → v ≡ waiter h w
+
+-- an open call is its client's first one
+first-call : (h : History) → Follows h → (c : ℕ) (w : WaitingCall) → In w (open_calls h)
+    → w.client ≡ c → call_of (open_calls h) c ≡ Some w
+first-call h f c w i e =
+    subst (λ (d : ℕ). call_of (open_calls h) d ≡ Some w) e (call_of-open h f w i)
+
+-- a client with an open call has it in its row
+pub row-there :
+    (h : History) (rows : List (ClientRow Caller)) → Follows h → AreCallers h rows → (c : ℕ)
+    → open_in (client_value rows c) ≡ None → (w : WaitingCall) → In w (open_calls h)
+    → w.client ≡ c → ⊥
+row-there h rows f a c none w i e =
+    let here : ◌≡◌ {A = Option WaitingCall} None (Some w) =
+    ap (option_map (λ (o : Open). shown o.call)) (sym none)
+    ∙ (a.look.calls c ∙ first-call h f c w i e) in
+    cc
+
+-- what its row has of it is its object, and its waiter with the client's priority
+pub takes :
+    (h : History) (rows : List (ClientRow Caller)) → Follows h → AreCallers h rows
+    → (c object p : ℕ) (v : Waiter) (o : Open)
+    → open_in (client_value rows c) ≡ Some o → client h c ≡ Some p → object ≡ object_of o
+    → v ≡ record (waiter_by (option_map shown_move o.moved) (shown o.call)) { prio = p }
+    → Takes h c object v
+takes h rows f a c object p v o row level at is =
+    record {
+      seat = λ w i e.
+          at
+          ∙ (ap (λ (u : WaitingCall). object_by u.role (option_map shown_move o.moved) u.object)
+          (call w i e)
+          ∙ ap (λ (m : Option Move). object_by w.role m w.object) (move w i e));
+      same = λ w i e.
+          is
+          ∙ (ap (λ (u : WaitingCall). with_priority p (option_map shown_move o.moved) u)
+          (call w i e)
+          ∙ (ap (λ (m : Option Move). with_priority p m w) (move w i e)
+          ∙ ap (λ (k : ℕ). with_priority k (moved h w.place) w) (priority w i e)));
+    }
+  where
+    with_priority : ℕ → Option Move → WaitingCall → Waiter
+    with_priority k m w = record (waiter_by m w) { prio = k }
+
+    call : (w : WaitingCall) → In w (open_calls h) → w.client ≡ c → shown o.call ≡ w
+    call w i e =
+        let here : ◌≡◌ {A = Option WaitingCall} (Some (shown o.call)) (Some w) =
+        ap (option_map (λ (x : Open). shown x.call)) (sym row)
+        ∙ (a.look.calls c ∙ first-call h f c w i e) in
+        cc
+
+    move : (w : WaitingCall) → In w (open_calls h) → w.client ≡ c
+        → option_map shown_move o.moved ≡ moved h w.place
+    move w i e =
+        let has : move_in (client_value rows c) ≡ option_map shown_move o.moved = rw row refl in
+        sym has ∙ a.look.moves c w (first-call h f c w i e)
+
+    priority : (w : WaitingCall) → In w (open_calls h) → w.client ≡ c → p ≡ w.priority
+    priority w i e =
+        let here : ◌≡◌ {A = Option ℕ} (Some p) (Some w.priority) =
+        sym level ∙ (ap (client h) (sym e) ∙ open_priority h f w i) in
+        cc
+
+module _ {h : History} {c object : ℕ} {v : Waiter} {queue : ℕ → List Waiter}
+    {admitted made : ℕ → Bool} (s : CanStand h c queue admitted made) (t : Takes h c object v)
+  where
+    -- it is the client's own
+    own : v.client ≡ c
+    own = ap (λ (x : Waiter). x.client) (t.same s.call s.open s.its) ∙ s.its
+
+    pub take-admitted : admitted v.client ≡ true
+    take-admitted = ap admitted own ∙ s.room
+
+    pub take-nowhere : (q : ℕ) → stands_in v.client (queue q) ≡ false
+    take-nowhere q = ap (λ (d : ℕ). stands_in d (queue q)) own ∙ s.nowhere q
+
+    pub take-made : made object ≡ true
+    take-made = ap made (t.seat s.call s.open s.its) ∙ s.there
+
+    pub take-latest : IsLatest v (queue object)
+    take-latest =
+        subst (λ (x : Waiter). IsLatest x (queue object)) (sym (t.same s.call s.open s.its))
+        (subst (λ (q : ℕ). IsLatest (waiter h s.call) (queue q))
+        (sym (t.seat s.call s.open s.its)) s.latest)
+
+-- the queue in which it takes its place
+pub take-put :
+    (h : History) (c object : ℕ) (v : Waiter) → Takes h c object v
+    → (queue queue' : ℕ → List Waiter)
+    → ((q : ℕ) → queue' q ≡ cond (object == q) (insert_in_order v (queue q)) (queue q))
+    → (w : WaitingCall) → In w (open_calls h) → w.client ≡ c → (q : ℕ)
+    → queue' q ≡ cond (at_object h w == q) (insert_in_order (waiter h w) (queue q)) (queue q)
+take-put h c object v t queue queue' f w i e q =
+    f q
+    ∙ (ap (λ (m : ℕ). cond (m == q) (insert_in_order v (queue q)) (queue q)) (t.seat w i e)
+    ∙ ap (λ (x : Waiter). cond (at_object h w == q) (insert_in_order x (queue q)) (queue q))
+    (t.same w i e))

@@ -1,0 +1,86 @@
+-- QueueReads: what is asked of a queue is what the definitions say of the calls that stand there.
+use Rattle.std.proofs.Common.{◌≡◌, ℕ, ◌==◌, nat_le, Bool, true, false, cond, ◌&&◌, ◌||◌, List, [], ◌∷◌, Option, Some, None, is_some, unwrap_or, filter, refl, sym, ap, ◌∙◌, arith}
+use Rattle.std.proofs.lemmas.Bool.Decides.{nat_tests}
+use Rattle.std.specs.List.{list_any}
+use Rattle.pt_waitq.specs.declared.waiter.Waiter.{Waiter}
+use Rattle.pt_waitq.specs.Members.{Members}
+use Rattle.pt_waitq.specs.Queues.{head_of, first_writer_of, holds_back as writes_before}
+use Rattle.pt_waitq.proofs.MemberLemmas.{members-any}
+use Rattle.pt_model.specs.Histories.{History}
+use Rattle.pt_model.specs.Clients.{client}
+use Rattle.pt_model.specs.Answers.{open_calls}
+use Rattle.pt_model.specs.Moves.{at_object}
+use Rattle.pt_model.specs.Grants.{holds_back, is_blocked}
+use Rattle.pt_model.specs.Verdicts.{is_awaited}
+use Rattle.pt_readings.proofs.Lists.{any-filter}
+use Rattle.pt_machine.specs.Queued.{waiter}
+
+-- tests that agree on each element pass in the same lists
+any-agree : {X : Type 0} (p q : X → Bool) → ((x : X) → p x ≡ q x) → (xs : List X)
+    → list_any p xs ≡ list_any q xs
+any-agree p q f [] = refl
+any-agree p q f (x ∷ xs) = rw (f x, any-agree p q f xs) refl
+
+-- there is a first one that passes where any passes
+filter-some : (p : Waiter → Bool) (vs : List Waiter) → is_some (head_of (filter p vs))
+    ≡ list_any p vs
+filter-some p [] = refl
+filter-some p (v ∷ vs) = go (p v) (filter-some p vs)
+  where
+    go : (b : Bool) → is_some (head_of (filter p vs)) ≡ list_any p vs
+        → is_some (head_of (cond b (v ∷ filter p vs) (filter p vs))) ≡ (b || list_any p vs)
+    go true ih = refl
+    go false ih = ih
+
+-- there is a first one where there is any
+head-some : (vs : List Waiter) → is_some (head_of vs) ≡ list_any (λ v. true) vs
+head-some [] = refl
+head-some (v ∷ vs) = refl
+
+and_true : (b : Bool) → (b && true) ≡ b
+and_true true = refl
+and_true false = refl
+
+module _ (h : History) (queue : ℕ → List Waiter)
+    (m : Members (at_object h) (waiter h) (open_calls h) queue) where
+  -- whether a call stands at an object
+  any-stands : (o : ℕ) → is_some (head_of (queue o)) ≡ is_awaited h o
+  any-stands o =
+      head-some (queue o)
+      ∙ (members-any (at_object h) (waiter h) (open_calls h) queue m (λ v. true) o
+      ∙ any-agree (λ w. (at_object h w == o) && true) (λ w. at_object h w == o)
+      (λ w. and_true (at_object h w == o)) (open_calls h))
+
+  -- whether a writer of this priority or a higher one stands at a lock
+  any-before : (r p : ℕ) → list_any (writes_before p) (queue r) ≡ is_blocked h r p
+  any-before r p =
+      members-any (at_object h) (waiter h) (open_calls h) queue m (writes_before p) r
+      ∙ sym (any-filter (λ v. holds_back v p) (λ w. at_object h w == r) (open_calls h))
+
+  -- whether any writer stands there
+  any-writer : (r : ℕ) → is_some (first_writer_of (queue r)) ≡ is_blocked h r 0
+  any-writer r =
+      filter-some (λ v. v.writer) (queue r)
+      ∙ (any-agree (λ v. v.writer) (writes_before 0) (λ v. lowest v.writer v.prio) (queue r)
+      ∙ any-before r 0)
+    where
+      lowest : (b : Bool) (p : ℕ) → b ≡ (b && nat_le 0 p)
+      lowest b p = let le : nat_le 0 p ≡ true = grind (arith, nat_tests) in rw le (sym (and_true b))
+
+  -- the first of a queue tells whether a call stands at its object
+  pub awaited : (o : ℕ) (first : Option Waiter) (b : Bool) → first ≡ head_of (queue o)
+      → b ≡ is_some first → b ≡ is_awaited h o
+  awaited o first b e t = t ∙ (ap is_some e ∙ any-stands o)
+
+  -- the queue tells whether a writer blocks a client of this priority
+  pub blocked-living : (r c p : ℕ) (b : Bool) → client h c ≡ Some p
+      → b ≡ list_any (writes_before p) (queue r) → b ≡ is_blocked h r (unwrap_or (client h c) 0)
+  blocked-living r c p b e t =
+      t ∙ (any-before r p ∙ ap (λ o. is_blocked h r (unwrap_or o 0)) (sym e))
+
+  -- and whether one blocks a client that doesn't live
+  pub blocked-dead : (r c : ℕ) (first : Option Waiter) (b : Bool) → client h c ≡ None
+      → first ≡ first_writer_of (queue r) → b ≡ is_some first
+      → b ≡ is_blocked h r (unwrap_or (client h c) 0)
+  blocked-dead r c first b e s t =
+      t ∙ (ap is_some s ∙ (any-writer r ∙ ap (λ o. is_blocked h r (unwrap_or o 0)) (sym e)))

@@ -1,0 +1,131 @@
+-- Queues before the first entry, as clients join and die, as the clock is read, and at a Yield.
+use Rattle.std.proofs.Common.{◌≡◌, ℕ, ◌==◌, Bool, true, false, ◌&&◌, ◌||◌, not, cond, List, Option, Some, None, is_some, refl, sym, ap, ◌∙◌, subst, arith}
+use Rattle.std.proofs.lemmas.Bool.{false≢true}
+use Rattle.std.proofs.lemmas.Bool.Decides.{nat_tests}
+use Rattle.pt_types.specs.declared.time.Clock.{Clock}
+use Rattle.pt_waitq.specs.declared.waiter.Waiter.{Waiter}
+use Rattle.pt_waitq.specs.Queues.{stands_in, without}
+use Rattle.pt_waitq.specs.Members.{Members}
+use Rattle.pt_waitq.specs.Waits.{Waits, no_waits, queue_in, is_admitted, is_made}
+use Rattle.pt_waitq.proofs.MemberLemmas.{members-out}
+use Rattle.pt_model.specs.Starts.{nothing}
+use Rattle.pt_model.specs.declared.entry.Entry.TheVariants.{Join, Death, Moment, Yield}
+use Rattle.pt_model.specs.Histories.{History, Begin, ◌▷◌, place}
+use Rattle.pt_model.specs.Clients.{client}
+use Rattle.pt_model.specs.Records.{WaitingCall}
+use Rattle.pt_model.specs.Answers.{open_calls}
+use Rattle.pt_model.specs.Moves.{at_object}
+use Rattle.pt_model.specs.Steps.{Follows}
+use Rattle.pt_model.proofs.Opens.{open-join, open-moment, open-yield, open-death}
+use Rattle.pt_model.proofs.Sound.{Fresh-follows}
+use Rattle.pt_machine.specs.Queued.{waiter, IsQueued}
+use Rattle.pt_machine.proofs.QueuedSame.{members-carry, queued-same}
+
+queued-none : IsQueued (Begin nothing) (queue_in no_waits) (is_admitted no_waits) (is_made no_waits)
+queued-none =
+    record {
+      members = record {
+        in_order = λ q. tt;
+        known = λ q v i. absurd i;
+        held = λ w i. absurd i;
+      };
+      admits = λ c. refl;
+      makes = λ o. refl;
+    }
+
+-- before the first entry there is no call, no room and no queue
+pub queued-begin : (h : History) (waits : Waits) → h ≡ Begin nothing → waits ≡ no_waits
+    → IsQueued h (queue_in waits) (is_admitted waits) (is_made waits)
+queued-begin h waits begins empty =
+    subst (λ (g : History). IsQueued g (queue_in waits) (is_admitted waits) (is_made waits))
+    (sym begins)
+    (subst (λ (ws : Waits). IsQueued (Begin nothing) (queue_in ws) (is_admitted ws) (is_made ws))
+    (sym empty) queued-none)
+
+-- a reading of the clock changes no queue
+pub queued-moment : (h : History) (z : Clock) (t : ℕ) (queue : ℕ → List Waiter)
+    (admitted made : ℕ → Bool) → IsQueued h queue admitted made
+    → IsQueued (h ▷ Moment z t) queue admitted made
+queued-moment h z t queue admitted made k =
+    queued-same h (Moment z t) queue queue admitted admitted made made (λ q. refl) (λ c. refl)
+    (λ o. refl) (open-moment h z t) (λ w i. refl) (λ c. refl) (λ o. refl) k
+
+-- nor does a Yield, which changes the state of one mutex alone
+pub queued-yield : (h : History) (m : ℕ) (queue : ℕ → List Waiter) (admitted made : ℕ → Bool)
+    → IsQueued h queue admitted made → IsQueued (h ▷ Yield m) queue admitted made
+queued-yield h m queue admitted made k =
+    queued-same h (Yield m) queue queue admitted admitted made made (λ q. refl) (λ c. refl)
+    (λ o. refl) (open-yield h m) (λ w i. refl) (λ c. refl) (λ o. refl) k
+
+joined_lives : (b : Bool) (p : ℕ) (o : Option ℕ) → (b || is_some o) ≡ is_some (cond b (Some p) o)
+joined_lives true p o = refl
+joined_lives false p o = refl
+
+-- a client that joins has room for its call, and none yet
+pub queued-join : (h : History) (n p : ℕ) (queue queue' : ℕ → List Waiter)
+    (admitted admitted' made made' : ℕ → Bool) → Follows h → n ≡ place h
+    → ((q : ℕ) → queue' q ≡ queue q)
+    → ((c : ℕ) → admitted' c ≡ ((n == c) || admitted c))
+    → ((o : ℕ) → made' o ≡ made o)
+    → IsQueued h queue admitted made → IsQueued (h ▷ Join (place h) p) queue' admitted' made'
+queued-join h n p queue queue' admitted admitted' made made' f here queues rooms places k =
+    record {
+      members = members-carry h (h ▷ Join (place h) p) queue queue' queues
+          (open-join h p (Fresh-follows h f)) (λ w i. refl) k.members;
+      admits = λ c.
+          rooms c ∙ ap (λ m. (m == c) || admitted c) here
+          ∙ (ap (λ b. (place h == c) || b) (k.admits c)
+          ∙ joined_lives (place h == c) p (client h c));
+      makes = λ o. places o ∙ k.makes o;
+    }
+
+-- there is no room yet for the client that would join next
+pub no-room-yet : (h : History) (n : ℕ) (queue : ℕ → List Waiter) (admitted made : ℕ → Bool)
+    → Follows h → n ≡ place h → IsQueued h queue admitted made → admitted n ≡ false
+no-room-yet h n queue admitted made f here k =
+    k.admits n ∙ ap is_some ((Fresh-follows h f).clients n (omega (arith, here)))
+
+-- for whom there is no room, that one stands nowhere
+pub no-room-nowhere : (c : ℕ) (queue queue' : ℕ → List Waiter) (admitted : ℕ → Bool)
+    → ((q : ℕ) → stands_in c (queue q) ≡ true → admitted c ≡ true) → admitted c ≡ false
+    → ((q : ℕ) → queue' q ≡ queue q) → (q : ℕ) → stands_in c (queue' q) ≡ false
+no-room-nowhere c queue queue' admitted law none same q =
+    ap (stands_in c) (same q) ∙ go (stands_in c (queue q)) refl
+  where
+    go : (b : Bool) → stands_in c (queue q) ≡ b → b ≡ false
+    go true e = absurd (false≢true (sym none ∙ law q e))
+    go false e = refl
+
+-- room that was made and given back
+pub room-back : (c : ℕ) (before between after : ℕ → Bool) → before c ≡ false
+    → ((d : ℕ) → between d ≡ ((c == d) || before d))
+    → ((d : ℕ) → after d ≡ (not (c == d) && between d)) → (d : ℕ) → after d ≡ before d
+room-back c before between after none made back d =
+    back d ∙ (ap (λ b. not (c == d) && b) (made d) ∙ go (c == d) refl)
+  where
+    go : (b : Bool) → (c == d) ≡ b → (not b && (b || before d)) ≡ before d
+    go true e =
+        let same : c ≡ d = grind (arith, nat_tests) in
+        sym (ap before (sym same) ∙ none)
+    go false e = refl
+
+died_lives : (b : Bool) (o : Option ℕ) → (not b && is_some o) ≡ is_some (cond b None o)
+died_lives true o = refl
+died_lives false o = refl
+
+-- a client that dies takes its call along, and the room for one
+pub queued-death : (h : History) (c : ℕ) (queue queue' : ℕ → List Waiter)
+    (admitted admitted' made made' : ℕ → Bool)
+    → ((q : ℕ) → queue' q ≡ without c (queue q))
+    → ((d : ℕ) → admitted' d ≡ (not (c == d) && admitted d))
+    → ((o : ℕ) → made' o ≡ made o)
+    → IsQueued h queue admitted made → IsQueued (h ▷ Death c) queue' admitted' made'
+queued-death h c queue queue' admitted admitted' made made' queues rooms places k =
+    record {
+      members = subst (λ (ws : List WaitingCall). Members (at_object h) (waiter h) ws queue')
+          (sym (open-death h c))
+          (members-out (at_object h) (waiter h) (open_calls h) c queue queue' queues k.members);
+      admits = λ d. rooms d ∙ ap (λ b. not (c == d) && b) (k.admits d)
+          ∙ died_lives (c == d) (client h d);
+      makes = λ o. places o ∙ k.makes o;
+    }

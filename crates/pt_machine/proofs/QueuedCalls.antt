@@ -1,0 +1,253 @@
+-- Queues behind a call that is answered at once: no call comes or goes by it.
+use Rattle.std.proofs.Common.{◌≡◌, ℕ, ◌==◌, Bool, true, false, not, cond, ◌&&◌, ◌||◌, List, [], ◌∷◌, ◌++◌, append-nil, Option, Some, None, is_some, inl, refl, sym, ap, ◌∙◌, subst, eq-eqb, arith}
+use Rattle.std.proofs.lemmas.Bool.{false≢true}
+use Rattle.std.proofs.lemmas.Bool.Decides.{nat_tests}
+use Rattle.pt_types.specs.declared.call.Call.{Call as Asked}
+use Rattle.pt_types.specs.declared.call.ObjectKind.{ObjectKind}
+use Rattle.pt_types.specs.declared.outcome.Outcome.{Outcome}
+use Rattle.pt_types.specs.declared.outcome.Outcome.TheVariants.{Done, Serial, Eperm, Einval, Ebusy, Eagain, Edeadlk, Etimedout, Eownerdead, Enotrecoverable}
+use Rattle.pt_types.specs.Operations.{Operation, Makes, Ends, Acquires, Unlocks, Restores, Rwunlocks, Awaits, Signals, Broadcasts, Arrives, operation, ObjectClass, clock_of}
+use Rattle.pt_types.specs.MutexTable.{is_number}
+use Rattle.pt_waitq.specs.declared.waiter.Waiter.{Waiter}
+use Rattle.pt_waitq.specs.Queues.{In, stands_in}
+use Rattle.pt_waitq.specs.ListLemmas.{any-in}
+use Rattle.pt_model.specs.declared.entry.Entry.TheVariants.{Call}
+use Rattle.pt_model.specs.Histories.{History, ◌▷◌, place}
+use Rattle.pt_model.specs.Objects.{is_class, find, kind_by_operation, kind_of}
+use Rattle.pt_model.specs.Records.{WaitingCall, Move}
+use Rattle.pt_model.specs.Answers.{open_calls}
+use Rattle.pt_model.specs.Moves.{cause_by_operation, cause_by, move_or, moved, at_object}
+use Rattle.pt_model.specs.Verdicts.{is_awaited}
+use Rattle.pt_model.specs.Steps.{Step, Follows}
+use Rattle.pt_model.proofs.Effects.{Removes, upon, succeeds, act, effect, Allowed}
+use Rattle.pt_model.proofs.Allowances.{allowed}
+use Rattle.pt_model.proofs.Readings.{stood-call}
+use Rattle.pt_model.proofs.Sound.{Fresh-follows}
+use Rattle.pt_model.proofs.Opens.{open-call}
+use Rattle.pt_model.proofs.Named.{known_exists}
+use Rattle.pt_model.proofs.Seats.{unused-at}
+use Rattle.pt_state.specs.Calling.{is_done, is_plain}
+use Rattle.pt_state.proofs.StepLemmas.{called}
+use Rattle.pt_machine.specs.Queued.{IsQueued}
+use Rattle.pt_machine.proofs.QueuedSame.{members-carry}
+
+-- a call that is told anything but 0 moves no wait
+told-cause : (h : History) (moves : ℕ → Option Move) (c : ℕ) (call : Asked) (x : Outcome) (j : ℕ)
+    → is_done x ≡ false → cause_by h moves (Call c call (Some x)) j ≡ None
+told-cause h moves c call Done j e = absurd cc
+told-cause h moves c call Serial j e = refl
+told-cause h moves c call Eperm j e = refl
+told-cause h moves c call Einval j e = refl
+told-cause h moves c call Ebusy j e = refl
+told-cause h moves c call Eagain j e = refl
+told-cause h moves c call Edeadlk j e = refl
+told-cause h moves c call Etimedout j e = refl
+told-cause h moves c call Eownerdead j e = refl
+told-cause h moves c call Enotrecoverable j e = refl
+
+-- nor does it make an object or end one
+told-kind : (h : History) (c : ℕ) (call : Asked) (x : Outcome) (o : ℕ) → is_done x ≡ false
+    → kind_of (h ▷ Call c call (Some x)) o ≡ kind_of h o
+told-kind h c call Done o e = absurd cc
+told-kind h c call Serial o e = refl
+told-kind h c call Eperm o e = refl
+told-kind h c call Einval o e = refl
+told-kind h c call Ebusy o e = refl
+told-kind h c call Eagain o e = refl
+told-kind h c call Edeadlk o e = refl
+told-kind h c call Etimedout o e = refl
+told-kind h c call Eownerdead o e = refl
+told-kind h c call Enotrecoverable o e = refl
+
+-- a plain operation moves no wait
+plain-cause : (h : History) (moves : ℕ → Option Move) (d : Operation) (j : ℕ) → is_plain d ≡ true
+    → cause_by_operation h moves d j ≡ None
+plain-cause h moves (Makes n kind) j e = absurd cc
+plain-cause h moves (Ends n class) j e = absurd cc
+plain-cause h moves (Acquires n lock_kind how) j e = refl
+plain-cause h moves (Unlocks n) j e = refl
+plain-cause h moves (Restores n) j e = refl
+plain-cause h moves (Rwunlocks n) j e = refl
+plain-cause h moves (Awaits n k deadline) j e = refl
+plain-cause h moves (Signals n) j e = absurd cc
+plain-cause h moves (Broadcasts n) j e = absurd cc
+plain-cause h moves (Arrives n) j e = refl
+
+-- nor does it make an object or end one
+plain-kind : (h : History) (d : Operation) (before : Option ObjectKind) (o : ℕ) → is_plain d ≡ true
+    → kind_by_operation h d before o ≡ before
+plain-kind h (Makes n kind) before o e = absurd cc
+plain-kind h (Ends n class) before o e = absurd cc
+plain-kind h (Acquires n lock_kind how) before o e = refl
+plain-kind h (Unlocks n) before o e = refl
+plain-kind h (Restores n) before o e = refl
+plain-kind h (Rwunlocks n) before o e = refl
+plain-kind h (Awaits n k deadline) before o e = refl
+plain-kind h (Signals n) before o e = absurd cc
+plain-kind h (Broadcasts n) before o e = absurd cc
+plain-kind h (Arrives n) before o e = refl
+
+module _ (h : History) (c : ℕ) (call : Asked) (x : Outcome) (f : Follows h)
+    (s : Step h (Call c call (Some x))) where
+  -- what it did is what its verdict allows
+  pub may-do : Allowed h c (effect h c call (Some x))
+  may-do =
+      subst (λ (r : Option Outcome). Allowed h c (effect h c call r))
+      (sym (called h c call (Some x) s).told) (allowed h c call)
+
+  -- a call that is answered leaves no call waiting, and takes none away
+  pub open-answered : open_calls (h ▷ Call c call (Some x)) ≡ open_calls h
+  open-answered =
+      open-call h c call (Some x) (Fresh-follows h f) (called h c call (Some x) s).alive may-do
+      ∙ (ap (λ ws. open_calls h ++ ws) (sym (stood-call h c call (Some x)))
+      ∙ append-nil (open_calls h))
+
+  -- one that moves no wait leaves each queue as it was
+  pub queued-answered : (queue queue' : ℕ → List Waiter) (admitted admitted' made made' : ℕ → Bool)
+      → ((q : ℕ) → queue' q ≡ queue q) → ((d : ℕ) → admitted' d ≡ admitted d)
+      → ((o : ℕ) → made' o ≡ is_some (kind_of (h ▷ Call c call (Some x)) o))
+      → ((j : ℕ) → cause_by h (moved h) (Call c call (Some x)) j ≡ None)
+      → IsQueued h queue admitted made
+      → IsQueued (h ▷ Call c call (Some x)) queue' admitted' made'
+  queued-answered queue queue' admitted admitted' made made' queues rooms there still k =
+      record {
+        members = members-carry h (h ▷ Call c call (Some x)) queue queue' queues open-answered
+            (λ w i. ap (λ u. move_or (place h) u (moved h w.place)) (still w.place)) k.members;
+        admits = λ d. rooms d ∙ k.admits d;
+        makes = there;
+      }
+
+  -- a call that is told anything but 0
+  pub queued-told : (queue queue' : ℕ → List Waiter) (admitted admitted' made made' : ℕ → Bool)
+      → ((q : ℕ) → queue' q ≡ queue q) → ((d : ℕ) → admitted' d ≡ admitted d)
+      → ((o : ℕ) → made' o ≡ made o) → is_done x ≡ false
+      → IsQueued h queue admitted made
+      → IsQueued (h ▷ Call c call (Some x)) queue' admitted' made'
+  queued-told queue queue' admitted admitted' made made' queues rooms there other k =
+      queued-answered queue queue' admitted admitted' made made' queues rooms
+      (λ o. there o ∙ (k.makes o ∙ ap is_some (sym (told-kind h c call x o other))))
+      (λ j. told-cause h (moved h) c call x j other) k
+
+module _ (h : History) (c : ℕ) (call : Asked) (f : Follows h)
+    (s : Step h (Call c call (Some Done))) where
+  -- what a call of this operation did is what its verdict allows
+  may-do-operation : (d : Operation) → operation call ≡ d → Allowed h c (succeeds h d)
+  may-do-operation d e =
+      subst (λ (x : Operation). Allowed h c (act h c (clock_of call) x (Some Done))) e
+      (may-do h c call Done f s)
+
+  -- a call that makes no object, ends none and wakes no wait
+  pub queued-plain : (queue queue' : ℕ → List Waiter) (admitted admitted' made made' : ℕ → Bool)
+      → ((q : ℕ) → queue' q ≡ queue q) → ((d : ℕ) → admitted' d ≡ admitted d)
+      → ((o : ℕ) → made' o ≡ made o) → is_plain (operation call) ≡ true
+      → IsQueued h queue admitted made
+      → IsQueued (h ▷ Call c call (Some Done)) queue' admitted' made'
+  queued-plain queue queue' admitted admitted' made made' queues rooms there plain k =
+      queued-answered h c call Done f s queue queue' admitted admitted' made made' queues rooms
+      (λ o. there o
+      ∙ (k.makes o ∙ ap is_some (sym (plain-kind h (operation call) (kind_of h o) o plain))))
+      (λ j. plain-cause h (moved h) (operation call) j plain) k
+
+  -- an object is made: its number is the place of its call
+  pub queued-made : (n : List ℕ) (kind : ObjectKind) → operation call ≡ Makes n kind
+      → (queue queue' : ℕ → List Waiter) (admitted admitted' made made' : ℕ → Bool)
+      → ((q : ℕ) → queue' q ≡ queue q) → ((d : ℕ) → admitted' d ≡ admitted d)
+      → ((o : ℕ) → made' o ≡ ((place h == o) || made o))
+      → IsQueued h queue admitted made
+      → IsQueued (h ▷ Call c call (Some Done)) queue' admitted' made'
+  queued-made n kind e queue queue' admitted admitted' made made' queues rooms there k =
+      queued-answered h c call Done f s queue queue' admitted admitted' made made' queues rooms
+      (λ o. there o ∙ (ap (λ b. (place h == o) || b) (k.makes o) ∙ (one_more (place h == o)
+      (kind_of h o) ∙ ap (λ (d : Operation). is_some (kind_by_operation h d (kind_of h o) o))
+      (sym e))))
+      (λ j. ap (λ (d : Operation). cause_by_operation h (moved h) d j) e) k
+    where
+      one_more : (b : Bool) (before : Option ObjectKind)
+          → (b || is_some before) ≡ is_some (cond b (Some kind) before)
+      one_more true before = refl
+      one_more false before = refl
+
+  -- a destroy that succeeds ends an object at which no call stands
+  pub end-unawaited : (n : List ℕ) (class : ObjectClass) → operation call ≡ Ends n class → (o : ℕ)
+      → find h n class ≡ Some o → is_awaited h o ≡ false
+  end-unawaited n class e o found =
+      unused-at h class o
+      (subst (λ (x : Option ℕ). Allowed h c (upon x (Removes n class))) found
+      (may-do-operation (Ends n class) e)).1
+
+  -- an object is ended, and its queue with it
+  pub queued-ended : (n : List ℕ) (class : ObjectClass) → operation call ≡ Ends n class → (q : ℕ)
+      → find h n class ≡ Some q
+      → (queue queue' : ℕ → List Waiter) (admitted admitted' made made' : ℕ → Bool)
+      → ((o : ℕ) → queue' o ≡ queue o) → ((d : ℕ) → admitted' d ≡ admitted d)
+      → ((o : ℕ) → made' o ≡ (not (q == o) && made o))
+      → IsQueued h queue admitted made
+      → IsQueued (h ▷ Call c call (Some Done)) queue' admitted' made'
+  queued-ended n class e q found queue queue' admitted admitted' made made' queues rooms there k =
+      queued-answered h c call Done f s queue queue' admitted admitted' made made' queues rooms
+      (λ o. there o ∙ (ap (λ b. not (q == o) && b) (k.makes o) ∙ (one_fewer (q == o) (kind_of h o)
+      ∙ (ap (λ x. is_some (cond (is_number x o) None (kind_of h o))) (sym found)
+      ∙ ap (λ (d : Operation). is_some (kind_by_operation h d (kind_of h o) o)) (sym e)))))
+      (λ j. ap (λ (d : Operation). cause_by_operation h (moved h) d j) e) k
+    where
+      one_fewer : (b : Bool) (before : Option ObjectKind)
+          → (not b && is_some before) ≡ is_some (cond b None before)
+      one_fewer true before = refl
+      one_fewer false before = refl
+
+module _ (h : History) (queue : ℕ → List Waiter) (admitted made : ℕ → Bool) (f : Follows h)
+    (k : IsQueued h queue admitted made) where
+  -- no queue has the number of a place that isn't there yet
+  pub unmade-next : made (place h) ≡ false
+  unmade-next =
+      k.makes (place h)
+      ∙ ap is_some ((Fresh-follows h f).kinds (place h) (omega arith))
+
+  -- an object that is found has its queue
+  pub made-found : (n : List ℕ) (class : ObjectClass) (o : ℕ) → find h n class ≡ Some o
+      → made o ≡ true
+  made-found n class o e = k.makes o ∙ there (kind_of h o) (known_exists h f class o (n, e))
+    where
+      there : (x : Option ObjectKind) → is_class x class ≡ true → is_some x ≡ true
+      there None t = absurd cc
+      there (Some kind) t = refl
+
+  -- where no call stands the queue is empty
+  pub unawaited-empty : (o : ℕ) → is_awaited h o ≡ false → queue o ≡ []
+  unawaited-empty o e = go (queue o) refl
+    where
+      go : (vs : List Waiter) → queue o ≡ vs → queue o ≡ []
+      go [] same = same
+      go (v ∷ vs) same =
+          let first : In v (v ∷ vs) = inl refl in
+          let r = k.members.known o v
+          (subst (λ (us : List Waiter). In v us) (sym same) first) in
+          absurd (false≢true (sym e ∙ any-in (λ (w : WaitingCall). at_object h w == o)
+          (open_calls h) r.0 r.1 (eq-eqb (at_object h r.0) o r.2)))
+
+-- a queue that isn't made is empty
+pub unmade-empty : (queue : ℕ → List Waiter) (made : ℕ → Bool)
+    → ((c q : ℕ) → stands_in c (queue q) ≡ true → made q ≡ true)
+    → (o : ℕ) → made o ≡ false → queue o ≡ []
+unmade-empty queue made law o e = go (queue o) refl
+  where
+    go : (vs : List Waiter) → queue o ≡ vs → queue o ≡ []
+    go [] same = same
+    go (v ∷ vs) same =
+        let here : stands_in v.client (queue o) ≡ true =
+        ap (stands_in v.client) same
+        ∙ ap (λ b. b || stands_in v.client vs) (eq-eqb v.client v.client refl) in
+        absurd (false≢true (sym e ∙ law v.client o here))
+
+-- a queue that was made and taken away again
+pub made-back : (o : ℕ) (made made' made'' : ℕ → Bool) → made o ≡ false
+    → ((q : ℕ) → made' q ≡ ((o == q) || made q))
+    → ((q : ℕ) → made'' q ≡ (not (o == q) && made' q)) → (q : ℕ) → made'' q ≡ made q
+made-back o made made' made'' new more fewer q =
+    fewer q ∙ (ap (λ b. not (o == q) && b) (more q) ∙ go (o == q) refl)
+  where
+    go : (b : Bool) → (o == q) ≡ b → (not b && (b || made q)) ≡ made q
+    go true e =
+        let here : o ≡ q = grind (arith, nat_tests) in
+        sym (subst (λ (p : ℕ). made p ≡ false) here new)
+    go false e = refl

@@ -1,0 +1,170 @@
+-- A call that is left waiting takes its place in a queue.
+use Rattle.std.proofs.Common.{◌≡◌, ◌⊎◌, inl, inr, ℕ, ◌<◌, ◌==◌, Bool, true, false, cond, List, [], ◌∷◌, ◌++◌, Option, None, refl, sym, ap, ◌∙◌, subst, arith}
+use Rattle.std.proofs.lemmas.Bool.Decides.{nat_tests}
+use Rattle.std.specs.List.{AllByRecursion as Each}
+use Rattle.pt_types.specs.declared.call.Call.{Call as Asked}
+use Rattle.pt_types.specs.declared.outcome.Outcome.{Outcome}
+use Rattle.pt_types.specs.Operations.{operation, clock_of}
+use Rattle.pt_waitq.specs.declared.waiter.Waiter.{Waiter}
+use Rattle.pt_waitq.specs.Queues.{stands_in, IsLatest, insert_in_order}
+use Rattle.pt_waitq.specs.ListLemmas.{any-out}
+use Rattle.pt_waitq.proofs.CallerLemmas.{latest-after}
+use Rattle.pt_waitq.proofs.MemberLemmas.{members-in}
+use Rattle.pt_model.specs.declared.entry.Entry.TheVariants.{Call}
+use Rattle.pt_model.specs.Searches.{In}
+use Rattle.pt_model.specs.Histories.{History, ◌▷◌, place}
+use Rattle.pt_model.specs.Records.{WaitingCall}
+use Rattle.pt_model.specs.Answers.{open_calls}
+use Rattle.pt_model.specs.Moves.{at_object}
+use Rattle.pt_model.specs.Steps.{Step, Follows}
+use Rattle.pt_model.proofs.Lists.{In-append_left, In-append_right, In-append_cases}
+use Rattle.pt_model.proofs.Effects.{Effect, Idle, Creates, Removes, Relocks, Frees, Mends, Returns, Wakes, Waits, effect, Allowed}
+use Rattle.pt_model.proofs.Allowances.{allowed}
+use Rattle.pt_model.proofs.Changes.{left_by}
+use Rattle.pt_model.proofs.Readings.{stood-call}
+use Rattle.pt_model.proofs.Sound.{Fresh-follows}
+use Rattle.pt_model.proofs.Opens.{open-call}
+use Rattle.pt_model.proofs.OneEach.{none_of_client}
+use Rattle.pt_model.proofs.Stands.{stands-operation}
+use Rattle.pt_state.proofs.StepLemmas.{called}
+use Rattle.pt_machine.specs.Queued.{waiter, IsQueued, CanStand}
+use Rattle.pt_machine.proofs.ArrivalBounds.{waiters-below, arrival-new, object-there}
+
+-- an effect leaves one call waiting at most
+alone : (E : Effect) (w : WaitingCall) → In w (left_by E) → left_by E ≡ w ∷ []
+alone (Waits u) w (inl i) = ap (λ (v : WaitingCall). v ∷ []) (sym i)
+alone (Waits u) w (inr i) = absurd i
+alone Idle w i = absurd i
+alone (Creates n kind) w i = absurd i
+alone (Removes n s q) w i = absurd i
+alone (Relocks m) w i = absurd i
+alone (Frees m) w i = absurd i
+alone (Mends m) w i = absurd i
+alone (Returns r) w i = absurd i
+alone (Wakes n all) w i = absurd i
+
+-- a call that has just come, and is the only one that the entry leaves
+record Came (h : History) (c : ℕ) (call : Asked) : Type 0 where
+  waiting : WaitingCall
+  at : waiting.place ≡ place h
+  by : waiting.client ≡ c
+  opens : open_calls (h ▷ Call c call None) ≡ open_calls h ++ waiting ∷ []
+
+came : (h : History) → Follows h → (c : ℕ) (call : Asked) → Step h (Call c call None)
+    → Came h c call
+came h f c call s =
+    let known = called h c call None s in
+    let left = stands-operation h c (clock_of call) (operation call) (sym known.told) in
+    let own = subst (λ (ws : List WaitingCall). In left.0 ws) (stood-call h c call None) left.1.0 in
+    let may = subst (λ (r : Option Outcome). Allowed h c (effect h c call r)) (sym known.told)
+    (allowed h c call) in
+    record {
+      waiting = left.0;
+      at = left.1.1.0;
+      by = left.1.1.1;
+      opens = open-call h c call None (Fresh-follows h f) known.alive may
+          ∙ ap (λ ws. open_calls h ++ ws) (alone (effect h c call None) left.0 own);
+    }
+
+module _ (h : History) (f : Follows h) (c : ℕ) (call : Asked) (s : Step h (Call c call None))
+    (queue : ℕ → List Waiter) (admitted made : ℕ → Bool) (k : IsQueued h queue admitted made)
+  where
+    -- behind the call
+    abbrev after : History
+    after = h ▷ Call c call None
+
+    new : Came h c call
+    new = came h f c call s
+
+    -- it is open
+    there : In new.waiting (open_calls after)
+    there =
+        subst (λ (ws : List WaitingCall). In new.waiting ws) (sym new.opens)
+        (In-append_right new.waiting (open_calls h) (new.waiting ∷ []) (inl refl))
+
+    -- its client had no open call before
+    nowhere : (q : ℕ) → stands_in c (queue q) ≡ false
+    nowhere q = go (stands_in c (queue q)) refl
+      where
+        go : (b : Bool) → stands_in c (queue q) ≡ b → stands_in c (queue q) ≡ false
+        go false e = e
+        go true e =
+            let v = any-out (λ (x : Waiter). x.client == c) (queue q) e in
+            let w = k.members.known q v.0 v.1 in
+            let test : (v.0.client == c) ≡ true = v.2 in
+            let at : v.0.client ≡ c = grind (arith, nat_tests) in
+            let own : w.0.client ≡ c = ap (λ (x : Waiter). x.client) (sym w.3) ∙ at in
+            absurd (
+            none_of_client (open_calls h) c w.0 (called h c call None s).unblocked w.1 own)
+
+    -- all others arrived before
+    latest : IsLatest (waiter after new.waiting) (queue (at_object after new.waiting))
+    latest =
+        latest-after (waiter after new.waiting) (queue (at_object after new.waiting))
+        (subst (λ (n : ℕ). Each (λ (v : Waiter). v.moved < n)
+        (queue (at_object after new.waiting)))
+        (sym (arrival-new h f new.waiting new.at))
+        (waiters-below h queue f k.members (at_object after new.waiting)))
+
+    can-stand : CanStand after c queue admitted made
+    can-stand =
+        record {
+          call = new.waiting;
+          «open» = there;
+          its = new.by;
+          room = k.admits c ∙ (called h c call None s).alive;
+          nowhere = nowhere;
+          there = k.makes (at_object after new.waiting)
+              ∙ object-there after (f, s) new.waiting there;
+          latest = latest;
+        }
+
+    -- the call may take its place
+    pub can-stand-left : (g : History) → g ≡ h ▷ Call c call None
+        → CanStand g c queue admitted made
+    can-stand-left g e =
+        subst (λ (x : History). CanStand x c queue admitted made) (sym e) can-stand
+
+    -- the queue of each object is as before, but for the one where the call stands
+    abbrev Puts : History → (ℕ → List Waiter) → Type 0
+    Puts g queue' =
+        (w : WaitingCall) → In w (open_calls g) → w.client ≡ c → (q : ℕ)
+        → queue' q ≡ cond (at_object g w == q) (insert_in_order (waiter g w) (queue q)) (queue q)
+
+    queued : (queue' : ℕ → List Waiter) (admitted' made' : ℕ → Bool) → Puts after queue'
+        → ((d : ℕ) → admitted' d ≡ admitted d) → ((o : ℕ) → made' o ≡ made o)
+        → IsQueued after queue' admitted' made'
+    queued queue' admitted' made' puts admits makes =
+        record {
+          members = members-in (at_object after) (waiter after) (open_calls h) (open_calls after)
+              new.waiting queue queue' split there old
+              (puts new.waiting there new.by) k.members;
+          admits = λ d. admits d ∙ k.admits d;
+          makes = λ o. makes o ∙ k.makes o;
+        }
+      where
+        pick : (w : WaitingCall) → In w (open_calls h) ⊎ In w (new.waiting ∷ [])
+            → (w ≡ new.waiting) ⊎ In w (open_calls h)
+        pick w (inl i) = inr i
+        pick w (inr (inl e)) = inl e
+        pick w (inr (inr i)) = absurd i
+
+        split : (w : WaitingCall) → In w (open_calls after)
+            → (w ≡ new.waiting) ⊎ In w (open_calls h)
+        split w i =
+            pick w (In-append_cases w (open_calls h) (new.waiting ∷ [])
+            (subst (λ (ws : List WaitingCall). In w ws) new.opens i))
+
+        old : (w : WaitingCall) → In w (open_calls h) → In w (open_calls after)
+        old w i =
+            subst (λ (ws : List WaitingCall). In w ws) (sym new.opens)
+            (In-append_left w (open_calls h) (new.waiting ∷ []) i)
+
+    -- and once it has, the queues are those of the open calls
+    pub queued-left : (g : History) → g ≡ h ▷ Call c call None
+        → (queue' : ℕ → List Waiter) (admitted' made' : ℕ → Bool) → Puts g queue'
+        → ((d : ℕ) → admitted' d ≡ admitted d) → ((o : ℕ) → made' o ≡ made o)
+        → IsQueued g queue' admitted' made'
+    queued-left g e queue' admitted' made' puts admits makes =
+        subst (λ (x : History). Puts x queue' → IsQueued x queue' admitted' made') (sym e)
+        (λ ps. queued queue' admitted' made' ps admits makes) puts

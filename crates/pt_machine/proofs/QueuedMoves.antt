@@ -1,0 +1,121 @@
+-- One wait is moved: it leaves its condition's queue, and takes its place in its mutex's.
+use Rattle.std.proofs.Common.{◌≡◌, ℕ, ◌<◌, Bool, true, false, cond, ◌==◌, List, Option, Some, is_some, refl, sym, ap, ◌∙◌, subst, arith}
+use Rattle.std.proofs.lemmas.Bool.Decides.{nat_tests}
+use Rattle.std.proofs.lemmas.Bool.{false≢true}
+use Rattle.std.specs.List.{AllByRecursion as Each}
+use Rattle.pt_waitq.specs.declared.waiter.Waiter.{Waiter}
+use Rattle.pt_waitq.specs.Queues.{stands_in, without, insert_in_order}
+use Rattle.pt_waitq.specs.Members.{Members}
+use Rattle.pt_waitq.proofs.MemberLemmas.{members-move}
+use Rattle.pt_waitq.proofs.CallerLemmas.{latest-after, without-stands, without-each}
+use Rattle.pt_model.specs.declared.entry.Entry.{Entry}
+use Rattle.pt_model.specs.declared.entry.Cause.{Cause}
+use Rattle.pt_model.specs.Searches.{In}
+use Rattle.pt_model.specs.Histories.{History, ◌▷◌, place}
+use Rattle.pt_model.specs.Clients.{is_alive}
+use Rattle.pt_model.specs.Objects.{kind_of}
+use Rattle.pt_model.specs.Records.{WaitingCall, Move}
+use Rattle.pt_model.specs.Answers.{open_calls}
+use Rattle.pt_model.specs.Moves.{arrival_by, moved, object_by, at_object}
+use Rattle.pt_model.specs.Steps.{Follows}
+use Rattle.pt_model.proofs.Found.{one_open, open_alive}
+use Rattle.pt_model.proofs.OneEach.{one_each}
+use Rattle.pt_machine.specs.Queued.{waiter_by, waiter, IsQueued, CanStand}
+use Rattle.pt_machine.proofs.ArrivalBounds.{waiters-below, object-there}
+
+-- an entry moves this open call, and changes nothing else that queues are read off
+pub record MovesOne (h : History) (e : Entry) (u : WaitingCall) : Type 0 where
+  pub known : In u (open_calls h)
+  pub cause : Cause
+  pub here : moved (h ▷ e) u.place ≡ Some (record { at = place h; cause = cause })
+  pub others : (w : WaitingCall) → In w (open_calls h) → (w.place == u.place) ≡ false
+      → moved (h ▷ e) w.place ≡ moved h w.place
+  pub calls : open_calls (h ▷ e) ≡ open_calls h
+  pub lives : (c : ℕ) → is_alive (h ▷ e) c ≡ is_alive h c
+  pub kinds : (o : ℕ) → kind_of (h ▷ e) o ≡ kind_of h o
+
+module _ (h : History) (e : Entry) (u : WaitingCall) (f : Follows (h ▷ e)) (m : MovesOne h e u)
+    (queue queue' : ℕ → List Waiter) (admitted admitted' made made' : ℕ → Bool)
+    (left : (q : ℕ) → queue' q ≡ without u.client (queue q))
+    (room : (c : ℕ) → admitted' c ≡ admitted c) (there : (o : ℕ) → made' o ≡ made o)
+    (k : IsQueued h queue admitted made) where
+  -- who is left in a queue came there before
+  left_before : (q : ℕ) → Each (λ v. v.moved < place h) (queue' q)
+  left_before q =
+      subst (λ (vs : List Waiter). Each (λ v. v.moved < place h) vs) (sym (left q))
+      (without-each (λ (v : Waiter). v.moved < place h) u.client (queue q)
+      (waiters-below h queue f.0 k.members q))
+
+  -- the call that is moved may take its place, once it has left its queue
+  pub can-stand-moved : CanStand (h ▷ e) u.client queue' admitted' made'
+  can-stand-moved =
+      record {
+        call = u;
+        «open» = now_open;
+        its = refl;
+        room = room u.client ∙ (k.admits u.client ∙ open_alive h u m.known);
+        nowhere = λ q. ap (stands_in u.client) (left q) ∙ without-stands u.client (queue q);
+        there = there at ∙ (k.makes at
+            ∙ (ap is_some (sym (m.kinds at)) ∙ object-there (h ▷ e) f u now_open));
+        latest = latest-after (waiter (h ▷ e) u) (queue' at)
+            (subst (λ (n : ℕ). Each (λ v. v.moved < n) (queue' at)) (sym new) (left_before at));
+      }
+    where
+      at : ℕ
+      at = at_object (h ▷ e) u
+
+      now_open : In u (open_calls (h ▷ e))
+      now_open = subst (λ (ws : List WaitingCall). In u ws) (sym m.calls) m.known
+
+      new : (waiter (h ▷ e) u).moved ≡ place h
+      new = ap (λ (x : Option Move). (arrival_by x u.place).0) m.here
+
+  -- another client's call is moved as before
+  other : (w : WaitingCall) → In w (open_calls h) → (w.client == u.client) ≡ false
+      → moved (h ▷ e) w.place ≡ moved h w.place
+  other w i ne = go (w.place == u.place) refl
+    where
+      go : (b : Bool) → (w.place == u.place) ≡ b → moved (h ▷ e) w.place ≡ moved h w.place
+      go false t = m.others w i t
+      go true t =
+          let at : w.place ≡ u.place = grind (arith, nat_tests) in
+          let own : w.client ≡ u.client =
+          ap (λ (v : WaitingCall). v.client) (one_open h f.0 w u i m.known at) in
+          let same : (w.client == u.client) ≡ true = grind (arith, nat_tests) in
+          absurd (false≢true (sym ne ∙ same))
+
+  -- and no other call is its client's
+  one_client : (w : WaitingCall) → In w (open_calls h) → (w.client == u.client) ≡ true → w ≡ u
+  one_client w i t =
+      let own : w.client ≡ u.client = grind (arith, nat_tests) in
+      one_each h f.0 w u i m.known own
+
+  -- once it has taken it, the queues are those of the history with the entry
+  pub queued-moved : (queue'' : ℕ → List Waiter) (admitted'' made'' : ℕ → Bool)
+      → ((q : ℕ) → queue'' q
+      ≡ cond (at_object (h ▷ e) u == q) (insert_in_order (waiter (h ▷ e) u) (queue' q))
+      (queue' q))
+      → ((c : ℕ) → admitted'' c ≡ admitted' c) → ((o : ℕ) → made'' o ≡ made' o)
+      → IsQueued (h ▷ e) queue'' admitted'' made''
+  queued-moved queue'' admitted'' made'' taken room' there' =
+      record {
+        members = subst
+            (λ (ws : List WaitingCall). Members (at_object (h ▷ e)) (waiter (h ▷ e)) ws queue'')
+            (sym m.calls)
+            (members-move (at_object h) (at_object (h ▷ e)) (waiter h) (waiter (h ▷ e))
+            (open_calls h) u queue queue'' m.known one_client
+            (λ w i ne. (
+              ap (λ (x : Option Move). object_by w.role x w.object) (other w i ne),
+              ap (λ (x : Option Move). waiter_by x w) (other w i ne),
+            )) put k.members);
+        admits = λ c. room' c ∙ (room c ∙ (k.admits c ∙ sym (m.lives c)));
+        makes = λ o. there' o ∙ (there o ∙ (k.makes o ∙ ap is_some (sym (m.kinds o))));
+      }
+    where
+      put : (q : ℕ) → queue'' q
+          ≡ cond (at_object (h ▷ e) u == q)
+          (insert_in_order (waiter (h ▷ e) u) (without u.client (queue q)))
+          (without u.client (queue q))
+      put q =
+          taken q ∙ ap (λ (vs : List Waiter). cond (at_object (h ▷ e) u == q)
+          (insert_in_order (waiter (h ▷ e) u) vs) vs) (left q)

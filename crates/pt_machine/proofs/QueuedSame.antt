@@ -1,0 +1,104 @@
+-- Queues that are right still: nothing that they are read off has changed.
+use Rattle.std.proofs.Common.{◌≡◌, ℕ, Bool, List, Option, is_some, sym, ap, ◌∙◌, subst}
+use Rattle.pt_waitq.specs.declared.waiter.Waiter.{Waiter}
+use Rattle.pt_waitq.specs.Queues.{IsInKeyOrder}
+use Rattle.pt_waitq.specs.Members.{Members}
+use Rattle.pt_waitq.proofs.MemberLemmas.{members-agree}
+use Rattle.pt_model.specs.declared.entry.Entry.{Entry}
+use Rattle.pt_model.specs.Searches.{In}
+use Rattle.pt_model.specs.Histories.{History, ◌▷◌, history}
+use Rattle.pt_model.specs.Clients.{is_alive}
+use Rattle.pt_model.specs.Objects.{kind_of}
+use Rattle.pt_model.specs.Records.{WaitingCall, Move}
+use Rattle.pt_model.specs.Answers.{open_calls}
+use Rattle.pt_model.specs.Moves.{moved, object_by, at_object}
+use Rattle.pt_model.proofs.Histories.{history-push}
+use Rattle.pt_history.specs.Stored.{Stored}
+use Rattle.pt_state.specs.declared.state.State.{State}
+use Rattle.pt_state.specs.Adds.{Adds, Stays, past}
+use Rattle.pt_machine.specs.Queued.{waiter_by, waiter, IsQueued}
+
+-- the same queues, list by list
+pub members-same : {X : Type 0} (at : X → ℕ) (reading : X → Waiter) (calls : List X)
+    (queue queue' : ℕ → List Waiter) → ((q : ℕ) → queue' q ≡ queue q)
+    → Members at reading calls queue → Members at reading calls queue'
+members-same at reading calls queue queue' same k =
+    record {
+      in_order = λ q. subst IsInKeyOrder (sym (same q)) (k.in_order q);
+      known = λ q v i. k.known q v (subst (λ (xs : List Waiter). In v xs) (same q) i);
+      held = λ w i.
+          subst (λ (xs : List Waiter). In (reading w) xs) (sym (same (at w))) (k.held w i);
+    }
+
+-- calls that were moved as they were before stand where they stood, and wait as they did
+pub stands-same : (h g : History) (w : WaitingCall) → moved g w.place ≡ moved h w.place
+    → (at_object g w ≡ at_object h w) × (waiter g w ≡ waiter h w)
+stands-same h g w e = (
+  ap (λ (v : Option Move). object_by w.role v w.object) e,
+  ap (λ (v : Option Move). waiter_by v w) e,
+)
+
+-- the same calls, each moved as it was before, in the same queues
+pub members-carry : (h g : History) (queue queue' : ℕ → List Waiter)
+    → ((q : ℕ) → queue' q ≡ queue q) → open_calls g ≡ open_calls h
+    → ((w : WaitingCall) → In w (open_calls h) → moved g w.place ≡ moved h w.place)
+    → Members (at_object h) (waiter h) (open_calls h) queue
+    → Members (at_object g) (waiter g) (open_calls g) queue'
+members-carry h g queue queue' queues calls moves k =
+    subst (λ (ws : List WaitingCall). Members (at_object g) (waiter g) ws queue') (sym calls)
+    (members-agree (at_object h) (at_object g) (waiter h) (waiter g) (open_calls h) queue'
+    (λ w i. stands-same h g w (moves w i))
+    (members-same (at_object h) (waiter h) (open_calls h) queue queue' queues k))
+
+-- one entry more, by which no call comes, goes or is moved, no client comes or goes, and no
+-- object is made or removed
+pub queued-same : (h : History) (e : Entry) (queue queue' : ℕ → List Waiter)
+    (admitted admitted' made made' : ℕ → Bool)
+    → ((q : ℕ) → queue' q ≡ queue q) → ((c : ℕ) → admitted' c ≡ admitted c)
+    → ((o : ℕ) → made' o ≡ made o)
+    → open_calls (h ▷ e) ≡ open_calls h
+    → ((w : WaitingCall) → In w (open_calls h) → moved (h ▷ e) w.place ≡ moved h w.place)
+    → ((c : ℕ) → is_alive (h ▷ e) c ≡ is_alive h c)
+    → ((o : ℕ) → is_some (kind_of (h ▷ e) o) ≡ is_some (kind_of h o))
+    → IsQueued h queue admitted made → IsQueued (h ▷ e) queue' admitted' made'
+queued-same h e queue queue' _ _ _ _ queues rooms places calls moves lives kinds k =
+    record {
+      members = members-carry h (h ▷ e) queue queue' queues calls moves k.members;
+      admits = λ c. rooms c ∙ k.admits c ∙ sym (lives c);
+      makes = λ o. places o ∙ k.makes o ∙ sym (kinds o);
+    }
+
+-- no entry more, and the same queues
+pub queued-kept : (h : History) (queue queue' : ℕ → List Waiter)
+    (admitted admitted' made made' : ℕ → Bool)
+    → ((q : ℕ) → queue' q ≡ queue q) → ((c : ℕ) → admitted' c ≡ admitted c)
+    → ((o : ℕ) → made' o ≡ made o)
+    → IsQueued h queue admitted made → IsQueued h queue' admitted' made'
+queued-kept h queue queue' admitted admitted' made made' queues rooms places k =
+    record {
+      members = members-same (at_object h) (waiter h) (open_calls h) queue queue' queues k.members;
+      admits = λ c. rooms c ∙ k.admits c;
+      makes = λ o. places o ∙ k.makes o;
+    }
+
+module _ {A : Type 0} (old new : State A) where
+  -- the history of a state with one entry more
+  pub past-adds : (e : Entry) → Adds old e new → past new ≡ past old ▷ e
+  past-adds e a =
+      ap (λ (x : Stored). history x.entries) a.stored ∙ history-push old.stored.entries e
+
+  -- and of one to which none was added
+  pub past-stays : Stays old new → past new ≡ past old
+  past-stays s = ap (λ (x : Stored). history x.entries) s.stored
+
+  -- queues that are right for the history with its entry are right for the state that has it
+  pub queued-adds : (e : Entry) (queue : ℕ → List Waiter) (admitted made : ℕ → Bool)
+      → Adds old e new → IsQueued (past old ▷ e) queue admitted made
+      → IsQueued (past new) queue admitted made
+  queued-adds e queue admitted made a k =
+      subst (λ (h : History). IsQueued h queue admitted made) (sym (past-adds e a)) k
+
+  pub queued-stays : (queue : ℕ → List Waiter) (admitted made : ℕ → Bool) → Stays old new
+      → IsQueued (past old) queue admitted made → IsQueued (past new) queue admitted made
+  queued-stays queue admitted made s k =
+      subst (λ (h : History). IsQueued h queue admitted made) (sym (past-stays s)) k

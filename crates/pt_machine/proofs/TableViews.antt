@@ -1,0 +1,13 @@
+-- What the tables answer, of the body that has them.
+use Rattle.std.proofs.Common.{◌≡◌, ℕ, List, Option, Some, sym, ap, ◌∙◌}
+use Rattle.pt_types.specs.Operations.{ObjectClass}
+use Rattle.pt_model.specs.Objects.{find}
+use Rattle.pt_state.specs.declared.state.State.{State}
+use Rattle.pt_state.specs.Adds.{past}
+
+-- what a name finds in the tables is what it means
+pub found-in : {A : Type 0} (s t : State A) → s ≡ t → (n : List ℕ) (class : ObjectClass)
+    (found : Option ℕ) (o : ℕ) → found ≡ find (past s) n class → found ≡ Some o
+    → find (past t) n class ≡ Some o
+found-in {A = A} s t view n class found o is some =
+    ap (λ (u : State A). find (past u) n class) (sym view) ∙ (sym is ∙ some)

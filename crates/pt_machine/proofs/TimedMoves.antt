@@ -1,0 +1,117 @@
+-- The deadlines that are set behind a call with its answer: those of the waits that it moves are
+-- set no more.
+use Rattle.std.proofs.Common.{◌≡◌, ℕ, Bool, true, false, cond, ◌&&◌, ◌==◌, List, Option, Some, None, is_some, length, refl, sym, ap, ◌∙◌, subst, arith}
+use Rattle.std.proofs.lemmas.Bool.Decides.{nat_tests}
+use Rattle.std.proofs.lemmas.Bool.{false≢true}
+use Rattle.std.specs.List.{list_any}
+use Rattle.pt_types.specs.declared.time.Clock.{Clock}
+use Rattle.pt_types.specs.declared.call.Call.{Call as Asked}
+use Rattle.pt_types.specs.declared.outcome.Outcome.{Outcome}
+use Rattle.pt_timers.specs.Deadlines.{deadline_at}
+use Rattle.pt_waitq.specs.ListLemmas.{any-in, any-out}
+use Rattle.pt_model.specs.declared.entry.Cause.{Cause}
+use Rattle.pt_model.specs.declared.entry.Entry.{Entry}
+use Rattle.pt_model.specs.declared.entry.Entry.TheVariants.{Call}
+use Rattle.pt_model.specs.Searches.{In}
+use Rattle.pt_model.specs.Histories.{History, ◌▷◌, place}
+use Rattle.pt_model.specs.Records.{WaitingCall, Move}
+use Rattle.pt_model.specs.Answers.{open_calls}
+use Rattle.pt_model.specs.Moves.{cause_by, move_or, moved, is_moved}
+use Rattle.pt_model.specs.Steps.{Follows}
+use Rattle.pt_model.proofs.Histories.{place-history}
+use Rattle.pt_records.specs.declared.callers.Open.{Open}
+use Rattle.pt_state.specs.declared.state.State.{State}
+use Rattle.pt_state.specs.Adds.{past, Adds, IsReadyFor}
+use Rattle.pt_records.specs.Callers.{opens_of}
+use Rattle.pt_state.specs.Serving.{move_of, AreOpen}
+use Rattle.pt_state.proofs.ServingFinds.{are-open}
+use Rattle.pt_machine.specs.Timed.{set_at, AreTimed, is_from, was_moved_at}
+use Rattle.pt_machine.proofs.QueuedSame.{past-adds}
+use Rattle.pt_machine.proofs.QueuedCalls.{open-answered}
+use Rattle.pt_machine.proofs.TimedSteps.{set-same, set-moved}
+use Rattle.pt_machine.proofs.TimerDrops.{went, dropped}
+
+-- both tests pass
+both : (a b : Bool) → (a && b) ≡ true → (a ≡ true) × (b ≡ true)
+both true true e = (refl, refl)
+both true false e = absurd cc
+both false b e = absurd cc
+
+-- a move that an entry made is there
+is_there : (k : ℕ) (o : Option Move) → is_from k o ≡ true → is_some o ≡ true
+is_there k None e = absurd cc
+is_there k (Some v) e = refl
+
+module _ (h : History) (e : Entry) (f : Follows h) (same : open_calls (h ▷ e) ≡ open_calls h)
+    (opens : List Open) (are : AreOpen (h ▷ e) opens) (p : ℕ) where
+  -- the entry moved the call at this place
+  abbrev Went : Bool → Type 0
+  Went b = list_any (went (place h) p) opens ≡ b
+
+  -- then that call is moved
+  goes : Went true → (w : WaitingCall) → In w (open_calls h) → w.place ≡ p
+      → is_moved (h ▷ e) w ≡ true
+  goes t w i at =
+      let r = any-out (went (place h) p) opens t in
+      let tests = both (was_moved_at (place h) r.0) (r.0.call.place == p) r.2 in
+      let test : (r.0.call.place == p) ≡ true = tests.1 in
+      let there : r.0.call.place ≡ w.place = grind (arith, nat_tests) in
+      subst (λ j. is_some (moved (h ▷ e) j) ≡ true) there
+      (is_there (place h) (moved (h ▷ e) r.0.call.place)
+      (ap (is_from (place h)) (sym (are.known r.0 r.1).1) ∙ tests.0))
+
+  -- else it is moved as it was before
+  stays : Went false → (w : WaitingCall) → In w (open_calls h) → w.place ≡ p
+      → moved (h ▷ e) w.place ≡ moved h w.place
+  stays t w i at = go (cause_by h (moved h) e w.place) refl
+    where
+      here : (place h == place h) ≡ true
+      here = grind (arith, nat_tests)
+
+      go : (x : Option Cause) → cause_by h (moved h) e w.place ≡ x
+          → move_or (place h) x (moved h w.place) ≡ moved h w.place
+      go None k = refl
+      go (Some z) k =
+          let r = are.found w (subst (λ (ws : List WaitingCall). In w ws) (sym same) i) in
+          let its : r.0.call.place ≡ w.place = ap (λ (u : WaitingCall). u.place) r.1.1 in
+          let test : (r.0.call.place == p) ≡ true = grind (arith, nat_tests) in
+          let move : move_of r.0 ≡ move_or (place h) (Some z) (moved h w.place) =
+          (are.known r.0 r.1.0).1 ∙ (ap (moved (h ▷ e)) its
+          ∙ ap (λ y. move_or (place h) y (moved h w.place)) k) in
+          let from : was_moved_at (place h) r.0 ≡ true = ap (is_from (place h)) move ∙ here in
+          absurd (false≢true (sym t ∙ any-in (went (place h) p) opens r.0 r.1.0
+          (rw (from, test) refl)))
+
+  -- so the deadlines of those that it moves are dropped
+  pub set-dropped : set_at (h ▷ e) p ≡ dropped (place h) opens (set_at h p) p
+  set-dropped = go (list_any (went (place h) p) opens) refl
+    where
+      go : (b : Bool) → Went b → set_at (h ▷ e) p ≡ cond b None (set_at h p)
+      go true t = set-moved h e f same p (goes t)
+      go false t = set-same h e f same p (stays t)
+
+module _ {A : Type 0} (old new : State A) (timers later : List (ℕ × (Clock × ℕ))) (c : ℕ)
+    (call : Asked) (x : Outcome) (ready : IsReadyFor old (Call c call (Some x)))
+    (adds : Adds old (Call c call (Some x)) new) where
+  -- the open calls with the entry are those in the rows
+  opens-new : AreOpen (past old ▷ Call c call (Some x)) (opens_of new.clients)
+  opens-new =
+      subst (λ (h : History). AreOpen h (opens_of new.clients))
+      (past-adds old new (Call c call (Some x)) adds)
+      (are-open (past new) new.clients adds.read.follows adds.read.callers)
+
+  -- the deadlines that are left are those of the history with the call
+  pub timed-answered : (k : ℕ) → k ≡ length old.stored.entries → AreTimed (past old) timers
+      → ((p : ℕ) → deadline_at later p
+      ≡ dropped k (opens_of new.clients) (deadline_at timers p) p)
+      → AreTimed (past new) later
+  timed-answered k at timed drops =
+      subst (λ (h : History). AreTimed h later)
+      (sym (past-adds old new (Call c call (Some x)) adds))
+      (λ p. drops p
+      ∙ (ap (λ j. dropped j (opens_of new.clients) (deadline_at timers p) p)
+      (at ∙ sym (place-history old.stored.entries))
+      ∙ (ap (λ d. dropped (place (past old)) (opens_of new.clients) d p) (timed p)
+      ∙ sym (set-dropped (past old) (Call c call (Some x)) ready.read.follows
+      (open-answered (past old) c call x ready.read.follows ready.step)
+      (opens_of new.clients) opens-new p))))

@@ -1,0 +1,196 @@
+-- The deadlines that are set beside a state, as entries are pushed.
+use Rattle.std.proofs.Common.{◌≡◌, ℕ, Bool, true, false, cond, ◌==◌, List, Option, Some, None, Result, Ok, Err, OnOk, OnErr, length, refl, sym, ap, ◌∙◌, subst, arith}
+use Rattle.std.proofs.lemmas.Bool.Decides.{nat_tests}
+use Rattle.std.specs.Prelude.{option_map}
+use Rattle.pt_types.specs.declared.call.Call.{Call as Asked}
+use Rattle.pt_types.specs.Times.{Timespec, deadline_nanos, is_bad_deadline}
+use Rattle.pt_types.specs.declared.time.Clock.{Clock}
+use Rattle.pt_types.specs.Operations.{operation, clock_of}
+use Rattle.pt_timers.specs.Deadlines.{deadline_at}
+use Rattle.pt_model.specs.declared.entry.Entry.{Entry}
+use Rattle.pt_model.specs.declared.entry.Entry.TheVariants.{Call, Death, Grant, Trip, Yield, Expire}
+use Rattle.pt_model.specs.Searches.{In}
+use Rattle.pt_model.specs.Histories.{History, ◌▷◌, place}
+use Rattle.pt_model.specs.WaitingCall.{is_arrival}
+use Rattle.pt_model.specs.Answers.{open_calls, open_place}
+use Rattle.pt_model.specs.Grants.{grant_outcome}
+use Rattle.pt_model.specs.Forced.{service}
+use Rattle.pt_model.proofs.Histories.{place-history}
+use Rattle.pt_records.specs.declared.callers.Open.{Open}
+use Rattle.pt_state.specs.declared.state.State.{State}
+use Rattle.pt_state.specs.Adds.{past, Adds, Stays, IsReadyFor}
+use Rattle.pt_records.specs.Callers.{opens_of}
+use Rattle.pt_state.specs.Reads.{AreTables}
+use Rattle.pt_state.specs.Serving.{called}
+use Rattle.pt_state.proofs.ServingFinds.{are-open}
+use Rattle.pt_machine.specs.Timed.{asked, set_at, AreTimed, good_of}
+use Rattle.pt_machine.proofs.QueuedSame.{past-adds, past-stays}
+use Rattle.pt_machine.proofs.TimedSteps.{set-new, set-yield, set-grant, set-expire, set-death-free, set-death}
+use Rattle.pt_machine.proofs.TimedCalls.{set-arrival, set-trip, set-left}
+
+-- where nothing is set at a place, nothing changes as that is cancelled
+unset : (set : ℕ → Option (Clock × ℕ)) (j : ℕ) → set j ≡ None → (p : ℕ)
+    → cond (j == p) None (set p) ≡ set p
+unset set j e p = go (j == p) refl
+  where
+    go : (b : Bool) → (j == p) ≡ b → cond b None (set p) ≡ set p
+    go false k = refl
+    go true k =
+        let here : j ≡ p = grind (arith, nat_tests) in
+        sym e ∙ ap set here
+
+-- what was set at a place and is cancelled is as before
+set_back : (set between after : ℕ → Option (Clock × ℕ)) (j : ℕ) (n : Clock × ℕ)
+    → set j ≡ None → ((p : ℕ) → between p ≡ cond (j == p) (Some n) (set p))
+    → ((p : ℕ) → after p ≡ cond (j == p) None (between p)) → (p : ℕ) → after p ≡ set p
+set_back set between after j n e one two p =
+    two p ∙ (ap (cond (j == p) None) (one p) ∙ (both (j == p) ∙ unset set j e p))
+  where
+    both : (b : Bool) → cond b None (cond b (Some n) (set p)) ≡ cond b None (set p)
+    both true = refl
+    both false = refl
+
+module _ {A : Type 0} (old new : State A) (timers later : List (ℕ × (Clock × ℕ)))
+    (timed : AreTimed (past old) timers) where
+  -- where no entry is added, the same are set
+  pub timed-stays : Stays old new → ((p : ℕ) → deadline_at later p ≡ deadline_at timers p)
+      → AreTimed (past new) later
+  timed-stays s t =
+      subst (λ (h : History). AreTimed h later) (sym (past-stays old new s))
+      (λ p. t p ∙ timed p)
+
+  -- those of the history with an entry are right for the state that has it
+  timed_adds : (e : Entry) → Adds old e new
+      → ((p : ℕ) → deadline_at later p ≡ set_at (past old ▷ e) p) → AreTimed (past new) later
+  timed_adds e a t =
+      subst (λ (h : History). AreTimed h later) (sym (past-adds old new e a)) t
+
+  -- the deadline of the call at a place was cancelled
+  abbrev Cancels : ℕ → Type 0
+  Cancels j = (p : ℕ) → deadline_at later p ≡ cond (j == p) None (deadline_at timers p)
+
+  -- a cancelled deadline of the history before
+  cancelled : (j : ℕ) → Cancels j → (p : ℕ)
+      → deadline_at later p ≡ cond (j == p) None (set_at (past old) p)
+  cancelled j k p = k p ∙ ap (cond (j == p) None) (timed p)
+
+module _ {A : Type 0} (old : State A) (timers : List (ℕ × (Clock × ℕ))) (c : ℕ) (call : Asked)
+    (ready : IsReadyFor old (Call c call None)) (timed : AreTimed (past old) timers) where
+  -- the place of a call that comes now
+  abbrev IsNext : ℕ → Type 0
+  IsNext j = j ≡ length old.stored.entries
+
+  next : (j : ℕ) → IsNext j → j ≡ place (past old)
+  next j at = at ∙ sym (place-history old.stored.entries)
+
+  -- no deadline is set there yet
+  pub none-next : (j : ℕ) → IsNext j → deadline_at timers j ≡ None
+  none-next j at =
+      timed j ∙ (ap (set_at (past old)) (next j at) ∙ set-new (past old) ready.read.follows)
+
+  -- a call without a deadline that is a time sets none
+  untimed : (new : State A) → good_of (asked (operation call)) ≡ None
+      → Adds old (Call c call None) new
+      → AreTimed (past new) timers
+  untimed new none a =
+      timed_adds old new timers timers timed (Call c call None) a
+      (λ p. timed p
+      ∙ (sym (unset (set_at (past old)) (place (past old))
+      (set-new (past old) ready.read.follows) p)
+      ∙ (ap (λ d. cond (place (past old) == p)
+      (option_map (λ t. (clock_of call, deadline_nanos t)) d)
+      (set_at (past old) p)) (sym none)
+      ∙ sym (set-left (past old) ready.read.follows c call ready.step p))))
+
+  -- whether it is refused or not
+  pub timed-untimed : {X E : Type 0} (new : State A) (answer : Result X E)
+      → good_of (asked (operation call)) ≡ None → OnOk answer (Adds old (Call c call None) new)
+      → OnErr answer (Stays old new) → AreTimed (past new) timers
+  timed-untimed new (Ok x) none a s = untimed new none a
+  timed-untimed new (Err x) none a s = timed-stays old new timers timers timed s (λ p. refl)
+
+  module _ (d : Timespec) (written : asked (operation call) ≡ Some d)
+      (good : is_bad_deadline d ≡ false) (z : Clock) (its : z ≡ clock_of call) (j : ℕ)
+      (at : IsNext j) (between : List (ℕ × (Clock × ℕ))) (set : (p : ℕ)
+      → deadline_at between p ≡ cond (j == p) (Some (z, deadline_nanos d)) (deadline_at timers p))
+    where
+      good_one : good_of (asked (operation call)) ≡ Some d
+      good_one = ap good_of written ∙ ap (λ b. cond b None (Some d)) good
+
+      -- the deadline that was set first is that of the call
+      pub timed-left : (new : State A) → Adds old (Call c call None) new
+          → AreTimed (past new) between
+      timed-left new a =
+          timed_adds old new timers between timed (Call c call None) a
+          (λ p. set p
+          ∙ (ap (cond (j == p) (Some (z, deadline_nanos d))) (timed p)
+          ∙ (ap (λ k. cond (k == p) (Some (z, deadline_nanos d)) (set_at (past old) p)) (next j at)
+          ∙ (ap (λ k. cond (place (past old) == p) (Some (k, deadline_nanos d))
+          (set_at (past old) p)) its
+          ∙ (ap (λ o. cond (place (past old) == p)
+          (option_map (λ t. (clock_of call, deadline_nanos t)) o)
+          (set_at (past old) p)) (sym good_one)
+          ∙ sym (set-left (past old) ready.read.follows c call ready.step p))))))
+
+      -- where the call is refused, it is cancelled
+      pub timed-refused : (new : State A) (later : List (ℕ × (Clock × ℕ))) → Stays old new
+          → ((p : ℕ) → deadline_at later p ≡ cond (j == p) None (deadline_at between p))
+          → AreTimed (past new) later
+      timed-refused new later s cancel =
+          timed-stays old new timers later timed s
+          (set_back (deadline_at timers) (deadline_at between) (deadline_at later) j
+          (z, deadline_nanos d) (none-next j at) set cancel)
+
+module _ {A : Type 0} (old new : State A) (timers later : List (ℕ × (Clock × ℕ)))
+    (read : AreTables old)
+    (timed : AreTimed (past old) timers) where
+  -- a client died whose open call had this place
+  pub timed-death : (c j : ℕ) → Adds old (Death c) new → open_place (past old) c ≡ Some j
+      → Cancels old new timers later timed j → AreTimed (past new) later
+  timed-death c j a e k =
+      timed_adds old new timers later timed (Death c) a
+      (λ p. cancelled old new timers later timed j k p
+      ∙ sym (set-death (past old) c j read.follows e p))
+
+  -- a client died that had no open call
+  pub timed-death-free : (c : ℕ) → Adds old (Death c) new → open_place (past old) c ≡ None
+      → AreTimed (past new) timers
+  timed-death-free c a e =
+      timed_adds old new timers timers timed (Death c) a
+      (λ p. timed p ∙ sym (set-death-free (past old) c read.follows e p))
+
+  -- a lock was given up for a dead owner
+  pub timed-yield : (m : ℕ) → Adds old (Yield m) new → AreTimed (past new) timers
+  timed-yield m a =
+      timed_adds old new timers timers timed (Yield m) a
+      (λ p. timed p ∙ sym (set-yield (past old) m read.follows p))
+
+  module _ (o : Open) (known : In o (opens_of old.clients))
+      (k : Cancels old new timers later timed o.call.place) where
+    open_call : In (called o) (open_calls (past old))
+    open_call = ((are-open (past old) old.clients read.follows read.callers).known o known).0
+
+    -- a deadline passed
+    pub timed-late : Adds old (Expire o.call.place) new → AreTimed (past new) later
+    timed-late a =
+        timed_adds old new timers later timed (Expire o.call.place) a
+        (λ p. cancelled old new timers later timed o.call.place k p
+        ∙ sym (set-expire (past old) (called o) read.follows open_call p))
+
+    -- a call was served
+    pub timed-served : Adds old (service (past old) (called o)) new → AreTimed (past new) later
+    timed-served a =
+        timed_adds old new timers later timed (service (past old) (called o)) a
+        (λ p. cancelled old new timers later timed o.call.place k p
+        ∙ sym (go (is_arrival (called o).role) refl p))
+      where
+        go : (b : Bool) → is_arrival (called o).role ≡ b → (p : ℕ)
+            → set_at (past old ▷ cond b (Trip o.call.object)
+            (Grant o.call.place (grant_outcome (past old) (called o)))) p
+            ≡ cond (o.call.place == p) None (set_at (past old) p)
+        go true arrival p =
+            set-trip (past old) o.call.object read.follows p
+            ∙ sym (unset (set_at (past old)) o.call.place
+            (set-arrival (past old) read.follows (called o) open_call arrival) p)
+        go false other p =
+            set-grant (past old) o.call.place (grant_outcome (past old) (called o)) read.follows p

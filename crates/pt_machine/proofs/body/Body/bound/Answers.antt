@@ -1,0 +1,27 @@
+use Rattle.std.proofs.Common.{◌≡◌, sym, ap, ◌∙◌}
+use Rattle.std.specs.Prelude.{option_map}
+use Rattle.pt_model.specs.Searches.{least}
+use Rattle.pt_model.specs.Moves.{precedes}
+use Rattle.pt_state.specs.Adds.{past}
+use Rattle.pt_state.specs.Serving.{called}
+use Rattle.pt_machine.proofs.Bindings.{waits, bound-first, bound-nothing}
+use Rattle.pt_machine.proofs.body.Body.bound.Goals as goal
+
+pub returns-in-Some : goal.returns-in-Some
+returns-in-Some g c =
+    let h = past c.args.self.now in
+    let first : option_map called c.first_waiting.result
+    ≡ least (precedes h) (waits h c.requires.read.follows c.args.q c.requires.cond) =
+    rw (← c.self.view_is) c.first_waiting.ensures.value in
+    bound-first h c.requires.read.follows c.args.q c.requires.cond (called c.in-Some.first)
+    (ap (option_map called) (sym c.in-Some.is) ∙ first) c.mutex_awaited.result
+    c.mutex_awaited.ensures
+
+pub returns-in-None : goal.returns-in-None
+returns-in-None g c =
+    let h = past c.args.self.now in
+    let first : option_map called c.first_waiting.result
+    ≡ least (precedes h) (waits h c.requires.read.follows c.args.q c.requires.cond) =
+    rw (← c.self.view_is) c.first_waiting.ensures.value in
+    bound-nothing h c.requires.read.follows c.args.q c.requires.cond
+    (ap (option_map called) (sym c.in-None.is) ∙ first)

@@ -1,0 +1,29 @@
+use Rattle.std.proofs.Common.{◌≡◌, ℕ, List, Option, Some, None, false}
+use Rattle.std.specs.Prelude.{IfSome}
+use Rattle.pt_types.specs.declared.time.Clock.{Clock}
+use Rattle.pt_types.specs.Times.{Timespec, is_bad_deadline}
+use Rattle.pt_timers.specs.Deadlines.{IsLeast}
+use Rattle.pt_state.specs.Adds.{past}
+use Rattle.pt_machine.specs.Timed.{AreTimed}
+use Rattle.pt_machine.proofs.DueLemmas.{least-kept}
+use Rattle.pt_machine.proofs.NoBadDeadlines.{none-bad}
+use Rattle.pt_machine.proofs.body.Body.least_deadline.Goals as goal
+
+-- a deadline that is set is a time
+is_time : (timers : List (ℕ × (Clock × ℕ))) (k : Clock) (found : Option Timespec)
+    → IsLeast timers k found → IfSome found (λ d. is_bad_deadline d ≡ false)
+is_time timers k None least = tt
+is_time timers k (Some d) least = least.2
+
+pub returns-clause-value : goal.returns-clause-value
+returns-clause-value g c =
+    let s = c.args.self.now in
+    let read = c.requires.read in
+    let timed : AreTimed (past s) c.self.inside.timers =
+    rw (← c.self.view_is) c.self.invariant.1 in
+    least-kept (past s) read.follows c.self.inside.timers timed
+    (none-bad (past s) read.follows c.requires.quiet) c.args.clock c.least.result c.least.ensures
+
+pub returns-clause-time : goal.returns-clause-time
+returns-clause-time g c =
+    is_time c.self.inside.timers c.args.clock c.least.result c.least.ensures

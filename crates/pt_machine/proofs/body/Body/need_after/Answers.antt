@@ -1,0 +1,31 @@
+use Rattle.std.proofs.Common.{◌≡◌, arith, ◌∙◌, ap}
+use Rattle.pt_model.specs.Room.{need}
+use Rattle.pt_state.specs.Adds.{past}
+use Rattle.pt_state.proofs.NeedLemmas.{need-admits}
+use Rattle.pt_machine.proofs.body.Body.need_after.Goals as goal
+
+pub overflow_sub-result : goal.overflow_sub-result
+overflow_sub-result g c =
+    let h = past c.args.self.now in
+    let before : c.need.result ≡ need h =
+    c.need.ensures.value ∙ ap (λ s. need (past s)) c.self.view_is in
+    omega (
+      arith,
+      before,
+      c.added.ensures.value,
+      c.used.ensures.value,
+      need-admits h c.args.entry.now c.requires.read.follows c.requires.forced c.requires.admits,
+    )
+
+pub returns-clause-value : goal.returns-clause-value
+returns-clause-value g c =
+    let h = past c.args.self.now in
+    let before : c.need.result ≡ need h =
+    c.need.ensures.value ∙ ap (λ s. need (past s)) c.self.view_is in
+    omega (
+      arith,
+      before,
+      c.added.ensures.value,
+      c.used.ensures.value,
+      need-admits h c.args.entry.now c.requires.read.follows c.requires.forced c.requires.admits,
+    )

@@ -1,0 +1,48 @@
+-- Queued: the queues of waiting calls, as they are read off a history.
+use Rattle.std.specs.Prelude.{ℕ, ◌≡◌, Bool, true, false, List, Option, is_some}
+use Rattle.pt_waitq.specs.declared.waiter.Waiter.{Waiter}
+use Rattle.pt_waitq.specs.Members.{Members}
+use Rattle.pt_waitq.specs.Queues.{stands_in, IsLatest}
+use Rattle.pt_model.specs.Histories.{History}
+use Rattle.pt_model.specs.Searches.{In}
+use Rattle.pt_model.specs.Clients.{is_alive}
+use Rattle.pt_model.specs.Objects.{kind_of}
+use Rattle.pt_model.specs.Records.{WaitingCall, Move}
+use Rattle.pt_model.specs.WaitingCall.{is_write}
+use Rattle.pt_model.specs.Answers.{open_calls}
+use Rattle.pt_model.specs.Moves.{moved, arrival_by, at_object}
+
+-- a call as it waits, where it was moved so  [XSH 2.8.4]
+abbrev pub waiter_by : Option Move → WaitingCall → Waiter
+waiter_by move w =
+    record {
+      client = w.client;
+      place = w.place;
+      prio = w.priority;
+      writer = is_write w.role;
+      moved = (arrival_by move w.place).0;
+    }
+
+-- an open call as it waits, with what decides its turn  [XSH 2.8.4]
+abbrev pub waiter : History → WaitingCall → Waiter
+waiter h w = waiter_by (moved h w.place) w
+
+-- the queues have the open calls, each where it stands, and no others; there is room for each
+-- living client's call, and a queue for each object  [XSH 2.8.4]
+pub record IsQueued (h : History) (queue : ℕ → List Waiter) (admitted made : ℕ → Bool) : Type 0
+  where
+    pub members : Members (at_object h) (waiter h) (open_calls h) queue
+    pub admits : (c : ℕ) → admitted c ≡ is_alive h c
+    pub makes : (o : ℕ) → made o ≡ is_some (kind_of h o)
+
+-- a client's open call may take its place: it is in no queue, its queue is there, and its arrival
+-- is the greatest of its priority and kind  [XSH 2.8.4]
+pub record CanStand (h : History) (c : ℕ) (queue : ℕ → List Waiter) (admitted made : ℕ → Bool)
+    : Type 0 where
+  pub call : WaitingCall
+  pub «open» : In call (open_calls h)
+  pub its : call.client ≡ c
+  pub room : admitted c ≡ true
+  pub nowhere : (q : ℕ) → stands_in c (queue q) ≡ false
+  pub there : made (at_object h call) ≡ true
+  pub latest : IsLatest (waiter h call) (queue (at_object h call))

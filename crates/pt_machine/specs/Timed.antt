@@ -1,0 +1,74 @@
+-- Timed: the deadlines that are set, as they are read off a history.
+use Rattle.std.specs.Prelude.{◌/◌, ◌%◌, option_map, ℕ, ◌≡◌, ◌==◌, Bool, false, not, ◌&&◌, List, Option, Some, None, if◌then◌else◌}
+use Rattle.std.specs.List.{filter}
+use Rattle.pt_types.specs.declared.time.Clock.{Clock}
+use Rattle.pt_types.specs.Times.{Timespec, has_bad_deadline}
+use Rattle.pt_types.specs.Operations.{Operation, Acquires, Awaits, operation, deadline_of}
+use Rattle.pt_timers.specs.Deadlines.{deadline_at}
+use Rattle.pt_types.specs.Limits.{second}
+use Rattle.pt_model.specs.declared.entry.Entry.{Entry}
+use Rattle.pt_model.specs.declared.entry.Entry.TheVariants.{Call}
+use Rattle.pt_model.specs.Histories.{History, Begin, ◌▷◌, place}
+use Rattle.pt_model.specs.Records.{WaitingCall, Move}
+use Rattle.pt_model.specs.WaitingCall.{calls_below, at_place}
+use Rattle.pt_model.specs.Answers.{open_calls}
+use Rattle.pt_model.specs.Moves.{is_moved}
+use Rattle.pt_model.specs.Queries.{deadline_if}
+use Rattle.pt_records.specs.declared.callers.Open.{Open}
+use Rattle.pt_state.specs.Serving.{move_of}
+
+-- the deadline that an operation has, as it was written  [XSH pthread_mutex_timedlock]
+abbrev pub asked : Operation → Option Timespec
+asked (Acquires n lock_kind how) = deadline_of how
+asked (Awaits n m deadline) = deadline
+asked _ = None
+
+-- what an entry says of the deadline of the call at place j  [profile]
+abbrev pub timed_by : History → Entry → Option Timespec → ℕ → Option Timespec
+timed_by h (Call c call reply) before j = if place h == j then asked (operation call) else before
+timed_by h _ before j = before
+
+-- a deadline as it may have been written  [XBD time.h, struct timespec]
+abbrev pub written : ℕ → Timespec
+written n = record { sec = n / second; nsec = n % second }
+
+-- the deadline of the call at place j, as it was written; of an open call of the Start, as it may
+-- have been  [profile]
+abbrev pub timed : History → ℕ → Option Timespec
+timed (Begin s) j = option_map written (deadline_if (at_place j (calls_below s.call s.at)))
+timed (h ▷ e) j = timed_by h e (timed h j) j
+
+-- whether a deadline can pass for an open call: it isn't moved, and its deadline is a time
+-- [XSH pthread_mutex_timedlock, EINVAL]
+abbrev pub is_set : History → WaitingCall → Bool
+is_set h w = not (is_moved h w) && not (has_bad_deadline (timed h w.place))
+
+-- a call's deadline as it is set: its clock, and its nanoseconds  [XSH pthread_mutex_clocklock]
+abbrev pub setting : WaitingCall → Option (Clock × ℕ)
+setting w = option_map (λ n. (w.clock, n)) w.deadline
+
+-- the same of a call that was found  [profile]
+abbrev pub setting_if : Option WaitingCall → Option (Clock × ℕ)
+setting_if None = None
+setting_if (Some w) = setting w
+
+-- the deadline that is set for the open call at place p, with its clock  [profile]
+abbrev pub set_at : History → ℕ → Option (Clock × ℕ)
+set_at h p = setting_if (at_place p (filter (is_set h) (open_calls h)))
+
+-- the deadlines that are set are those of open calls  [XSH pthread_mutex_timedlock]
+abbrev pub AreTimed : History → List (ℕ × (Clock × ℕ)) → Type 0
+AreTimed h timers = (p : ℕ) → deadline_at timers p ≡ set_at h p
+
+-- a deadline that is a time, or none  [XSH pthread_mutex_timedlock, EINVAL]
+abbrev pub good_of : Option Timespec → Option Timespec
+good_of d = if has_bad_deadline d then None else d
+
+-- whether the entry at this place made the move  [XSH pthread_cond_broadcast]
+abbrev pub is_from : ℕ → Option Move → Bool
+is_from k None = false
+is_from k (Some v) = v.at == k
+
+-- whether the entry at this place moved an open call  [XSH pthread_cond_broadcast]
+abbrev pub was_moved_at : ℕ → Open → Bool
+was_moved_at k o = is_from k (move_of o)

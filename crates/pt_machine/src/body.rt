@@ -1,0 +1,81 @@
+ghost use Rattle.std.specs.Prelude.{◌≡◌, [], true, false, vec_len, OnOk, OnErr, IfErr, IsOk};
+ghost use Rattle.pt_model.specs.Histories.{is_forced};
+ghost use Rattle.pt_state.specs.Adds.{Adds, Stays, IsReadyFor, past};
+ghost use Rattle.pt_records.specs.Callers.{opens_of};
+ghost use Rattle.pt_state.specs.Outer.{is_death};
+ghost use Rattle.pt_state.specs.Reads.{AreTables};
+ghost use Rattle.pt_state.specs.Serving.{entry_of, IsFor};
+
+use crate::timing;
+use pt_model::Entry;
+use pt_state::{Forced, State};
+use pt_timers::Timers;
+use pt_types::Refusal;
+use pt_waitq::{PlainList, WaitList};
+use std::alloc::{Allocator, Global};
+use std::marker::Model;
+
+/// The tables, with the queues of the calls that wait and the deadlines that are set.
+///
+/// Contracts see the tables.
+#[derive(Drop)]
+pub struct Body<Q: WaitList, A: Allocator + Copy = Global> {
+    pub(crate) state: State<A>,
+    pub(crate) queues: Q,
+    pub(crate) timers: Timers<A>,
+}
+
+impl<Q: WaitList, A: Allocator + Copy> Model for Body<Q, A> {
+    ghost use Rattle.pt_state.specs.declared.state.State.{State};
+    ghost use Rattle.pt_state.specs.Adds.{past};
+    ghost use Rattle.pt_machine.specs.Queued.{IsQueued};
+    ghost use Rattle.pt_machine.specs.Timed.{AreTimed};
+
+    ghost Value = { State A };
+
+    ghost view = { λ b. b.state };
+
+    ghost invariant = { λ b. IsQueued (past b.state)
+        (Q.queue b.queues) (Q.admitted b.queues) (Q.made b.queues)
+        × AreTimed (past b.state) b.timers };
+}
+
+impl<A: Allocator + Copy> Body<PlainList<A>, A> {
+    /// No entry, of at most so many. It takes no memory.
+    pub fn new(alloc: A, limit: u32) -> Body<PlainList<A>, A>
+        ensures stored { result.stored ≡ record { entries = []; limit = limit; room = 0 } }
+        ensures answers { vec_len result.answers ≡ 0 }
+        ensures read { AreTables result }
+    {
+        Body {
+            state: State::new(alloc, limit),
+            queues: PlainList::new(alloc),
+            timers: Timers::new(alloc),
+        }
+    }
+}
+
+impl<Q: WaitList, A: Allocator + Copy> Body<Q, A> {
+    /// Any outer entry. ENOMEM where a growth is refused: then nothing is pushed. A Death is never
+    /// refused, and no forced entry comes here.  [profile]
+    pub fn push_outer(&mut self, entry: &Entry) -> Result<(), Refusal>
+        requires ready { IsReadyFor self.old entry.now }
+        requires outer { is_forced entry.now ≡ false }
+        ensures ok { OnOk result (Adds self.old entry.now self.new) }
+        ensures err { OnErr result (Stays self.old self.new) }
+        ensures reason { IfErr result (λ refusal. refusal ≡ Refusal.Enomem) }
+        ensures death { is_death entry.now ≡ true → IsOk result }
+    {
+        timing::push_outer(&mut self.state, &mut self.queues, &mut self.timers, entry)
+    }
+
+    /// What must follow is pushed.
+    /// [XSH pthread_mutex_unlock, pthread_mutex_lock EOWNERDEAD, pthread_mutex_timedlock]
+    pub fn push_forced(&mut self, forced: &Forced)
+        requires ready { IsReadyFor self.old (entry_of (past self.old) forced.now) }
+        requires known { IsFor (opens_of self.old.clients) forced.now }
+        ensures { Adds self.old (entry_of (past self.old) forced.now) self.new }
+    {
+        timing::push_forced(&mut self.state, &mut self.queues, &mut self.timers, forced)
+    }
+}

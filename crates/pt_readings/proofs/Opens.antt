@@ -1,0 +1,230 @@
+-- Opens: the open calls in order of their places, and what a Trip says to each.
+use Rattle.std.proofs.Common.{◌≡◌, ℕ, suc, ◌+◌, ◌-◌, ◌<◌, ◌≤◌, Bool, true, false, ◌&&◌, ◌||◌, cond, ltb, List, [], ◌∷◌, ◌++◌, length, Option, Some, None, is_some, is_none, refl, ap, ◌∙◌, arith, filter, inl, inr}
+use Rattle.std.specs.List.{list_any, list_all}
+use Rattle.std.proofs.lemmas.Bool.{eq-eqb, ne_eqb, lt-ltb, le-ltb, cases_order}
+use Rattle.pt_types.specs.declared.outcome.Outcome.{Outcome}
+use Rattle.pt_types.specs.declared.outcome.Outcome.TheVariants.{Done, Serial}
+use Rattle.pt_model.specs.declared.entry.Entry.{Entry}
+use Rattle.pt_model.specs.Histories.{History, place, history}
+use Rattle.pt_model.specs.Searches.{Each, listed}
+use Rattle.pt_model.specs.Records.{WaitingCall}
+use Rattle.std.specs.Prelude.{◌==◌, not}
+use Rattle.pt_model.specs.Clients.{is_alive}
+use Rattle.pt_model.specs.WaitingCall.{stood, at_place, is_arrival}
+use Rattle.pt_model.specs.Answers.{outcome, open_calls, is_open_by, told_by_trip, outcome_in, trip_outcome, at_barrier, place_of}
+use Rattle.pt_readings.specs.Found.{passes, keep, is_alive_at, place_or}
+use Rattle.pt_readings.proofs.Lists.{Ascends, Ascends-filter, Ascends-weaker, Each-filter, Each-weaker, from, from_all, from_more, from-before, at_place-filter, at_place-before, at_place-place, any-filter, any-at, any-nowhere}
+use Rattle.pt_readings.proofs.Stood.{stood-ascends, stood-below}
+use Rattle.pt_readings.proofs.Past.{place_all}
+
+pub open-ascends : (h : History) → Ascends 0 (open_calls h)
+open-ascends h = Ascends-filter (is_open_by h (outcome h)) 0 (stood h) (stood-ascends h)
+
+pub open-below : (h : History) → Each (λ w. w.place < place h) (open_calls h)
+open-below h = Each-filter _ (is_open_by h (outcome h)) (stood h) (stood-below h)
+
+-- the open call at a place
+pub at_place_open :
+    (h : History) (i : ℕ)
+    → at_place i (open_calls h) ≡ keep (is_open_by h (outcome h)) (at_place i (stood h))
+at_place_open h i = at_place-filter (is_open_by h (outcome h)) i 0 (stood h) (stood-ascends h)
+
+pub passes-keep :
+    (p q : WaitingCall → Bool) (o : Option WaitingCall)
+    → passes q (keep p o) ≡ passes (λ w. q w && p w) o
+passes-keep p q None = refl
+passes-keep p q (Some w) = go (p w) (q w)
+  where
+    go : (b c : Bool) → passes q (cond b (Some w) None) ≡ (q w && b)
+    go true c = both (q w)
+      where
+        both : (b : Bool) → b ≡ (b && true)
+        both true = refl
+        both false = refl
+    go false c = none (q w)
+      where
+        none : (b : Bool) → false ≡ (b && false)
+        none true = refl
+        none false = refl
+
+-- a test of the open call at a place
+pub passes_open :
+    (h : History) (i : ℕ) (q : WaitingCall → Bool)
+    → passes q (at_place i (open_calls h))
+    ≡ passes (λ w. q w && is_open_by h (outcome h) w) (at_place i (stood h))
+passes_open h i q =
+    ap (passes q) (at_place_open h i)
+    ∙ passes-keep (is_open_by h (outcome h)) q (at_place i (stood h))
+
+-- all open calls are before the end
+pub open-within : (es : List Entry) → Each (λ w. w.place < length es) (open_calls (history es))
+open-within es =
+    Each-weaker (λ w. w.place < place (history es)) (λ w. w.place < length es)
+    (λ w lt. omega (arith, place_all es)) (open_calls (history es)) (open-below (history es))
+
+-- what is found at a place is found
+pub open-found :
+    (es : List Entry) (p q : WaitingCall → Bool) (i : ℕ)
+    → passes (λ w. q w && p w) (at_place i (open_calls (history es))) ≡ true
+    → list_any p (filter q (open_calls (history es))) ≡ true
+open-found es p q i e =
+    any-filter p q (open_calls (history es))
+    ∙ any-at (λ w. q w && p w) i (open_calls (history es)) e
+
+-- what is found at no place is nowhere
+pub open-nowhere :
+    (es : List Entry) (p q : WaitingCall → Bool) (n : ℕ) → length es ≤ n
+    → ((k : ℕ) → k < n → passes (λ w. q w && p w) (at_place k (open_calls (history es))) ≡ false)
+    → list_any p (filter q (open_calls (history es))) ≡ false
+open-nowhere es p q n le f =
+    any-filter p q (open_calls (history es))
+    ∙ any-nowhere (λ w. q w && p w) 0 (length es) (open_calls (history es))
+    (open-ascends (history es)) (open-within es) (λ k lt. f k (omega arith))
+
+-- one call before the last ones
+pub open_from_less :
+    (h : History) (i : ℕ) → 0 < i
+    → from (i - 1) (open_calls h)
+    ≡ listed (at_place (i - 1) (open_calls h)) ++ from i (open_calls h)
+open_from_less h i lt =
+    let e : i - 1 + 1 ≡ i = omega arith in
+    from_more (i - 1) 0 (open_calls h) (open-ascends h)
+    ∙ ap (λ k. listed (at_place (i - 1) (open_calls h)) ++ from k (open_calls h)) e
+
+-- all of them
+pub open_from_none : (h : History) → from 0 (open_calls h) ≡ open_calls h
+open_from_none h = from-before 0 0 (open_calls h) (open-ascends h) (omega arith)
+
+-- none of them
+pub open_from_all : (es : List Entry) → from (length es) (open_calls (history es)) ≡ []
+open_from_all es = from_all (length es) (open_calls (history es)) (open-within es)
+
+place_of-listed :
+    (o : Option WaitingCall) (ws : List WaitingCall) (c : ℕ)
+    → place_of (listed o ++ ws) c ≡ place_or o c (place_of ws c)
+place_of-listed None ws c = refl
+place_of-listed (Some w) ws c = refl
+
+-- a client's call among one more
+pub place_of-less :
+    (h : History) (i c : ℕ) → 0 < i
+    → place_of (from (i - 1) (open_calls h)) c
+    ≡ place_or (at_place (i - 1) (open_calls h)) c (place_of (from i (open_calls h)) c)
+place_of-less h i c lt =
+    ap (λ ws. place_of ws c) (open_from_less h i lt)
+    ∙ place_of-listed (at_place (i - 1) (open_calls h)) (from i (open_calls h)) c
+
+-- what a Trip says to a call, if it stands at the barrier: whether a later one does decides
+abbrev pub said : (present later : Bool) → Option Outcome
+said false later = None
+said true true = Some Done
+said true false = Some Serial
+
+any-behind :
+    (j : ℕ) (ws : List WaitingCall) → Ascends (suc j) ws
+    → Some (trip_outcome ws) ≡ said true (list_any (λ w. ltb j w.place) ws)
+any-behind j [] a = refl
+any-behind j (w ∷ ws) a = rw (lt-ltb j w.place (omega (arith, a.0))) refl
+
+pub outcome_in_trip :
+    (j n : ℕ) (ws : List WaitingCall) → Ascends n ws
+    → outcome_in (told_by_trip ws) j
+    ≡ said (is_some (at_place j ws)) (list_any (λ w. ltb j w.place) ws)
+outcome_in_trip j n [] a = refl
+outcome_in_trip j n (w ∷ ws) a =
+    elim (cases_order w.place j) [
+      | inl same ↦
+          rw (eq-eqb w.place j same, le-ltb j w.place (omega (arith, same)))
+          (any-behind j ws (Ascends-weaker (suc j) (suc w.place) ws (omega (arith, same)) a.1))
+      | inr (inl before) ↦
+          rw (
+            ne_eqb w.place j (λ e. omega (arith, before)),
+            le-ltb j w.place (omega (arith, before)),
+          )
+          (outcome_in_trip j (suc w.place) ws a.1)
+      | inr (inr behind) ↦
+          rw (ne_eqb w.place j (λ e. omega (arith, behind)))
+          (outcome_in_trip j (suc w.place) ws a.1
+          ∙ rw (at_place-before j (suc w.place) ws a.1 (omega (arith, behind))) refl)
+    ]
+
+present :
+    (j : ℕ) (q : WaitingCall → Bool) (n : ℕ) (ws : List WaitingCall) → Ascends n ws
+    → is_some (at_place j (filter q ws)) ≡ passes q (at_place j ws)
+present j q n ws a = ap is_some (at_place-filter q j n ws a) ∙ go (at_place j ws)
+  where
+    go : (o : Option WaitingCall) → is_some (keep q o) ≡ passes q o
+    go None = refl
+    go (Some w) = pick (q w)
+      where
+        pick : (b : Bool) → is_some (cond b (Some w) None) ≡ b
+        pick true = refl
+        pick false = refl
+
+-- whether a call without an answer stands at the barrier
+waiting :
+    (h : History) (b j : ℕ)
+    → passes (λ w. is_arrival w.role && (w.object == b)) (at_place j (open_calls h))
+    ≡ (is_none (outcome h j) && passes (is_alive_at h b) (at_place j (stood h)))
+waiting h b j =
+    passes_open h j (λ w. is_arrival w.role && (w.object == b)) ∙ go (at_place j (stood h)) refl
+  where
+    swap : (x y z : Bool) → (x && (y && z)) ≡ (y && (x && z))
+    swap true y z = refl
+    swap false true z = refl
+    swap false false z = refl
+
+    none : (x : Bool) → false ≡ (x && false)
+    none true = refl
+    none false = refl
+
+    go : (o : Option WaitingCall) → at_place j (stood h) ≡ o
+        → passes (λ w. (is_arrival w.role && (w.object == b)) && is_open_by h (outcome h) w) o
+        ≡ (is_none (outcome h j) && passes (is_alive_at h b) o)
+    go None e = none (is_none (outcome h j))
+    go (Some w) e =
+        ap
+        (λ k.
+        (is_arrival w.role && (w.object == b)) && (is_none (outcome h k) && is_alive h w.client))
+        (at_place-place j (stood h) w e)
+        ∙ swap (is_arrival w.role && (w.object == b)) (is_none (outcome h j)) (is_alive h w.client)
+
+-- what a Trip says to the call at a place
+pub trip_said :
+    (h : History) (b j : ℕ)
+    → outcome_in (told_by_trip (at_barrier b (open_calls h))) j
+    ≡ said (is_none (outcome h j) && passes (is_alive_at h b) (at_place j (stood h)))
+    (list_any (λ w. ltb j w.place) (at_barrier b (open_calls h)))
+trip_said h b j =
+    let q = λ (w : WaitingCall). is_arrival w.role && (w.object == b) in
+    outcome_in_trip j 0 (at_barrier b (open_calls h))
+    (Ascends-filter q 0 (open_calls h) (open-ascends h))
+    ∙ ap (λ x. said x (list_any (λ w. ltb j w.place) (at_barrier b (open_calls h))))
+    (present j q 0 (open_calls h) (open-ascends h) ∙ waiting h b j)
+
+not-any :
+    (p : WaitingCall → Bool) (ws : List WaitingCall)
+    → list_all (λ v. not (p v)) ws ≡ not (list_any p ws)
+not-any p [] = refl
+not-any p (w ∷ ws) = go (p w) (not-any p ws)
+  where
+    go : (b : Bool) → list_all (λ v. not (p v)) ws ≡ not (list_any p ws)
+        → (not b && list_all (λ v. not (p v)) ws) ≡ not (b || list_any p ws)
+    go true ih = refl
+    go false ih = ih
+
+-- a test that all fail, where one is found
+pub all-found :
+    (es : List Entry) (p q : WaitingCall → Bool) (i : ℕ)
+    → passes (λ w. q w && p w) (at_place i (open_calls (history es))) ≡ true
+    → list_all (λ v. not (p v)) (filter q (open_calls (history es))) ≡ false
+all-found es p q i e =
+    not-any p (filter q (open_calls (history es))) ∙ ap not (open-found es p q i e)
+
+-- a test that all fail, where none is found
+pub all-nowhere :
+    (es : List Entry) (p q : WaitingCall → Bool) (n : ℕ) → length es ≤ n
+    → ((k : ℕ) → k < n → passes (λ w. q w && p w) (at_place k (open_calls (history es))) ≡ false)
+    → list_all (λ v. not (p v)) (filter q (open_calls (history es))) ≡ true
+all-nowhere es p q n le f =
+    not-any p (filter q (open_calls (history es))) ∙ ap not (open-nowhere es p q n le f)

@@ -1,0 +1,17 @@
+use Rattle.std.proofs.Common.{◌≡◌, ℕ, ◌<◌, false}
+use Rattle.std.specs.Prelude.{◌==◌, ◌&&◌}
+use Rattle.pt_model.specs.Histories.{history}
+use Rattle.pt_model.specs.WaitingCall.{at_place}
+use Rattle.pt_model.specs.Answers.{open_calls}
+use Rattle.pt_model.specs.Moves.{at_object, precedes}
+use Rattle.pt_readings.specs.Found.{passes}
+use Rattle.pt_readings.specs.Shown.{shown}
+use Rattle.pt_readings.proofs.moves.is_least.Given as goal
+
+abbrev pub invariant-loop-i : goal.invariant-loop-i
+invariant-loop-i l =
+    let h = history l.entries in
+    (k : ℕ) → k < l.i
+    → passes (λ v. (at_object h v == l.o) && precedes h v (shown l.w))
+    (at_place k (open_calls h))
+    ≡ false

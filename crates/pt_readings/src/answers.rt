@@ -1,0 +1,162 @@
+ghost use Rattle.std.specs.Prelude.{◌≡◌, ◌<◌, ◌&&◌, ◌==◌, nat_lt, option_map};
+ghost use Rattle.std.specs.List.{list_any};
+ghost use Rattle.pt_model.specs.Histories.{history};
+ghost use Rattle.pt_model.specs.WaitingCall.{at_place, stood, is_arrival as is_arrival_role};
+ghost use Rattle.pt_model.specs.Answers.{outcome as said, open_calls as opens, open_place as open_place_in, is_open_by, at_barrier as waiting, told_by_trip, told, outcome_in};
+ghost use Rattle.pt_readings.specs.Found.{passes, place_or, is_alive_at};
+ghost use Rattle.pt_readings.specs.Shown.{shown};
+
+use crate::clients::is_alive;
+use crate::waiting::{WaitingCall, is_arrival, is_wait_at, waiting_call_at};
+use pt_model::Entry;
+use pt_types::{ClientId, ObjectId, Outcome};
+
+/// Whether a waiting call is open: it has no answer, and its client lives.  [profile]
+#[cycle(answers)]
+pub fn is_open(entries: &[Entry], w: &WaitingCall) -> bool
+    ensures { result ≡ is_open_by (history entries.now) (said (history entries.now)) (shown w.now) }
+{
+    is_alive(entries, ClientId(w.client)) && outcome(entries, w.place).is_none()
+}
+
+/// Whether the call at a place is open and stands at this barrier.  [XSH pthread_barrier_wait]
+#[cycle(answers)]
+#[tactic(auto, using(crate::proofs::Opens::passes_open))]
+pub fn is_open_at_barrier(entries: &[Entry], b: ObjectId, i: u64) -> bool
+    ensures { result
+        ≡ passes (λ w. is_arrival_role w.role && (w.object == b))
+        (at_place i (opens (history entries.now))) }
+{
+    match waiting_call_at(entries, i) {
+        Some(w) => is_arrival(w.role) && w.object == b.0 && is_open(entries, &w),
+        None => false,
+    }
+}
+
+/// Whether it is, and came behind place j.  [profile]
+#[cycle(answers)]
+#[tactic(auto, using(crate::proofs::Lists::passes_place))]
+pub fn is_later_at_barrier(entries: &[Entry], b: ObjectId, j: u64, i: u64) -> bool
+    ensures { result
+        ≡ passes (λ w. (is_arrival_role w.role && (w.object == b)) && nat_lt j w.place)
+        (at_place i (opens (history entries.now))) }
+{
+    j < i && is_open_at_barrier(entries, b, i)
+}
+
+/// Whether an open call that came behind place j stands at the barrier.  [profile]
+#[cycle(answers)]
+pub fn has_later(entries: &[Entry], b: ObjectId, j: u64) -> bool
+    ensures { result ≡ list_any (λ w. nat_lt j w.place) (waiting b (opens (history entries.now))) }
+{
+    for i in 0..entries.len() {
+        if is_later_at_barrier(entries, b, j, i as u64) {
+            return true;
+        }
+    }
+    false
+}
+
+/// Whether the call at a place stands at the barrier, if it has no answer.  [profile]
+pub fn is_living_at_barrier(entries: &[Entry], b: ObjectId, j: u64) -> bool
+    ensures { result
+        ≡ passes (is_alive_at (history entries.now) b)
+        (at_place j (stood (history entries.now))) }
+{
+    match waiting_call_at(entries, j) {
+        Some(w) => {
+            is_arrival(w.role) && w.object == b.0 && is_alive(entries, ClientId(w.client))
+        }
+        None => false,
+    }
+}
+
+/// What a Trip behind these entries says to the call at a place.  [XSH pthread_barrier_wait]
+#[cycle(answers)]
+#[tactic(auto, using(crate::proofs::Opens::trip_said))]
+pub fn answer_in_trip(
+    entries: &[Entry],
+    b: ObjectId,
+    before: Option<Outcome>,
+    j: u64,
+) -> Option<Outcome>
+    requires { before ≡ said (history entries.now) j }
+    ensures { result ≡ outcome_in (told_by_trip (waiting b (opens (history entries.now)))) j }
+{
+    if before.is_some() || !is_living_at_barrier(entries, b, j) {
+        return None;
+    }
+    if has_later(entries, b, j) {
+        Some(Outcome::Done)
+    } else {
+        Some(Outcome::Serial)
+    }
+}
+
+/// What an entry behind these says to the call at a place.  [XSH, the call's page]
+#[cycle(answers)]
+#[tactic(auto, using(crate::proofs::Past::place_all))]
+pub fn answer_by(
+    entries: &[Entry],
+    entry: &Entry,
+    before: Option<Outcome>,
+    j: u64,
+) -> Option<Outcome>
+    requires { before ≡ said (history entries.now) j }
+    ensures { result ≡ outcome_in (told (history entries.now) entry.now) j }
+{
+    match entry {
+        Entry::Call(_, _, Some(x)) if j == entries.len() as u64 => Some(*x),
+        Entry::Grant(i, x) if *i == j => Some(*x),
+        Entry::Trip(b) => answer_in_trip(entries, *b, before, j),
+        Entry::Expire(i) if *i == j && !is_wait_at(entries, j) => Some(Outcome::Etimedout),
+        _ => None,
+    }
+}
+
+/// The answer to the call at a place.  [XSH, the call's page]
+#[cycle(answers)]
+#[tactic(auto, using(crate::proofs::Past::history_more))]
+pub fn outcome(entries: &[Entry], j: u64) -> Option<Outcome>
+    ensures { result ≡ said (history entries.now) j }
+{
+    let mut found = None;
+    for (i, entry) in entries.iter().enumerate() {
+        found = answer_by(&entries[..i], entry, found, j).or(found);
+    }
+    found
+}
+
+/// The call at a place, if it is open.  [profile]
+#[tactic(auto, using(crate::proofs::Opens::at_place_open))]
+pub fn open_at(entries: &[Entry], i: u64) -> Option<WaitingCall>
+    ensures { option_map shown result ≡ at_place i (opens (history entries.now)) }
+{
+    match waiting_call_at(entries, i) {
+        Some(w) if is_open(entries, &w) => Some(w),
+        _ => None,
+    }
+}
+
+/// The place of a client's open call.  [profile]
+pub fn open_place(entries: &[Entry], c: ClientId) -> Option<u64>
+    ensures { result ≡ open_place_in (history entries.now) c }
+{
+    let mut found = None;
+    let mut i = entries.len();
+    while i > 0 {
+        i -= 1;
+        found = place_if(open_at(entries, i as u64), c, found);
+    }
+    found
+}
+
+/// The place of a call, if it is the client's, before a place that was found.  [profile]
+pub fn place_if(w: Option<WaitingCall>, c: ClientId, found: Option<u64>) -> Option<u64>
+    ensures { result ≡ place_or (option_map shown w) c found }
+{
+    match w {
+        Some(w) if w.client == c.0 => Some(w.place),
+        _ => found,
+    }
+}

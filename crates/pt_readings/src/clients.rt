@@ -1,0 +1,103 @@
+ghost use Rattle.std.specs.Prelude.{◌≡◌, ◌≤◌, ◌<◌, ◌-◌, ◌^◌, length};
+ghost use Rattle.pt_model.specs.Histories.{history};
+ghost use Rattle.pt_types.specs.Operations.{same_clock};
+ghost use Rattle.pt_model.specs.Clients.{client as client_in, client_by as client_after, is_alive as is_alive_in, living as living_in, living_by as living_after, clock as clock_in, is_due as is_due_at};
+
+use pt_model::Entry;
+use pt_types::{ClientId, Clock, Priority};
+
+/// What an entry does to a client.  [profile]
+pub fn client_by(entry: &Entry, before: Option<Priority>, c: ClientId) -> Option<Priority>
+    ensures { result ≡ client_after entry.now before c }
+{
+    match entry {
+        Entry::Join(d, priority) if *d == c => Some(*priority),
+        Entry::Death(d) if *d == c => None,
+        _ => before,
+    }
+}
+
+/// The priority with which a client joined, while it lives.  [XSH 2.8.4]
+#[tactic(auto, using(crate::proofs::Past::history_more))]
+pub fn client(entries: &[Entry], c: ClientId) -> Option<Priority>
+    ensures { result ≡ client_in (history entries.now) c }
+{
+    let mut found = None;
+    for entry in entries {
+        found = client_by(entry, found, c);
+    }
+    found
+}
+
+/// Whether a client lives.  [profile]
+pub fn is_alive(entries: &[Entry], c: ClientId) -> bool
+    ensures { result ≡ is_alive_in (history entries.now) c }
+{
+    client(entries, c).is_some()
+}
+
+/// What an entry does to the number of living clients.  [profile]
+pub fn living_by(entry: &Entry, before: u64) -> u64
+    requires { before < 2 ^ 64 - 1 }
+    ensures { result ≡ living_after entry.now before }
+{
+    match entry {
+        Entry::Join(..) => before + 1,
+        Entry::Death(_) => before.saturating_sub(1),
+        _ => before,
+    }
+}
+
+/// How many clients live.  [profile]
+#[tactic(auto, using(crate::proofs::Past::history_more))]
+pub fn living(entries: &[Entry]) -> u64
+    ensures value { result ≡ living_in (history entries.now) }
+    ensures small { result ≤ length entries.now }
+{
+    let mut count = 0;
+    for entry in entries {
+        count = living_by(entry, count);
+    }
+    count
+}
+
+/// Whether two clocks are one.  [profile]
+pub fn is_same_clock(one: Clock, other: Clock) -> bool
+    ensures { result ≡ same_clock one other }
+{
+    match (one, other) {
+        (Clock::Real, Clock::Real) | (Clock::Mono, Clock::Mono) => true,
+        _ => false,
+    }
+}
+
+/// The greatest moment of a clock so far, in nanoseconds; before its first there is none.
+/// [profile]
+#[tactic(auto, using(crate::proofs::Past::history_more))]
+pub fn clock(entries: &[Entry], which: Clock) -> Option<u64>
+    ensures { result ≡ clock_in (history entries.now) which }
+{
+    let mut latest: Option<u64> = None;
+    for entry in entries {
+        if let Entry::Moment(of, moment) = entry {
+            if is_same_clock(*of, which) {
+                let nanos = moment.nanos();
+                latest = match latest {
+                    Some(now) => Some(now.max(nanos)),
+                    None => Some(nanos),
+                };
+            }
+        }
+    }
+    latest
+}
+
+/// Whether a deadline is due: the clock equals or exceeds it.  [XSH pthread_mutex_timedlock]
+pub fn is_due(clock: Option<u64>, deadline: Option<u64>) -> bool
+    ensures { result ≡ is_due_at clock deadline }
+{
+    match (clock, deadline) {
+        (Some(now), Some(deadline)) => deadline <= now,
+        _ => false,
+    }
+}

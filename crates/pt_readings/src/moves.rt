@@ -1,0 +1,235 @@
+ghost use Rattle.std.specs.Prelude.{◌≡◌, ◌<◌, ◌&&◌, ◌==◌, option_map};
+ghost use Rattle.std.specs.List.{list_any};
+ghost use Rattle.pt_types.specs.Operations.{CondClass};
+ghost use Rattle.pt_types.specs.KeyOrder.{goes_before as goes_before_key};
+ghost use Rattle.pt_model.specs.Histories.{history};
+ghost use Rattle.pt_model.specs.Objects.{means as means_in};
+ghost use Rattle.pt_model.specs.WaitingCall.{at_place, is_wait as is_wait_role};
+ghost use Rattle.pt_model.specs.Answers.{open_calls};
+ghost use Rattle.pt_model.specs.Moves.{moved as moved_in, key_by, precedes_by, waits_at, cond_waits, first_waiting, has_place, cause_by as cause, move_or as move_after, is_moved as is_moved_in, at_object as at_object_in, precedes as precedes_in, is_least as is_least_in};
+ghost use Rattle.pt_readings.specs.Found.{passes, unmoved};
+ghost use Rattle.pt_readings.specs.Shown.{shown, shown_key, shown_move};
+
+use crate::answers::{is_open, open_at};
+use crate::objects::means;
+use crate::operations::{ObjectClass, Operation, operation_of};
+use crate::waiting::{Role, WaitingCall, is_wait, is_wait_at, is_write, waiting_call_at};
+use pt_model::{Cause, Entry};
+use pt_types::{Name, ObjectId, Outcome};
+
+/// When a wait was moved to its mutex, and why.  [XSH pthread_cond_broadcast]
+#[derive(Clone, Copy, Debug, PartialEq, Eq)]
+pub struct Move {
+    /// The place of the entry that moved it.
+    pub at: u64,
+    pub cause: Cause,
+}
+
+/// What decides between calls: priority, whether for a write lock, arrival.  [XSH 2.8.4]
+#[derive(Clone, Copy)]
+pub struct Key {
+    pub priority: u64,
+    pub writes: bool,
+    pub arrival: (u64, u64),
+}
+
+/// By what a call goes before another, if this is its move.  [XSH 2.8.4]
+pub fn key_with(w: &WaitingCall, moved: Option<Move>) -> Key
+    ensures { shown_key result ≡ key_by (λ j. option_map shown_move moved) (shown w.now) }
+{
+    Key {
+        priority: w.priority,
+        writes: is_write(w.role),
+        arrival: match moved {
+            Some(moved) => (moved.at, w.place),
+            None => (w.place, w.place),
+        },
+    }
+}
+
+/// Higher priority, then writers, then lesser arrival.  [XSH pthread_rwlock_unlock, 2.8.4]
+pub fn goes_before(a: Key, b: Key) -> bool
+    ensures { result ≡ goes_before_key (shown_key a) (shown_key b) }
+{
+    if a.priority != b.priority {
+        return b.priority < a.priority;
+    }
+    if a.writes != b.writes {
+        return a.writes;
+    }
+    a.arrival.0 < b.arrival.0 || a.arrival.0 == b.arrival.0 && a.arrival.1 < b.arrival.1
+}
+
+/// Whether the open call at a place is a wait that came to the condition of this name.
+/// [XSH pthread_cond_wait]
+#[tactic(auto, using(crate::proofs::Opens::passes_open))]
+pub fn came_to(entries: &[Entry], n: &Name, i: u64) -> bool
+    ensures { result
+        ≡ passes
+        (λ w. is_wait_role w.role && means_in (history entries.now) n.now CondClass w.object)
+        (at_place i (open_calls (history entries.now))) }
+{
+    match waiting_call_at(entries, i) {
+        Some(w) => {
+            is_wait(w.role)
+                && means(entries, n, ObjectClass::Cond, ObjectId(w.object))
+                && is_open(entries, &w)
+        }
+        None => false,
+    }
+}
+
+/// Whether the open call at a place waits at the condition of this name still, and goes before
+/// this wait, which isn't moved.  [XSH 2.8.4]
+#[cycle(moves)]
+#[tactic(auto, using(crate::proofs::Opens::passes_open))]
+pub fn waits_before(entries: &[Entry], n: &Name, w: &WaitingCall, i: u64) -> bool
+    ensures { result
+        ≡ passes
+        (λ v. waits_at (history entries.now) (moved_in (history entries.now)) n.now v &&
+        precedes_by unmoved v (shown w.now))
+        (at_place i (open_calls (history entries.now))) }
+{
+    let Some(v) = waiting_call_at(entries, i) else {
+        return false;
+    };
+    if !is_wait(v.role) || !goes_before(key_with(&v, None), key_with(w, None)) {
+        return false;
+    }
+    if !means(entries, n, ObjectClass::Cond, ObjectId(v.object)) {
+        return false;
+    }
+    is_open(entries, &v) && moved(entries, v.place).is_none()
+}
+
+/// Whether one does.  [XSH 2.8.4]
+#[cycle(moves)]
+pub fn is_preceded(entries: &[Entry], n: &Name, w: &WaitingCall) -> bool
+    ensures { result
+        ≡ list_any (λ v. precedes_by unmoved v (shown w.now))
+        (cond_waits (history entries.now) (moved_in (history entries.now)) n.now) }
+{
+    for i in 0..entries.len() {
+        if waits_before(entries, n, w, i as u64) {
+            return true;
+        }
+    }
+    false
+}
+
+/// Whether the call at a place, which isn't moved, is the least wait at the condition of this
+/// name: a signal wakes that one alone.  [XSH pthread_cond_signal]
+#[cycle(moves)]
+#[tactic(auto, using(crate::proofs::Waits::first_is))]
+pub fn is_first_waiting(entries: &[Entry], n: &Name, before: Option<Move>, j: u64) -> bool
+    requires { option_map shown_move before ≡ moved_in (history entries.now) j }
+    ensures { result
+        ≡ has_place (first_waiting (history entries.now) (moved_in (history entries.now)) n.now)
+        j }
+{
+    if before.is_some() || !came_to(entries, n, j) {
+        return false;
+    }
+    match open_at(entries, j) {
+        Some(w) => !is_preceded(entries, n, &w),
+        None => false,
+    }
+}
+
+/// Why an entry behind these moves the wait at a place.  [XSH pthread_cond_broadcast]
+#[cycle(moves)]
+#[tactic(auto, using(crate::proofs::Waits::waiting_is))]
+pub fn cause_by(entries: &[Entry], entry: &Entry, before: Option<Move>, j: u64) -> Option<Cause>
+    requires { option_map shown_move before ≡ moved_in (history entries.now) j }
+    ensures { result ≡ cause (history entries.now) (moved_in (history entries.now)) entry.now j }
+{
+    match entry {
+        Entry::Expire(i) if *i == j && is_wait_at(entries, j) => Some(Cause::Expired),
+        Entry::Call(_, call, Some(Outcome::Done)) => match operation_of(call) {
+            Operation::Signals(n) if is_first_waiting(entries, n, before, j) => Some(
+                Cause::Signalled,
+            ),
+            Operation::Broadcasts(n) if before.is_none() && came_to(entries, n, j) => {
+                Some(Cause::Broadcasted)
+            }
+            _ => None,
+        },
+        _ => None,
+    }
+}
+
+/// A move at this place where there is a cause, else the one before.  [profile]
+pub fn move_or(at: u64, cause: Option<Cause>, before: Option<Move>) -> Option<Move>
+    ensures { option_map shown_move result ≡ move_after at cause (option_map shown_move before) }
+{
+    match cause {
+        Some(cause) => Some(Move { at, cause }),
+        None => before,
+    }
+}
+
+/// The move of the wait at a place.  [XSH pthread_cond_broadcast]
+#[cycle(moves)]
+#[tactic(auto, using(crate::proofs::Past::history_more, crate::proofs::Past::place_below))]
+pub fn moved(entries: &[Entry], j: u64) -> Option<Move>
+    ensures { option_map shown_move result ≡ moved_in (history entries.now) j }
+{
+    let mut found = None;
+    for (i, entry) in entries.iter().enumerate() {
+        found = move_or(i as u64, cause_by(&entries[..i], entry, found, j), found);
+    }
+    found
+}
+
+/// Whether a call is a wait that was moved.  [profile]
+pub fn is_moved(entries: &[Entry], w: &WaitingCall) -> bool
+    ensures { result ≡ is_moved_in (history entries.now) (shown w.now) }
+{
+    moved(entries, w.place).is_some()
+}
+
+/// The object at which a call stands.  [XSH pthread_cond_broadcast]
+pub fn at_object(entries: &[Entry], w: &WaitingCall) -> ObjectId
+    ensures { result ≡ at_object_in (history entries.now) (shown w.now) }
+{
+    match w.role {
+        Role::ForCond(m) if moved(entries, w.place).is_some() => ObjectId(m),
+        _ => ObjectId(w.object),
+    }
+}
+
+/// Whether a call goes before another.  [XSH 2.8.4, pthread_rwlock_unlock]
+pub fn precedes(entries: &[Entry], v: &WaitingCall, w: &WaitingCall) -> bool
+    ensures { result ≡ precedes_in (history entries.now) (shown v.now) (shown w.now) }
+{
+    let one = key_with(v, moved(entries, v.place));
+    let other = key_with(w, moved(entries, w.place));
+    goes_before(one, other)
+}
+
+/// Whether the open call at a place stands at this object and goes before this call.  [XSH 2.8.4]
+pub fn is_ahead(entries: &[Entry], o: ObjectId, w: &WaitingCall, i: u64) -> bool
+    ensures { result
+        ≡ passes
+        (λ v. (at_object_in (history entries.now) v == o) && precedes_in
+        (history entries.now) v (shown w.now))
+        (at_place i (open_calls (history entries.now))) }
+{
+    match open_at(entries, i) {
+        Some(v) => at_object(entries, &v) == o && precedes(entries, &v, w),
+        None => false,
+    }
+}
+
+/// Whether no call that stands at the same object goes before it.  [XSH 2.8.4]
+pub fn is_least(entries: &[Entry], w: &WaitingCall) -> bool
+    ensures { result ≡ is_least_in (history entries.now) (shown w.now) }
+{
+    let o = at_object(entries, w);
+    for i in 0..entries.len() {
+        if is_ahead(entries, o, w, i as u64) {
+            return false;
+        }
+    }
+    true
+}

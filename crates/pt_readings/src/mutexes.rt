@@ -1,0 +1,193 @@
+ghost use Rattle.std.specs.Prelude.{◌≡◌, ◌≤◌, ◌<◌, ◌-◌, ◌^◌, length};
+ghost use Rattle.pt_types.specs.Operations.{operation};
+ghost use Rattle.pt_model.specs.Histories.{history};
+ghost use Rattle.pt_model.specs.WaitingCall.{at_place, stood};
+ghost use Rattle.pt_model.specs.Mutexes.{relocks as relocks_in, unlocks as unlocks_in, unlocks_to_wait as unlocks_to_wait_in, restores as restores_in, is_for as is_for_it, gained as gained_in, gained_by as gained_after, lost as lost_in, lost_by as lost_after, count as count_in, owner as owner_in, consistency as consistency_in, consistency_by as consistency_after, mutex_view as view_in};
+ghost use Rattle.pt_readings.specs.Shown.{shown_mutex};
+
+use crate::objects::{is_robust, kind_of, means, mutex_kind};
+use crate::operations::{LockKind, ObjectClass, Operation, operation_of};
+use crate::views::{MutexView, after_consistent, after_release, after_yield, is_acquired};
+use crate::waiting::{mutex_of, waiting_call_at};
+use pt_model::Entry;
+use pt_types::{Call, ClientId, Consistency, ObjectId, Outcome};
+
+/// Whether a call that was answered 0 counts as a lock.  [XSH pthread_mutex_lock, RECURSIVE]
+pub fn relocks(entries: &[Entry], call: &Call, m: ObjectId) -> bool
+    ensures { result ≡ relocks_in (history entries.now) (operation call.now) m }
+{
+    match operation_of(call) {
+        Operation::Acquires(n, LockKind::MutexLock, _) => means(entries, n, ObjectClass::Mutex, m),
+        _ => false,
+    }
+}
+
+/// Whether one that was answered 0 gives a lock back.  [XSH pthread_mutex_unlock]
+pub fn unlocks(entries: &[Entry], call: &Call, m: ObjectId) -> bool
+    ensures { result ≡ unlocks_in (history entries.now) (operation call.now) m }
+{
+    match operation_of(call) {
+        Operation::Unlocks(n) => means(entries, n, ObjectClass::Mutex, m),
+        _ => false,
+    }
+}
+
+/// Whether one that was left waiting does.  [XSH pthread_cond_wait]
+pub fn unlocks_to_wait(entries: &[Entry], call: &Call, m: ObjectId) -> bool
+    ensures { result ≡ unlocks_to_wait_in (history entries.now) (operation call.now) m }
+{
+    match operation_of(call) {
+        Operation::Awaits(_, n, _) => means(entries, n, ObjectClass::Mutex, m),
+        _ => false,
+    }
+}
+
+/// Whether one that was answered 0 makes the mutex consistent.  [XSH pthread_mutex_consistent]
+pub fn restores(entries: &[Entry], call: &Call, m: ObjectId) -> bool
+    ensures { result ≡ restores_in (history entries.now) (operation call.now) m }
+{
+    match operation_of(call) {
+        Operation::Restores(n) => means(entries, n, ObjectClass::Mutex, m),
+        _ => false,
+    }
+}
+
+/// Whether the call at a place is a client's, for this mutex in the end.  [XSH pthread_mutex_lock]
+pub fn is_for(entries: &[Entry], j: u64, m: ObjectId, c: ClientId) -> bool
+    ensures { result ≡ is_for_it (at_place j (stood (history entries.now))) m c }
+{
+    match waiting_call_at(entries, j) {
+        Some(w) => w.client == c.0 && mutex_of(&w) == Some(m),
+        None => false,
+    }
+}
+
+/// What an entry adds to a client's locks; a Yield forgets them.  [XSH pthread_mutex_lock]
+pub fn gained_by(entries: &[Entry], entry: &Entry, m: ObjectId, c: ClientId, before: u64) -> u64
+    requires { before < 2 ^ 64 - 1 }
+    ensures { result ≡ gained_after (history entries.now) entry.now m c before }
+{
+    match entry {
+        Entry::Call(d, call, Some(Outcome::Done)) if *d == c && relocks(entries, call, m) => {
+            before + 1
+        }
+        Entry::Grant(j, x) if is_acquired(*x) && is_for(entries, *j, m, c) => before + 1,
+        Entry::Yield(k) if *k == m => 0,
+        _ => before,
+    }
+}
+
+/// How often a client has locked a mutex since its last Yield.  [XSH pthread_mutex_lock]
+#[tactic(auto, using(crate::proofs::Past::history_more))]
+pub fn gained(entries: &[Entry], m: ObjectId, c: ClientId) -> u64
+    ensures value { result ≡ gained_in (history entries.now) m c }
+    ensures small { result ≤ length entries.now }
+{
+    let mut count = 0;
+    for (i, entry) in entries.iter().enumerate() {
+        count = gained_by(&entries[..i], entry, m, c, count);
+    }
+    count
+}
+
+/// What an entry adds to a client's unlocks.  [XSH pthread_mutex_unlock, pthread_cond_wait]
+pub fn lost_by(entries: &[Entry], entry: &Entry, m: ObjectId, c: ClientId, before: u64) -> u64
+    requires { before < 2 ^ 64 - 1 }
+    ensures { result ≡ lost_after (history entries.now) entry.now m c before }
+{
+    match entry {
+        Entry::Call(d, call, None) if *d == c && unlocks_to_wait(entries, call, m) => before + 1,
+        Entry::Call(d, call, Some(Outcome::Done)) if *d == c && unlocks(entries, call, m) => {
+            before + 1
+        }
+        Entry::Yield(k) if *k == m => 0,
+        _ => before,
+    }
+}
+
+/// How often it has unlocked it since.  [XSH pthread_mutex_unlock, pthread_cond_wait]
+#[tactic(auto, using(crate::proofs::Past::history_more))]
+pub fn lost(entries: &[Entry], m: ObjectId, c: ClientId) -> u64
+    ensures value { result ≡ lost_in (history entries.now) m c }
+    ensures small { result ≤ length entries.now }
+{
+    let mut count = 0;
+    for (i, entry) in entries.iter().enumerate() {
+        count = lost_by(&entries[..i], entry, m, c, count);
+    }
+    count
+}
+
+/// How often a client holds a mutex.  [XSH pthread_mutex_lock, pthread_cond_timedwait]
+pub fn count(entries: &[Entry], m: ObjectId, c: ClientId) -> u64
+    ensures { result ≡ count_in (history entries.now) m c }
+{
+    gained(entries, m, c).saturating_sub(lost(entries, m, c))
+}
+
+/// The client, dead or alive, that holds it.  [XSH pthread_mutex_lock]
+pub fn owner(entries: &[Entry], m: ObjectId) -> Option<ClientId>
+    ensures { result ≡ owner_in (history entries.now) m }
+{
+    for i in 0..entries.len() {
+        let c = ClientId(i as u64);
+        if 0 < count(entries, m, c) {
+            return Some(c);
+        }
+    }
+    None
+}
+
+/// What an entry does to a mutex's consistency.  [XSH pthread_mutex_unlock]
+pub fn consistency_by(
+    entries: &[Entry],
+    entry: &Entry,
+    m: ObjectId,
+    before: Consistency,
+) -> Consistency
+    ensures { result ≡ consistency_after (history entries.now) entry.now m before }
+{
+    match entry {
+        Entry::Call(d, call, None)
+            if unlocks_to_wait(entries, call, m) && count(entries, m, *d) == 1 => {
+            after_release(before)
+        }
+        Entry::Call(_, call, Some(Outcome::Done)) if restores(entries, call, m) => {
+            after_consistent(before)
+        }
+        Entry::Call(d, call, Some(Outcome::Done))
+            if unlocks(entries, call, m) && count(entries, m, *d) == 1 => { after_release(before) }
+        Entry::Yield(k) if *k == m => after_yield(before),
+        _ => before,
+    }
+}
+
+/// The consistency of a mutex.  [XSH pthread_mutex_lock, pthread_mutex_consistent]
+#[tactic(auto, using(crate::proofs::Past::history_more))]
+pub fn consistency(entries: &[Entry], m: ObjectId) -> Consistency
+    ensures { result ≡ consistency_in (history entries.now) m }
+{
+    let mut found = Consistency::Consistent;
+    for (i, entry) in entries.iter().enumerate() {
+        found = consistency_by(&entries[..i], entry, m, found);
+    }
+    found
+}
+
+/// A mutex as its table sees it.  [XSH 2.9.3]
+pub fn mutex_view(entries: &[Entry], m: ObjectId) -> MutexView
+    ensures { shown_mutex result ≡ view_in (history entries.now) m }
+{
+    let kind = kind_of(entries, m);
+    let owner = owner(entries, m);
+    MutexView {
+        kind: mutex_kind(kind),
+        robust: is_robust(kind),
+        consistency: consistency(entries, m),
+        owner,
+        count: match owner {
+            Some(c) => count(entries, m, c),
+            None => 0,
+        },
+    }
+}

@@ -1,0 +1,167 @@
+ghost use Rattle.std.specs.Prelude.{◌≡◌, ◌≤◌, ◌<◌, ◌-◌, ◌^◌, length, option_map};
+ghost use Rattle.pt_types.specs.Names.{same_name};
+ghost use Rattle.pt_model.specs.Histories.{history};
+ghost use Rattle.pt_model.specs.Objects.{object_named as object_with, named_by as named_after, find as find_in, means as means_in, kind_of as kind_in, kind_by as kind_after, objects as objects_in, objects_by as objects_after, mutex_kind as kind_as_mutex, is_robust as is_robust_kind, barrier_count as count_of_barrier, number_of as number_if};
+ghost use Rattle.pt_readings.specs.Shown.{shown_object, shown_class};
+
+use crate::operations::{ObjectClass, Operation, class_of, is_same, operation_of};
+use pt_model::Entry;
+use pt_types::{MutexKind, Name, ObjectId, ObjectKind, Outcome};
+
+/// An object: its number, which is the place of the call that made it, and its words.  [profile]
+#[derive(Clone, Copy)]
+pub struct Object {
+    pub number: u64,
+    pub kind: ObjectKind,
+}
+
+/// Whether two names are the same bytes.  [profile]
+pub fn is_name(one: &Name, other: &Name) -> bool
+    ensures { result ≡ same_name one.now other.now }
+{
+    one.as_bytes() == other.as_bytes()
+}
+
+/// What an entry at a place does to a name.  [profile]
+pub fn named_by(entry: &Entry, at: u64, before: Option<Object>, n: &Name) -> Option<Object>
+    ensures { option_map shown_object result
+        ≡ named_after entry.now at (option_map shown_object before) n.now }
+{
+    let Entry::Call(_, call, Some(Outcome::Done)) = entry else {
+        return before;
+    };
+    match operation_of(call) {
+        Operation::Makes(m, kind) if is_name(m, n) => Some(Object { number: at, kind }),
+        Operation::Ends(m, _) if is_name(m, n) => None,
+        _ => before,
+    }
+}
+
+/// The object that bears a name.  [profile]
+#[tactic(auto, using(crate::proofs::Past::history_more, crate::proofs::Past::place_below))]
+pub fn object_named(entries: &[Entry], n: &Name) -> Option<Object>
+    ensures { option_map shown_object result ≡ object_with (history entries.now) n.now }
+{
+    let mut found = None;
+    for (i, entry) in entries.iter().enumerate() {
+        found = named_by(entry, i as u64, found, n);
+    }
+    found
+}
+
+/// The number of an object, if it is of this class.  [profile]
+pub fn number_of(object: Option<Object>, class: ObjectClass) -> Option<ObjectId>
+    ensures { result ≡ number_if (option_map shown_object object) (shown_class class) }
+{
+    match object {
+        Some(object) if is_same(class_of(object.kind), class) => Some(ObjectId(object.number)),
+        _ => None,
+    }
+}
+
+/// The object of this class that bears the name, if one does.  [profile]
+pub fn find(entries: &[Entry], n: &Name, class: ObjectClass) -> Option<ObjectId>
+    ensures { result ≡ find_in (history entries.now) n.now (shown_class class) }
+{
+    number_of(object_named(entries, n), class)
+}
+
+/// Whether a name means the object with this number.  [profile]
+pub fn means(entries: &[Entry], n: &Name, class: ObjectClass, o: ObjectId) -> bool
+    ensures { result ≡ means_in (history entries.now) n.now (shown_class class) o }
+{
+    match find(entries, n, class) {
+        Some(p) => p == o,
+        None => false,
+    }
+}
+
+/// What an entry does to an object, behind those before it.  [profile]
+#[tactic(auto, using(crate::proofs::Past::place_all))]
+pub fn kind_by(
+    entries: &[Entry],
+    entry: &Entry,
+    before: Option<ObjectKind>,
+    o: ObjectId,
+) -> Option<ObjectKind>
+    ensures { result ≡ kind_after (history entries.now) entry.now before o }
+{
+    let Entry::Call(_, call, Some(Outcome::Done)) = entry else {
+        return before;
+    };
+    match operation_of(call) {
+        Operation::Makes(_, kind) if o == ObjectId(entries.len() as u64) => Some(kind),
+        Operation::Ends(n, class) if means(entries, n, class, o) => None,
+        _ => before,
+    }
+}
+
+/// What the object with this number was made as, while it exists.  [profile]
+#[tactic(auto, using(crate::proofs::Past::history_more))]
+pub fn kind_of(entries: &[Entry], o: ObjectId) -> Option<ObjectKind>
+    ensures { result ≡ kind_in (history entries.now) o }
+{
+    let mut found = None;
+    for (i, entry) in entries.iter().enumerate() {
+        found = kind_by(&entries[..i], entry, found, o);
+    }
+    found
+}
+
+/// What an entry does to the number of objects.  [profile]
+pub fn objects_by(entry: &Entry, before: u64) -> u64
+    requires { before < 2 ^ 64 - 1 }
+    ensures { result ≡ objects_after entry.now before }
+{
+    let Entry::Call(_, call, Some(Outcome::Done)) = entry else {
+        return before;
+    };
+    match operation_of(call) {
+        Operation::Makes(..) => before + 1,
+        Operation::Ends(..) => before.saturating_sub(1),
+        _ => before,
+    }
+}
+
+/// How many objects exist.  [profile]
+#[tactic(auto, using(crate::proofs::Past::history_more))]
+pub fn objects(entries: &[Entry]) -> u64
+    ensures value { result ≡ objects_in (history entries.now) }
+    ensures small { result ≤ length entries.now }
+{
+    let mut count = 0;
+    for entry in entries {
+        count = objects_by(entry, count);
+    }
+    count
+}
+
+/// The kind of a mutex; of what is no mutex, NORMAL.  [XSH pthread_mutexattr_settype]
+pub fn mutex_kind(kind: Option<ObjectKind>) -> MutexKind
+    ensures { result ≡ kind_as_mutex kind }
+{
+    match kind {
+        Some(ObjectKind::Mutex(kind, _)) => kind,
+        _ => MutexKind::Normal,
+    }
+}
+
+/// Whether it is a robust mutex.  [XSH pthread_mutexattr_setrobust]
+pub fn is_robust(kind: Option<ObjectKind>) -> bool
+    ensures { result ≡ is_robust_kind kind }
+{
+    match kind {
+        Some(ObjectKind::Mutex(_, robust)) => robust,
+        _ => false,
+    }
+}
+
+/// The count of a barrier; of what is no barrier, 0.  [XSH pthread_barrier_init]
+pub fn barrier_count(kind: Option<ObjectKind>) -> u64
+    ensures { result ≡ count_of_barrier kind }
+{
+    match kind {
+        Some(ObjectKind::Barrier(count)) => count,
+        _ => 0,
+    }
+}

@@ -1,0 +1,157 @@
+ghost use Rattle.std.specs.Prelude.{◌≡◌, ◌≤◌, ◌<◌, ◌-◌, ◌^◌, ◌&&◌, length};
+ghost use Rattle.pt_types.specs.RwlockTable.{holds};
+ghost use Rattle.pt_model.specs.Clients.{is_alive as lives};
+ghost use Rattle.pt_types.specs.Operations.{operation};
+ghost use Rattle.pt_model.specs.Histories.{history};
+ghost use Rattle.pt_model.specs.WaitingCall.{at_place, stood};
+ghost use Rattle.pt_model.specs.Rwlocks.{rwunlocks as rwunlocks_in, is_for_read as is_reader, is_for_write as is_writer, writes as writes_in, writes_by as writes_after, reads as reads_in, reads_by as reads_after, writer as writer_in, reader as reader_in, rwlock_view as view, is_held_alive as is_held_alive_in};
+ghost use Rattle.pt_readings.specs.Shown.{shown_rwlock};
+
+use crate::clients::is_alive;
+use crate::objects::means;
+use crate::operations::{ObjectClass, Operation, operation_of};
+use crate::views::RwlockView;
+use crate::waiting::{Role, waiting_call_at};
+use pt_model::Entry;
+use pt_types::{Call, ClientId, ObjectId, Outcome};
+
+/// Whether a call that was answered 0 gives the lock back.  [XSH pthread_rwlock_unlock]
+pub fn rwunlocks(entries: &[Entry], call: &Call, r: ObjectId) -> bool
+    ensures { result ≡ rwunlocks_in (history entries.now) (operation call.now) r }
+{
+    match operation_of(call) {
+        Operation::Rwunlocks(n) => means(entries, n, ObjectClass::Rwlock, r),
+        _ => false,
+    }
+}
+
+/// Whether the call at a place is the client's, for reading.  [XSH pthread_rwlock_rdlock]
+pub fn is_for_read(entries: &[Entry], j: u64, r: ObjectId, c: ClientId) -> bool
+    ensures { result ≡ is_reader (at_place j (stood (history entries.now))) r c }
+{
+    match waiting_call_at(entries, j) {
+        Some(w) => matches!(w.role, Role::ForRead) && w.object == r.0 && w.client == c.0,
+        None => false,
+    }
+}
+
+/// Whether the call at a place is the client's, for writing.  [XSH pthread_rwlock_wrlock]
+pub fn is_for_write(entries: &[Entry], j: u64, r: ObjectId, c: ClientId) -> bool
+    ensures { result ≡ is_writer (at_place j (stood (history entries.now))) r c }
+{
+    match waiting_call_at(entries, j) {
+        Some(w) => matches!(w.role, Role::ForWrite) && w.object == r.0 && w.client == c.0,
+        None => false,
+    }
+}
+
+/// What an entry does to a client's write lock.  [XSH pthread_rwlock_unlock]
+pub fn writes_by(entries: &[Entry], entry: &Entry, r: ObjectId, c: ClientId, before: bool) -> bool
+    ensures { result ≡ writes_after (history entries.now) entry.now r c before }
+{
+    match entry {
+        Entry::Call(d, call, Some(Outcome::Done)) if *d == c && rwunlocks(entries, call, r) => {
+            false
+        }
+        Entry::Grant(j, _) if is_for_write(entries, *j, r, c) => true,
+        _ => before,
+    }
+}
+
+/// Whether a client holds the write lock.  [XSH pthread_rwlock_wrlock]
+#[tactic(auto, using(crate::proofs::Past::history_more))]
+pub fn writes(entries: &[Entry], r: ObjectId, c: ClientId) -> bool
+    ensures { result ≡ writes_in (history entries.now) r c }
+{
+    let mut found = false;
+    for (i, entry) in entries.iter().enumerate() {
+        found = writes_by(&entries[..i], entry, r, c, found);
+    }
+    found
+}
+
+/// What an entry does to a client's read locks: one less, unless it is the write lock that goes
+/// back.  [XSH pthread_rwlock_unlock]
+pub fn reads_by(entries: &[Entry], entry: &Entry, r: ObjectId, c: ClientId, before: u64) -> u64
+    requires { before < 2 ^ 64 - 1 }
+    ensures { result ≡ reads_after (history entries.now) entry.now r c before }
+{
+    match entry {
+        Entry::Call(d, call, Some(Outcome::Done))
+            if *d == c && rwunlocks(entries, call, r) && !writes(entries, r, c) => {
+            before.saturating_sub(1)
+        }
+        Entry::Grant(j, _) if is_for_read(entries, *j, r, c) => before + 1,
+        _ => before,
+    }
+}
+
+/// How many read locks a client holds.  [XSH pthread_rwlock_rdlock]
+#[tactic(auto, using(crate::proofs::Past::history_more))]
+pub fn reads(entries: &[Entry], r: ObjectId, c: ClientId) -> u64
+    ensures value { result ≡ reads_in (history entries.now) r c }
+    ensures small { result ≤ length entries.now }
+{
+    let mut count = 0;
+    for (i, entry) in entries.iter().enumerate() {
+        count = reads_by(&entries[..i], entry, r, c, count);
+    }
+    count
+}
+
+/// The client, dead or alive, that holds the write lock.  [XSH pthread_rwlock_wrlock]
+pub fn writer(entries: &[Entry], r: ObjectId) -> Option<ClientId>
+    ensures { result ≡ writer_in (history entries.now) r }
+{
+    for i in 0..entries.len() {
+        let c = ClientId(i as u64);
+        if writes(entries, r, c) {
+            return Some(c);
+        }
+    }
+    None
+}
+
+/// The first client, dead or alive, that holds read locks.  [XSH pthread_rwlock_rdlock]
+pub fn reader(entries: &[Entry], r: ObjectId) -> Option<ClientId>
+    ensures { result ≡ reader_in (history entries.now) r }
+{
+    for i in 0..entries.len() {
+        let c = ClientId(i as u64);
+        if 0 < reads(entries, r, c) {
+            return Some(c);
+        }
+    }
+    None
+}
+
+/// A read-write lock as its tables see it, for one caller.  [XSH 2.9]
+pub fn rwlock_view(entries: &[Entry], r: ObjectId, c: ClientId) -> RwlockView
+    ensures { shown_rwlock result ≡ view (history entries.now) r c }
+{
+    RwlockView {
+        writes: writes(entries, r, c),
+        reads: reads(entries, r, c),
+        is_written: writer(entries, r).is_some(),
+        is_read: reader(entries, r).is_some(),
+    }
+}
+
+/// Whether a client lives and holds the lock.  [XSH pthread_rwlock_destroy]
+pub fn holds_alive(entries: &[Entry], r: ObjectId, c: ClientId) -> bool
+    ensures { result ≡ (lives (history entries.now) c && holds (view (history entries.now) r c)) }
+{
+    is_alive(entries, c) && (writes(entries, r, c) || 0 < reads(entries, r, c))
+}
+
+/// Whether a living client holds the lock.  [XSH pthread_rwlock_destroy]
+pub fn is_held_alive(entries: &[Entry], r: ObjectId) -> bool
+    ensures { result ≡ is_held_alive_in (history entries.now) r }
+{
+    for i in 0..entries.len() {
+        if holds_alive(entries, r, ClientId(i as u64)) {
+            return true;
+        }
+    }
+    false
+}

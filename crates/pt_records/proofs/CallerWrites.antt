@@ -1,0 +1,103 @@
+-- Rows of clients after one is written, added or taken out.
+use Rattle.std.proofs.Common.{◌≡◌, ℕ, Bool, true, false, cond, ◌==◌, ◌||◌, nat_eq, List, [], ◌∷◌, Option, Some, None, is_some, refl, ap, ◌∙◌, arith}
+use Rattle.std.specs.List.{list_any}
+use Rattle.std.proofs.lemmas.Bool.Decides.{nat_tests}
+use Rattle.pt_table.specs.declared.clients.ClientRow.{ClientRow}
+use Rattle.pt_table.specs.ClientRows.{client_at, client_value, has_client, with_client, and_client, without_client}
+use Rattle.pt_records.specs.declared.callers.Caller.{Caller}
+use Rattle.pt_records.specs.Callers.{Once}
+use Rattle.pt_records.specs.Writes.{WritesCaller, AddsCaller, RemovesCaller}
+use Rattle.pt_records.proofs.RowLemmas.{Apart, Apart-map, Apart-added, Apart-without, length-map, length-added, length-without, one_changed, one-kept, value-changed, value-added, value-without, value-there}
+
+abbrev pub number_in : ClientRow Caller → ℕ
+number_in row = row.number
+
+abbrev pub value_in : ClientRow Caller → Caller
+value_in row = row.value
+
+-- a number stands in no row exactly where none is found
+none-any : (rows : List (ClientRow Caller)) (n : ℕ)
+    → list_any (λ other. other.number == n) rows ≡ false → client_at rows n ≡ None
+none-any [] n e = refl
+none-any (r ∷ rows) n e = go (none-any rows n) (r.number == n) refl e
+  where
+    go : (list_any (λ other. other.number == n) rows ≡ false → client_at rows n ≡ None) → (b : Bool)
+        → (r.number == n) ≡ b → (b || list_any (λ other. other.number == n) rows) ≡ false
+        → cond (nat_eq n r.number) (Some r) (client_at rows n) ≡ None
+    go ih true t e = cc
+    go ih false t e =
+        let apart : nat_eq n r.number ≡ false = grind (arith, nat_tests) in
+        ap (λ b. cond b (Some r) (client_at rows n)) apart ∙ ih e
+
+any-none : (rows : List (ClientRow Caller)) (n : ℕ) → client_at rows n ≡ None
+    → list_any (λ other. other.number == n) rows ≡ false
+any-none [] n e = refl
+any-none (r ∷ rows) n e = go (any-none rows n) (nat_eq n r.number) refl e
+  where
+    go : (client_at rows n ≡ None → list_any (λ other. other.number == n) rows ≡ false) → (b : Bool)
+        → nat_eq n r.number ≡ b → cond b (Some r) (client_at rows n) ≡ None
+        → ((r.number == n) || list_any (λ other. other.number == n) rows) ≡ false
+    go ih true t e = cc
+    go ih false t e =
+        let apart : (r.number == n) ≡ false = grind (arith, nat_tests) in
+        ap (λ b. b || list_any (λ other. other.number == n) rows) apart ∙ ih e
+
+-- so the rows list no number twice exactly where each row is found by its number
+pub apart-once : (rows : List (ClientRow Caller)) → Once rows → Apart number_in rows
+apart-once [] a = tt
+apart-once (r ∷ rows) a = (none-any rows r.number a.0, apart-once rows a.1)
+
+pub once-apart : (rows : List (ClientRow Caller)) → Apart number_in rows → Once rows
+once-apart [] a = tt
+once-apart (r ∷ rows) a = (any-none rows r.number a.0, once-apart rows a.1)
+
+-- the rows with a new value in the row of a client
+pub writes-caller : (rows : List (ClientRow Caller)) (c : ℕ) (v : Caller)
+    → has_client rows c ≡ true → WritesCaller rows (with_client rows c v) c v
+writes-caller rows c v has = record {
+  look = λ d. value-changed number_in value_in (λ row. record row { value = v }) v (λ r. refl)
+      (λ r. refl) rows c d has;
+  many = length-map number_in (one_changed number_in (λ row. record row { value = v }) c) rows;
+  once = λ once.
+      once-apart (with_client rows c v)
+      (Apart-map number_in (one_changed number_in (λ row. record row { value = v }) c)
+      (one-kept number_in (λ row. record row { value = v }) (λ r. refl) c) rows
+      (apart-once rows once));
+}
+
+-- the same by a change of what was there
+pub writes-by : (f : Caller → Caller) (rows : List (ClientRow Caller)) (c : ℕ) (u : Caller)
+    → Some u ≡ client_value rows c → (v : Caller) → client_value rows c ≡ Some v
+    → WritesCaller rows (with_client rows c (f u)) c (f v)
+writes-by f rows c u is v e =
+    let same : v ≡ u = cc in
+    rw same (writes-caller rows c (f u) (value-there number_in value_in rows c v e))
+
+-- a client has no row where none is found
+unfound : (o : Option (ClientRow Caller)) → is_some o ≡ false → o ≡ None
+unfound None e = refl
+unfound (Some r) e = cc
+
+-- the rows and a new one
+pub adds-caller : (rows : List (ClientRow Caller)) (c : ℕ) (v : Caller)
+    → has_client rows c ≡ false → AddsCaller rows (and_client rows c v) c v
+adds-caller rows c v has =
+    let row : ClientRow Caller = record { number = c; value = v } in
+    let new = unfound (client_at rows c) has in
+    record {
+      look = λ d. value-added number_in value_in rows row d new;
+      many = length-added number_in rows row;
+      once = λ once.
+          once-apart (and_client rows c v)
+          (Apart-added number_in rows row new (apart-once rows once));
+    }
+
+-- the rows without one
+pub removes-caller : (rows : List (ClientRow Caller)) (c : ℕ) → has_client rows c ≡ true
+    → RemovesCaller rows (without_client rows c) c
+removes-caller rows c has = record {
+  look = value-without number_in value_in rows c;
+  many = λ once. length-without number_in rows c (apart-once rows once) has;
+  once = λ once.
+      once-apart (without_client rows c) (Apart-without number_in rows c (apart-once rows once));
+}

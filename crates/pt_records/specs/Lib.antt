@@ -1,0 +1,9 @@
+pub mod Arrivals
+pub mod Callers
+pub mod Counts
+pub mod Kept
+pub mod Logs
+pub mod OpenRows
+pub mod Objects
+pub mod Views
+pub mod Writes

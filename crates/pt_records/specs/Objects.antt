@@ -1,0 +1,64 @@
+-- Objects: the rows of objects, as they are read off a history.
+use Rattle.std.specs.Prelude.{ℕ, ◌≡◌, ◌<◌, true, List, [], ◌∷◌, Option, Some, None, is_some, length, option_map}
+use Rattle.std.specs.List.{AllByRecursion as Each}
+use Rattle.pt_types.specs.declared.call.ObjectKind.{ObjectKind}
+use Rattle.pt_types.specs.declared.call.ObjectKind.TheVariants as kind
+use Rattle.pt_table.specs.declared.objects.ObjectRow.{ObjectRow}
+use Rattle.pt_table.specs.ObjectRows.{object_value, number_of}
+use Rattle.pt_mutex.specs.MutexState.{MutexState, made as made_mutex}
+use Rattle.pt_rwlock.specs.RwlockState.{RwlockState, made as made_rwlock, reads_of, row_of}
+use Rattle.pt_model.specs.Histories.{History, place}
+use Rattle.pt_model.specs.Objects.{kind_of, object_named, objects}
+use Rattle.pt_model.specs.Records.{WaitingCall, ForRead}
+use Rattle.pt_model.specs.Searches.{In}
+use Rattle.pt_model.specs.Answers.{open_calls}
+use Rattle.pt_model.specs.Mutexes.{mutex_view}
+use Rattle.pt_model.specs.Rwlocks.{writer, reads}
+use Rattle.pt_records.specs.declared.object.Object.{Object}
+use Rattle.pt_records.specs.declared.object.Object.TheVariants.{Mutex, Rwlock, Cond, Barrier}
+
+-- a mutex is kept as it is read off the history  [XSH 2.9.3]
+abbrev pub IsMutex : History → ℕ → MutexState → Type 0
+IsMutex h o m = (m.seen ≡ mutex_view h o) × (m.bound_waits ≡ 0)
+
+-- a read-write lock is kept so, and who reads there has a row  [XSH 2.9]
+pub record IsRwlock (h : History) (o : ℕ) (r : RwlockState) : Type 0 where
+  pub writer : r.writer ≡ writer h o
+  pub reads : (c : ℕ) → reads_of r c ≡ reads h o c
+  pub rows : (w : WaitingCall) → In w (open_calls h) → w.role ≡ ForRead → w.object ≡ o
+      → is_some (row_of r w.client) ≡ true
+
+module _ {A : Type 0} where
+  -- what an object was made as  [XSH 2.9]
+  abbrev pub kind_kept : Object A → ObjectKind
+  kind_kept (Mutex m) = kind.Mutex m.seen.kind m.seen.robust
+  kind_kept (Rwlock r) = kind.Rwlock
+  kind_kept (Cond q) = kind.Cond
+  kind_kept (Barrier count) = kind.Barrier count
+
+  -- an object of this kind, as it is made  [XSH pthread_mutex_init, pthread_cond_init]
+  abbrev pub IsNew : Object A → ObjectKind → Type 0
+  IsNew (Mutex m) (kind.Mutex k robust) = m ≡ made_mutex k robust
+  IsNew (Rwlock r) kind.Rwlock = r ≡ made_rwlock
+  IsNew (Cond q) kind.Cond = q ≡ record { bound = None }
+  IsNew (Barrier count) (kind.Barrier n) = count ≡ n
+  IsNew _ _ = ⊥
+
+  -- each row's number is below those of the rows behind it, and below n  [profile]
+  abbrev pub Rising : List (ObjectRow (Object A)) → ℕ → Type 0
+  Rising [] n = Unit {0}
+  Rising (row ∷ rows) n =
+      (row.number < n) × Each (λ other. row.number < other.number) rows × Rising rows n
+
+  -- what is found of each object is what is read off the history  [profile]
+  pub record ObjectsLook (h : History) (look : ℕ → Option (Object A)) : Type 0 where
+    pub kinds : (o : ℕ) → option_map kind_kept (look o) ≡ kind_of h o
+    pub mutexes : (o : ℕ) (m : MutexState) → look o ≡ Some (Mutex m) → IsMutex h o m
+    pub rwlocks : (o : ℕ) (r : RwlockState) → look o ≡ Some (Rwlock r) → IsRwlock h o r
+
+  -- the rows are those of the objects that exist  [profile]
+  pub record AreObjects (h : History) (rows : List (ObjectRow (Object A))) : Type 0 where
+    pub look : ObjectsLook h (object_value rows)
+    pub names : (n : List ℕ) → number_of rows n ≡ option_map (λ x. x.number) (object_named h n)
+    pub rising : Rising rows (place h)
+    pub many : length rows ≡ objects h

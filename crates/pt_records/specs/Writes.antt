@@ -1,0 +1,109 @@
+-- Writes: rows of the tables before and after some of them are written.
+use Rattle.std.specs.Prelude.{ℕ, zero, suc, ◌+◌, ◌≡◌, ◌==◌, ◌&&◌, Bool, List, [], ◌∷◌, Some, None, is_none, length, option_map, if◌then◌else◌}
+use Rattle.pt_table.specs.declared.clients.ClientRow.{ClientRow}
+use Rattle.pt_table.specs.declared.objects.ObjectRow.{ObjectRow}
+use Rattle.pt_table.specs.ClientRows.{client_value}
+use Rattle.pt_types.specs.declared.call.ObjectKind.{ObjectKind}
+use Rattle.pt_types.specs.declared.call.ObjectKind.TheVariants as kind
+use Rattle.pt_types.specs.MutexTable.{is_number}
+use Rattle.pt_types.specs.Names.{same_name}
+use Rattle.pt_table.specs.ObjectRows.{object_value, object_named, number_of}
+use Rattle.pt_mutex.specs.MutexState.{made as new_mutex}
+use Rattle.pt_rwlock.specs.RwlockState.{made as new_rwlock}
+use Rattle.pt_model.specs.declared.entry.Cause.{Cause}
+use Rattle.pt_model.specs.WaitingCall.{is_arrival, is_wait}
+use Rattle.pt_readings.specs.Shown.{shown}
+use Rattle.pt_records.specs.declared.callers.Caller.{Caller}
+use Rattle.pt_records.specs.declared.callers.Open.{Open}
+use Rattle.pt_records.specs.declared.object.Object.{Object}
+use Rattle.pt_records.specs.declared.object.Object.TheVariants.{Mutex, Rwlock, Cond, Barrier}
+use Rattle.pt_records.specs.Callers.{Once, has_open, closed, moved_at}
+use Rattle.pt_records.specs.Objects.{Rising}
+
+-- one row is written, and the others stay  [profile]
+pub record WritesCaller (old new : List (ClientRow Caller)) (c : ℕ) (v : Caller) : Type 0 where
+  pub look : (d : ℕ) → client_value new d ≡ if c == d then Some v else client_value old d
+  pub many : length new ≡ length old
+  pub once : Once old → Once new
+
+-- a client gets its row, and the others stay  [profile]
+pub record AddsCaller (old new : List (ClientRow Caller)) (c : ℕ) (v : Caller) : Type 0 where
+  pub look : (d : ℕ) → client_value new d ≡ if c == d then Some v else client_value old d
+  pub many : length new ≡ length old + 1
+  pub once : Once old → Once new
+
+-- a client has no row any more, and the others stay  [profile]
+pub record RemovesCaller (old new : List (ClientRow Caller)) (c : ℕ) : Type 0 where
+  pub look : (d : ℕ) → client_value new d ≡ if c == d then None else client_value old d
+  pub many : Once old → length new + 1 ≡ length old
+  pub once : Once old → Once new
+
+-- in each row stands what g gives of what stood there  [profile]
+pub record RewritesCallers (old new : List (ClientRow Caller)) (g : Caller → Caller) : Type 0 where
+  pub look : (d : ℕ) → client_value new d ≡ option_map g (client_value old d)
+  pub many : length new ≡ length old
+  pub once : Once old → Once new
+
+-- the rows, where g changes what stands in the one at an index  [profile]
+abbrev pub rewritten_nth : (Caller → Caller) → List (ClientRow Caller) → ℕ → List (ClientRow Caller)
+rewritten_nth g [] i = []
+rewritten_nth g (row ∷ rows) zero = record row { value = g row.value } ∷ rows
+rewritten_nth g (row ∷ rows) (suc i) = row ∷ rewritten_nth g rows i
+
+-- whether an open call stands at the barrier  [XSH pthread_barrier_wait]
+abbrev pub arrived_at : ℕ → Open → Bool
+arrived_at b o = is_arrival (shown o.call).role && ((shown o.call).object == b)
+
+-- whether it stands at the condition, and isn't moved  [XSH pthread_cond_wait]
+abbrev pub still_waits_at : ℕ → Open → Bool
+still_waits_at q o =
+    is_wait (shown o.call).role && (is_none o.moved && (q == o.call.object))
+
+-- a row after the barrier let its calls go on  [XSH pthread_barrier_wait]
+abbrev pub closed_at : ℕ → Caller → Caller
+closed_at b v = if has_open (arrived_at b) v then closed v else v
+
+-- a row after a broadcast at the condition, by the entry at place k  [XSH pthread_cond_broadcast]
+abbrev pub woken_at : ℕ → ℕ → Cause → Caller → Caller
+woken_at q k cause v = if has_open (still_waits_at q) v then moved_at k cause v else v
+
+module _ {A : Type 0} where
+  -- no name stands in two rows  [profile]
+  abbrev pub NamesOnce : List (ObjectRow (Object A)) → Type 0
+  NamesOnce [] = Unit {0}
+  NamesOnce (row ∷ rows) = (object_named rows row.name ≡ None) × NamesOnce rows
+
+  -- one object is written, and the others stay  [profile]
+  pub record WritesObject (old new : List (ObjectRow (Object A))) (o : ℕ) (x : Object A) :
+      Type 0 where
+    pub look : (p : ℕ) → object_value new p ≡ if o == p then Some x else object_value old p
+    pub names : (n : List ℕ) → number_of new n ≡ number_of old n
+    pub rising : (k : ℕ) → Rising old k → Rising new k
+    pub many : length new ≡ length old
+    pub once : NamesOnce old → NamesOnce new
+
+  -- an object gets its row, and the others stay  [profile]
+  pub record AddsObject (old new : List (ObjectRow (Object A))) (o : ℕ) (name : List ℕ)
+      (x : Object A) : Type 0 where
+    pub look : (p : ℕ) → object_value new p ≡ if o == p then Some x else object_value old p
+    pub names : (n : List ℕ)
+        → number_of new n ≡ if same_name name n then Some o else number_of old n
+    pub rising : Rising new (o + 1)
+    pub many : length new ≡ length old + 1
+    pub once : NamesOnce old → NamesOnce new
+
+  -- an object has no row any more, and the others stay  [profile]
+  pub record RemovesObject (old new : List (ObjectRow (Object A))) (o : ℕ) : Type 0 where
+    pub look : (p : ℕ) → object_value new p ≡ if o == p then None else object_value old p
+    pub names : NamesOnce old → (n : List ℕ)
+        → number_of new n ≡ if is_number (number_of old n) o then None else number_of old n
+    pub rising : (k : ℕ) → Rising old k → Rising new k
+    pub many : (k : ℕ) → Rising old k → length new + 1 ≡ length old
+    pub once : NamesOnce old → NamesOnce new
+
+  -- an object as it is made  [XSH 2.9]
+  abbrev pub new_object : ObjectKind → Object A
+  new_object (kind.Mutex k robust) = Mutex (new_mutex k robust)
+  new_object kind.Rwlock = Rwlock new_rwlock
+  new_object kind.Cond = Cond (record { bound = None })
+  new_object (kind.Barrier count) = Barrier count

@@ -1,0 +1,83 @@
+-- Rooms: sums over the open calls, and counts of numbers, one more at a time.
+use Rattle.std.proofs.Common.{◌≡◌, ℕ, suc, ◌+◌, ◌<◌, Bool, true, false, List, ◌++◌, Option, Some, None, refl, sym, ap, ◌∙◌, arith, map, sum, length, add-one, take, take_all, get_or}
+use Rattle.std.proofs.lemmas.List.Sums.{sum-map, sum_by-append}
+use Rattle.std.specs.List.{sum_by}
+use Rattle.pt_model.specs.declared.entry.Entry.{Entry}
+use Rattle.pt_model.specs.Histories.{History, ◌▷◌, place, history}
+use Rattle.pt_model.specs.Searches.{listed, count_below}
+use Rattle.pt_model.specs.Records.{WaitingCall}
+use Rattle.pt_model.specs.WaitingCall.{at_place}
+use Rattle.pt_model.specs.Answers.{open_calls}
+use Rattle.pt_model.specs.Room.{kept_for}
+use Rattle.pt_readings.proofs.Lists.{upto, upto_more, upto-before, upto_all, Each-weaker}
+use Rattle.pt_readings.proofs.Opens.{open-ascends, open-below}
+use Rattle.pt_readings.proofs.Past.{place_all, history_more}
+use Rattle.pt_reference.proofs.Ends.{both}
+use Rattle.pt_reference.specs.Best.{kept_of}
+
+-- what is kept for these calls
+abbrev pub kept_for_all : History → List WaitingCall → ℕ
+kept_for_all h ws = sum (map (kept_for h) ws)
+
+kept-append :
+    (h : History) (vs : List WaitingCall) (o : Option WaitingCall)
+    → kept_for_all h (vs ++ listed o) ≡ kept_for_all h vs + kept_of h o
+kept-append h vs o =
+    sum-map (kept_for h) (vs ++ listed o) ∙ sum_by-append (kept_for h) vs (listed o)
+    ∙ both ◌+◌ (sym (sum-map (kept_for h) vs)) (go o)
+  where
+    go : (o : Option WaitingCall) → sum_by (kept_for h) (listed o) ≡ kept_of h o
+    go None = refl
+    go (Some w) = omega arith
+
+-- one call more
+pub kept_more :
+    (h : History) (i : ℕ)
+    → sum (map (kept_for h) (upto (i + 1) (open_calls h)))
+    ≡ sum (map (kept_for h) (upto i (open_calls h))) + kept_of h (at_place i (open_calls h))
+kept_more h i =
+    ap (kept_for_all h) (upto_more i 0 (open_calls h) (open-ascends h))
+    ∙ kept-append h (upto i (open_calls h)) (at_place i (open_calls h))
+
+-- none
+pub kept_none : (h : History) → sum (map (kept_for h) (upto 0 (open_calls h))) ≡ 0
+kept_none h = ap (kept_for_all h) (upto-before 0 0 (open_calls h) (open-ascends h) (omega arith))
+
+-- all, behind one entry more
+pub kept_end :
+    (es : List Entry) (e : Entry) (n : ℕ) → n ≡ length es + 1
+    → sum (map (kept_for (history es ▷ e)) (upto n (open_calls (history es ▷ e))))
+    ≡ sum (map (kept_for (history es ▷ e)) (open_calls (history es ▷ e)))
+kept_end es e n is =
+    let h = history es ▷ e in
+    ap (kept_for_all h)
+    (upto_all n (open_calls h)
+    (Each-weaker (λ w. w.place < place h) (λ w. w.place < n)
+    (λ w lt. omega (arith, place_all es)) (open_calls h) (open-below h)))
+
+-- one number more, which passes
+pub count_yes :
+    (test : ℕ → Bool) (i : ℕ) → test i ≡ true → count_below (i + 1) test ≡ count_below i test + 1
+count_yes test i e = ap (λ n. count_below n test) (add-one i) ∙ rw e (omega arith)
+
+-- one number more, which fails
+pub count_no :
+    (test : ℕ → Bool) (i : ℕ) → test i ≡ false → count_below (i + 1) test ≡ count_below i test
+count_no test i e = ap (λ n. count_below n test) (add-one i) ∙ rw e (omega arith)
+
+-- all, behind one entry more
+pub count_end :
+    (es : List Entry) (test : ℕ → Bool) (n : ℕ) → n ≡ length es + 1
+    → count_below n test ≡ count_below (suc (place (history es))) test
+count_end es test n is =
+    let e : n ≡ suc (place (history es)) = omega (arith, place_all es) in
+    ap (λ k. count_below k test) e
+
+-- the history of all entries is that of all but the last, and the last
+pub history_last :
+    (es : List Entry) (n : ℕ) (e : Entry) → n + 1 ≡ length es → e ≡ get_or es n e
+    → history (take n es) ▷ e ≡ history es
+history_last es n e len same =
+    ap (λ x. history (take n es) ▷ x) same
+    ∙ sym (history_more es n e (omega (arith, len)))
+    ∙ ap history (take_all (n + 1) es (omega (arith, len)))

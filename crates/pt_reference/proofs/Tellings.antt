@@ -1,0 +1,179 @@
+-- Tellings: the answers that an entry gives are in order of their places, and each is the outcome.
+use Rattle.std.proofs.Common.{◌≡◌, ℕ, suc, ◌+◌, ◌<◌, ◌≤◌, Bool, true, false, cond, eqb, ltb, List, [], ◌∷◌, ◌++◌, Option, Some, None, refl, sym, ap, ◌∙◌, arith, filter, inl, inr}
+use Rattle.std.specs.Prelude.{◌&&◌, ◌==◌}
+use Rattle.std.proofs.lemmas.Bool.{eq-eqb, ne_eqb, cases_eq, cases_order, lt-ltb, le-ltb}
+use Rattle.pt_types.specs.declared.outcome.Outcome.{Outcome}
+use Rattle.pt_types.specs.declared.outcome.Outcome.TheVariants.{Etimedout}
+use Rattle.pt_model.specs.declared.entry.Entry.{Entry}
+use Rattle.pt_model.specs.declared.entry.Entry.TheVariants.{Join, Call, Death, Moment, Grant, Trip, Yield, Expire}
+use Rattle.pt_model.specs.Histories.{History, place}
+use Rattle.pt_model.specs.Searches.{listed}
+use Rattle.pt_model.specs.Records.{WaitingCall, Told}
+use Rattle.pt_model.specs.WaitingCall.{stood, at_place, is_arrival, is_wait_if}
+use Rattle.pt_model.specs.Answers.{told, told_by_trip, told_by_expiry, at_barrier, trip_outcome, outcome_in, open_calls, client_if, is_open_by, outcome}
+use Rattle.pt_model.specs.Queries.{told_if}
+use Rattle.pt_readings.specs.Found.{keep}
+use Rattle.pt_readings.proofs.Lists.{Ascends, Ascends-filter, at_place-filter}
+use Rattle.pt_readings.proofs.Opens.{open-ascends, at_place_open}
+use Rattle.pt_reference.specs.Telling.{told_to, client_told}
+
+-- each place is greater than those before it, and at least n
+abbrev pub Climbs : ℕ → List Told → Type 0
+Climbs n [] = Unit {0}
+Climbs n (t ∷ ts) = (n ≤ t.place) × Climbs (suc t.place) ts
+
+-- the answers to calls before a place
+abbrev pub told_before : ℕ → List Told → List Told
+told_before i ts = filter (λ t. ltb t.place i) ts
+
+told_to-before : (j n : ℕ) (ts : List Told) → Climbs n ts → j < n → told_to j ts ≡ None
+told_to-before j n [] a lt = refl
+told_to-before j n (t ∷ ts) a lt =
+    rw (ne_eqb t.place j (λ e. omega (arith, a.0)))
+    (told_to-before j (suc t.place) ts a.1 (omega (arith, a.0)))
+
+before-before : (i n : ℕ) (ts : List Told) → Climbs n ts → i ≤ n → told_before i ts ≡ []
+before-before i n [] a le = refl
+before-before i n (t ∷ ts) a le =
+    rw (le-ltb t.place i (omega (arith, a.0)))
+    (before-before i (suc t.place) ts a.1 (omega (arith, a.0)))
+
+-- the answers to calls before one place more
+pub told-more :
+    (j n : ℕ) (ts : List Told) → Climbs n ts
+    → told_before (j + 1) ts ≡ told_before j ts ++ listed (told_to j ts)
+told-more j n [] a = refl
+told-more j n (t ∷ ts) a =
+    elim (cases_order t.place j) [
+      | inl same ↦
+          rw (lt-ltb t.place (j + 1) (omega (arith, same)), le-ltb t.place j (omega (arith, same)))
+          (rw (
+            eq-eqb t.place j same,
+            before-before (j + 1) (suc t.place) ts a.1 (omega (arith, same)),
+            before-before j (suc t.place) ts a.1 (omega (arith, same)),
+          ) refl)
+      | inr (inl before) ↦
+          rw (lt-ltb t.place (j + 1) (omega (arith, before)), lt-ltb t.place j before)
+          (rw (ne_eqb t.place j (λ e. omega (arith, before)))
+          (ap (λ us. t ∷ us) (told-more j (suc t.place) ts a.1)))
+      | inr (inr behind) ↦
+          rw (
+            le-ltb t.place (j + 1) (omega (arith, behind)),
+            le-ltb t.place j (omega (arith, behind)),
+          )
+          (rw (ne_eqb t.place j (λ e. omega (arith, behind))) (told-more j (suc t.place) ts a.1))
+    ]
+
+one-place :
+    (c d i j : ℕ) (x : Outcome) → (i ≡ j → c ≡ d)
+    → told_to j (record { client = c; place = i; outcome = x } ∷ [])
+    ≡ told_if d j (outcome_in (record { client = c; place = i; outcome = x } ∷ []) j)
+one-place c d i j x f =
+    elim (cases_eq i j) [
+      | inl e ↦ rw (eq-eqb i j e) (same (f e) e)
+      | inr ne ↦ rw (ne_eqb i j ne) refl
+    ]
+  where
+    said : ℕ → ℕ → Option Told
+    said k p = Some (record { client = k; place = p; outcome = x })
+
+    same : c ≡ d → i ≡ j → said c i ≡ said d j
+    same k e = rw (k, e) refl
+
+trip-place :
+    (j n : ℕ) (ws : List WaitingCall) → Ascends n ws
+    → told_to j (told_by_trip ws)
+    ≡ told_if (client_if (at_place j ws)) j (outcome_in (told_by_trip ws) j)
+trip-place j n [] a = refl
+trip-place j n (w ∷ ws) a =
+    elim (cases_eq w.place j) [
+      | inl e ↦ rw (eq-eqb w.place j e) (same e)
+      | inr ne ↦ rw (ne_eqb w.place j ne) (trip-place j (suc w.place) ws a.1)
+    ]
+  where
+    said : ℕ → Option Told
+    said p = Some (record { client = w.client; place = p; outcome = trip_outcome ws })
+
+    same : w.place ≡ j → said w.place ≡ said j
+    same e = ap said e
+
+outcome-none : (j n : ℕ) (ws : List WaitingCall) → Ascends n ws → at_place j ws ≡ None
+    → outcome_in (told_by_trip ws) j ≡ None
+outcome-none j n [] a e = refl
+outcome-none j n (w ∷ ws) a e = go (eqb w.place j) e (λ k. outcome-none j (suc w.place) ws a.1 k)
+  where
+    go : (b : Bool) → cond b (Some w) (at_place j ws) ≡ None
+        → (at_place j ws ≡ None → outcome_in (told_by_trip ws) j ≡ None)
+        → cond b (Some (trip_outcome ws)) (outcome_in (told_by_trip ws) j) ≡ None
+    go true k ih = absurd cc
+    go false k ih = ih k
+
+kept-some :
+    (p : WaitingCall → Bool) (o : Option WaitingCall) (w : WaitingCall) → keep p o ≡ Some w
+    → o ≡ Some w
+kept-some p None w e = absurd cc
+kept-some p (Some v) w e = go (p v) e
+  where
+    go : (b : Bool) → cond b (Some v) None ≡ Some w → Some v ≡ Some w
+    go true k = k
+    go false k = absurd cc
+
+-- who stands at a barrier is the client of the call at that place
+trip-client :
+    (h : History) (b j : ℕ)
+    → told_if (client_if (at_place j (at_barrier b (open_calls h)))) j
+    (outcome_in (told_by_trip (at_barrier b (open_calls h))) j)
+    ≡ told_if (client_if (at_place j (stood h))) j
+    (outcome_in (told_by_trip (at_barrier b (open_calls h))) j)
+trip-client h b j = go (at_place j ws) refl
+  where
+    ws : List WaitingCall
+    ws = at_barrier b (open_calls h)
+
+    q : WaitingCall → Bool
+    q w = is_arrival w.role && (w.object == b)
+
+    climbs : Ascends 0 ws
+    climbs = Ascends-filter q 0 (open_calls h) (open-ascends h)
+
+    found : (w : WaitingCall) → at_place j ws ≡ Some w → at_place j (stood h) ≡ Some w
+    found w e =
+        kept-some (is_open_by h (outcome h)) (at_place j (stood h)) w
+        (sym (at_place_open h j)
+        ∙ kept-some q (at_place j (open_calls h)) w
+        (sym (at_place-filter q j 0 (open_calls h) (open-ascends h)) ∙ e))
+
+    go : (o : Option WaitingCall) → at_place j ws ≡ o
+        → told_if (client_if (at_place j ws)) j (outcome_in (told_by_trip ws) j)
+        ≡ told_if (client_if (at_place j (stood h))) j (outcome_in (told_by_trip ws) j)
+    go None e = rw (outcome-none j 0 ws climbs e) refl
+    go (Some w) e =
+        ap (λ o. told_if (client_if o) j (outcome_in (told_by_trip ws) j)) (e ∙ sym (found w e))
+
+-- the answer to the call at a place says its outcome to its client
+pub told_at_place :
+    (h : History) (e : Entry) (j : ℕ)
+    → told_to j (told h e) ≡ told_if (client_told h e j) j (outcome_in (told h e) j)
+told_at_place h (Call c call (Some x)) j = one-place c c (place h) j x (λ e. refl)
+told_at_place h (Call c call None) j = refl
+told_at_place h (Join c p) j = refl
+told_at_place h (Death c) j = refl
+told_at_place h (Moment k t) j = refl
+told_at_place h (Grant i x) j =
+    one-place (client_if (at_place i (stood h))) (client_if (at_place j (stood h))) i j x
+    (λ e. ap (λ k. client_if (at_place k (stood h))) e)
+told_at_place h (Trip b) j =
+    trip-place j 0 (at_barrier b (open_calls h))
+    (Ascends-filter (λ w. is_arrival w.role && (w.object == b)) 0 (open_calls h) (open-ascends h))
+    ∙ trip-client h b j
+told_at_place h (Yield m) j = refl
+told_at_place h (Expire i) j = go (is_wait_if (at_place i (stood h)))
+  where
+    go : (b : Bool) → told_to j (told_by_expiry i (at_place i (stood h)) b)
+        ≡ told_if (client_if (at_place j (stood h))) j
+        (outcome_in (told_by_expiry i (at_place i (stood h)) b) j)
+    go true = refl
+    go false =
+        one-place (client_if (at_place i (stood h))) (client_if (at_place j (stood h))) i j
+        Etimedout
+        (λ e. ap (λ k. client_if (at_place k (stood h))) e)

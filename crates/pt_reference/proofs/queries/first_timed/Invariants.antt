@@ -1,0 +1,22 @@
+use Rattle.std.proofs.Common.{◌≡◌, ◌≤◌, filter, length}
+use Rattle.std.specs.Prelude.{option_map}
+use Rattle.pt_model.specs.Searches.{least}
+use Rattle.pt_model.specs.Forced.{expires_before}
+use Rattle.pt_model.specs.Queries.{has_deadline}
+use Rattle.pt_model.specs.Histories.{history}
+use Rattle.pt_model.specs.Answers.{open_calls}
+use Rattle.pt_readings.specs.Shown.{shown}
+use Rattle.pt_readings.proofs.Lists.{from}
+use Rattle.pt_reference.proofs.queries.first_timed.Given as goal
+
+abbrev pub invariant-loop-i : goal.invariant-loop-i
+invariant-loop-i l =
+    let h = history l.entries in
+    record {
+      within : l.i ≤ length l.entries;
+      value : option_map shown l.best
+          ≡ least expires_before (filter (has_deadline h l.which) (from l.i (open_calls h)));
+    }
+
+abbrev pub decreases-loop-i : goal.decreases-loop-i
+decreases-loop-i l = l.i

@@ -1,0 +1,20 @@
+use Rattle.std.proofs.Common.{◌≡◌, ◌≤◌, filter, length}
+use Rattle.std.specs.Prelude.{◌==◌}
+use Rattle.pt_model.specs.Moves.{at_object}
+use Rattle.pt_model.specs.Verdicts.{bound_by}
+use Rattle.pt_model.specs.Histories.{history}
+use Rattle.pt_model.specs.Answers.{open_calls}
+use Rattle.pt_readings.proofs.Lists.{from}
+use Rattle.pt_reference.proofs.verdicts.bound.Given as goal
+
+abbrev pub invariant-loop-i : goal.invariant-loop-i
+invariant-loop-i l =
+    let h = history l.entries in
+    record {
+      within : l.i ≤ length l.entries;
+      value : l.found
+          ≡ bound_by (filter (λ w. at_object h w == l.q) (from l.i (open_calls h)));
+    }
+
+abbrev pub decreases-loop-i : goal.decreases-loop-i
+decreases-loop-i l = l.i

@@ -1,0 +1,13 @@
+use Rattle.std.proofs.Common.{◌≡◌, ℕ, ◌<◌, false}
+use Rattle.std.specs.Prelude.{◌==◌}
+use Rattle.pt_model.specs.Moves.{at_object}
+use Rattle.pt_model.specs.Histories.{history}
+use Rattle.pt_model.specs.WaitingCall.{at_place}
+use Rattle.pt_model.specs.Answers.{open_calls}
+use Rattle.pt_readings.specs.Found.{passes}
+use Rattle.pt_reference.proofs.verdicts.is_awaited.Given as goal
+
+abbrev pub invariant-loop-i : goal.invariant-loop-i
+invariant-loop-i l =
+    let h = history l.entries in
+    (k : ℕ) → k < l.i → passes (λ w. at_object h w == l.o) (at_place k (open_calls h)) ≡ false

@@ -1,0 +1,24 @@
+-- Best: the least of a list whose calls are looked at one by one, from its end.
+use Rattle.std.specs.Prelude.{ℕ, Bool, Option, Some, None}
+use Rattle.pt_model.specs.Records.{WaitingCall}
+use Rattle.pt_model.specs.Searches.{least_with}
+use Rattle.pt_model.specs.Histories.{History}
+use Rattle.pt_model.specs.Verdicts.{mutex_awaited}
+use Rattle.pt_model.specs.Room.{kept_for}
+
+-- the least, where one call more may stand before those of which it is known  [profile]
+abbrev pub best_of :
+    (WaitingCall → WaitingCall → Bool) → Option WaitingCall → Option WaitingCall
+    → Option WaitingCall
+best_of before None best = best
+best_of before (Some w) best = least_with before w best
+
+-- the mutex of a wait, if there is a call; else the mutex that was found  [profile]
+abbrev pub awaited_or : Option WaitingCall → Option ℕ → Option ℕ
+awaited_or None found = found
+awaited_or (Some w) found = mutex_awaited w.role
+
+-- the entries kept for a call, if there is one  [profile]
+abbrev pub kept_of : History → Option WaitingCall → ℕ
+kept_of h None = 0
+kept_of h (Some w) = kept_for h w

@@ -1,0 +1,175 @@
+ghost use Rattle.std.specs.Prelude.{◌≡◌, ◌≤◌, ◌+◌, ◌*◌, ◌<◌, length, map, sum, is_some, option_map};
+ghost use Rattle.pt_model.specs.Histories.{history, place, ◌▷◌};
+ghost use Rattle.pt_model.specs.Searches.{count_below};
+ghost use Rattle.pt_model.specs.Clients.{is_alive as is_alive_in};
+ghost use Rattle.pt_model.specs.Objects.{kind_of as kind_in};
+ghost use Rattle.pt_model.specs.WaitingCall.{at_place, stood};
+ghost use Rattle.pt_model.specs.Answers.{is_open_by, open_calls, outcome as outcome_in};
+ghost use Rattle.pt_model.specs.Moves.{moved as moved_in};
+ghost use Rattle.pt_model.specs.Mutexes.{count as count_in, owner as owner_in};
+ghost use Rattle.pt_model.specs.Room.{kept_for, is_robust_owned as is_robust_owned_in, need as need_in};
+ghost use Rattle.pt_readings.specs.Shown.{shown, shown_move};
+ghost use Rattle.pt_reference.specs.Best.{kept_of};
+
+use pt_model::Entry;
+use pt_readings::answers::{answer_by, outcome};
+use pt_readings::clients::{client, client_by, living, living_by};
+use pt_readings::moves::{Move, cause_by, move_or, moved};
+use pt_readings::mutexes::{gained, gained_by, lost, lost_by};
+use pt_readings::objects::{is_robust, kind_by, kind_of};
+use pt_readings::waiting::{WaitingCall, stood_by, waiting_call_at};
+use pt_types::{ClientId, ObjectId, ObjectKind, Outcome};
+
+/// Whether a client lives behind one entry more.  [profile]
+pub fn is_alive(entries: &[Entry], entry: &Entry, c: ClientId) -> bool
+    ensures { result ≡ is_alive_in (history entries.now ▷ entry.now) c }
+{
+    client_by(entry, client(entries, c), c).is_some()
+}
+
+/// The call that came without a reply at a place, behind one entry more.  [profile]
+pub fn stood_at(entries: &[Entry], entry: &Entry, i: u64) -> Option<WaitingCall>
+    ensures { option_map shown result ≡ at_place i (stood (history entries.now ▷ entry.now)) }
+{
+    if i == entries.len() as u64 {
+        stood_by(entries, entry)
+    } else {
+        waiting_call_at(entries, i)
+    }
+}
+
+/// The answer to the call at a place, behind one entry more.  [XSH, the call's page]
+pub fn answer(entries: &[Entry], entry: &Entry, j: u64) -> Option<Outcome>
+    ensures { result ≡ outcome_in (history entries.now ▷ entry.now) j }
+{
+    let before = outcome(entries, j);
+    answer_by(entries, entry, before, j).or(before)
+}
+
+/// Whether a waiting call is open behind one entry more.  [profile]
+pub fn is_open(entries: &[Entry], entry: &Entry, w: &WaitingCall) -> bool
+    ensures { result
+        ≡ is_open_by (history entries.now ▷ entry.now)
+        (outcome_in (history entries.now ▷ entry.now)) (shown w.now) }
+{
+    is_alive(entries, entry, ClientId(w.client)) && answer(entries, entry, w.place).is_none()
+}
+
+/// The call at a place, if it is open behind one entry more.  [profile]
+pub fn open_at(entries: &[Entry], entry: &Entry, i: u64) -> Option<WaitingCall>
+    ensures { option_map shown result ≡ at_place i (open_calls (history entries.now ▷ entry.now)) }
+{
+    match stood_at(entries, entry, i) {
+        Some(w) => {
+            if is_open(entries, entry, &w) {
+                Some(w)
+            } else {
+                None
+            }
+        }
+        None => None,
+    }
+}
+
+/// The move of the wait at a place, behind one entry more.  [XSH pthread_cond_broadcast]
+#[tactic(auto, using(crate::proofs::Ends::place_of_all))]
+pub fn move_of(entries: &[Entry], entry: &Entry, j: u64) -> Option<Move>
+    ensures { option_map shown_move result ≡ moved_in (history entries.now ▷ entry.now) j }
+{
+    let before = moved(entries, j);
+    move_or(
+        entries.len() as u64,
+        cause_by(entries, entry, before, j),
+        before,
+    )
+}
+
+/// The entries kept for the open call at a place, behind one entry more.  [profile]
+pub fn kept_at(entries: &[Entry], entry: &Entry, i: u64) -> u64
+    ensures value { result
+        ≡ kept_of (history entries.now ▷ entry.now)
+        (at_place i (open_calls (history entries.now ▷ entry.now))) }
+    ensures small { result ≤ 3 }
+{
+    match open_at(entries, entry, i) {
+        Some(w) if move_of(entries, entry, w.place).is_some() => 2,
+        Some(_) => 3,
+        None => 0,
+    }
+}
+
+/// The entries kept for all open calls, behind one entry more.  [profile]
+pub fn kept(entries: &[Entry], entry: &Entry) -> u64
+    ensures value { result
+        ≡ sum
+        (map (kept_for (history entries.now ▷ entry.now))
+        (open_calls (history entries.now ▷ entry.now))) }
+    ensures small { result ≤ 3 * length entries.now + 3 }
+{
+    let mut total = 0;
+    for i in 0..entries.len() + 1 {
+        total += kept_at(entries, entry, i as u64);
+    }
+    total
+}
+
+/// What an object is, behind one entry more.  [profile]
+pub fn kind(entries: &[Entry], entry: &Entry, o: ObjectId) -> Option<ObjectKind>
+    ensures { result ≡ kind_in (history entries.now ▷ entry.now) o }
+{
+    kind_by(entries, entry, kind_of(entries, o), o)
+}
+
+/// How often a client holds a mutex, behind one entry more.  [XSH pthread_mutex_lock]
+pub fn count(entries: &[Entry], entry: &Entry, m: ObjectId, c: ClientId) -> u64
+    ensures { result ≡ count_in (history entries.now ▷ entry.now) m c }
+{
+    let gained = gained_by(entries, entry, m, c, gained(entries, m, c));
+    let lost = lost_by(entries, entry, m, c, lost(entries, m, c));
+    gained.saturating_sub(lost)
+}
+
+/// Whether a client, dead or alive, holds a mutex, behind one entry more.  [XSH pthread_mutex_lock]
+pub fn is_owned(entries: &[Entry], entry: &Entry, m: ObjectId) -> bool
+    ensures { result ≡ is_some (owner_in (history entries.now ▷ entry.now) m) }
+{
+    for i in 0..entries.len() + 1 {
+        if 0 < count(entries, entry, m, ClientId(i as u64)) {
+            return true;
+        }
+    }
+    false
+}
+
+/// Whether it is a robust mutex with an owner, behind one entry more.  [profile]
+pub fn is_robust_owned(entries: &[Entry], entry: &Entry, m: ObjectId) -> bool
+    ensures { result ≡ is_robust_owned_in (history entries.now ▷ entry.now) m }
+{
+    is_robust(kind(entries, entry, m)) && is_owned(entries, entry, m)
+}
+
+/// How many robust mutexes have an owner, behind one entry more.  [profile]
+#[tactic(auto, using(crate::proofs::Rooms::count_yes, crate::proofs::Rooms::count_no))]
+pub fn robust_owned(entries: &[Entry], entry: &Entry) -> u64
+    ensures value { result
+        ≡ count_below (place (history entries.now ▷ entry.now))
+        (is_robust_owned_in (history entries.now ▷ entry.now)) }
+    ensures small { result ≤ length entries.now + 1 }
+{
+    let mut total = 0;
+    for i in 0..entries.len() + 1 {
+        if is_robust_owned(entries, entry, ObjectId(i as u64)) {
+            total += 1;
+        }
+    }
+    total
+}
+
+/// The entries kept, behind one entry more: for the Death of each living client, for open calls,
+/// for Yields.  [profile]
+pub fn need(entries: &[Entry], entry: &Entry) -> u64
+    ensures value { result ≡ need_in (history entries.now ▷ entry.now) }
+    ensures small { result ≤ 5 * length entries.now + 5 }
+{
+    living_by(entry, living(entries)) + kept(entries, entry) + robust_owned(entries, entry)
+}

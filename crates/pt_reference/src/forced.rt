@@ -1,0 +1,203 @@
+ghost use Rattle.std.specs.Prelude.{◌≡◌, option_map, filter};
+ghost use Rattle.pt_model.specs.Histories.{history};
+ghost use Rattle.pt_model.specs.Searches.{least};
+ghost use Rattle.pt_model.specs.WaitingCall.{at_place};
+ghost use Rattle.pt_model.specs.Answers.{open_calls};
+ghost use Rattle.pt_model.specs.Forced.{is_served_before as is_served_before_in, is_served as is_served_in, service as service_in, forced_service as forced_service_in, is_orphan as is_orphan_in, forced_yield as forced_yield_in, is_overdue as is_overdue_in, expires_before as expires_before_it, forced_expire as forced_expire_in, forced as forced_in};
+ghost use Rattle.pt_readings.specs.Found.{keep};
+ghost use Rattle.pt_readings.specs.Shown.{shown};
+ghost use Rattle.pt_reference.specs.Best.{best_of};
+
+use crate::grants::{grant_outcome, is_complete, is_grantable};
+use pt_model::Entry;
+use pt_readings::answers::open_at;
+use pt_readings::clients::{clock, is_alive, is_due};
+use pt_readings::moves::{at_object, is_moved, precedes};
+use pt_readings::mutexes::owner;
+use pt_readings::objects::{is_robust, kind_of};
+use pt_readings::waiting::{WaitingCall, is_arrival};
+use pt_types::ObjectId;
+
+/// The lower object first, and there the order of its calls.  [profile]
+pub fn is_served_before(entries: &[Entry], v: &WaitingCall, w: &WaitingCall) -> bool
+    ensures { result ≡ is_served_before_in (history entries.now) (shown v.now) (shown w.now) }
+{
+    let one = at_object(entries, v).0;
+    let other = at_object(entries, w).0;
+    one < other || one == other && precedes(entries, v, w)
+}
+
+/// Whether a call may be granted, or is one at a full barrier.  [XSH pthread_barrier_wait]
+pub fn is_served(entries: &[Entry], w: &WaitingCall) -> bool
+    ensures { result ≡ is_served_in (history entries.now) (shown w.now) }
+{
+    is_grantable(entries, w) || is_complete(entries, w)
+}
+
+/// The open call at a place, if it may be served.  [profile]
+pub fn served_at(entries: &[Entry], i: u64) -> Option<WaitingCall>
+    ensures { option_map shown result
+        ≡ keep (is_served_in (history entries.now))
+        (at_place i (open_calls (history entries.now))) }
+{
+    match open_at(entries, i) {
+        Some(w) if is_served(entries, &w) => Some(w),
+        _ => None,
+    }
+}
+
+/// The one to serve first, of a call and the first behind it.  [profile]
+pub fn better_served(
+    entries: &[Entry],
+    w: Option<WaitingCall>,
+    best: Option<WaitingCall>,
+) -> Option<WaitingCall>
+    ensures { option_map shown result
+        ≡ best_of (is_served_before_in (history entries.now)) (option_map shown w)
+        (option_map shown best) }
+{
+    match (w, best) {
+        (Some(w), Some(v)) if !is_served_before(entries, &v, &w) => Some(w),
+        (Some(w), None) => Some(w),
+        _ => best,
+    }
+}
+
+/// The call to serve first.  [profile]
+pub fn first_served(entries: &[Entry]) -> Option<WaitingCall>
+    ensures { option_map shown result
+        ≡ least (is_served_before_in (history entries.now))
+        (filter (is_served_in (history entries.now)) (open_calls (history entries.now))) }
+{
+    let mut best = None;
+    let mut i = entries.len();
+    while i > 0 {
+        i -= 1;
+        best = better_served(entries, served_at(entries, i as u64), best);
+    }
+    best
+}
+
+/// A full barrier trips, another call is granted.  [XSH pthread_barrier_wait]
+pub fn service(entries: &[Entry], w: &WaitingCall) -> Entry
+    ensures { result ≡ service_in (history entries.now) (shown w.now) }
+{
+    if is_arrival(w.role) {
+        Entry::Trip(ObjectId(w.object))
+    } else {
+        Entry::Grant(w.place, grant_outcome(entries, w))
+    }
+}
+
+/// The Trip or the Grant that must follow.  [XSH pthread_mutex_unlock, the lowest first is profile]
+pub fn forced_service(entries: &[Entry]) -> Option<Entry>
+    ensures { result ≡ forced_service_in (history entries.now) }
+{
+    match first_served(entries) {
+        Some(w) => Some(service(entries, &w)),
+        None => None,
+    }
+}
+
+/// Whether it is a robust mutex with a dead owner.  [XSH pthread_mutex_lock, EOWNERDEAD]
+pub fn is_orphan(entries: &[Entry], m: ObjectId) -> bool
+    ensures { result ≡ is_orphan_in (history entries.now) m }
+{
+    is_robust(kind_of(entries, m))
+        && match owner(entries, m) {
+            Some(c) => !is_alive(entries, c),
+            None => false,
+        }
+}
+
+/// The Yield that must follow.  [XSH pthread_mutex_lock, EOWNERDEAD; the lowest first is profile]
+pub fn forced_yield(entries: &[Entry]) -> Option<Entry>
+    ensures { result ≡ forced_yield_in (history entries.now) }
+{
+    for i in 0..entries.len() {
+        let m = ObjectId(i as u64);
+        if is_orphan(entries, m) {
+            return Some(Entry::Yield(m));
+        }
+    }
+    None
+}
+
+/// Whether a call's deadline is due by its clock; a moved wait has none.
+/// [XSH pthread_mutex_timedlock]
+pub fn is_overdue(entries: &[Entry], w: &WaitingCall) -> bool
+    ensures { result ≡ is_overdue_in (history entries.now) (shown w.now) }
+{
+    is_due(clock(entries, w.clock), w.deadline) && !is_moved(entries, w)
+}
+
+/// The open call at a place, if it is overdue.  [profile]
+pub fn overdue_at(entries: &[Entry], i: u64) -> Option<WaitingCall>
+    ensures { option_map shown result
+        ≡ keep (is_overdue_in (history entries.now))
+        (at_place i (open_calls (history entries.now))) }
+{
+    match open_at(entries, i) {
+        Some(w) if is_overdue(entries, &w) => Some(w),
+        _ => None,
+    }
+}
+
+/// The lesser deadline first, then the lesser place.  [profile]
+pub fn expires_before(v: &WaitingCall, w: &WaitingCall) -> bool
+    ensures { result ≡ expires_before_it (shown v.now) (shown w.now) }
+{
+    let one = v.deadline.unwrap_or(0);
+    let other = w.deadline.unwrap_or(0);
+    one < other || one == other && v.place < w.place
+}
+
+/// The one to expire first, of a call and the first behind it.  [profile]
+pub fn sooner(w: Option<WaitingCall>, best: Option<WaitingCall>) -> Option<WaitingCall>
+    ensures { option_map shown result
+        ≡ best_of expires_before_it (option_map shown w) (option_map shown best) }
+{
+    match (w, best) {
+        (Some(w), Some(v)) if !expires_before(&v, &w) => Some(w),
+        (Some(w), None) => Some(w),
+        _ => best,
+    }
+}
+
+/// The call to expire first.  [profile]
+pub fn first_overdue(entries: &[Entry]) -> Option<WaitingCall>
+    ensures { option_map shown result
+        ≡ least expires_before_it
+        (filter (is_overdue_in (history entries.now)) (open_calls (history entries.now))) }
+{
+    let mut best = None;
+    let mut i = entries.len();
+    while i > 0 {
+        i -= 1;
+        best = sooner(overdue_at(entries, i as u64), best);
+    }
+    best
+}
+
+/// The Expire that must follow.  [XSH pthread_mutex_timedlock, the order is profile]
+pub fn forced_expire(entries: &[Entry]) -> Option<Entry>
+    ensures { result ≡ forced_expire_in (history entries.now) }
+{
+    match first_overdue(entries) {
+        Some(w) => Some(Entry::Expire(w.place)),
+        None => None,
+    }
+}
+
+/// The one entry that must follow: service, then yields, then deadlines.  [profile]
+pub fn forced(entries: &[Entry]) -> Option<Entry>
+    ensures { result ≡ forced_in (history entries.now) }
+{
+    match forced_service(entries) {
+        Some(entry) => Some(entry),
+        None => match forced_yield(entries) {
+            Some(entry) => Some(entry),
+            None => forced_expire(entries),
+        },
+    }
+}

@@ -1,0 +1,130 @@
+ghost use Rattle.std.specs.Prelude.{◌≡◌, ◌≤◌, ◌&&◌, ◌==◌, length, option_map};
+ghost use Rattle.pt_types.specs.MutexTable.{may_lock as may_lock_it};
+ghost use Rattle.pt_model.specs.Histories.{history};
+ghost use Rattle.pt_model.specs.WaitingCall.{at_place};
+ghost use Rattle.pt_model.specs.Answers.{open_calls, at_barrier};
+ghost use Rattle.pt_model.specs.Moves.{at_object as at_object_in, is_least as is_least_in};
+ghost use Rattle.pt_model.specs.Mutexes.{mutex_view as mutex_view_in};
+ghost use Rattle.pt_model.specs.Grants.{holds_back as holds_back_at, is_blocked as is_blocked_in, is_grantable as is_grantable_in, is_complete as is_complete_in, is_expired as is_expired_by, mutex_outcome as mutex_outcome_in, grant_outcome as grant_outcome_in};
+ghost use Rattle.pt_readings.specs.Found.{passes};
+ghost use Rattle.pt_readings.specs.Shown.{shown, shown_move};
+
+use crate::tables::{is_lost, lock_outcome, may_read, may_relock, may_write};
+use pt_model::{Cause, Entry};
+use pt_readings::answers::{is_open_at_barrier, open_at};
+use pt_readings::moves::{Move, at_object, is_least, is_moved, moved};
+use pt_readings::mutexes::{consistency, mutex_view};
+use pt_readings::objects::{barrier_count, kind_of};
+use pt_readings::rwlocks::rwlock_view;
+use pt_readings::waiting::{Role, WaitingCall, is_arrival, is_write};
+use pt_types::{ClientId, ObjectId, Outcome};
+
+/// Whether the open call at a place stands at the lock as a writer of this priority or a higher
+/// one.  [XSH pthread_rwlock_rdlock]
+pub fn holds_back(entries: &[Entry], r: ObjectId, priority: u64, i: u64) -> bool
+    ensures { result
+        ≡ passes (λ v. (at_object_in (history entries.now) v == r) && holds_back_at v priority)
+        (at_place i (open_calls (history entries.now))) }
+{
+    match open_at(entries, i) {
+        Some(v) => { is_write(v.role) && priority <= v.priority && at_object(entries, &v) == r }
+        None => false,
+    }
+}
+
+/// Whether such a writer stands at the lock.  [XSH pthread_rwlock_rdlock]
+pub fn is_blocked(entries: &[Entry], r: ObjectId, priority: u64) -> bool
+    ensures { result ≡ is_blocked_in (history entries.now) r priority }
+{
+    for i in 0..entries.len() {
+        if holds_back(entries, r, priority, i as u64) {
+            return true;
+        }
+    }
+    false
+}
+
+/// Whether a call can have a mutex that is lost, or free.  [XSH pthread_mutex_unlock]
+pub fn may_lock(entries: &[Entry], m: ObjectId, w: &WaitingCall) -> bool
+    ensures { result
+        ≡ may_lock_it (mutex_view_in (history entries.now) m)
+        (is_least_in (history entries.now) (shown w.now)) }
+{
+    let view = mutex_view(entries, m);
+    is_lost(view.consistency) || view.owner.is_none() && is_least(entries, w)
+}
+
+/// Whether an open call may be granted now.  [XSH pthread_mutex_unlock, pthread_rwlock_unlock]
+pub fn is_grantable(entries: &[Entry], w: &WaitingCall) -> bool
+    ensures { result ≡ is_grantable_in (history entries.now) (shown w.now) }
+{
+    let o = ObjectId(w.object);
+    let c = ClientId(w.client);
+    match w.role {
+        Role::ForMutex => may_lock(entries, o, w),
+        Role::ForCond(m) => {
+            let m = ObjectId(m);
+            is_moved(entries, w)
+                && (may_lock(entries, m, w) || may_relock(&mutex_view(entries, m), c))
+        }
+        Role::ForRead => {
+            may_read(
+                rwlock_view(entries, o, c),
+                is_blocked(entries, o, w.priority),
+            )
+        }
+        Role::ForWrite => may_write(rwlock_view(entries, o, c), is_least(entries, w)),
+        Role::ForBarrier => false,
+    }
+}
+
+/// How many open calls stand at a barrier.  [XSH pthread_barrier_wait]
+#[tactic(auto, using(crate::proofs::Ends::counting))]
+pub fn arrivals(entries: &[Entry], b: ObjectId) -> u64
+    ensures value { result ≡ length (at_barrier b (open_calls (history entries.now))) }
+    ensures small { result ≤ length entries.now }
+{
+    let mut count = 0;
+    for i in 0..entries.len() {
+        if is_open_at_barrier(entries, b, i as u64) {
+            count += 1;
+        }
+    }
+    count
+}
+
+/// Whether a call stands at a barrier with as many as its count.  [XSH pthread_barrier_wait]
+pub fn is_complete(entries: &[Entry], w: &WaitingCall) -> bool
+    ensures { result ≡ is_complete_in (history entries.now) (shown w.now) }
+{
+    let b = ObjectId(w.object);
+    is_arrival(w.role) && arrivals(entries, b) == barrier_count(kind_of(entries, b))
+}
+
+/// Whether a wait was moved by its deadline.  [XSH pthread_cond_timedwait]
+pub fn is_expired(moved: Option<Move>) -> bool
+    ensures { result ≡ is_expired_by (option_map shown_move moved) }
+{
+    match moved {
+        Some(moved) => matches!(moved.cause, Cause::Expired),
+        None => false,
+    }
+}
+
+/// What a mutex tells to a call.  [XSH pthread_mutex_lock, pthread_cond_timedwait]
+pub fn mutex_outcome(entries: &[Entry], w: &WaitingCall, m: ObjectId) -> Outcome
+    ensures { result ≡ mutex_outcome_in (history entries.now) (shown w.now) m }
+{
+    lock_outcome(consistency(entries, m), is_expired(moved(entries, w.place)))
+}
+
+/// What an open call is told when it is granted.  [XSH, the call's page]
+pub fn grant_outcome(entries: &[Entry], w: &WaitingCall) -> Outcome
+    ensures { result ≡ grant_outcome_in (history entries.now) (shown w.now) }
+{
+    match w.role {
+        Role::ForMutex => mutex_outcome(entries, w, ObjectId(w.object)),
+        Role::ForCond(m) => mutex_outcome(entries, w, ObjectId(m)),
+        _ => Outcome::Done,
+    }
+}

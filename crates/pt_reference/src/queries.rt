@@ -1,0 +1,186 @@
+ghost use Rattle.std.specs.Prelude.{◌≡◌, filter, option_map};
+ghost use Rattle.pt_model.specs.Histories.{history};
+ghost use Rattle.pt_model.specs.Searches.{least};
+ghost use Rattle.pt_model.specs.WaitingCall.{at_place, stood};
+ghost use Rattle.pt_model.specs.Answers.{client_if, open_calls, told as told_in};
+ghost use Rattle.pt_model.specs.Forced.{expires_before as expires_before_it};
+ghost use Rattle.pt_model.specs.Queries.{caller as caller_in, caller_by as caller_after, latest as latest_in, latest_by as latest_after, told_if as told_meant, answer_of as answer_of_in, has_deadline as has_deadline_in, least_deadline as least_deadline_in};
+ghost use Rattle.pt_readings.specs.Found.{keep};
+ghost use Rattle.pt_readings.specs.Shown.{shown};
+ghost use Rattle.pt_reference.specs.Telling.{client_told, shown_told, told_to};
+
+use crate::forced::sooner;
+use pt_model::Entry;
+use pt_readings::answers::{answer_by, open_at, outcome};
+use pt_readings::clients::{is_alive, is_same_clock};
+use pt_readings::moves::is_moved;
+use pt_readings::waiting::{WaitingCall, waiting_call_at};
+use pt_types::{ClientId, Clock, Outcome};
+
+/// An answer: who gets it, to the call at which place, and what it says.  [profile]
+#[derive(Clone, Copy, Debug, PartialEq, Eq)]
+pub struct Told {
+    /// The number of the client.
+    pub client: u64,
+    /// The place of the call.
+    pub place: u64,
+    pub outcome: Outcome,
+}
+
+/// What an entry does to the caller of a place.  [profile]
+#[tactic(auto, using(crate::proofs::Ends::place_of_all))]
+pub fn caller_by(
+    entries: &[Entry],
+    entry: &Entry,
+    before: Option<ClientId>,
+    j: u64,
+) -> Option<ClientId>
+    ensures { result ≡ caller_after (history entries.now) entry.now before j }
+{
+    match entry {
+        Entry::Call(c, _, _) if j == entries.len() as u64 => Some(*c),
+        _ => before,
+    }
+}
+
+/// The client of the call at a place.  [profile]
+#[tactic(auto, using(crate::proofs::Ends::one_more))]
+pub fn caller(entries: &[Entry], j: u64) -> Option<ClientId>
+    ensures { result ≡ caller_in (history entries.now) j }
+{
+    let mut found = None;
+    for (i, entry) in entries.iter().enumerate() {
+        found = caller_by(&entries[..i], entry, found, j);
+    }
+    found
+}
+
+/// What an entry does to a client's latest call.  [profile]
+#[tactic(auto, using(crate::proofs::Ends::place_of_all))]
+pub fn latest_by(entries: &[Entry], entry: &Entry, before: Option<u64>, c: ClientId) -> Option<u64>
+    ensures { result ≡ latest_after (history entries.now) entry.now before c }
+{
+    match entry {
+        Entry::Call(d, _, _) if *d == c => Some(entries.len() as u64),
+        _ => before,
+    }
+}
+
+/// The place of a client's latest call.  [profile]
+#[tactic(auto, using(crate::proofs::Ends::one_more))]
+pub fn latest(entries: &[Entry], c: ClientId) -> Option<u64>
+    ensures { result ≡ latest_in (history entries.now) c }
+{
+    let mut found = None;
+    for (i, entry) in entries.iter().enumerate() {
+        found = latest_by(&entries[..i], entry, found, c);
+    }
+    found
+}
+
+/// The answer to a client's call at this place, where it has one.  [profile]
+pub fn told_if(client: u64, place: u64, outcome: Option<Outcome>) -> Option<Told>
+    ensures { option_map shown_told result ≡ told_meant client place outcome }
+{
+    match outcome {
+        Some(outcome) => Some(Told {
+            client,
+            place,
+            outcome,
+        }),
+        None => None,
+    }
+}
+
+/// The answer to a living client's latest call.  [profile]
+pub fn answer_of(entries: &[Entry], c: ClientId) -> Option<Told>
+    ensures { option_map shown_told result ≡ answer_of_in (history entries.now) c }
+{
+    if !is_alive(entries, c) {
+        return None;
+    }
+    match latest(entries, c) {
+        Some(place) => told_if(c.0, place, outcome(entries, place)),
+        None => None,
+    }
+}
+
+/// The client of the call that came without a reply at a place; 0 where there is none.  [profile]
+pub fn client_at(entries: &[Entry], j: u64) -> u64
+    ensures { result ≡ client_if (at_place j (stood (history entries.now))) }
+{
+    match waiting_call_at(entries, j) {
+        Some(w) => w.client,
+        None => 0,
+    }
+}
+
+/// Who gets the answer to the call at a place that an entry behind these gives.  [profile]
+pub fn told_client(entries: &[Entry], entry: &Entry, j: u64) -> u64
+    ensures { result ≡ client_told (history entries.now) entry.now j }
+{
+    match entry {
+        Entry::Call(c, _, _) => c.0,
+        _ => client_at(entries, j),
+    }
+}
+
+/// The answer that an entry behind these gives to the call at a place, if it gives one.
+/// [XSH, the call's page]
+#[tactic(auto, using(crate::proofs::Tellings::told_at_place))]
+pub fn told_at(entries: &[Entry], entry: &Entry, j: u64) -> Option<Told>
+    ensures { option_map shown_told result ≡ told_to j (told_in (history entries.now) entry.now) }
+{
+    let before = outcome(entries, j);
+    told_if(
+        told_client(entries, entry, j),
+        j,
+        answer_by(entries, entry, before, j),
+    )
+}
+
+/// Whether a call has a deadline by this clock; a moved wait has none.
+/// [XSH pthread_cond_timedwait]
+pub fn has_deadline(entries: &[Entry], which: Clock, w: &WaitingCall) -> bool
+    ensures { result ≡ has_deadline_in (history entries.now) which (shown w.now) }
+{
+    w.deadline.is_some() && is_same_clock(w.clock, which) && !is_moved(entries, w)
+}
+
+/// The open call at a place, if it has a deadline by this clock.  [profile]
+pub fn timed_at(entries: &[Entry], which: Clock, i: u64) -> Option<WaitingCall>
+    ensures { option_map shown result
+        ≡ keep (has_deadline_in (history entries.now) which)
+        (at_place i (open_calls (history entries.now))) }
+{
+    match open_at(entries, i) {
+        Some(w) if has_deadline(entries, which, &w) => Some(w),
+        _ => None,
+    }
+}
+
+/// The call with the least deadline by this clock.  [profile]
+pub fn first_timed(entries: &[Entry], which: Clock) -> Option<WaitingCall>
+    ensures { option_map shown result
+        ≡ least expires_before_it
+        (filter (has_deadline_in (history entries.now) which) (open_calls (history entries.now))) }
+{
+    let mut best = None;
+    let mut i = entries.len();
+    while i > 0 {
+        i -= 1;
+        best = sooner(timed_at(entries, which, i as u64), best);
+    }
+    best
+}
+
+/// The least deadline by this clock of the open calls that aren't moved, in nanoseconds.
+/// [profile]
+pub fn least_deadline(entries: &[Entry], which: Clock) -> Option<u64>
+    ensures { result ≡ least_deadline_in (history entries.now) which }
+{
+    match first_timed(entries, which) {
+        Some(w) => w.deadline,
+        None => None,
+    }
+}

@@ -1,0 +1,87 @@
+ghost use Rattle.std.specs.Prelude.{◌≡◌, ◌≤◌, ◌*◌, length};
+ghost use Rattle.pt_model.specs.Histories.{history, ◌▷◌};
+ghost use Rattle.pt_model.specs.Room.{need as need_in, entry_for as entry_for_in, refusal_of_stranger as refusal_of_stranger_in, refusal as refusal_in, is_over as is_over_in, refusal_within as refusal_within_in};
+
+use crate::after;
+use crate::tables::reply;
+use crate::verdicts::verdict;
+use pt_model::{Entry, Event};
+use pt_readings::answers::open_place;
+use pt_readings::clients::{is_alive, living};
+use pt_types::{ClientId, Refusal};
+
+/// The entries kept: for the Death of each living client, for open calls, for Yields.  [profile]
+pub fn need(entries: &[Entry]) -> u64
+    ensures value { result ≡ need_in (history entries.now) }
+    ensures small { result ≤ 5 * length entries.now }
+{
+    if entries.is_empty() {
+        return 0;
+    }
+    let last = entries.len() - 1;
+    after::need(&entries[..last], &entries[last])
+}
+
+/// The outer entry that an accepted event becomes.  [profile]
+#[tactic(auto, using(crate::proofs::Ends::place_of_all))]
+pub fn entry_for(entries: &[Entry], event: &Event) -> Entry
+    ensures { result ≡ entry_for_in (history entries.now) event.now }
+{
+    match event {
+        Event::Join(priority) => Entry::Join(ClientId(entries.len() as u64), *priority),
+        Event::Call(c, call) => {
+            let answer = reply(verdict(entries, *c, call));
+            Entry::Call(*c, call.copied(), answer)
+        }
+        Event::Death(c) => Entry::Death(*c),
+        Event::Moment(clock, moment) => Entry::Moment(*clock, *moment),
+    }
+}
+
+/// A client that doesn't live: DEAD where a place has its number, else NOHELLO.  [profile]
+#[tactic(auto, using(crate::proofs::Ends::place_of_all))]
+pub fn refusal_of_stranger(entries: &[Entry], c: ClientId) -> Refusal
+    ensures { result ≡ refusal_of_stranger_in (history entries.now) c }
+{
+    if c.0 < entries.len() as u64 {
+        Refusal::Dead
+    } else {
+        Refusal::Nohello
+    }
+}
+
+/// Why an event is refused for its sender, or at 1,024 living clients; or none.  [profile]
+pub fn refusal(entries: &[Entry], event: &Event) -> Option<Refusal>
+    ensures { result ≡ refusal_in (history entries.now) event.now }
+{
+    match event {
+        Event::Join(_) if 1024 <= living(entries) => Some(Refusal::Limit),
+        Event::Call(c, _) if !is_alive(entries, *c) => Some(refusal_of_stranger(entries, *c)),
+        Event::Call(c, _) if open_place(entries, *c).is_some() => Some(Refusal::Blocked),
+        Event::Death(c) if !is_alive(entries, *c) => Some(refusal_of_stranger(entries, *c)),
+        _ => None,
+    }
+}
+
+/// Whether a history with one entry more, and what must still be written, is longer than a limit.
+/// [profile]
+pub fn is_over(entries: &[Entry], entry: &Entry, limit: u64) -> bool
+    ensures { result ≡ is_over_in limit (history entries.now ▷ entry.now) }
+{
+    limit < entries.len() as u64 + 1 + after::need(entries, entry)
+}
+
+/// The first refusal that applies, with so many entries at most; or none.  [profile]
+pub fn refusal_within(entries: &[Entry], limit: u64, event: &Event) -> Option<Refusal>
+    ensures { result ≡ refusal_within_in limit (history entries.now) event.now }
+{
+    let refused = refusal(entries, event);
+    if refused.is_some() {
+        return refused;
+    }
+    if is_over(entries, &entry_for(entries, event), limit) {
+        Some(Refusal::Full)
+    } else {
+        None
+    }
+}

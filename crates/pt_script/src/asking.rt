@@ -1,8 +1,0 @@
-use pt_lines::Who;
-
-/// A line of a script: whose it is, and its number among that client's lines, from 1.  [profile]
-#[derive(Debug, PartialEq, Eq, Drop)]
-pub struct Asking {
-    pub who: Who,
-    pub number: u64,
-}

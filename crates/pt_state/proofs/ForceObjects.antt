@@ -1,0 +1,208 @@
+-- The rows of objects behind a forced entry, and what the writes of its object ask.
+use Rattle.std.proofs.Common.{◌≡◌, ℕ, ◌+◌, true, false, List, Option, Some, None, option_map, refl, sym, ap, ◌∙◌}
+use Rattle.std.proofs.lemmas.Bool.{and_parts}
+use Rattle.pt_types.specs.Operations.{MutexClass, RwlockClass}
+use Rattle.pt_types.specs.MutexTable.{is_acquired}
+use Rattle.pt_types.specs.declared.call.ObjectKind.{ObjectKind}
+use Rattle.pt_types.specs.declared.call.ObjectKind.TheVariants as kind
+use Rattle.pt_mutex.specs.MutexState.{MutexState, can_acquire, acquired, yielded}
+use Rattle.pt_rwlock.specs.RwlockState.{RwlockState, reads_of, with_reads, can_acquire_read, nobody_holds, ChangesRow}
+use Rattle.pt_table.specs.declared.objects.ObjectRow.{ObjectRow}
+use Rattle.pt_table.specs.ObjectRows.{object_value}
+use Rattle.pt_model.specs.declared.entry.Entry.{Entry}
+use Rattle.pt_model.specs.declared.entry.Entry.TheVariants.{Grant, Yield, Expire}
+use Rattle.pt_model.specs.Searches.{In}
+use Rattle.pt_model.specs.Histories.{History, ◌▷◌}
+use Rattle.pt_model.specs.Objects.{is_class, kind_of, is_robust}
+use Rattle.pt_model.specs.Records.{Role, ForMutex, ForRead, ForWrite, ForBarrier, ForCond, WaitingCall, Move}
+use Rattle.pt_model.specs.Answers.{open_calls}
+use Rattle.pt_model.specs.WaitingCall.{mutex_of}
+use Rattle.pt_model.specs.Moves.{moved}
+use Rattle.pt_model.specs.Grants.{grant_outcome}
+use Rattle.pt_model.specs.Forced.{is_dead_if, is_orphan}
+use Rattle.pt_model.specs.Mutexes.{owner}
+use Rattle.pt_model.specs.Steps.{Step, joins, calls, dies, ticks, grants, trips, yields, expires, Follows}
+use Rattle.pt_model.proofs.Seats.{exists_as, HousedBy, housed}
+use Rattle.pt_records.specs.declared.object.Object.{Object}
+use Rattle.pt_records.specs.declared.object.Object.TheVariants.{Mutex, Rwlock, Cond, Barrier}
+use Rattle.pt_records.specs.Objects.{kind_kept, ObjectsLook, AreObjects}
+use Rattle.pt_records.specs.Writes.{WritesObject}
+use Rattle.pt_state.proofs.BoundCounts.{grant-can}
+use Rattle.pt_records.proofs.BoundReads.{read-acquire, write-acquire}
+use Rattle.pt_state.proofs.TableLemmas.{object_rows-kept, object_rows-written}
+use Rattle.pt_state.proofs.ObjectEntries.{object_rows-expire, object_rows-yield}
+use Rattle.pt_state.proofs.ObjectGrants.{after_grant, granted-may, object_rows-grant-mutex, object_rows-grant-lost, object_rows-grant-read, object_rows-grant-write}
+
+-- a mutex that is taken from its owner is a robust one with a dead owner
+pub yielded-orphan : (h : History) (m : ℕ) → Step h (Yield m) → is_orphan h m ≡ true
+yielded-orphan h m s = go (Yield m) s refl
+  where
+    go : (e : Entry) → Step h e → e ≡ Yield m → is_orphan h m ≡ true
+    go _ (yields k t o) e = let same : k ≡ m = cc in ap (is_orphan h) (sym same) ∙ o
+    go _ (joins p n lt) e = absurd cc
+    go _ (calls c call n a o) e = absurd cc
+    go _ (dies c n a) e = absurd cc
+    go _ (ticks k t n) e = absurd cc
+    go _ (grants w t i g) e = absurd cc
+    go _ (trips w t i c) e = absurd cc
+    go _ (expires w t i o) e = absurd cc
+
+-- what is a robust mutex is a mutex
+robust-class : (k : Option ObjectKind) → is_robust k ≡ true → is_class k MutexClass ≡ true
+robust-class None e = absurd cc
+robust-class (Some (kind.Mutex k robust)) e = refl
+robust-class (Some kind.Rwlock) e = absurd cc
+robust-class (Some kind.Cond) e = absurd cc
+robust-class (Some (kind.Barrier n)) e = absurd cc
+
+-- the mutex that a call is for is there
+housed-mutex : (h : History) (m q : ℕ) (role : Role) (move : Option Move) → HousedBy h role move q
+    → mutex_of role q ≡ Some m → exists_as h MutexClass m ≡ true
+housed-mutex h m q ForMutex move s e =
+    let same : q ≡ m = cc in ap (exists_as h MutexClass) (sym same) ∙ s.0
+housed-mutex h m q (ForCond k) move s e =
+    let same : k ≡ m = cc in ap (exists_as h MutexClass) (sym same) ∙ s.1
+housed-mutex h m q ForRead move s e = absurd cc
+housed-mutex h m q ForWrite move s e = absurd cc
+housed-mutex h m q ForBarrier move s e = absurd cc
+
+-- and so is the lock of a call for one
+housed-rwlock : (h : History) (q : ℕ) (role : Role) (move : Option Move) → HousedBy h role move q
+    → (role ≡ ForRead → exists_as h RwlockClass q ≡ true)
+    × (role ≡ ForWrite → exists_as h RwlockClass q ≡ true)
+housed-rwlock h q ForRead move s = (λ e. s.0, λ e. absurd cc)
+housed-rwlock h q ForWrite move s = (λ e. absurd cc, λ e. s.0)
+housed-rwlock h q ForMutex move s = (λ e. absurd cc, λ e. absurd cc)
+housed-rwlock h q (ForCond k) move s = (λ e. absurd cc, λ e. absurd cc)
+housed-rwlock h q ForBarrier move s = (λ e. absurd cc, λ e. absurd cc)
+
+module _ {A : Type 0} (h : History) (look : ℕ → Option (Object A)) (t : ObjectsLook h look) where
+  -- what exists as a mutex is kept as one
+  pub kept-mutex : (m : ℕ) → exists_as h MutexClass m ≡ true
+      → (x : MutexState) × (look m ≡ Some (Mutex x))
+  kept-mutex m e = go (look m) refl (ap (λ k. is_class k MutexClass) (t.kinds m) ∙ e)
+    where
+      go : (o : Option (Object A)) → look m ≡ o
+          → is_class (option_map kind_kept o) MutexClass ≡ true
+          → (x : MutexState) × (look m ≡ Some (Mutex x))
+      go None eo s = absurd cc
+      go (Some (Mutex x)) eo s = (x, eo)
+      go (Some (Rwlock r)) eo s = absurd cc
+      go (Some (Cond q)) eo s = absurd cc
+      go (Some (Barrier n)) eo s = absurd cc
+
+  -- what exists as a read-write lock is kept as one
+  pub kept-rwlock : (o : ℕ) → exists_as h RwlockClass o ≡ true
+      → (r : RwlockState) × (look o ≡ Some (Rwlock r))
+  kept-rwlock o e = go (look o) refl (ap (λ k. is_class k RwlockClass) (t.kinds o) ∙ e)
+    where
+      go : (x : Option (Object A)) → look o ≡ x
+          → is_class (option_map kind_kept x) RwlockClass ≡ true
+          → (r : RwlockState) × (look o ≡ Some (Rwlock r))
+      go None ex s = absurd cc
+      go (Some (Mutex m)) ex s = absurd cc
+      go (Some (Rwlock r)) ex s = (r, ex)
+      go (Some (Cond q)) ex s = absurd cc
+      go (Some (Barrier n)) ex s = absurd cc
+
+module _ {A : Type 0} (h : History) (f : Follows h) (old : List (ObjectRow (Object A)))
+    (t : AreObjects h old) where
+  -- an Expire changes no object
+  pub object_rows-behind-expire : (j : ℕ) → Step h (Expire j) → AreObjects (h ▷ Expire j) old
+  object_rows-behind-expire j s =
+      object_rows-kept h (Expire j) old t (object_rows-expire h (object_value old) j f s t.look)
+      (λ n. refl)
+      refl
+
+  -- a Yield takes the mutex from its owner
+  pub object_rows-behind-yield : (new : List (ObjectRow (Object A))) (m : ℕ) → Step h (Yield m)
+      → ((x : MutexState) → object_value old m ≡ Some (Mutex x)
+      → WritesObject old new m (Mutex (record x { seen = yielded x.seen })))
+      → AreObjects (h ▷ Yield m) new
+  object_rows-behind-yield new m s w =
+      let class = robust-class (kind_of h m) (and_parts (is_robust (kind_of h m))
+      (is_dead_if h (owner h m)) (yielded-orphan h m s)).0 in
+      let x = kept-mutex h (object_value old) t.look m class in
+      let here = w x.0 x.1 in
+      object_rows-written h (Yield m) old new m
+      (Mutex (record x.0 { seen = yielded x.0.seen })) t here
+      (object_rows-yield h (object_value old) (object_value new) m x.0 f s t.look x.1 here.look)
+      (λ n. refl) refl
+
+  module _ (w : WaitingCall) (i : In w (open_calls h))
+      (s : Step h (Grant w.place (grant_outcome h w))) where
+    -- the client can be given the mutex
+    pub acquires : (m : ℕ) → mutex_of w.role w.object ≡ Some m
+        → is_acquired (grant_outcome h w) ≡ true → (x : MutexState)
+        → object_value old m ≡ Some (Mutex x) → can_acquire x.seen w.client ≡ true
+    acquires m e told x k =
+        ap (λ v. can_acquire v w.client) (t.look.mutexes m x k).0
+        ∙ grant-can h f w m i (granted-may h w f i s) e told
+
+    -- and has it once more
+    pub object_rows-behind-mutex : (new : List (ObjectRow (Object A))) (m : ℕ)
+        → mutex_of w.role w.object ≡ Some m → is_acquired (grant_outcome h w) ≡ true
+        → ((x : MutexState) → object_value old m ≡ Some (Mutex x)
+        → WritesObject old new m (Mutex (record x { seen = acquired x.seen w.client })))
+        → AreObjects (after_grant h w) new
+    object_rows-behind-mutex new m e told wr =
+        let there = housed-mutex h m w.object w.role (moved h w.place) (housed h f w i) e in
+        let x = kept-mutex h (object_value old) t.look m there in
+        let here = wr x.0 x.1 in
+        object_rows-written h (Grant w.place (grant_outcome h w)) old new m
+        (Mutex (record x.0 { seen = acquired x.0.seen w.client })) t here
+        (object_rows-grant-mutex h (object_value old) w f i s t.look
+        (object_value new) m x.0 e x.1 told
+        here.look) (λ n. refl) refl
+
+    -- a mutex that is lost stays
+    pub object_rows-behind-lost : (m : ℕ) → mutex_of w.role w.object ≡ Some m
+        → is_acquired (grant_outcome h w) ≡ false → AreObjects (after_grant h w) old
+    object_rows-behind-lost m e told =
+        object_rows-kept h (Grant w.place (grant_outcome h w)) old t
+        (object_rows-grant-lost h (object_value old) w f i s t.look m e told) (λ n. refl) refl
+
+    -- the client can be given the lock for reading
+    pub acquires-read : w.role ≡ ForRead → (r : RwlockState)
+        → object_value old w.object ≡ Some (Rwlock r) → can_acquire_read r w.client ≡ true
+    acquires-read role r k =
+        read-acquire h f w r i (granted-may h w f i s) role (t.look.rwlocks w.object r k)
+
+    -- and has it once more
+    pub object_rows-behind-read : (new : List (ObjectRow (Object A))) → w.role ≡ ForRead
+        → ((r : RwlockState) → object_value old w.object ≡ Some (Rwlock r)
+        → WritesObject old new w.object (Rwlock (with_reads r w.client (reads_of r w.client + 1))))
+        → ((r : RwlockState) → object_value old w.object ≡ Some (Rwlock r)
+        → ChangesRow r (with_reads r w.client (reads_of r w.client + 1)) w.client
+        (Some (reads_of r w.client + 1)))
+        → AreObjects (after_grant h w) new
+    object_rows-behind-read new role wr row =
+        let there = (housed-rwlock h w.object w.role (moved h w.place) (housed h f w i)).0 role in
+        let r = kept-rwlock h (object_value old) t.look w.object there in
+        let here = wr r.0 r.1 in
+        let r' = with_reads r.0 w.client (reads_of r.0 w.client + 1) in
+        object_rows-written h (Grant w.place (grant_outcome h w)) old new w.object
+        (Rwlock r') t here
+        (object_rows-grant-read h (object_value old) w f i s t.look
+        (object_value new) r.0 r' role r.1
+        refl (row r.0 r.1) here.look) (λ n. refl) refl
+
+    -- the client can be given the lock for writing
+    pub acquires-write : w.role ≡ ForWrite → (r : RwlockState)
+        → object_value old w.object ≡ Some (Rwlock r) → nobody_holds r ≡ true
+    acquires-write role r k =
+        write-acquire h f w r (granted-may h w f i s) role (t.look.rwlocks w.object r k)
+
+    -- and has it
+    pub object_rows-behind-write : (new : List (ObjectRow (Object A))) → w.role ≡ ForWrite
+        → ((r : RwlockState) → object_value old w.object ≡ Some (Rwlock r)
+        → WritesObject old new w.object (Rwlock (record r { writer = Some w.client })))
+        → AreObjects (after_grant h w) new
+    object_rows-behind-write new role wr =
+        let there = (housed-rwlock h w.object w.role (moved h w.place) (housed h f w i)).1 role in
+        let r = kept-rwlock h (object_value old) t.look w.object there in
+        let here = wr r.0 r.1 in
+        object_rows-written h (Grant w.place (grant_outcome h w)) old new w.object
+        (Rwlock (record r.0 { writer = Some w.client })) t here
+        (object_rows-grant-write h (object_value old) w f i s t.look (object_value new) r.0 role r.1
+        here.look) (λ n. refl) refl
