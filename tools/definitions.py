@@ -1,22 +1,41 @@
 #!/usr/bin/env python3
-"""Writes docs/DEFINITIONS.md: each definition of crates/*/specs with its meaning, its source and its file.
+"""Writes docs/DEFINITIONS.md: what the public contracts speak of, with meaning, source and file.
 
     python3 tools/definitions.py
 
-The meaning is the comment line above a definition; the source is what stands in brackets at its end.
+A public contract is a clause of a function that a crate of CRATES exports: a free function, a
+method of a type or a trait, or what a type is seen as. The table has each definition that such a
+clause names, and each that one of these names in turn. The meaning is the comment above a
+definition; the source is the bracket at the end of that comment.
 """
 import pathlib
 import re
+import textwrap
 
 TOP = pathlib.Path(__file__).resolve().parent.parent
+CRATES = (
+    "pt_core pt_script pt_lines pt_io pt_history pt_table pt_waitq pt_timers "
+    "pt_mutex pt_rwlock pt_cond pt_barrier"
+).split()
 HEAD = """# Definitions
 
-Every definition that a contract or a law stands on, by crate and file, with its meaning and its source: `XSH` is a page or section
-of POSIX.1-2017, and for the clock calls of POSIX.1-2024; `profile` is a choice of this project. Made by `python3 tools/definitions.py`
-from the comment above each definition.
+The definitions that public contracts speak of, by file: the contracts of
+%s.
+
+*Named by* has the first public item whose contract names the definition; it is empty for a
+definition that only other definitions of these tables use. In *Source*, `XSH` is a page or a
+section of POSIX.1-2017 (of POSIX.1-2024 for the clock calls), and `profile` is a choice of this
+project. Made by `python3 tools/definitions.py` from the comment above each definition.
 """
-NAMED = re.compile(r"^(?:\s*(?:abbrev pub|unfoldable pub|pub record|pub data)|pub) ([^\s(:]+)")
+DEFINED = re.compile(r"^\s*(?:abbrev pub|unfoldable pub|pub record|pub data) ([^\s(:]+)")
+BUILDER = re.compile(r"^\s+pub ([^\s(:]+) :")
 SOURCE = re.compile(r"\s*\[([^\]]*(?:XSH|XBD|profile)[^\]]*)\]\s*$")
+IMPORT = re.compile(r"use Rattle\.(pt_\w+)\.specs\.(\w+)\.\{([^}]*)\}")
+EXPORT = re.compile(r"pub use \w+::(?:\{([^}]*)\}|(\w+));", re.S)
+OWNER = re.compile(r"^(?:impl(?:<.*?>)? (?:(\w+)(?:<.*?>)? for )?(\w+)|pub trait (\w+))")
+FUNCTION = re.compile(r"^ *(?:pub )?fn (\w+)")
+SEEN = re.compile(r"^    ghost (?!view|invariant|inverse)\w+(?: =|:)")
+WORD = re.compile(r"[^\s(){}\[\].,;:λ→×⊎≡]+")
 
 
 def crates():
@@ -27,34 +46,155 @@ def crates():
             yield line.split(":")[0].split()[0]
 
 
-def rows(path):
-    """The definitions of one file: name, meaning, source."""
-    comment = []
+def imported(text):
+    """What the words of a file mean: word to (crate, file, definition)."""
+    meant = {}
+    for crate, file, names in IMPORT.findall(text):
+        for name in names.split(","):
+            name, _, other = name.strip().partition(" as ")
+            meant[(other or name).strip("◌")] = (crate, file, name)
+    return meant
+
+
+def words(text):
+    """The words of a text, without the fields of records."""
+    return WORD.findall(re.sub(r"(?<=[\w)'])\.\w+", "", text))
+
+
+class File:
+    """A file of definitions: its rows in order, and what each row uses."""
+
+    def __init__(self, crate, path):
+        text = path.read_text()
+        self.title = text.splitlines()[0].removeprefix("-- ")
+        self.rows, self.owners, bodies = {}, {}, {}
+        comment, name = [], None
+        for line in text.splitlines()[1:]:
+            if line.lstrip().startswith("-- "):
+                comment.append(line.lstrip()[3:])
+                continue
+            found = DEFINED.match(line)
+            if found:
+                name = found[1]
+                self.rows[name] = " ".join(comment) or "see the definition above"
+                bodies[name] = []
+            if name:
+                bodies[name].append(line)
+                builder = BUILDER.match(line)
+                if builder:
+                    self.owners[builder[1]] = name
+            comment = []
+        meant = imported(text)
+        meant.update({n.strip("◌"): (crate, path.stem, n) for n in self.rows})
+        self.uses = {
+            name: [meant[word] for word in words("\n".join(body)) if word in meant]
+            for name, body in bodies.items()
+        }
+
+
+def read_files():
+    """All files of definitions, by crate and name."""
+    files = {}
+    for crate in crates():
+        for path in sorted((TOP / "crates" / crate / "specs").glob("*.antt")):
+            files[crate, path.stem] = File(crate, path)
+    return files
+
+
+def clauses(path, exported):
+    """Each public item of a source, with the text of its contract."""
+    owner, opened, item, text = None, False, None, []
     for line in path.read_text().splitlines():
-        if line.lstrip().startswith("-- "):
-            comment.append(line.lstrip()[3:])
-            continue
-        named = NAMED.match(line)
-        if named and comment:
-            text = " ".join(comment)
-            source = SOURCE.search(text)
-            yield named[1], SOURCE.sub("", text), source[1] if source else ""
-        comment = []
+        found, seen, header = FUNCTION.match(line), SEEN.match(line), OWNER.match(line)
+        if header:
+            owner = header[2] or header[3]
+            opened = bool(header[1] or header[3])
+        if found or seen or line.strip() in ("{", "{}", "}"):
+            if item:
+                yield item, "\n".join(text)
+            item, text = None, []
+        if found:
+            item = public_item(found[1], line, owner, opened)
+            item = item if item and item.split("::")[0] in exported else None
+        elif seen and owner in exported:
+            item = owner
+        if item and not line.lstrip().startswith("//"):
+            text.append(line)
+        if seen and item and line.endswith("};"):
+            yield item, "\n".join(text)
+            item, text = None, []
+
+
+def public_item(name, line, owner, opened):
+    """The name of a function that can be called from outside, if its owner can be named there."""
+    is_method = line.startswith(" ")
+    if not (line.lstrip().startswith("pub ") or (is_method and opened)):
+        return None
+    return f"{owner}::{name}" if is_method else name
+
+
+def spoken_of():
+    """Each definition that a public contract names, with the first item that does."""
+    named = {}
+    for crate in CRATES:
+        folder = TOP / "crates" / crate / "src"
+        text = (folder / "lib.rt").read_text()
+        lists = [many or one for many, one in EXPORT.findall(text)]
+        exported = {name.strip() for names in lists for name in names.split(",")}
+        for path in sorted(folder.glob("*.rt")):
+            meant = imported(path.read_text())
+            for item, contract in clauses(path, exported):
+                for word in words(contract):
+                    if word in meant:
+                        named.setdefault(meant[word], item)
+    return named
+
+
+def resolve(files, place):
+    """The definition at a place, which may be a constructor of it."""
+    crate, file, name = place
+    at = files.get((crate, file))
+    if at is None:
+        return None
+    name = at.owners.get(name, name)
+    return (crate, file, name) if name in at.rows else None
+
+
+def chosen(files):
+    """The definitions of the table: those that contracts name, and those that these use."""
+    named = {}
+    for place, item in spoken_of().items():
+        named.setdefault(resolve(files, place), item)
+    named.pop(None, None)
+    for crate, file, name in list(named):
+        for place in files[crate, file].uses[name]:
+            used = resolve(files, place)
+            if used:
+                named.setdefault(used, "")
+    return named
+
+
+def row(name, comment, item):
+    """The row of a definition."""
+    source = SOURCE.search(comment)
+    meaning = SOURCE.sub("", comment).replace("|", "\\|")
+    cells = [f"`{name}`", meaning, f"`{item}`" if item else "", source[1] if source else ""]
+    return "| " + " | ".join(cells) + " |"
 
 
 def main():
-    out = [HEAD]
-    for crate in crates():
-        files = sorted((TOP / "crates" / crate / "specs").glob("*.antt"))
-        for path in files:
-            table = list(rows(path))
-            if not table:
-                continue
-            title = path.read_text().splitlines()[0].removeprefix("-- ")
-            out.append(f"\n## {crate}: {title}\n\n| Definition | Meaning | Source |\n|---|---|---|")
-            for name, meaning, source in table:
-                out.append("| `%s` | %s | %s |" % (name, meaning.replace("|", "\\|"), source))
+    files = read_files()
+    named = chosen(files)
+    out = [HEAD % textwrap.fill(", ".join(f"`{crate}`" for crate in CRATES), 99)]
+    for (crate, stem), file in files.items():
+        names = [n for n in file.rows if (crate, stem, n) in named]
+        if not names:
+            continue
+        out.append(f"\n## {crate}/specs/{stem}.antt\n\n{file.title}\n")
+        out.append("| Definition | Meaning | Named by | Source |\n|---|---|---|---|")
+        out += [row(name, file.rows[name], named[crate, stem, name]) for name in names]
     (TOP / "docs" / "DEFINITIONS.md").write_text("\n".join(out) + "\n")
 
 
-main()
+if __name__ == "__main__":
+    main()

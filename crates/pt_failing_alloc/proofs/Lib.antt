@@ -1,1 +1,1 @@
-mod LineId
+mod Asking

@@ -17,12 +17,12 @@ use Rattle.pt_model.specs.Moves.{moved}
 use Rattle.pt_model.specs.Grants.{is_blocked}
 use Rattle.pt_model.specs.Steps.{Follows}
 use Rattle.pt_model.proofs.Seats.{HousedBy, housed}
-use Rattle.pt_readings.specs.declared.waiting.Role.TheVariants as roles
-use Rattle.pt_readings.specs.Found.{passes}
-use Rattle.pt_readings.specs.Shown.{shown_role}
-use Rattle.pt_records.specs.declared.callers.Caller.{Caller}
-use Rattle.pt_records.specs.declared.callers.Open.{Open}
-use Rattle.pt_records.specs.declared.object.Object.{Object}
+use Rattle.pt_model.specs.declared.waiting_call.Role.TheVariants as roles
+use Rattle.pt_model.specs.Found.{passes}
+use Rattle.pt_model.specs.Shown.{shown_role}
+use Rattle.pt_records.specs.declared.clients.Caller.{Caller}
+use Rattle.pt_records.specs.declared.clients.Open.{Open}
+use Rattle.pt_records.specs.declared.objects.Object.{Object}
 use Rattle.pt_records.specs.Callers.{AreCallers, opens_of}
 use Rattle.pt_state.specs.Granting.{is_readable, may_kept}
 use Rattle.pt_state.specs.Serving.{called}

@@ -7,9 +7,9 @@ use Rattle.pt_types.specs.declared.outcome.Outcome.{Outcome}
 use Rattle.pt_types.specs.Tables.{reply}
 use Rattle.pt_table.specs.declared.clients.ClientRow.{ClientRow}
 use Rattle.pt_table.specs.ClientRows.{client_value}
-use Rattle.pt_readings.specs.Found.{keep}
-use Rattle.pt_readings.specs.Shown.{shown}
-use Rattle.pt_readings.proofs.Lists.{Each-weaker, at_place-below}
+use Rattle.pt_model.specs.Found.{keep}
+use Rattle.pt_model.specs.Shown.{shown}
+use Rattle.pt_model.proofs.Ascending.{Each-weaker, at_place-below}
 use Rattle.pt_model.proofs.Rising.{stood-below}
 use Rattle.pt_model.specs.Starts.{nothing}
 use Rattle.pt_model.specs.Seals.{seal}
@@ -31,8 +31,8 @@ use Rattle.pt_model.proofs.Sound.{Fresh-follows, below_open}
 use Rattle.pt_model.proofs.Found.{found_open, one_open}
 use Rattle.pt_model.proofs.OneEach.{one_each}
 use Rattle.pt_model.proofs.Opens.{left, was_open}
-use Rattle.pt_records.specs.declared.callers.Caller.{Caller}
-use Rattle.pt_records.specs.declared.callers.Open.{Open}
+use Rattle.pt_records.specs.declared.clients.Caller.{Caller}
+use Rattle.pt_records.specs.declared.clients.Open.{Open}
 use Rattle.pt_state.specs.declared.state.State.{State}
 use Rattle.pt_state.specs.Adds.{past}
 use Rattle.pt_records.specs.Callers.{AreCallers, call_of, open_in, opens_of}

@@ -11,9 +11,9 @@ use Rattle.pt_model.specs.Records.{WaitingCall, Move}
 use Rattle.pt_model.specs.Answers.{open_calls}
 use Rattle.pt_model.specs.Moves.{moved, object_by, at_object}
 use Rattle.pt_model.specs.Steps.{Follows}
-use Rattle.pt_readings.specs.Shown.{shown, shown_move}
-use Rattle.pt_records.specs.declared.callers.Caller.{Caller}
-use Rattle.pt_records.specs.declared.callers.Open.{Open}
+use Rattle.pt_model.specs.Shown.{shown, shown_move}
+use Rattle.pt_records.specs.declared.clients.Caller.{Caller}
+use Rattle.pt_records.specs.declared.clients.Open.{Open}
 use Rattle.pt_records.specs.Callers.{AreCallers, call_of, open_in, move_in}
 use Rattle.pt_records.specs.OpenRows.{object_of}
 use Rattle.pt_state.proofs.CallerFinds.{call_of-open}

@@ -26,9 +26,9 @@ use Rattle.pt_model.proofs.Lists.{Each-from_in, Each-filter, filter-agree_on, fa
 use Rattle.pt_model.proofs.Counting.{total}
 use Rattle.pt_model.proofs.Sound.{Fresh-follows, alive_below}
 use Rattle.pt_model.proofs.Found.{open_alive}
-use Rattle.pt_readings.proofs.Lists.{any-filter}
-use Rattle.pt_records.specs.declared.callers.Caller.{Caller}
-use Rattle.pt_records.specs.declared.callers.Open.{Open}
+use Rattle.pt_model.proofs.Ascending.{any-filter}
+use Rattle.pt_records.specs.declared.clients.Caller.{Caller}
+use Rattle.pt_records.specs.declared.clients.Open.{Open}
 use Rattle.pt_records.specs.Callers.{AreCallers, opens_of}
 use Rattle.pt_state.specs.Serving.{waits_in}
 use Rattle.pt_state.proofs.Totals.{sum_below-same, worth, Lone, total-worth}

@@ -19,8 +19,8 @@ use Rattle.pt_model.specs.Steps.{Follows}
 use Rattle.pt_model.proofs.Lists.{In-filter, filter-in}
 use Rattle.pt_model.proofs.Leasts.{least-in, least-none, none-least}
 use Rattle.pt_model.proofs.Orders.{precedes-order, least-first}
-use Rattle.pt_records.specs.declared.callers.Caller.{Caller}
-use Rattle.pt_records.specs.declared.callers.Open.{Open}
+use Rattle.pt_records.specs.declared.clients.Caller.{Caller}
+use Rattle.pt_records.specs.declared.clients.Open.{Open}
 use Rattle.pt_records.specs.Callers.{AreCallers, call_of, open_in, opens_of}
 use Rattle.pt_state.specs.Serving.{called, waits_in}
 use Rattle.pt_records.proofs.OpenRows.{look-row, row-open}

@@ -12,7 +12,7 @@ use Rattle.pt_model.specs.Answers.{open_calls}
 use Rattle.pt_model.specs.Moves.{at_object}
 use Rattle.pt_model.specs.Grants.{holds_back, is_blocked}
 use Rattle.pt_model.specs.Verdicts.{is_awaited}
-use Rattle.pt_readings.proofs.Lists.{any-filter}
+use Rattle.pt_model.proofs.Ascending.{any-filter}
 use Rattle.pt_machine.specs.Queued.{waiter}
 
 -- tests that agree on each element pass in the same lists

@@ -29,7 +29,7 @@ use Rattle.pt_model.proofs.Sound.{Fresh-follows}
 use Rattle.pt_model.proofs.Opens.{open-call, open-expire}
 use Rattle.pt_model.proofs.Moves.{moved-call, moved-expire}
 use Rattle.pt_state.specs.declared.state.State.{State}
-use Rattle.pt_records.specs.declared.callers.Open.{Open}
+use Rattle.pt_records.specs.declared.clients.Open.{Open}
 use Rattle.pt_state.specs.Adds.{past, Adds, IsReadyFor}
 use Rattle.pt_state.specs.Serving.{called as named, waits_in}
 use Rattle.pt_state.proofs.CallerWakes.{wakes-first, wakes-none}

@@ -14,7 +14,7 @@ use Rattle.pt_model.specs.WaitingCall.{calls_below, at_place}
 use Rattle.pt_model.specs.Answers.{open_calls}
 use Rattle.pt_model.specs.Moves.{is_moved}
 use Rattle.pt_model.specs.Queries.{deadline_if}
-use Rattle.pt_records.specs.declared.callers.Open.{Open}
+use Rattle.pt_records.specs.declared.clients.Open.{Open}
 use Rattle.pt_state.specs.Serving.{move_of}
 
 -- the deadline that an operation has, as it was written  [XSH pthread_mutex_timedlock]

@@ -1,16 +1,20 @@
-ghost use Rattle.std.specs.Prelude.{◌≡◌, [], true, false, vec_len, OnOk, OnErr, IfErr, IsOk};
-ghost use Rattle.pt_model.specs.Histories.{is_forced};
-ghost use Rattle.pt_state.specs.Adds.{Adds, Stays, IsReadyFor, past};
-ghost use Rattle.pt_records.specs.Callers.{opens_of};
-ghost use Rattle.pt_state.specs.Outer.{is_death};
-ghost use Rattle.pt_state.specs.Reads.{AreTables};
-ghost use Rattle.pt_state.specs.Serving.{entry_of, IsFor};
+//! The tables with their queues and deadlines, and the two ways by which an entry comes in.
 
-use crate::timing;
+ghost use Rattle.pt_state.specs.Adds.{Adds, IsReadyFor, Stays, past};
+ghost use Rattle.std.specs.Prelude.{IfErr, IsOk, OnErr, OnOk, [], ◌+◌, ◌<◌, ◌≡◌, ◌≤◌, false, length, true, vec_len};
+ghost use Rattle.pt_types.specs.Limits.{most_clients};
+ghost use Rattle.pt_model.specs.Histories.{is_forced};
+ghost use Rattle.pt_state.specs.Outer.{is_death};
+ghost use Rattle.pt_records.specs.Callers.{opens_of};
+ghost use Rattle.pt_state.specs.Serving.{IsFor, entry_of};
+ghost use Rattle.pt_model.specs.Answers.{open_place as open_place_in};
+ghost use Rattle.pt_state.specs.Reads.{AreTables};
+
+use crate::clock;
 use pt_model::Entry;
 use pt_state::{Forced, State};
 use pt_timers::Timers;
-use pt_types::Refusal;
+use pt_types::{ClientId, Refusal};
 use pt_waitq::{PlainList, WaitList};
 use std::alloc::{Allocator, Global};
 use std::marker::Model;
@@ -40,6 +44,47 @@ impl<Q: WaitList, A: Allocator + Copy> Model for Body<Q, A> {
         × AreTimed (past b.state) b.timers };
 }
 
+impl<Q: WaitList, A: Allocator + Copy> Body<Q, A> {
+    /// How many rows the table of clients has.  [profile]
+    pub(crate) fn rows(&self) -> usize
+        ensures len { result ≡ length self.now.clients }
+        ensures within { length self.now.clients ≤ most_clients }
+    {
+        self.state.clients.len()
+    }
+
+    /// Any outer entry. ENOMEM where a growth is refused: then nothing is pushed. A Death is never
+    /// refused, and no forced entry comes here.  [profile]
+    pub fn push_outer(&mut self, entry: &Entry) -> Result<(), Refusal>
+        requires ready { IsReadyFor self.old entry.now }
+        requires outer { is_forced entry.now ≡ false }
+        ensures ok { OnOk result (Adds self.old entry.now self.new) }
+        ensures err { OnErr result (Stays self.old self.new) }
+        ensures reason { IfErr result (λ refusal. refusal ≡ Refusal.Enomem) }
+        ensures death { is_death entry.now ≡ true → IsOk result }
+    {
+        clock::push_outer(&mut self.state, &mut self.queues, &mut self.timers, entry)
+    }
+
+    /// What must follow is pushed.
+    /// [XSH pthread_mutex_unlock, pthread_mutex_lock EOWNERDEAD, pthread_mutex_timedlock]
+    pub fn push_forced(&mut self, forced: &Forced)
+        requires ready { IsReadyFor self.old (entry_of (past self.old) forced.now) }
+        requires known { IsFor (opens_of self.old.clients) forced.now }
+        ensures { Adds self.old (entry_of (past self.old) forced.now) self.new }
+    {
+        clock::push_forced(&mut self.state, &mut self.queues, &mut self.timers, forced)
+    }
+
+    /// The place of a client's open call.  [profile]
+    pub fn open_place(&self, c: ClientId) -> Option<u64>
+        requires { AreTables self.now }
+        ensures { result ≡ open_place_in (past self.now) c }
+    {
+        self.state.open_place(c)
+    }
+}
+
 impl<A: Allocator + Copy> Body<PlainList<A>, A> {
     /// No entry, of at most so many. It takes no memory.
     pub fn new(alloc: A, limit: u32) -> Body<PlainList<A>, A>
@@ -52,30 +97,5 @@ impl<A: Allocator + Copy> Body<PlainList<A>, A> {
             queues: PlainList::new(alloc),
             timers: Timers::new(alloc),
         }
-    }
-}
-
-impl<Q: WaitList, A: Allocator + Copy> Body<Q, A> {
-    /// Any outer entry. ENOMEM where a growth is refused: then nothing is pushed. A Death is never
-    /// refused, and no forced entry comes here.  [profile]
-    pub fn push_outer(&mut self, entry: &Entry) -> Result<(), Refusal>
-        requires ready { IsReadyFor self.old entry.now }
-        requires outer { is_forced entry.now ≡ false }
-        ensures ok { OnOk result (Adds self.old entry.now self.new) }
-        ensures err { OnErr result (Stays self.old self.new) }
-        ensures reason { IfErr result (λ refusal. refusal ≡ Refusal.Enomem) }
-        ensures death { is_death entry.now ≡ true → IsOk result }
-    {
-        timing::push_outer(&mut self.state, &mut self.queues, &mut self.timers, entry)
-    }
-
-    /// What must follow is pushed.
-    /// [XSH pthread_mutex_unlock, pthread_mutex_lock EOWNERDEAD, pthread_mutex_timedlock]
-    pub fn push_forced(&mut self, forced: &Forced)
-        requires ready { IsReadyFor self.old (entry_of (past self.old) forced.now) }
-        requires known { IsFor (opens_of self.old.clients) forced.now }
-        ensures { Adds self.old (entry_of (past self.old) forced.now) self.new }
-    {
-        timing::push_forced(&mut self.state, &mut self.queues, &mut self.timers, forced)
     }
 }

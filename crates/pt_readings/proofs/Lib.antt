@@ -1,7 +1,5 @@
 pub mod Past
-pub mod Lists
 pub mod Stood
 pub mod Opens
 pub mod Orders
 pub mod Waits
-pub mod Below

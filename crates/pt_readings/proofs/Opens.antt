@@ -12,16 +12,13 @@ use Rattle.std.specs.Prelude.{◌==◌, not}
 use Rattle.pt_model.specs.Clients.{is_alive}
 use Rattle.pt_model.specs.WaitingCall.{stood, at_place, is_arrival}
 use Rattle.pt_model.specs.Answers.{outcome, open_calls, is_open_by, told_by_trip, outcome_in, trip_outcome, at_barrier, place_of}
-use Rattle.pt_readings.specs.Found.{passes, keep, is_alive_at, place_or}
-use Rattle.pt_readings.proofs.Lists.{Ascends, Ascends-filter, Ascends-weaker, Each-filter, Each-weaker, from, from_all, from_more, from-before, at_place-filter, at_place-before, at_place-place, any-filter, any-at, any-nowhere}
-use Rattle.pt_readings.proofs.Stood.{stood-ascends, stood-below}
+use Rattle.pt_model.specs.Found.{passes, keep}
+use Rattle.pt_readings.specs.Found.{is_alive_at, place_or}
+use Rattle.pt_model.proofs.Ascending.{Ascends, Ascends-filter, Ascends-weaker, Each-filter, Each-weaker, from, from_all, from_more, from-before, at_place-filter, at_place-before, at_place-place, any-filter, any-at, any-nowhere}
+use Rattle.pt_model.proofs.OpenOrder.{stood-ascends}
+use Rattle.pt_readings.proofs.Stood.{stood-below}
 use Rattle.pt_readings.proofs.Past.{place_all}
-
-pub open-ascends : (h : History) → Ascends 0 (open_calls h)
-open-ascends h = Ascends-filter (is_open_by h (outcome h)) 0 (stood h) (stood-ascends h)
-
-pub open-below : (h : History) → Each (λ w. w.place < place h) (open_calls h)
-open-below h = Each-filter _ (is_open_by h (outcome h)) (stood h) (stood-below h)
+use Rattle.pt_model.proofs.OpenOrder.{open-ascends, open-below}
 
 -- the open call at a place
 pub at_place_open :

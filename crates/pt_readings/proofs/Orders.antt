@@ -8,8 +8,8 @@ use Rattle.pt_model.specs.Searches.{least, least_with, listed}
 use Rattle.pt_model.specs.Records.{WaitingCall, Move}
 use Rattle.pt_model.specs.WaitingCall.{at_place, is_write}
 use Rattle.pt_model.specs.Moves.{has_place, precedes_by, arrival_by}
-use Rattle.pt_readings.specs.Found.{passes}
-use Rattle.pt_readings.proofs.Lists.{Ascends, at_place-before, at_place-place, any-at}
+use Rattle.pt_model.specs.Found.{passes}
+use Rattle.pt_model.proofs.Ascending.{Ascends, at_place-before, at_place-place, any-at}
 
 -- an order in which two calls of different places are never alike
 pub record IsOrder (lt : WaitingCall → WaitingCall → Bool) : Type 0 where

@@ -11,7 +11,7 @@ use Rattle.pt_model.specs.Searches.{Each, listed}
 use Rattle.pt_model.specs.Records.{WaitingCall}
 use Rattle.pt_model.specs.WaitingCall.{stood, stood_by, stood_by_operation, at_place}
 use Rattle.pt_model.proofs.Rising.{Rising, stood-below as below, stood-rising}
-use Rattle.pt_readings.proofs.Lists.{Ascends, Ascends-push, Each-weaker, at_place-append, at_place-append_right, at_place-below, at_place-before}
+use Rattle.pt_model.proofs.Ascending.{Ascends, Ascends-push, Each-weaker, at_place-append, at_place-append_right, at_place-below, at_place-before}
 use Rattle.pt_readings.proofs.Past.{place_all, place_below, onto-append}
 use Rattle.std.proofs.lemmas.List.{append-nil}
 use Rattle.std.proofs.Math.Seq.{split_at}
@@ -61,13 +61,6 @@ ascends-newest n vs a b none = subst (Ascends 0) (sym (append-nil vs)) a
 ascends-newest n vs a b (one w e) =
     Ascends-push 0 vs w a (omega arith)
     (subst (λ k. Each (λ v. v.place < k) vs) (sym e) b)
-
-ascends_rising : (m : ℕ) (ws : List WaitingCall) → Rising m ws → Ascends m ws
-ascends_rising m [] r = tt
-ascends_rising m (w ∷ ws) r = (r.0, ascends_rising (suc w.place) ws r.1)
-
-pub stood-ascends : (h : History) → Ascends 0 (stood h)
-stood-ascends h = ascends_rising 0 (stood h) (stood-rising h)
 
 newest-listed :
     (n : ℕ) {ws : List WaitingCall} → IsNewest n ws → listed (at_place n ws) ≡ ws

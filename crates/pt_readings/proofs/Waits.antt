@@ -8,9 +8,11 @@ use Rattle.pt_model.specs.Records.{WaitingCall, Move}
 use Rattle.pt_model.specs.WaitingCall.{at_place, is_wait}
 use Rattle.pt_model.specs.Answers.{open_calls}
 use Rattle.pt_model.specs.Moves.{has_place, waits_at, cond_waits, first_waiting, precedes_by}
-use Rattle.pt_readings.specs.Found.{passes, unmoved}
-use Rattle.pt_readings.proofs.Lists.{Ascends, Ascends-filter, at_place-filter, at_place-place, any-filter}
-use Rattle.pt_readings.proofs.Opens.{open-ascends, passes-keep}
+use Rattle.pt_model.specs.Found.{passes}
+use Rattle.pt_readings.specs.Found.{unmoved}
+use Rattle.pt_model.proofs.Ascending.{Ascends, Ascends-filter, at_place-filter, at_place-place, any-filter}
+use Rattle.pt_model.proofs.OpenOrder.{open-ascends}
+use Rattle.pt_readings.proofs.Opens.{passes-keep}
 use Rattle.pt_readings.proofs.Orders.{least-is, precedes-order}
 
 -- whether a wait came to the condition of this name

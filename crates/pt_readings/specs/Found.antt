@@ -1,19 +1,9 @@
 -- Found: tests of what was found, if anything was.
-use Rattle.std.specs.Prelude.{ℕ, ◌==◌, Bool, false, ◌&&◌, Option, Some, None, if◌then◌else◌}
+use Rattle.std.specs.Prelude.{ℕ, ◌==◌, Bool, ◌&&◌, Option, Some, None, if◌then◌else◌}
 use Rattle.pt_model.specs.Histories.{History}
 use Rattle.pt_model.specs.Clients.{is_alive}
 use Rattle.pt_model.specs.Records.{WaitingCall, Move}
 use Rattle.pt_model.specs.WaitingCall.{is_arrival}
-
--- whether there is one, and it passes the test  [profile]
-abbrev pub passes : {A : Type 0} → (A → Bool) → Option A → Bool
-passes test None = false
-passes test (Some x) = test x
-
--- it, if it passes the test  [profile]
-abbrev pub keep : {A : Type 0} → (A → Bool) → Option A → Option A
-keep test None = None
-keep test (Some x) = if test x then Some x else None
 
 -- the place of a call, if it is the client's; else the place that was found  [profile]
 abbrev pub place_or : Option WaitingCall → ℕ → Option ℕ → Option ℕ

@@ -3,12 +3,14 @@ ghost use Rattle.std.specs.List.{list_any};
 ghost use Rattle.pt_model.specs.Histories.{history};
 ghost use Rattle.pt_model.specs.WaitingCall.{at_place, stood, is_arrival as is_arrival_role};
 ghost use Rattle.pt_model.specs.Answers.{outcome as said, open_calls as opens, open_place as open_place_in, is_open_by, at_barrier as waiting, told_by_trip, told, outcome_in};
-ghost use Rattle.pt_readings.specs.Found.{passes, place_or, is_alive_at};
-ghost use Rattle.pt_readings.specs.Shown.{shown};
+ghost use Rattle.pt_model.specs.Found.{passes};
+ghost use Rattle.pt_readings.specs.Found.{place_or, is_alive_at};
+ghost use Rattle.pt_model.specs.Shown.{shown};
 
 use crate::clients::is_alive;
-use crate::waiting::{WaitingCall, is_arrival, is_wait_at, waiting_call_at};
+use crate::waiting::{is_wait_at, waiting_call_at};
 use pt_model::Entry;
+use pt_model::waiting_call::{WaitingCall, is_arrival};
 use pt_types::{ClientId, ObjectId, Outcome};
 
 /// Whether a waiting call is open: it has no answer, and its client lives.  [profile]
@@ -35,7 +37,7 @@ pub fn is_open_at_barrier(entries: &[Entry], b: ObjectId, i: u64) -> bool
 
 /// Whether it is, and came behind place j.  [profile]
 #[cycle(answers)]
-#[tactic(auto, using(crate::proofs::Lists::passes_place))]
+#[tactic(auto, using(pt_model::proofs::Ascending::passes_place))]
 pub fn is_later_at_barrier(entries: &[Entry], b: ObjectId, j: u64, i: u64) -> bool
     ensures { result
         ≡ passes (λ w. (is_arrival_role w.role && (w.object == b)) && nat_lt j w.place)

@@ -10,7 +10,6 @@
 //!
 //! | Module | What it has |
 //! |---|---|
-//! | `operations` | what a call word does |
 //! | `clients` | who lives, with which priority, and the clocks |
 //! | `objects` | what a name means, and what an object was made as |
 //! | `waiting` | the calls that came without a reply |
@@ -18,7 +17,6 @@
 //! | `moves` | when a wait was moved, where calls stand and in which order |
 //! | `mutexes` | locks, owners and conditions |
 //! | `rwlocks` | read locks and write locks |
-//! | `views` | a mutex and a read-write lock as their tables see them |
 //!
 //! Only tests show how long it takes: they stand in the crate that plays scripts by it.
 #![tactic(auto)]
@@ -28,7 +26,5 @@ pub mod clients;
 pub mod moves;
 pub mod mutexes;
 pub mod objects;
-pub mod operations;
 pub mod rwlocks;
-pub mod views;
 pub mod waiting;

@@ -1,64 +1,22 @@
 ghost use Rattle.std.specs.Prelude.{◌≡◌, ◌<◌, ◌&&◌, ◌==◌, option_map};
 ghost use Rattle.std.specs.List.{list_any};
 ghost use Rattle.pt_types.specs.Operations.{CondClass};
-ghost use Rattle.pt_types.specs.KeyOrder.{goes_before as goes_before_key};
 ghost use Rattle.pt_model.specs.Histories.{history};
 ghost use Rattle.pt_model.specs.Objects.{means as means_in};
 ghost use Rattle.pt_model.specs.WaitingCall.{at_place, is_wait as is_wait_role};
 ghost use Rattle.pt_model.specs.Answers.{open_calls};
-ghost use Rattle.pt_model.specs.Moves.{moved as moved_in, key_by, precedes_by, waits_at, cond_waits, first_waiting, has_place, cause_by as cause, move_or as move_after, is_moved as is_moved_in, at_object as at_object_in, precedes as precedes_in, is_least as is_least_in};
-ghost use Rattle.pt_readings.specs.Found.{passes, unmoved};
-ghost use Rattle.pt_readings.specs.Shown.{shown, shown_key, shown_move};
+ghost use Rattle.pt_model.specs.Moves.{moved as moved_in, precedes_by, waits_at, cond_waits, first_waiting, has_place, cause_by as cause, move_or as move_after, is_moved as is_moved_in, at_object as at_object_in, precedes as precedes_in, is_least as is_least_in};
+ghost use Rattle.pt_model.specs.Found.{passes};
+ghost use Rattle.pt_readings.specs.Found.{unmoved};
+ghost use Rattle.pt_model.specs.Shown.{shown, shown_move};
 
 use crate::answers::{is_open, open_at};
 use crate::objects::means;
-use crate::operations::{ObjectClass, Operation, operation_of};
-use crate::waiting::{Role, WaitingCall, is_wait, is_wait_at, is_write, waiting_call_at};
+use crate::waiting::{is_wait_at, waiting_call_at};
+use pt_model::waiting_call::{Move, Role, WaitingCall, goes_before, is_wait, key_with};
 use pt_model::{Cause, Entry};
+use pt_types::operations::{ObjectClass, Operation, operation_of};
 use pt_types::{Name, ObjectId, Outcome};
-
-/// When a wait was moved to its mutex, and why.  [XSH pthread_cond_broadcast]
-#[derive(Clone, Copy, Debug, PartialEq, Eq)]
-pub struct Move {
-    /// The place of the entry that moved it.
-    pub at: u64,
-    pub cause: Cause,
-}
-
-/// What decides between calls: priority, whether for a write lock, arrival.  [XSH 2.8.4]
-#[derive(Clone, Copy)]
-pub struct Key {
-    pub priority: u64,
-    pub writes: bool,
-    pub arrival: (u64, u64),
-}
-
-/// By what a call goes before another, if this is its move.  [XSH 2.8.4]
-pub fn key_with(w: &WaitingCall, moved: Option<Move>) -> Key
-    ensures { shown_key result ≡ key_by (λ j. option_map shown_move moved) (shown w.now) }
-{
-    Key {
-        priority: w.priority,
-        writes: is_write(w.role),
-        arrival: match moved {
-            Some(moved) => (moved.at, w.place),
-            None => (w.place, w.place),
-        },
-    }
-}
-
-/// Higher priority, then writers, then lesser arrival.  [XSH pthread_rwlock_unlock, 2.8.4]
-pub fn goes_before(a: Key, b: Key) -> bool
-    ensures { result ≡ goes_before_key (shown_key a) (shown_key b) }
-{
-    if a.priority != b.priority {
-        return b.priority < a.priority;
-    }
-    if a.writes != b.writes {
-        return a.writes;
-    }
-    a.arrival.0 < b.arrival.0 || a.arrival.0 == b.arrival.0 && a.arrival.1 < b.arrival.1
-}
 
 /// Whether the open call at a place is a wait that came to the condition of this name.
 /// [XSH pthread_cond_wait]

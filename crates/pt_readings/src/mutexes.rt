@@ -3,13 +3,14 @@ ghost use Rattle.pt_types.specs.Operations.{operation};
 ghost use Rattle.pt_model.specs.Histories.{history};
 ghost use Rattle.pt_model.specs.WaitingCall.{at_place, stood};
 ghost use Rattle.pt_model.specs.Mutexes.{relocks as relocks_in, unlocks as unlocks_in, unlocks_to_wait as unlocks_to_wait_in, restores as restores_in, is_for as is_for_it, gained as gained_in, gained_by as gained_after, lost as lost_in, lost_by as lost_after, count as count_in, owner as owner_in, consistency as consistency_in, consistency_by as consistency_after, mutex_view as view_in};
-ghost use Rattle.pt_readings.specs.Shown.{shown_mutex};
+ghost use Rattle.pt_types.specs.Shown.{shown_mutex};
 
 use crate::objects::{is_robust, kind_of, means, mutex_kind};
-use crate::operations::{LockKind, ObjectClass, Operation, operation_of};
-use crate::views::{MutexView, after_consistent, after_release, after_yield, is_acquired};
-use crate::waiting::{mutex_of, waiting_call_at};
+use crate::waiting::waiting_call_at;
 use pt_model::Entry;
+use pt_model::waiting_call::mutex_of;
+use pt_types::operations::{LockKind, ObjectClass, Operation, operation_of};
+use pt_types::views::{MutexView, after_consistent, after_release, after_yield, is_acquired};
 use pt_types::{Call, ClientId, Consistency, ObjectId, Outcome};
 
 /// Whether a call that was answered 0 counts as a lock.  [XSH pthread_mutex_lock, RECURSIVE]

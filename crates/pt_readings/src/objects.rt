@@ -2,10 +2,11 @@ ghost use Rattle.std.specs.Prelude.{◌≡◌, ◌≤◌, ◌<◌, ◌-◌, ◌^
 ghost use Rattle.pt_types.specs.Names.{same_name};
 ghost use Rattle.pt_model.specs.Histories.{history};
 ghost use Rattle.pt_model.specs.Objects.{object_named as object_with, named_by as named_after, find as find_in, means as means_in, kind_of as kind_in, kind_by as kind_after, objects as objects_in, objects_by as objects_after, mutex_kind as kind_as_mutex, is_robust as is_robust_kind, barrier_count as count_of_barrier, number_of as number_if};
-ghost use Rattle.pt_readings.specs.Shown.{shown_object, shown_class};
+ghost use Rattle.pt_readings.specs.Shown.{shown_object};
+ghost use Rattle.pt_types.specs.Shown.{shown_class};
 
-use crate::operations::{ObjectClass, Operation, class_of, is_same, operation_of};
 use pt_model::Entry;
+use pt_types::operations::{ObjectClass, Operation, class_of, is_same, operation_of};
 use pt_types::{MutexKind, Name, ObjectId, ObjectKind, Outcome};
 
 /// An object: its number, which is the place of the call that made it, and its words.  [profile]

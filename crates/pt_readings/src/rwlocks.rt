@@ -5,14 +5,15 @@ ghost use Rattle.pt_types.specs.Operations.{operation};
 ghost use Rattle.pt_model.specs.Histories.{history};
 ghost use Rattle.pt_model.specs.WaitingCall.{at_place, stood};
 ghost use Rattle.pt_model.specs.Rwlocks.{rwunlocks as rwunlocks_in, is_for_read as is_reader, is_for_write as is_writer, writes as writes_in, writes_by as writes_after, reads as reads_in, reads_by as reads_after, writer as writer_in, reader as reader_in, rwlock_view as view, is_held_alive as is_held_alive_in};
-ghost use Rattle.pt_readings.specs.Shown.{shown_rwlock};
+ghost use Rattle.pt_types.specs.Shown.{shown_rwlock};
 
 use crate::clients::is_alive;
 use crate::objects::means;
-use crate::operations::{ObjectClass, Operation, operation_of};
-use crate::views::RwlockView;
-use crate::waiting::{Role, waiting_call_at};
+use crate::waiting::waiting_call_at;
 use pt_model::Entry;
+use pt_model::waiting_call::Role;
+use pt_types::operations::{ObjectClass, Operation, operation_of};
+use pt_types::views::RwlockView;
 use pt_types::{Call, ClientId, ObjectId, Outcome};
 
 /// Whether a call that was answered 0 gives the lock back.  [XSH pthread_rwlock_unlock]

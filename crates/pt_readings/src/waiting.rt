@@ -1,54 +1,18 @@
 ghost use Rattle.std.specs.Prelude.{◌≡◌, option_map};
 ghost use Rattle.pt_model.specs.Histories.{history};
 ghost use Rattle.pt_model.specs.Searches.{listed};
-ghost use Rattle.pt_model.specs.WaitingCall.{role_needed as role_meant, meant as meant_in, entered as entered_in, stood_by as stood_after, stood, at_place, is_arrival as is_arrival_role, is_wait as is_wait_role, is_write as is_write_role, mutex_of as mutex_meant, is_wait_if};
-ghost use Rattle.pt_types.specs.Operations.{deadline_of as deadline_meant};
-ghost use Rattle.pt_readings.specs.Shown.{shown, shown_role, shown_class, shown_lock_kind};
+ghost use Rattle.pt_model.specs.WaitingCall.{meant as meant_in, entered as entered_in, stood_by as stood_after, stood, at_place, is_wait_if};
+ghost use Rattle.pt_model.specs.Shown.{shown, shown_role};
+ghost use Rattle.pt_types.specs.Shown.{shown_class};
 
 use crate::clients::client;
 use crate::objects::find;
-use crate::operations::{LockKind, ObjectClass, Operation, class_needed, clock_of, operation_of};
 use pt_model::Entry;
-use pt_types::{ClientId, Clock, Deadline, How, Name, ObjectId};
-
-/// What a waiting call is for; a wait also has its mutex's number.  [XSH, the call's page]
-#[derive(Clone, Copy, Debug, PartialEq, Eq)]
-pub enum Role {
-    ForMutex,
-    ForRead,
-    ForWrite,
-    ForBarrier,
-    ForCond(u64),
-}
-
-/// A call that came without a reply, with what held as it came.  [profile]
-#[derive(Clone, Copy, Debug, PartialEq, Eq)]
-pub struct WaitingCall {
-    /// The place of its entry.
-    pub place: u64,
-    /// The number of its client.
-    pub client: u64,
-    /// The priority with which the client joined.
-    pub priority: u64,
-    /// The number of its object; of a wait, of its condition.
-    pub object: u64,
-    pub role: Role,
-    /// The clock of its deadline.
-    pub clock: Clock,
-    /// All nanoseconds of its deadline.
-    pub deadline: Option<u64>,
-}
-
-/// The role of a call for a lock.  [profile]
-pub fn role_needed(lock_kind: LockKind) -> Role
-    ensures { shown_role result ≡ role_meant (shown_lock_kind lock_kind) }
-{
-    match lock_kind {
-        LockKind::MutexLock => Role::ForMutex,
-        LockKind::ReadLock => Role::ForRead,
-        LockKind::WriteLock => Role::ForWrite,
-    }
-}
+use pt_model::waiting_call::{Role, WaitingCall, is_wait, role_needed};
+use pt_types::operations::{
+    ObjectClass, Operation, class_needed, clock_of, deadline_of, operation_of,
+};
+use pt_types::{ClientId, Clock, Deadline, Name};
 
 /// The object that a name means as the call comes; 0 where it means none.  [profile]
 pub fn meant(entries: &[Entry], n: &Name, class: ObjectClass) -> u64
@@ -87,16 +51,6 @@ pub fn entered(
             Some(deadline) => Some(deadline.nanos()),
             None => None,
         },
-    }
-}
-
-/// The deadline of a call for a lock.  [XSH pthread_mutex_timedlock]
-pub fn deadline_of(how: How) -> Option<Deadline>
-    ensures { result ≡ deadline_meant how }
-{
-    match how {
-        How::Timed(deadline) => Some(deadline),
-        _ => None,
     }
 }
 
@@ -142,38 +96,6 @@ pub fn waiting_call_at(entries: &[Entry], j: u64) -> Option<WaitingCall>
     }
     let i = j as usize;
     stood_by(&entries[..i], &entries[i])
-}
-
-/// Whether a call is for a barrier.  [XSH pthread_barrier_wait]
-pub fn is_arrival(role: Role) -> bool
-    ensures { result ≡ is_arrival_role (shown_role role) }
-{
-    matches!(role, Role::ForBarrier)
-}
-
-/// Whether it is a wait.  [XSH pthread_cond_wait]
-pub fn is_wait(role: Role) -> bool
-    ensures { result ≡ is_wait_role (shown_role role) }
-{
-    matches!(role, Role::ForCond(_))
-}
-
-/// Whether it is for a write lock.  [XSH pthread_rwlock_wrlock]
-pub fn is_write(role: Role) -> bool
-    ensures { result ≡ is_write_role (shown_role role) }
-{
-    matches!(role, Role::ForWrite)
-}
-
-/// The mutex that a call is for, in the end.  [XSH pthread_mutex_lock, pthread_cond_wait]
-pub fn mutex_of(w: &WaitingCall) -> Option<ObjectId>
-    ensures { result ≡ mutex_meant (shown_role w.now.role) w.now.object }
-{
-    match w.role {
-        Role::ForMutex => Some(ObjectId(w.object)),
-        Role::ForCond(m) => Some(ObjectId(m)),
-        _ => None,
-    }
 }
 
 /// Whether the call at a place is a wait.  [XSH pthread_cond_wait]

@@ -14,12 +14,12 @@ use Rattle.pt_model.specs.Steps.{Follows}
 use Rattle.pt_model.proofs.Leasts.{least-in, least-none}
 use Rattle.pt_model.proofs.Lists.{In-filter, filter-in}
 use Rattle.pt_model.proofs.Orders.{order-key, least-first}
-use Rattle.pt_readings.specs.Found.{keep}
-use Rattle.pt_readings.specs.Shown.{shown}
-use Rattle.pt_readings.proofs.Lists.{Ascends, Ascends-filter, from}
-use Rattle.pt_readings.proofs.Opens.{open-ascends}
-use Rattle.pt_records.specs.declared.callers.Caller.{Caller}
-use Rattle.pt_records.specs.declared.callers.Open.{Open}
+use Rattle.pt_model.specs.Found.{keep}
+use Rattle.pt_model.specs.Shown.{shown}
+use Rattle.pt_model.proofs.Ascending.{Ascends, Ascends-filter, from}
+use Rattle.pt_model.proofs.OpenOrder.{open-ascends}
+use Rattle.pt_records.specs.declared.clients.Caller.{Caller}
+use Rattle.pt_records.specs.declared.clients.Open.{Open}
 use Rattle.pt_records.specs.Arrivals.{calls_of, arrives_from, came_before, first_of, first_with, next_of}
 use Rattle.pt_records.specs.Callers.{AreCallers, open_in, opens_of}
 use Rattle.pt_records.proofs.OpenRows.{found-open, open-found}

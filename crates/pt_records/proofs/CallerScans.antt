@@ -3,7 +3,7 @@ use Rattle.std.proofs.Common.{◌≡◌, ℕ, zero, suc, ◌+◌, ◌≤◌, Boo
 use Rattle.std.proofs.lemmas.Bool.Decides.{nat_tests}
 use Rattle.pt_table.specs.declared.clients.ClientRow.{ClientRow}
 use Rattle.pt_table.specs.ClientRows.{client_at, client_value, with_client, nth_number, nth_value}
-use Rattle.pt_records.specs.declared.callers.Caller.{Caller}
+use Rattle.pt_records.specs.declared.clients.Caller.{Caller}
 use Rattle.pt_records.specs.Callers.{Once}
 use Rattle.pt_records.specs.Writes.{RewritesCallers, rewritten_nth}
 use Rattle.pt_records.proofs.RowLemmas.{Apart, Apart-map, length-map, value-map}

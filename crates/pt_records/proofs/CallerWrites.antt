@@ -4,7 +4,7 @@ use Rattle.std.specs.List.{list_any}
 use Rattle.std.proofs.lemmas.Bool.Decides.{nat_tests}
 use Rattle.pt_table.specs.declared.clients.ClientRow.{ClientRow}
 use Rattle.pt_table.specs.ClientRows.{client_at, client_value, has_client, with_client, and_client, without_client}
-use Rattle.pt_records.specs.declared.callers.Caller.{Caller}
+use Rattle.pt_records.specs.declared.clients.Caller.{Caller}
 use Rattle.pt_records.specs.Callers.{Once}
 use Rattle.pt_records.specs.Writes.{WritesCaller, AddsCaller, RemovesCaller}
 use Rattle.pt_records.proofs.RowLemmas.{Apart, Apart-map, Apart-added, Apart-without, length-map, length-added, length-without, one_changed, one-kept, value-changed, value-added, value-without, value-there}

@@ -21,11 +21,11 @@ use Rattle.pt_model.proofs.Lists.{any-in, in-any}
 use Rattle.pt_model.proofs.Leasts.{first_below-passes, first_below-some}
 use Rattle.pt_model.proofs.Sound.{Fresh-follows, alive_below}
 use Rattle.pt_model.proofs.Rwlocks.{writes-writer}
-use Rattle.pt_readings.specs.Found.{passes}
-use Rattle.pt_records.specs.declared.callers.Caller.{Caller}
+use Rattle.pt_model.specs.Found.{passes}
+use Rattle.pt_records.specs.declared.clients.Caller.{Caller}
 use Rattle.pt_records.specs.Callers.{AreCallers}
-use Rattle.pt_records.specs.declared.object.Object.{Object}
-use Rattle.pt_records.specs.declared.object.Object.TheVariants.{Rwlock}
+use Rattle.pt_records.specs.declared.objects.Object.{Object}
+use Rattle.pt_records.specs.declared.objects.Object.TheVariants.{Rwlock}
 use Rattle.pt_records.specs.Objects.{IsRwlock, AreObjects}
 use Rattle.pt_records.proofs.OpenRows.{row-look, look-row}
 

@@ -16,8 +16,8 @@ use Rattle.pt_model.specs.Steps.{Follows}
 use Rattle.pt_model.proofs.Leasts.{first_below-passes}
 use Rattle.pt_model.proofs.Named.{known_exists}
 use Rattle.pt_model.proofs.Rwlocks.{alone}
-use Rattle.pt_records.specs.declared.object.Object.{Object}
-use Rattle.pt_records.specs.declared.object.Object.TheVariants.{Mutex, Rwlock, Cond, Barrier}
+use Rattle.pt_records.specs.declared.objects.Object.{Object}
+use Rattle.pt_records.specs.declared.objects.Object.TheVariants.{Mutex, Rwlock, Cond, Barrier}
 use Rattle.pt_records.specs.Kept.{rwlock_in}
 use Rattle.pt_records.specs.Objects.{IsRwlock, ObjectsLook}
 use Rattle.pt_records.specs.Views.{IsAlone, reads_held}

@@ -20,8 +20,8 @@ use Rattle.pt_model.specs.Steps.{Follows}
 use Rattle.pt_model.proofs.Histories.{onto-append, place-history}
 use Rattle.pt_model.proofs.Lists.{Each-append, Each-weaker}
 use Rattle.pt_model.proofs.Sound.{Fresh-follows}
-use Rattle.pt_readings.proofs.Lists.{Ascends, Ascends-filter}
-use Rattle.pt_readings.proofs.Opens.{open-ascends}
+use Rattle.pt_model.proofs.Ascending.{Ascends, Ascends-filter}
+use Rattle.pt_model.proofs.OpenOrder.{open-ascends}
 use Rattle.pt_records.specs.Logs.{told_at, log, outcome_before, answers_in, since, Rises, last_to, said_by, outcome_in_log}
 
 -- given before place n

@@ -5,7 +5,7 @@ use Rattle.std.specs.Option.{option_or}
 use Rattle.std.proofs.lemmas.Bool.{eq-eqb, lt-leb}
 use Rattle.std.proofs.lemmas.List.{map-append, take-append-drop}
 use Rattle.std.proofs.lemmas.List.Elements.{filter-append}
-use Rattle.pt_records.specs.declared.replies.Answered.{Answered}
+use Rattle.pt_records.specs.declared.answers.Answered.{Answered}
 use Rattle.pt_records.specs.Logs.{logged, since, Rises, last_to}
 use Rattle.pt_records.proofs.LogLemmas.{last_to-append}
 

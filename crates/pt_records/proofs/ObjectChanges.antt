@@ -4,8 +4,8 @@ use Rattle.pt_mutex.specs.MutexState.{MutexState}
 use Rattle.pt_rwlock.specs.RwlockState.{RwlockState}
 use Rattle.pt_table.specs.declared.objects.ObjectRow.{ObjectRow}
 use Rattle.pt_table.specs.ObjectRows.{object_named, object_value, has_object, with_object, and_object, without_object, is_taken}
-use Rattle.pt_records.specs.declared.object.Object.{Object}
-use Rattle.pt_records.specs.declared.object.Object.TheVariants.{Mutex, Rwlock}
+use Rattle.pt_records.specs.declared.objects.Object.{Object}
+use Rattle.pt_records.specs.declared.objects.Object.TheVariants.{Mutex, Rwlock}
 use Rattle.pt_records.specs.Objects.{Rising}
 use Rattle.pt_records.specs.Writes.{WritesObject, AddsObject, RemovesObject}
 use Rattle.pt_records.proofs.RowLemmas.{length-map, length-added, length-without, one_changed, one-kept, value-changed, value-added, value-without, value-there}

@@ -6,7 +6,7 @@ use Rattle.pt_types.specs.Names.{same_name}
 use Rattle.pt_table.specs.declared.objects.ObjectRow.{ObjectRow}
 use Rattle.pt_table.specs.ObjectRows.{object_named, number_of, without_object}
 use Rattle.pt_model.proofs.Named.{same_named, named_same}
-use Rattle.pt_records.specs.declared.object.Object.{Object}
+use Rattle.pt_records.specs.declared.objects.Object.{Object}
 use Rattle.pt_records.specs.Writes.{NamesOnce}
 
 -- a name is the other's where the other is its

@@ -5,7 +5,7 @@ use Rattle.std.proofs.lemmas.Bool.Decides.{nat_tests}
 use Rattle.pt_table.specs.declared.objects.ObjectRow.{ObjectRow}
 use Rattle.pt_table.specs.ObjectRows.{object_at, without_object}
 use Rattle.pt_model.proofs.Lists.{Each-append, Each-filter}
-use Rattle.pt_records.specs.declared.object.Object.{Object}
+use Rattle.pt_records.specs.declared.objects.Object.{Object}
 use Rattle.pt_records.specs.Objects.{Rising}
 use Rattle.pt_records.proofs.RowLemmas.{Apart}
 

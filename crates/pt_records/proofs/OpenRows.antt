@@ -13,9 +13,9 @@ use Rattle.pt_model.specs.Moves.{moved}
 use Rattle.pt_model.specs.Steps.{Follows}
 use Rattle.pt_model.proofs.Lists.{any-in, in-any, any-false}
 use Rattle.pt_model.proofs.OneEach.{one_each}
-use Rattle.pt_readings.specs.Shown.{shown, shown_move}
-use Rattle.pt_records.specs.declared.callers.Caller.{Caller}
-use Rattle.pt_records.specs.declared.callers.Open.{Open}
+use Rattle.pt_model.specs.Shown.{shown, shown_move}
+use Rattle.pt_records.specs.declared.clients.Caller.{Caller}
+use Rattle.pt_records.specs.declared.clients.Open.{Open}
 use Rattle.pt_records.specs.Callers.{AreCallers, Once, call_of, call_in, move_in, opens_of}
 
 -- a row is found by its number

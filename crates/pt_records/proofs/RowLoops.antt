@@ -4,9 +4,9 @@ use Rattle.std.specs.List.{list_any, cons_option}
 use Rattle.pt_table.specs.declared.clients.ClientRow.{ClientRow}
 use Rattle.pt_table.specs.ClientRows.{nth_value}
 use Rattle.pt_model.specs.Searches.{In}
-use Rattle.pt_readings.specs.Found.{passes}
-use Rattle.pt_records.specs.declared.callers.Caller.{Caller}
-use Rattle.pt_records.specs.declared.callers.Open.{Open}
+use Rattle.pt_model.specs.Found.{passes}
+use Rattle.pt_records.specs.declared.clients.Caller.{Caller}
+use Rattle.pt_records.specs.declared.clients.Open.{Open}
 use Rattle.pt_records.specs.Callers.{open_in, opens_of}
 
 -- a test of the first of some calls, or of those behind it

@@ -11,9 +11,9 @@ use Rattle.pt_model.specs.WaitingCall.{is_arrival}
 use Rattle.pt_model.specs.Answers.{at_barrier, open_calls, told_by_trip, trip_outcome}
 use Rattle.pt_model.proofs.Histories.{place-history}
 use Rattle.pt_model.proofs.Lists.{Each-in, In-filter}
-use Rattle.pt_readings.proofs.Lists.{Ascends, from, from-before}
-use Rattle.pt_readings.proofs.Opens.{open-below}
-use Rattle.pt_records.specs.declared.replies.Answered.{Answered}
+use Rattle.pt_model.proofs.Ascending.{Ascends, from, from-before}
+use Rattle.pt_model.proofs.OpenOrder.{open-below}
+use Rattle.pt_records.specs.declared.answers.Answered.{Answered}
 use Rattle.pt_records.specs.Arrivals.{outcome_before}
 use Rattle.pt_records.specs.Logs.{logged, told_at}
 use Rattle.pt_records.proofs.ArrivalLemmas.{head_of}

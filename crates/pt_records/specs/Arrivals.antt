@@ -7,8 +7,8 @@ use Rattle.pt_types.specs.declared.outcome.Outcome.TheVariants.{Done, Serial}
 use Rattle.pt_model.specs.Searches.{least, least_with}
 use Rattle.pt_model.specs.Records.{WaitingCall}
 use Rattle.pt_model.specs.WaitingCall.{is_arrival}
-use Rattle.pt_readings.specs.Shown.{shown}
-use Rattle.pt_records.specs.declared.callers.Caller.{Caller}
+use Rattle.pt_model.specs.Shown.{shown}
+use Rattle.pt_records.specs.declared.clients.Caller.{Caller}
 use Rattle.pt_records.specs.Callers.{opens_of}
 
 -- the open calls in all rows, as the definitions know them  [profile]

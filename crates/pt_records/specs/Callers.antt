@@ -11,10 +11,10 @@ use Rattle.pt_model.specs.Records.{WaitingCall, Move}
 use Rattle.pt_model.specs.Answers.{open_calls}
 use Rattle.pt_model.specs.Moves.{moved}
 use Rattle.pt_model.specs.Queries.{latest}
-use Rattle.pt_readings.specs.Found.{passes}
-use Rattle.pt_readings.specs.Shown.{shown, shown_move}
-use Rattle.pt_records.specs.declared.callers.Caller.{Caller}
-use Rattle.pt_records.specs.declared.callers.Open.{Open}
+use Rattle.pt_model.specs.Found.{passes}
+use Rattle.pt_model.specs.Shown.{shown, shown_move}
+use Rattle.pt_records.specs.declared.clients.Caller.{Caller}
+use Rattle.pt_records.specs.declared.clients.Open.{Open}
 
 -- the first of these calls that is the client's  [profile]
 abbrev pub call_of : List WaitingCall → ℕ → Option WaitingCall

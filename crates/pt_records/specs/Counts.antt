@@ -1,9 +1,9 @@
 -- Counts: what the open call in a row counts for.
 use Rattle.std.specs.Prelude.{ℕ, ◌==◌, Bool, false, ◌&&◌, Option, Some, None, is_some, if◌then◌else◌}
 use Rattle.pt_types.specs.MutexTable.{owns}
-use Rattle.pt_records.specs.declared.callers.Open.{Open}
-use Rattle.pt_records.specs.declared.object.Object.{Object}
-use Rattle.pt_records.specs.declared.object.Object.TheVariants.{Mutex}
+use Rattle.pt_records.specs.declared.clients.Open.{Open}
+use Rattle.pt_records.specs.declared.objects.Object.{Object}
+use Rattle.pt_records.specs.declared.objects.Object.TheVariants.{Mutex}
 
 -- what a value counts for, if there is one  [profile]
 abbrev pub counted : {A : Type 0} → (A → ℕ) → Option A → ℕ

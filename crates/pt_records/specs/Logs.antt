@@ -6,7 +6,7 @@ use Rattle.pt_types.specs.declared.outcome.Outcome.{Outcome}
 use Rattle.pt_model.specs.Histories.{History, Begin, ◌▷◌, place}
 use Rattle.pt_model.specs.Records.{Told}
 use Rattle.pt_model.specs.Answers.{told}
-use Rattle.pt_records.specs.declared.replies.Answered.{Answered}
+use Rattle.pt_records.specs.declared.answers.Answered.{Answered}
 
 -- an answer, with the place of the entry that gave it  [profile]
 abbrev pub logged : Answered → ℕ × Told

@@ -14,8 +14,8 @@ use Rattle.pt_model.specs.Searches.{In}
 use Rattle.pt_model.specs.Answers.{open_calls}
 use Rattle.pt_model.specs.Mutexes.{mutex_view}
 use Rattle.pt_model.specs.Rwlocks.{writer, reads}
-use Rattle.pt_records.specs.declared.object.Object.{Object}
-use Rattle.pt_records.specs.declared.object.Object.TheVariants.{Mutex, Rwlock, Cond, Barrier}
+use Rattle.pt_records.specs.declared.objects.Object.{Object}
+use Rattle.pt_records.specs.declared.objects.Object.TheVariants.{Mutex, Rwlock, Cond, Barrier}
 
 -- a mutex is kept as it is read off the history  [XSH 2.9.3]
 abbrev pub IsMutex : History → ℕ → MutexState → Type 0

@@ -3,8 +3,8 @@ use Rattle.std.specs.Prelude.{ℕ, Bool, not, ◌&&◌, is_some, option_map}
 use Rattle.pt_types.specs.MutexTable.{is_number}
 use Rattle.pt_model.specs.Moves.{object_by}
 use Rattle.pt_model.specs.Verdicts.{mutex_awaited}
-use Rattle.pt_readings.specs.Shown.{shown_move, shown_role}
-use Rattle.pt_records.specs.declared.callers.Open.{Open}
+use Rattle.pt_model.specs.Shown.{shown_move, shown_role}
+use Rattle.pt_records.specs.declared.clients.Open.{Open}
 
 -- the object at which it stands  [XSH pthread_cond_broadcast]
 abbrev pub object_of : Open → ℕ

@@ -12,11 +12,11 @@ use Rattle.pt_mutex.specs.MutexState.{made as new_mutex}
 use Rattle.pt_rwlock.specs.RwlockState.{made as new_rwlock}
 use Rattle.pt_model.specs.declared.entry.Cause.{Cause}
 use Rattle.pt_model.specs.WaitingCall.{is_arrival, is_wait}
-use Rattle.pt_readings.specs.Shown.{shown}
-use Rattle.pt_records.specs.declared.callers.Caller.{Caller}
-use Rattle.pt_records.specs.declared.callers.Open.{Open}
-use Rattle.pt_records.specs.declared.object.Object.{Object}
-use Rattle.pt_records.specs.declared.object.Object.TheVariants.{Mutex, Rwlock, Cond, Barrier}
+use Rattle.pt_model.specs.Shown.{shown}
+use Rattle.pt_records.specs.declared.clients.Caller.{Caller}
+use Rattle.pt_records.specs.declared.clients.Open.{Open}
+use Rattle.pt_records.specs.declared.objects.Object.{Object}
+use Rattle.pt_records.specs.declared.objects.Object.TheVariants.{Mutex, Rwlock, Cond, Barrier}
 use Rattle.pt_records.specs.Callers.{Once, has_open, closed, moved_at}
 use Rattle.pt_records.specs.Objects.{Rising}
 

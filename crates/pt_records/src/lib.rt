@@ -2,16 +2,15 @@
 //! what one row tells, and loops over all of them.
 #![tactic(auto)]
 
-pub mod caller_rows;
-mod callers;
-pub mod kept;
-pub mod locks;
-mod object;
-pub mod object_rows;
-pub mod open_rows;
-pub mod replies;
-pub mod trips;
+pub mod answers;
+pub mod barrier;
+pub mod calls;
+pub mod clients;
+pub mod cond;
+pub mod mutex;
+pub mod objects;
+pub mod rwlock;
 
-pub use callers::{Caller, Open};
-pub use object::Object;
-pub use replies::Answered;
+pub use answers::Answered;
+pub use clients::{Caller, Open};
+pub use objects::Object;

@@ -9,11 +9,12 @@ use Rattle.pt_model.specs.Records.{WaitingCall}
 use Rattle.pt_model.specs.WaitingCall.{at_place, stood, stood_by}
 use Rattle.pt_model.specs.Answers.{open_calls, outcome, is_open_by}
 use Rattle.pt_model.specs.Verdicts.{bound_by}
-use Rattle.pt_readings.specs.Found.{passes, keep}
-use Rattle.pt_readings.proofs.Lists.{from, upto, upto_more, upto-before, upto_all, at_place-append_right, at_place-below, Each-weaker}
+use Rattle.pt_model.specs.Found.{passes, keep}
+use Rattle.pt_model.proofs.Ascending.{from, upto, upto_more, upto-before, upto_all, at_place-append_right, at_place-below, Each-weaker}
 use Rattle.pt_readings.proofs.Past.{place_all, history_more}
 use Rattle.pt_readings.proofs.Stood.{at_place-here, newest, newest-other, stood-below}
-use Rattle.pt_readings.proofs.Opens.{open-ascends, open-within, open_from_less, at_place_open}
+use Rattle.pt_model.proofs.OpenOrder.{open-ascends}
+use Rattle.pt_readings.proofs.Opens.{open-within, open_from_less, at_place_open}
 use Rattle.pt_reference.specs.Best.{best_of, awaited_or}
 
 filter-listed :

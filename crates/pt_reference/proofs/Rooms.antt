@@ -9,8 +9,8 @@ use Rattle.pt_model.specs.Records.{WaitingCall}
 use Rattle.pt_model.specs.WaitingCall.{at_place}
 use Rattle.pt_model.specs.Answers.{open_calls}
 use Rattle.pt_model.specs.Room.{kept_for}
-use Rattle.pt_readings.proofs.Lists.{upto, upto_more, upto-before, upto_all, Each-weaker}
-use Rattle.pt_readings.proofs.Opens.{open-ascends, open-below}
+use Rattle.pt_model.proofs.Ascending.{upto, upto_more, upto-before, upto_all, Each-weaker}
+use Rattle.pt_model.proofs.OpenOrder.{open-ascends, open-below}
 use Rattle.pt_readings.proofs.Past.{place_all, history_more}
 use Rattle.pt_reference.proofs.Ends.{both}
 use Rattle.pt_reference.specs.Best.{kept_of}

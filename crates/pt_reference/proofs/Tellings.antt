@@ -12,9 +12,10 @@ use Rattle.pt_model.specs.Records.{WaitingCall, Told}
 use Rattle.pt_model.specs.WaitingCall.{stood, at_place, is_arrival, is_wait_if}
 use Rattle.pt_model.specs.Answers.{told, told_by_trip, told_by_expiry, at_barrier, trip_outcome, outcome_in, open_calls, client_if, is_open_by, outcome}
 use Rattle.pt_model.specs.Queries.{told_if}
-use Rattle.pt_readings.specs.Found.{keep}
-use Rattle.pt_readings.proofs.Lists.{Ascends, Ascends-filter, at_place-filter}
-use Rattle.pt_readings.proofs.Opens.{open-ascends, at_place_open}
+use Rattle.pt_model.specs.Found.{keep}
+use Rattle.pt_model.proofs.Ascending.{Ascends, Ascends-filter, at_place-filter}
+use Rattle.pt_model.proofs.OpenOrder.{open-ascends}
+use Rattle.pt_readings.proofs.Opens.{at_place_open}
 use Rattle.pt_reference.specs.Telling.{told_to, client_told}
 
 -- each place is greater than those before it, and at least n

@@ -8,16 +8,17 @@ ghost use Rattle.pt_model.specs.Answers.{is_open_by, open_calls, outcome as outc
 ghost use Rattle.pt_model.specs.Moves.{moved as moved_in};
 ghost use Rattle.pt_model.specs.Mutexes.{count as count_in, owner as owner_in};
 ghost use Rattle.pt_model.specs.Room.{kept_for, is_robust_owned as is_robust_owned_in, need as need_in};
-ghost use Rattle.pt_readings.specs.Shown.{shown, shown_move};
+ghost use Rattle.pt_model.specs.Shown.{shown, shown_move};
 ghost use Rattle.pt_reference.specs.Best.{kept_of};
 
 use pt_model::Entry;
+use pt_model::waiting_call::{Move, WaitingCall};
 use pt_readings::answers::{answer_by, outcome};
 use pt_readings::clients::{client, client_by, living, living_by};
-use pt_readings::moves::{Move, cause_by, move_or, moved};
+use pt_readings::moves::{cause_by, move_or, moved};
 use pt_readings::mutexes::{gained, gained_by, lost, lost_by};
 use pt_readings::objects::{is_robust, kind_by, kind_of};
-use pt_readings::waiting::{WaitingCall, stood_by, waiting_call_at};
+use pt_readings::waiting::{stood_by, waiting_call_at};
 use pt_types::{ClientId, ObjectId, ObjectKind, Outcome};
 
 /// Whether a client lives behind one entry more.  [profile]

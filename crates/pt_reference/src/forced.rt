@@ -4,18 +4,18 @@ ghost use Rattle.pt_model.specs.Searches.{least};
 ghost use Rattle.pt_model.specs.WaitingCall.{at_place};
 ghost use Rattle.pt_model.specs.Answers.{open_calls};
 ghost use Rattle.pt_model.specs.Forced.{is_served_before as is_served_before_in, is_served as is_served_in, service as service_in, forced_service as forced_service_in, is_orphan as is_orphan_in, forced_yield as forced_yield_in, is_overdue as is_overdue_in, expires_before as expires_before_it, forced_expire as forced_expire_in, forced as forced_in};
-ghost use Rattle.pt_readings.specs.Found.{keep};
-ghost use Rattle.pt_readings.specs.Shown.{shown};
+ghost use Rattle.pt_model.specs.Found.{keep};
+ghost use Rattle.pt_model.specs.Shown.{shown};
 ghost use Rattle.pt_reference.specs.Best.{best_of};
 
 use crate::grants::{grant_outcome, is_complete, is_grantable};
 use pt_model::Entry;
+use pt_model::waiting_call::{WaitingCall, is_arrival};
 use pt_readings::answers::open_at;
 use pt_readings::clients::{clock, is_alive, is_due};
 use pt_readings::moves::{at_object, is_moved, precedes};
 use pt_readings::mutexes::owner;
 use pt_readings::objects::{is_robust, kind_of};
-use pt_readings::waiting::{WaitingCall, is_arrival};
 use pt_types::ObjectId;
 
 /// The lower object first, and there the order of its calls.  [profile]

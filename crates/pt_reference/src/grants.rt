@@ -1,22 +1,22 @@
-ghost use Rattle.std.specs.Prelude.{◌≡◌, ◌≤◌, ◌&&◌, ◌==◌, length, option_map};
+ghost use Rattle.std.specs.Prelude.{◌≡◌, ◌≤◌, ◌&&◌, ◌==◌, length};
 ghost use Rattle.pt_types.specs.MutexTable.{may_lock as may_lock_it};
 ghost use Rattle.pt_model.specs.Histories.{history};
 ghost use Rattle.pt_model.specs.WaitingCall.{at_place};
 ghost use Rattle.pt_model.specs.Answers.{open_calls, at_barrier};
 ghost use Rattle.pt_model.specs.Moves.{at_object as at_object_in, is_least as is_least_in};
 ghost use Rattle.pt_model.specs.Mutexes.{mutex_view as mutex_view_in};
-ghost use Rattle.pt_model.specs.Grants.{holds_back as holds_back_at, is_blocked as is_blocked_in, is_grantable as is_grantable_in, is_complete as is_complete_in, is_expired as is_expired_by, mutex_outcome as mutex_outcome_in, grant_outcome as grant_outcome_in};
-ghost use Rattle.pt_readings.specs.Found.{passes};
-ghost use Rattle.pt_readings.specs.Shown.{shown, shown_move};
+ghost use Rattle.pt_model.specs.Grants.{holds_back as holds_back_at, is_blocked as is_blocked_in, is_grantable as is_grantable_in, is_complete as is_complete_in, mutex_outcome as mutex_outcome_in, grant_outcome as grant_outcome_in};
+ghost use Rattle.pt_model.specs.Found.{passes};
+ghost use Rattle.pt_model.specs.Shown.{shown};
 
-use crate::tables::{is_lost, lock_outcome, may_read, may_relock, may_write};
-use pt_model::{Cause, Entry};
+use pt_model::Entry;
+use pt_model::waiting_call::{Role, WaitingCall, is_arrival, is_expired, is_write};
 use pt_readings::answers::{is_open_at_barrier, open_at};
-use pt_readings::moves::{Move, at_object, is_least, is_moved, moved};
+use pt_readings::moves::{at_object, is_least, is_moved, moved};
 use pt_readings::mutexes::{consistency, mutex_view};
 use pt_readings::objects::{barrier_count, kind_of};
 use pt_readings::rwlocks::rwlock_view;
-use pt_readings::waiting::{Role, WaitingCall, is_arrival, is_write};
+use pt_types::tables::{is_lost, lock_outcome, may_read, may_relock, may_write};
 use pt_types::{ClientId, ObjectId, Outcome};
 
 /// Whether the open call at a place stands at the lock as a writer of this priority or a higher
@@ -99,16 +99,6 @@ pub fn is_complete(entries: &[Entry], w: &WaitingCall) -> bool
 {
     let b = ObjectId(w.object);
     is_arrival(w.role) && arrivals(entries, b) == barrier_count(kind_of(entries, b))
-}
-
-/// Whether a wait was moved by its deadline.  [XSH pthread_cond_timedwait]
-pub fn is_expired(moved: Option<Move>) -> bool
-    ensures { result ≡ is_expired_by (option_map shown_move moved) }
-{
-    match moved {
-        Some(moved) => matches!(moved.cause, Cause::Expired),
-        None => false,
-    }
 }
 
 /// What a mutex tells to a call.  [XSH pthread_mutex_lock, pthread_cond_timedwait]

@@ -5,16 +5,17 @@ ghost use Rattle.pt_model.specs.WaitingCall.{at_place, stood};
 ghost use Rattle.pt_model.specs.Answers.{client_if, open_calls, told as told_in};
 ghost use Rattle.pt_model.specs.Forced.{expires_before as expires_before_it};
 ghost use Rattle.pt_model.specs.Queries.{caller as caller_in, caller_by as caller_after, latest as latest_in, latest_by as latest_after, told_if as told_meant, answer_of as answer_of_in, has_deadline as has_deadline_in, least_deadline as least_deadline_in};
-ghost use Rattle.pt_readings.specs.Found.{keep};
-ghost use Rattle.pt_readings.specs.Shown.{shown};
+ghost use Rattle.pt_model.specs.Found.{keep};
+ghost use Rattle.pt_model.specs.Shown.{shown};
 ghost use Rattle.pt_reference.specs.Telling.{client_told, shown_told, told_to};
 
 use crate::forced::sooner;
 use pt_model::Entry;
+use pt_model::waiting_call::WaitingCall;
 use pt_readings::answers::{answer_by, open_at, outcome};
 use pt_readings::clients::{is_alive, is_same_clock};
 use pt_readings::moves::is_moved;
-use pt_readings::waiting::{WaitingCall, waiting_call_at};
+use pt_readings::waiting::waiting_call_at;
 use pt_types::{ClientId, Clock, Outcome};
 
 /// An answer: who gets it, to the call at which place, and what it says.  [profile]

@@ -3,11 +3,11 @@ ghost use Rattle.pt_model.specs.Histories.{history, ◌▷◌};
 ghost use Rattle.pt_model.specs.Room.{need as need_in, entry_for as entry_for_in, refusal_of_stranger as refusal_of_stranger_in, refusal as refusal_in, is_over as is_over_in, refusal_within as refusal_within_in};
 
 use crate::after;
-use crate::tables::reply;
 use crate::verdicts::verdict;
 use pt_model::{Entry, Event};
 use pt_readings::answers::open_place;
 use pt_readings::clients::{is_alive, living};
+use pt_types::tables::reply;
 use pt_types::{ClientId, Refusal};
 
 /// The entries kept: for the Death of each living client, for open calls, for Yields.  [profile]

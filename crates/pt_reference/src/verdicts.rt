@@ -8,35 +8,25 @@ ghost use Rattle.pt_types.specs.Operations.{Ends, Acquires, Unlocks, Restores, R
 ghost use Rattle.pt_model.specs.Clients.{client as client_in};
 ghost use Rattle.pt_model.specs.Objects.{find as find_in};
 ghost use Rattle.pt_reference.specs.Best.{awaited_or};
-ghost use Rattle.pt_model.specs.Verdicts.{on, bound_by, mutex_awaited as mutex_awaited_by, is_awaited as is_awaited_in, will_return as will_return_in, is_busy as is_busy_in, lock_kind_verdict as lock_kind_verdict_in, operation_verdict as said_of, verdict as verdict_in, is_alive_if as is_alive_if_in};
-ghost use Rattle.pt_readings.specs.Found.{keep, passes};
-ghost use Rattle.pt_readings.specs.Shown.{shown_role, shown_class, shown_lock_kind};
+ghost use Rattle.pt_model.specs.Verdicts.{on, bound_by, is_awaited as is_awaited_in, will_return as will_return_in, is_busy as is_busy_in, lock_kind_verdict as lock_kind_verdict_in, operation_verdict as said_of, verdict as verdict_in, is_alive_if as is_alive_if_in};
+ghost use Rattle.pt_model.specs.Found.{keep, passes};
+ghost use Rattle.pt_types.specs.Shown.{shown_class, shown_lock_kind};
 
 use crate::grants::is_blocked;
-use crate::tables::{
-    consistent_verdict, destroy_verdict, init_verdict, lock_verdict, owns, read_verdict,
-    rwunlock_verdict, unlock_verdict, wait_verdict, write_verdict,
-};
 use pt_model::Entry;
+use pt_model::waiting_call::mutex_awaited;
 use pt_readings::answers::open_at;
 use pt_readings::clients::{client, is_alive};
 use pt_readings::moves::{at_object, is_moved};
 use pt_readings::mutexes::{mutex_view, owner};
 use pt_readings::objects::{find, object_named, objects};
-use pt_readings::operations::{LockKind, ObjectClass, Operation, class_needed, operation_of};
 use pt_readings::rwlocks::{is_held_alive, rwlock_view};
-use pt_readings::waiting::Role;
+use pt_types::operations::{LockKind, ObjectClass, Operation, class_needed, operation_of};
+use pt_types::tables::{
+    consistent_verdict, destroy_verdict, init_verdict, lock_verdict, owns, read_verdict,
+    rwunlock_verdict, unlock_verdict, wait_verdict, write_verdict,
+};
 use pt_types::{Call, ClientId, Deadline, How, Name, ObjectId, Outcome, Verdict};
-
-/// The mutex of a wait.  [XSH pthread_cond_wait]
-pub fn mutex_awaited(role: Role) -> Option<ObjectId>
-    ensures { result ≡ mutex_awaited_by (shown_role role) }
-{
-    match role {
-        Role::ForCond(m) => Some(ObjectId(m)),
-        _ => None,
-    }
-}
 
 /// The mutex of the call at a place, if it is open and stands at the condition; else the one that
 /// was found.  [XSH pthread_cond_wait]

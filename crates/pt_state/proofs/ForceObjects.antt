@@ -23,8 +23,8 @@ use Rattle.pt_model.specs.Forced.{is_dead_if, is_orphan}
 use Rattle.pt_model.specs.Mutexes.{owner}
 use Rattle.pt_model.specs.Steps.{Step, joins, calls, dies, ticks, grants, trips, yields, expires, Follows}
 use Rattle.pt_model.proofs.Seats.{exists_as, HousedBy, housed}
-use Rattle.pt_records.specs.declared.object.Object.{Object}
-use Rattle.pt_records.specs.declared.object.Object.TheVariants.{Mutex, Rwlock, Cond, Barrier}
+use Rattle.pt_records.specs.declared.objects.Object.{Object}
+use Rattle.pt_records.specs.declared.objects.Object.TheVariants.{Mutex, Rwlock, Cond, Barrier}
 use Rattle.pt_records.specs.Objects.{kind_kept, ObjectsLook, AreObjects}
 use Rattle.pt_records.specs.Writes.{WritesObject}
 use Rattle.pt_state.proofs.BoundCounts.{grant-can}

@@ -21,8 +21,8 @@ use Rattle.pt_model.proofs.Changes.{left_by, kind_effect, takes_more, awaited, g
 use Rattle.pt_model.proofs.Readings.{kind-call, consistency-call, writes-call, reads-call}
 use Rattle.pt_model.proofs.Opens.{was_open}
 use Rattle.pt_model.proofs.Counts.{Balanced-follows, count-call}
-use Rattle.pt_records.specs.declared.object.Object.{Object}
-use Rattle.pt_records.specs.declared.object.Object.TheVariants.{Rwlock}
+use Rattle.pt_records.specs.declared.objects.Object.{Object}
+use Rattle.pt_records.specs.declared.objects.Object.TheVariants.{Rwlock}
 use Rattle.pt_records.specs.Objects.{ObjectsLook}
 use Rattle.pt_state.proofs.ObjectKept.{HasRows, OldReaders, Quiet, object_rows-still, object_rows-quiet, object_rows-one, rwlock-changed}
 use Rattle.pt_state.proofs.ObjectEntries.{quiet-parts, old-readers}

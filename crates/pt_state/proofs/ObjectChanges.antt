@@ -24,8 +24,8 @@ use Rattle.pt_model.proofs.Readings.{kind-call, consistency-call}
 use Rattle.pt_model.proofs.Counts.{Balanced-follows, owning-owner, owning-has, gives_up-owns, not_both, count-call}
 use Rattle.pt_model.proofs.Owners.{takes_owns}
 use Rattle.pt_model.proofs.Holders.{owner-call}
-use Rattle.pt_records.specs.declared.object.Object.{Object}
-use Rattle.pt_records.specs.declared.object.Object.TheVariants.{Mutex}
+use Rattle.pt_records.specs.declared.objects.Object.{Object}
+use Rattle.pt_records.specs.declared.objects.Object.TheVariants.{Mutex}
 use Rattle.pt_records.specs.Objects.{ObjectsLook}
 use Rattle.pt_state.proofs.ObjectKept.{IsKept, object_rows-one, mutex-changed}
 use Rattle.pt_state.proofs.ObjectCalls.{does, behind, Spares, quiet-call, call-readers}

@@ -19,8 +19,8 @@ use Rattle.pt_model.proofs.Opens.{left, was_open}
 use Rattle.pt_model.proofs.Unheld.{Unheld-follows}
 use Rattle.pt_model.proofs.Counts.{count-yield}
 use Rattle.pt_model.proofs.Holders.{owner-same, owner-yield}
-use Rattle.pt_records.specs.declared.object.Object.{Object}
-use Rattle.pt_records.specs.declared.object.Object.TheVariants.{Mutex}
+use Rattle.pt_records.specs.declared.objects.Object.{Object}
+use Rattle.pt_records.specs.declared.objects.Object.TheVariants.{Mutex}
 use Rattle.pt_records.specs.Objects.{ObjectsLook}
 use Rattle.pt_state.proofs.ObjectKept.{OldReaders, Quiet, view-same, object_rows-quiet, object_rows-one, mutex-changed}
 

@@ -22,8 +22,8 @@ use Rattle.pt_model.proofs.Counts.{count-grant}
 use Rattle.pt_model.proofs.Owners.{grants-owner, one_owner}
 use Rattle.pt_model.proofs.Holders.{owner-grant}
 use Rattle.pt_model.proofs.Rwlocks.{writes-grant, reads-grant, writes-writer}
-use Rattle.pt_records.specs.declared.object.Object.{Object}
-use Rattle.pt_records.specs.declared.object.Object.TheVariants.{Mutex, Rwlock}
+use Rattle.pt_records.specs.declared.objects.Object.{Object}
+use Rattle.pt_records.specs.declared.objects.Object.TheVariants.{Mutex, Rwlock}
 use Rattle.pt_records.specs.Objects.{IsRwlock, ObjectsLook}
 use Rattle.pt_state.proofs.ObjectKept.{OldReaders, Quiet, object_rows-quiet, object_rows-one, mutex-changed, rwlock-changed}
 use Rattle.pt_state.proofs.ObjectEntries.{writer-same, quiet-parts, old-readers}

@@ -13,8 +13,8 @@ use Rattle.pt_model.specs.Searches.{In}
 use Rattle.pt_model.specs.Answers.{open_calls}
 use Rattle.pt_model.specs.Mutexes.{consistency, owner, count, count_if, mutex_view}
 use Rattle.pt_model.specs.Rwlocks.{writer, reads}
-use Rattle.pt_records.specs.declared.object.Object.{Object}
-use Rattle.pt_records.specs.declared.object.Object.TheVariants.{Mutex, Rwlock}
+use Rattle.pt_records.specs.declared.objects.Object.{Object}
+use Rattle.pt_records.specs.declared.objects.Object.TheVariants.{Mutex, Rwlock}
 use Rattle.pt_records.specs.Objects.{IsMutex, IsRwlock, kind_kept, ObjectsLook}
 
 -- a number that is known to be this one

@@ -29,8 +29,8 @@ use Rattle.pt_model.proofs.Apart.{owner-unmade}
 use Rattle.pt_model.proofs.Seats.{HousedBy, housed}
 use Rattle.pt_model.proofs.Rwlocks.{alone, writes-writer}
 use Rattle.pt_model.proofs.Holders.{owner-call}
-use Rattle.pt_records.specs.declared.object.Object.{Object}
-use Rattle.pt_records.specs.declared.object.Object.TheVariants.{Mutex, Rwlock, Cond, Barrier}
+use Rattle.pt_records.specs.declared.objects.Object.{Object}
+use Rattle.pt_records.specs.declared.objects.Object.TheVariants.{Mutex, Rwlock, Cond, Barrier}
 use Rattle.pt_records.specs.Objects.{IsRwlock, IsNew, ObjectsLook}
 use Rattle.pt_state.proofs.ObjectKept.{number-is, OldReaders, IsKept, kept-mutex, kept-rwlock, rwlock-changed}
 use Rattle.pt_state.proofs.ObjectEntries.{writer-same}

@@ -14,10 +14,10 @@ use Rattle.pt_model.specs.Histories.{History, ◌▷◌, place}
 use Rattle.pt_model.specs.Records.{Role, ForMutex, ForRead, ForWrite, ForBarrier, ForCond}
 use Rattle.pt_model.specs.Verdicts.{verdict}
 use Rattle.pt_model.proofs.Effects.{Seated}
-use Rattle.pt_readings.specs.Shown.{shown}
-use Rattle.pt_records.specs.declared.callers.Open.{Open}
-use Rattle.pt_records.specs.declared.object.Object.{Object}
-use Rattle.pt_records.specs.declared.object.Object.TheVariants.{Mutex, Rwlock}
+use Rattle.pt_model.specs.Shown.{shown}
+use Rattle.pt_records.specs.declared.clients.Open.{Open}
+use Rattle.pt_records.specs.declared.objects.Object.{Object}
+use Rattle.pt_records.specs.declared.objects.Object.TheVariants.{Mutex, Rwlock}
 use Rattle.pt_state.specs.declared.state.State.{State}
 use Rattle.pt_records.specs.Objects.{ObjectsLook, AreObjects}
 use Rattle.pt_records.specs.Writes.{WritesObject}

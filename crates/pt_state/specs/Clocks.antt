@@ -4,7 +4,7 @@ use Rattle.pt_types.specs.declared.time.Clock.{Clock}
 use Rattle.pt_types.specs.declared.time.Clock.TheVariants.{Real, Mono}
 use Rattle.pt_model.specs.Histories.{History}
 use Rattle.pt_model.specs.Clients.{clock}
-use Rattle.pt_state.specs.declared.clocks.Clocks.{Clocks}
+use Rattle.pt_state.specs.declared.clock.Clocks.{Clocks}
 
 -- what is kept of a clock: its greatest moment, in nanoseconds; before its first there is none
 -- [profile]

@@ -1,3 +1,4 @@
 mod DueLemmas
-mod RemovalLemmas
+mod FirstLemmas
+mod PlaceLemmas
 mod TimerLemmas

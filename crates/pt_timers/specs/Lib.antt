@@ -1,2 +1,4 @@
 -- Deadlines: a finite map from places to deadlines in nanoseconds
 pub mod Deadlines
+-- Orders: the deadlines of each clock, by their keys
+pub mod Orders

@@ -4,7 +4,8 @@
 //! Only tests show that room which is asked for is found.
 #![tactic(auto)]
 
-mod timer;
+mod key;
+mod orders;
 mod timers;
 
 pub use timers::Timers;

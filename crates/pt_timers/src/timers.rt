@@ -1,39 +1,46 @@
-ghost use Rattle.std.specs.Prelude.{◌≡◌, ◌==◌, not, filter};
+ghost use Rattle.std.specs.Prelude.{◌≡◌, ◌==◌};
 
-use crate::timer::{Timer, sooner, soonest};
+use crate::key::{TimerKey, sooner};
+use crate::orders::Orders;
 use pt_types::{Clock, Deadline, Moment, Refusal};
 use std::alloc::{Allocator, Global};
+use std::collections::BTreeMap;
 use std::marker::Model;
 
-/// Deadlines by the places of their calls. Only `set` takes memory.  [profile]
+/// Deadlines by the places of their calls. Only `set` takes memory. Each call takes time that
+/// grows with the logarithm of how many are set.  [profile]
 #[derive(Drop)]
 pub struct Timers<A: Allocator + Copy = Global> {
-    timers: Vec<Timer, A>,
+    /// By the place: the clock, and the nanoseconds.
+    places: BTreeMap<u64, (Clock, u64), A>,
+    orders: Orders<A>,
 }
 
 impl<A: Allocator + Copy> Model for Timers<A> {
-    ghost use Rattle.std.specs.Prelude.{List, ℕ, map};
+    ghost use Rattle.std.specs.Prelude.{List, ℕ};
     ghost use Rattle.pt_types.specs.declared.time.Clock.{Clock};
-    ghost use Rattle.pt_timers.specs.Deadlines.{entry_of, AreTimers};
+    ghost use Rattle.pt_timers.specs.Deadlines.{AreTimers};
+    ghost use Rattle.pt_timers.specs.Orders.{due_at};
 
     ghost Value = { List (ℕ × (Clock × ℕ)) };
 
-    ghost view = { λ t. map entry_of t.timers.items };
+    ghost view = { λ t. t.places.entries };
 
-    ghost invariant = { λ t. AreTimers t.timers.items };
+    ghost invariant = { λ t. AreTimers t.places.entries (due_at t.orders) };
 }
 
 impl<A: Allocator + Copy> Timers<A> {
     ghost use Rattle.std.specs.Prelude.{ℕ, false, OnOk, OnErr, IfErr, if◌then◌else◌, Some, None};
     ghost use Rattle.pt_types.specs.Times.{deadline_nanos, is_bad_deadline};
-    ghost use Rattle.pt_timers.specs.Deadlines.{deadline_at, reading, IsFirstDue, IsLeastDue, IsLeast};
+    ghost use Rattle.pt_timers.specs.Deadlines.{deadline_at, moments, IsFirstDue, IsLeastDue, IsLeast};
 
     /// No deadline. It takes no memory.
     pub fn new(alloc: A) -> Self
         ensures { (p : ℕ) → deadline_at result p ≡ None }
     {
         Timers {
-            timers: Vec::new(alloc),
+            places: BTreeMap::new(alloc),
+            orders: Orders::new(alloc),
         }
     }
 
@@ -50,15 +57,16 @@ impl<A: Allocator + Copy> Timers<A> {
         ensures err { OnErr result (self.new ≡ self.old) }
         ensures refusal { IfErr result (λ refusal. refusal ≡ Refusal.Enomem) }
     {
-        if self.timers.reserve(1).is_err() {
-            return Err(Refusal::Enomem);
+        let nanos = deadline.nanos();
+        let key = TimerKey { nanos, place };
+        self.orders.insert(clock, key, deadline)?;
+        match self.places.insert(place, (clock, nanos)) {
+            Ok(_) => Ok(()),
+            Err(_) => {
+                self.orders.remove(clock, key);
+                Err(Refusal::Enomem)
+            }
         }
-        self.timers.push_reserved(Timer {
-            place,
-            clock,
-            deadline,
-        });
-        Ok(())
     }
 
     /// Takes the deadline of a place away, if it has one. It takes no memory.
@@ -66,16 +74,18 @@ impl<A: Allocator + Copy> Timers<A> {
         ensures { (p : ℕ)
             → deadline_at self.new p ≡ (if place == p then None else deadline_at self.old p) }
     {
-        forget(&mut self.timers, place);
+        if let Some((clock, nanos)) = self.places.remove(&place) {
+            self.orders.remove(clock, TimerKey { nanos, place });
+        }
     }
 
     // Of a clock's deadlines the first, if the clock has reached it.
-    fn first_due(&self, clock: Clock, now: Option<Moment>) -> Option<Timer>
+    fn first_due(&self, clock: Clock, now: Option<Moment>) -> Option<TimerKey>
         ensures { IsFirstDue self.now clock now result }
     {
-        let timer = soonest(&self.timers, clock)?;
-        if timer.deadline.nanos() <= now?.nanos() {
-            Some(timer)
+        let (key, _) = self.orders.of(clock).first_key_value()?;
+        if key.nanos <= now?.nanos() {
+            Some(*key)
         } else {
             None
         }
@@ -85,11 +95,11 @@ impl<A: Allocator + Copy> Timers<A> {
     /// least, whichever the clock, and of equal ones that of the least place.
     /// [XSH pthread_mutex_clocklock; the order is profile]
     pub fn least_due(&self, real: Option<Moment>, mono: Option<Moment>) -> Option<u64>
-        ensures { IsLeastDue self.now (reading real mono) result }
+        ensures { IsLeastDue self.now (moments real mono) result }
     {
         let by_real = self.first_due(Clock::Real, real);
         match self.first_due(Clock::Mono, mono) {
-            Some(timer) => Some(sooner(by_real, &timer).place),
+            Some(key) => Some(sooner(by_real, key).place),
             None => Some(by_real?.place),
         }
     }
@@ -98,19 +108,7 @@ impl<A: Allocator + Copy> Timers<A> {
     pub fn least(&self, clock: Clock) -> Option<Deadline>
         ensures { IsLeast self.now clock result }
     {
-        Some(soonest(&self.timers, clock)?.deadline)
-    }
-}
-
-/// Takes the timers of a place away.
-fn forget<A: Allocator>(timers: &mut Vec<Timer, A>, place: u64)
-    ensures { timers.new.items ≡ filter (λ t. not (t.place == place)) timers.old.items }
-{
-    let mut i = timers.len();
-    while i > 0 {
-        i -= 1;
-        if timers[i].place == place {
-            timers.remove(i);
-        }
+        let (_, deadline) = self.orders.of(clock).first_key_value()?;
+        Some(*deadline)
     }
 }

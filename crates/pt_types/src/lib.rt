@@ -8,8 +8,11 @@
 mod call;
 mod name;
 mod number;
+pub mod operations;
 mod outcome;
+pub mod tables;
 mod time;
+pub mod views;
 
 pub use call::{Call, How, MutexKind, ObjectKind};
 pub use name::Name;

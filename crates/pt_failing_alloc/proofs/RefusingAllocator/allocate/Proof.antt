@@ -40,7 +40,7 @@ use Rattle.std.proofs.VecSteps.Shapes.{after}
 use Rattle.pt_failing_alloc.specs.contracts.Refusing as R
 use Rattle.pt_failing_alloc.specs.contracts.RefusingAllocator.allocate as F
 use Rattle.pt_failing_alloc.specs.contracts.RefusingAllocator.allocate.Key as key
-use Rattle.pt_failing_alloc.proofs.LineId.{Asks, asked, asks-goes, asks-gives}
+use Rattle.pt_failing_alloc.proofs.Asking.{Asks, asked, asks-goes, asks-gives}
 use Rattle.pt_failing_alloc.proofs.Turns.refuses_next.Symbol as asking
 use Rattle.pt_failing_alloc.proofs.Turns.refuses_next.Met as asking_met
 use Rattle.pt_failing_alloc.proofs.RefusingAllocator.allocate.Statement as stated

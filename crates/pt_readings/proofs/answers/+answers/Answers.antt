@@ -4,7 +4,7 @@ use Rattle.std.specs.Prelude.{nat_lt, ◌==◌, ◌&&◌}
 use Rattle.pt_model.specs.WaitingCall.{is_arrival}
 use Rattle.pt_model.specs.Histories.{history}
 use Rattle.pt_model.specs.Answers.{open_calls}
-use Rattle.pt_readings.proofs.Lists.{passes_place}
+use Rattle.pt_model.proofs.Ascending.{passes_place}
 use Rattle.pt_readings.proofs.Opens.{open-found, open-nowhere}
 use Rattle.pt_readings.proofs.answers.+answers.Goals as goal
 

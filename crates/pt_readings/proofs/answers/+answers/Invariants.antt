@@ -1,7 +1,7 @@
 use Rattle.std.proofs.Common.{◌≡◌, ℕ, ◌+◌, ◌*◌, ◌<◌, false, length, take}
 use Rattle.std.specs.Prelude.{nat_lt, ◌==◌, ◌&&◌}
 use Rattle.pt_model.specs.WaitingCall.{at_place, is_arrival}
-use Rattle.pt_readings.specs.Found.{passes}
+use Rattle.pt_model.specs.Found.{passes}
 use Rattle.pt_model.specs.Histories.{history}
 use Rattle.pt_model.specs.Answers.{outcome, open_calls}
 use Rattle.pt_readings.proofs.answers.+answers.Given as goal

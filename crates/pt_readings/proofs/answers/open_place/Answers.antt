@@ -1,7 +1,7 @@
 use Rattle.std.proofs.Common.{◌≡◌, sym, ap, ◌∙◌, arith}
 use Rattle.pt_model.specs.Histories.{history}
 use Rattle.pt_model.specs.Answers.{open_calls, place_of}
-use Rattle.pt_readings.proofs.Lists.{from}
+use Rattle.pt_model.proofs.Ascending.{from}
 use Rattle.pt_readings.proofs.Opens.{open_from_all, open_from_none, place_of-less}
 use Rattle.pt_readings.proofs.answers.open_place.Goals as goal
 

@@ -1,7 +1,7 @@
 use Rattle.std.proofs.Common.{◌≡◌, ◌≤◌, length}
 use Rattle.pt_model.specs.Histories.{history}
 use Rattle.pt_model.specs.Answers.{open_calls, place_of}
-use Rattle.pt_readings.proofs.Lists.{from}
+use Rattle.pt_model.proofs.Ascending.{from}
 use Rattle.pt_readings.proofs.answers.open_place.Given as goal
 
 abbrev pub invariant-loop-i : goal.invariant-loop-i

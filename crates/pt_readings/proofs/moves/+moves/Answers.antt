@@ -2,7 +2,7 @@ use Rattle.std.proofs.Common.{sym, ◌∙◌, below_more}
 use Rattle.pt_model.specs.Histories.{history}
 use Rattle.pt_model.specs.Moves.{moved, waits_at, precedes_by}
 use Rattle.pt_readings.specs.Found.{unmoved}
-use Rattle.pt_readings.specs.Shown.{shown}
+use Rattle.pt_model.specs.Shown.{shown}
 use Rattle.pt_readings.proofs.Opens.{open-found, open-nowhere}
 use Rattle.pt_readings.proofs.moves.+moves.Goals as goal
 

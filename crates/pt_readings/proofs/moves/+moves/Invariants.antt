@@ -4,8 +4,9 @@ use Rattle.pt_model.specs.Histories.{history}
 use Rattle.pt_model.specs.WaitingCall.{at_place}
 use Rattle.pt_model.specs.Answers.{open_calls}
 use Rattle.pt_model.specs.Moves.{moved, waits_at, precedes_by}
-use Rattle.pt_readings.specs.Found.{passes, unmoved}
-use Rattle.pt_readings.specs.Shown.{shown, shown_move}
+use Rattle.pt_model.specs.Found.{passes}
+use Rattle.pt_readings.specs.Found.{unmoved}
+use Rattle.pt_model.specs.Shown.{shown, shown_move}
 use Rattle.pt_readings.proofs.moves.+moves.Given as goal
 
 abbrev pub decreases-moved : goal.decreases-moved

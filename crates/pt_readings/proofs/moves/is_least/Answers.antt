@@ -4,7 +4,7 @@ use Rattle.std.specs.List.{list_all}
 use Rattle.pt_model.specs.Histories.{history}
 use Rattle.pt_model.specs.Answers.{open_calls}
 use Rattle.pt_model.specs.Moves.{at_object, precedes}
-use Rattle.pt_readings.specs.Shown.{shown}
+use Rattle.pt_model.specs.Shown.{shown}
 use Rattle.pt_readings.proofs.Opens.{all-found, all-nowhere}
 use Rattle.pt_readings.proofs.moves.is_least.Goals as goal
 

@@ -4,8 +4,8 @@ use Rattle.pt_model.specs.Histories.{history}
 use Rattle.pt_model.specs.WaitingCall.{at_place}
 use Rattle.pt_model.specs.Answers.{open_calls}
 use Rattle.pt_model.specs.Moves.{at_object, precedes}
-use Rattle.pt_readings.specs.Found.{passes}
-use Rattle.pt_readings.specs.Shown.{shown}
+use Rattle.pt_model.specs.Found.{passes}
+use Rattle.pt_model.specs.Shown.{shown}
 use Rattle.pt_readings.proofs.moves.is_least.Given as goal
 
 abbrev pub invariant-loop-i : goal.invariant-loop-i

@@ -5,7 +5,7 @@ use Rattle.pt_model.specs.Clients.{is_alive}
 use Rattle.pt_model.specs.Rwlocks.{rwlock_view}
 use Rattle.pt_model.specs.Histories.{history, place}
 use Rattle.pt_readings.proofs.Past.{place_all}
-use Rattle.pt_readings.proofs.Below.{first_below-none, first_below-at}
+use Rattle.pt_model.proofs.FirstBelow.{first_below-none, first_below-at}
 use Rattle.pt_readings.proofs.rwlocks.is_held_alive.Goals as goal
 
 pub returns-then-holds_alive : goal.returns-then-holds_alive

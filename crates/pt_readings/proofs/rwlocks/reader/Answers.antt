@@ -4,7 +4,7 @@ use Rattle.pt_model.specs.Rwlocks.{reads}
 use Rattle.std.proofs.lemmas.Bool.{lt-ltb, le-ltb}
 use Rattle.pt_model.specs.Histories.{history, place}
 use Rattle.pt_readings.proofs.Past.{place_all}
-use Rattle.pt_readings.proofs.Below.{first_below-none, first_below-at}
+use Rattle.pt_model.proofs.FirstBelow.{first_below-none, first_below-at}
 use Rattle.pt_readings.proofs.rwlocks.reader.Goals as goal
 
 pub returns-then-reads-gt0 : goal.returns-then-reads-gt0

@@ -2,7 +2,7 @@ use Rattle.std.proofs.Common.{sym, ◌∙◌, arith, below_more}
 use Rattle.pt_model.specs.Rwlocks.{writes}
 use Rattle.pt_model.specs.Histories.{history, place}
 use Rattle.pt_readings.proofs.Past.{place_all}
-use Rattle.pt_readings.proofs.Below.{first_below-none, first_below-at}
+use Rattle.pt_model.proofs.FirstBelow.{first_below-none, first_below-at}
 use Rattle.pt_readings.proofs.rwlocks.writer.Goals as goal
 
 pub returns-then-writes : goal.returns-then-writes

@@ -1,6 +1,6 @@
 use Rattle.std.proofs.Common.{sym}
 use Rattle.std.specs.Prelude.{option_map}
-use Rattle.pt_readings.specs.Shown.{shown}
+use Rattle.pt_model.specs.Shown.{shown}
 use Rattle.pt_readings.proofs.Stood.{waiting_here, waiting_past}
 use Rattle.pt_readings.proofs.waiting.waiting_call_at.Goals as goal
 

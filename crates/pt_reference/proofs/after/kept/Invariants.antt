@@ -2,7 +2,7 @@ use Rattle.std.proofs.Common.{◌≡◌, ◌≤◌, ◌*◌, map, sum}
 use Rattle.pt_model.specs.Histories.{history, ◌▷◌}
 use Rattle.pt_model.specs.Answers.{open_calls}
 use Rattle.pt_model.specs.Room.{kept_for}
-use Rattle.pt_readings.proofs.Lists.{upto}
+use Rattle.pt_model.proofs.Ascending.{upto}
 use Rattle.pt_reference.proofs.after.kept.Given as goal
 
 abbrev pub invariant-loop-i : goal.invariant-loop-i

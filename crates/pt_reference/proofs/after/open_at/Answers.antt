@@ -1,7 +1,7 @@
 use Rattle.std.proofs.Common.{sym, ap, ◌∙◌}
 use Rattle.std.specs.Prelude.{option_map}
 use Rattle.pt_model.specs.Histories.{history, ◌▷◌}
-use Rattle.pt_readings.specs.Shown.{shown}
+use Rattle.pt_model.specs.Shown.{shown}
 use Rattle.pt_reference.proofs.Ends.{open_yes, open_no, open_none}
 use Rattle.pt_reference.proofs.after.open_at.Goals as goal
 

@@ -1,6 +1,6 @@
 use Rattle.std.proofs.Common.{◌∙◌}
 use Rattle.std.specs.Prelude.{option_map}
-use Rattle.pt_readings.specs.Shown.{shown}
+use Rattle.pt_model.specs.Shown.{shown}
 use Rattle.pt_reference.proofs.Ends.{stood_new, stood_old}
 use Rattle.pt_reference.proofs.after.stood_at.Goals as goal
 

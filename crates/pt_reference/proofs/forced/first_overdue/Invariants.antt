@@ -4,8 +4,8 @@ use Rattle.pt_model.specs.Searches.{least}
 use Rattle.pt_model.specs.Forced.{expires_before, is_overdue}
 use Rattle.pt_model.specs.Histories.{history}
 use Rattle.pt_model.specs.Answers.{open_calls}
-use Rattle.pt_readings.specs.Shown.{shown}
-use Rattle.pt_readings.proofs.Lists.{from}
+use Rattle.pt_model.specs.Shown.{shown}
+use Rattle.pt_model.proofs.Ascending.{from}
 use Rattle.pt_reference.proofs.forced.first_overdue.Given as goal
 
 abbrev pub invariant-loop-i : goal.invariant-loop-i

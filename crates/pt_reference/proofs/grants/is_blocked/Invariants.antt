@@ -5,7 +5,7 @@ use Rattle.pt_model.specs.Grants.{holds_back}
 use Rattle.pt_model.specs.Histories.{history}
 use Rattle.pt_model.specs.WaitingCall.{at_place}
 use Rattle.pt_model.specs.Answers.{open_calls}
-use Rattle.pt_readings.specs.Found.{passes}
+use Rattle.pt_model.specs.Found.{passes}
 use Rattle.pt_reference.proofs.grants.is_blocked.Given as goal
 
 abbrev pub invariant-loop-i : goal.invariant-loop-i

@@ -4,7 +4,7 @@ use Rattle.pt_model.specs.Forced.{expires_before}
 use Rattle.pt_model.specs.Queries.{has_deadline}
 use Rattle.pt_model.specs.Histories.{history}
 use Rattle.pt_model.specs.Answers.{open_calls}
-use Rattle.pt_readings.proofs.Lists.{from}
+use Rattle.pt_model.proofs.Ascending.{from}
 use Rattle.pt_readings.proofs.Opens.{open_from_all, open_from_none}
 use Rattle.pt_reference.specs.Best.{best_of}
 use Rattle.pt_reference.proofs.Ends.{least-less, both}

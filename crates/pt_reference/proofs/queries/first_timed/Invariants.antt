@@ -5,8 +5,8 @@ use Rattle.pt_model.specs.Forced.{expires_before}
 use Rattle.pt_model.specs.Queries.{has_deadline}
 use Rattle.pt_model.specs.Histories.{history}
 use Rattle.pt_model.specs.Answers.{open_calls}
-use Rattle.pt_readings.specs.Shown.{shown}
-use Rattle.pt_readings.proofs.Lists.{from}
+use Rattle.pt_model.specs.Shown.{shown}
+use Rattle.pt_model.proofs.Ascending.{from}
 use Rattle.pt_reference.proofs.queries.first_timed.Given as goal
 
 abbrev pub invariant-loop-i : goal.invariant-loop-i

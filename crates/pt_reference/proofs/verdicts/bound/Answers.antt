@@ -4,10 +4,10 @@ use Rattle.pt_model.specs.Moves.{at_object}
 use Rattle.pt_model.specs.Verdicts.{bound_by}
 use Rattle.pt_model.specs.Histories.{history}
 use Rattle.pt_model.specs.Answers.{open_calls}
-use Rattle.pt_readings.proofs.Lists.{from}
+use Rattle.pt_model.proofs.Ascending.{from}
 use Rattle.pt_readings.proofs.Opens.{open_from_all, open_from_none}
 use Rattle.pt_reference.specs.Best.{awaited_or}
-use Rattle.pt_readings.specs.Found.{keep}
+use Rattle.pt_model.specs.Found.{keep}
 use Rattle.pt_model.specs.WaitingCall.{at_place}
 use Rattle.pt_reference.proofs.Ends.{bound-less}
 use Rattle.pt_reference.proofs.verdicts.bound.Goals as goal

@@ -4,7 +4,7 @@ use Rattle.pt_model.specs.Moves.{at_object}
 use Rattle.pt_model.specs.Verdicts.{bound_by}
 use Rattle.pt_model.specs.Histories.{history}
 use Rattle.pt_model.specs.Answers.{open_calls}
-use Rattle.pt_readings.proofs.Lists.{from}
+use Rattle.pt_model.proofs.Ascending.{from}
 use Rattle.pt_reference.proofs.verdicts.bound.Given as goal
 
 abbrev pub invariant-loop-i : goal.invariant-loop-i

@@ -3,8 +3,9 @@ use Rattle.std.specs.Prelude.{◌==◌}
 use Rattle.pt_model.specs.Moves.{at_object}
 use Rattle.pt_model.specs.Histories.{history}
 use Rattle.pt_model.specs.Answers.{open_calls}
-use Rattle.pt_readings.proofs.Lists.{any-at, any-nowhere}
-use Rattle.pt_readings.proofs.Opens.{open-ascends, open-within}
+use Rattle.pt_model.proofs.Ascending.{any-at, any-nowhere}
+use Rattle.pt_model.proofs.OpenOrder.{open-ascends}
+use Rattle.pt_readings.proofs.Opens.{open-within}
 use Rattle.pt_reference.proofs.verdicts.is_awaited.Goals as goal
 
 pub returns-then-stands_at : goal.returns-then-stands_at

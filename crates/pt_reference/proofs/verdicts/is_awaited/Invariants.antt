@@ -4,7 +4,7 @@ use Rattle.pt_model.specs.Moves.{at_object}
 use Rattle.pt_model.specs.Histories.{history}
 use Rattle.pt_model.specs.WaitingCall.{at_place}
 use Rattle.pt_model.specs.Answers.{open_calls}
-use Rattle.pt_readings.specs.Found.{passes}
+use Rattle.pt_model.specs.Found.{passes}
 use Rattle.pt_reference.proofs.verdicts.is_awaited.Given as goal
 
 abbrev pub invariant-loop-i : goal.invariant-loop-i

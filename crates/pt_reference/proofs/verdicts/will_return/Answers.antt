@@ -2,8 +2,9 @@ use Rattle.std.proofs.Common.{sym, ◌∙◌, below_more, arith}
 use Rattle.pt_model.specs.Verdicts.{will_return}
 use Rattle.pt_model.specs.Histories.{history}
 use Rattle.pt_model.specs.Answers.{open_calls}
-use Rattle.pt_readings.proofs.Lists.{any-at, any-nowhere}
-use Rattle.pt_readings.proofs.Opens.{open-ascends, open-within}
+use Rattle.pt_model.proofs.Ascending.{any-at, any-nowhere}
+use Rattle.pt_model.proofs.OpenOrder.{open-ascends}
+use Rattle.pt_readings.proofs.Opens.{open-within}
 use Rattle.pt_reference.proofs.verdicts.will_return.Goals as goal
 
 pub returns-then-returns_from : goal.returns-then-returns_from

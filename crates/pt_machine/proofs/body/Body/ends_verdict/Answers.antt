@@ -1,4 +1,4 @@
-use Rattle.pt_readings.specs.Shown.{shown_class}
+use Rattle.pt_types.specs.Shown.{shown_class}
 use Rattle.pt_state.specs.Adds.{past}
 use Rattle.pt_records.proofs.LockViews.{class-found}
 use Rattle.pt_machine.proofs.TableViews.{found-in}

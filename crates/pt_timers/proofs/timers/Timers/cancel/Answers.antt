@@ -1,8 +1,28 @@
-use Rattle.pt_timers.proofs.TimerLemmas.{fewer-timers, fewer-set}
+use Rattle.std.proofs.Common.{sym, ap, ◌∙◌, cond, ◌==◌, None}
+use Rattle.pt_timers.specs.Deadlines.{deadline_at}
+use Rattle.pt_timers.specs.Orders.{due_at}
+use Rattle.pt_timers.proofs.PlaceLemmas.{as-found, as-changed}
+use Rattle.pt_timers.proofs.TimerLemmas.{one-less}
 use Rattle.pt_timers.proofs.timers.Timers.cancel.Goals as goal
 
 pub invariant_of-self : goal.invariant_of-self
-invariant_of-self g c = fewer-timers c.args.place _ _ c.self.invariant c.forget.ensures
+invariant_of-self g c =
+    let t = c.self.inside in
+    let was =
+    as-found t.places.entries c.args.place ∙ (sym c.remove.ensures.value ∙ c.in-Some.is) in
+    one-less t.places.entries (due_at t.orders) c.self.invariant c.in-Some.clock c.in-Some.nanos
+    c.args.place c.remove.new.self.entries (due_at c.remove-in-Some.new.self) was
+    c.remove-in-Some.ensures
+    (as-changed t.places c.remove.new.self c.args.place None c.remove.ensures.updates.0)
 
-pub returns : goal.returns
-returns g c = λ p. fewer-set c.args.place _ _ _ c.self.view_is c.forget.ensures p
+pub returns-in-Some : goal.returns-in-Some
+returns-in-Some g c p =
+    as-changed c.self.inside.places c.remove.new.self c.args.place None
+    c.remove.ensures.updates.0 p
+    ∙ ap (λ ts. cond (c.args.place == p) None (deadline_at ts p)) c.self.view_is
+
+pub returns-in_default : goal.returns-in_default
+returns-in_default g c p =
+    as-changed c.self.inside.places c.remove.new.self c.args.place None
+    c.remove.ensures.updates.0 p
+    ∙ ap (λ ts. cond (c.args.place == p) None (deadline_at ts p)) c.self.view_is

@@ -1,0 +1,17 @@
+use Rattle.std.proofs.Common.{rules, ◌≡◌, false}
+use Rattle.pt_state.specs.Calling.{is_done}
+use Rattle.pt_machine.proofs.QueuedAnswers.{told-queued}
+use Rattle.pt_machine.proofs.calls.push_answered.Goals as goal
+
+pub returns-in_default : goal.returns-in_default
+returns-in_default g c =
+    let other : is_done c.args.answer ≡ false = search rules in
+    record {
+      ok = c.push_told.ensures;
+      err = tt;
+      reason = tt;
+      queued = told-queued c.args.state.now c.args.c c.args.call.now
+          (g.Q.WaitList.queue c.args.queues.now) (g.Q.WaitList.admitted c.args.queues.now)
+          (g.Q.WaitList.made c.args.queues.now) c.requires.queued c.push_told.new.self
+          c.args.answer c.requires.ready other c.push_told.ensures;
+    }

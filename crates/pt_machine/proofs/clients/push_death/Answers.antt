@@ -1,0 +1,23 @@
+use Rattle.std.proofs.Common.{◌==◌, ◌&&◌, not, ap, ◌∙◌}
+use Rattle.pt_waitq.specs.Queues.{stands_in}
+use Rattle.pt_waitq.proofs.CallerLemmas.{without-stands}
+use Rattle.pt_model.specs.declared.entry.Entry.TheVariants as entry
+use Rattle.pt_state.specs.Adds.{past}
+use Rattle.pt_machine.proofs.QueuedSame.{queued-adds}
+use Rattle.pt_machine.proofs.QueuedArrivals.{queued-death}
+use Rattle.pt_machine.proofs.clients.push_death.Goals as goal
+
+pub dismiss-requires-clause-nowhere : goal.dismiss-requires-clause-nowhere
+dismiss-requires-clause-nowhere g c = λ q.
+    ap (stands_in c.args.c) (c.remove.ensures.queues q) ∙ without-stands c.args.c _
+
+pub returns-clause-queued : goal.returns-clause-queued
+returns-clause-queued g c =
+    let s = c.args.state.now in
+    let h = past s in
+    queued-adds s c.push_death.new.self (entry.Death c.args.c) _ _ _ c.push_death.ensures
+    (queued-death h c.args.c _ _ _ _ _ _
+    (λ q. c.dismiss.ensures.queues q ∙ c.remove.ensures.queues q)
+    (λ d. c.dismiss.ensures.admitted d
+    ∙ ap (λ b. not (c.args.c == d) && b) (c.remove.ensures.admitted d))
+    (λ o. c.dismiss.ensures.made o ∙ c.remove.ensures.made o) c.requires.queued)

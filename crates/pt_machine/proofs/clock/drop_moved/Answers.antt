@@ -1,0 +1,37 @@
+use Rattle.std.proofs.Common.{◌∙◌, refl, arith, sym}
+use Rattle.pt_timers.specs.Deadlines.{deadline_at}
+use Rattle.pt_machine.proofs.TimerDrops.{row-moved, row-kept, row-empty, rows-all}
+use Rattle.pt_machine.proofs.clock.drop_moved.Goals as goal
+use Rattle.pt_machine.proofs.clock.drop_moved.Goals.{in-Some+then-was_moved, in-Some+else-was_moved, in_default}
+
+pub loop-i-init : goal.loop-i-init
+loop-i-init g c p = refl
+
+-- one row more was seen
+pub loop-i-preserved : goal.loop-i-preserved
+loop-i-preserved g c =
+    elim c.match-open_nth.branch [
+      | in-Some+then-was_moved w ↦ rw w.timers-is
+          (row-moved c.args.place c.args.state.now.clients c.loop-i.i
+          (deadline_at c.args.timers.now) (deadline_at c.loop-i.timers) c.loop-i.invariant
+          w.in-Some.open (sym c.open_nth.ensures ∙ w.in-Some.is)
+          (sym w.was_moved.ensures ∙ w.if-was_moved.true) (deadline_at w.cancel.new.self)
+          w.cancel.ensures)
+      | in-Some+else-was_moved w ↦ rw w.timers-is
+          (row-kept c.args.place c.args.state.now.clients c.loop-i.i
+          (deadline_at c.args.timers.now) (deadline_at c.loop-i.timers) c.loop-i.invariant
+          w.in-Some.open (sym c.open_nth.ensures ∙ w.in-Some.is)
+          (sym w.was_moved.ensures ∙ w.if-was_moved.false))
+      | in_default w ↦ rw w.timers-is
+          (row-empty c.args.place c.args.state.now.clients c.loop-i.i
+          (deadline_at c.args.timers.now) (deadline_at c.loop-i.timers) c.loop-i.invariant
+          (sym c.open_nth.ensures ∙ w.in_default.is))
+    ]
+
+-- all rows were seen
+pub returns : goal.returns
+returns g c p =
+    c.loop-i.invariant p
+    ∙ rows-all c.args.place c.args.state.now.clients c.loop-i.i
+    (omega (arith, c.loop-i-test.false, c.len-i-end.ensures.len))
+    (deadline_at c.args.timers.now p) p

@@ -1,0 +1,41 @@
+use Rattle.std.proofs.Common.{subst}
+use Rattle.pt_state.specs.declared.forced.Forced.{Forced}
+use Rattle.pt_state.specs.Adds.{past, Adds}
+use Rattle.pt_records.specs.Callers.{opens_of}
+use Rattle.pt_state.specs.Serving.{entry_of, IsFor}
+use Rattle.pt_machine.proofs.TimedStates.{timed-served, timed-yield, timed-late}
+use Rattle.pt_machine.proofs.clock.push_forced.Goals as goal
+
+-- a call is served
+pub returns-in-Serve-clause-timed : goal.returns-in-Serve-clause-timed
+returns-in-Serve-clause-timed g c =
+    let old = c.args.state.now in
+    let new = c.push_forced.new.state in
+    timed-served old new c.args.timers.now c.cancel.new.self c.requires.ready.read
+    c.requires.timed c.in-Serve.found
+    (subst (λ (x : Forced). IsFor (opens_of old.clients) x) c.in-Serve.is c.requires.known)
+    c.cancel.ensures
+    (subst (λ (x : Forced). Adds old (entry_of (past old) x) new) c.in-Serve.is
+    c.push_forced.ensures.adds)
+
+-- a dead owner's lock is given up
+pub returns-in-Yield-clause-timed : goal.returns-in-Yield-clause-timed
+returns-in-Yield-clause-timed g c =
+    let old = c.args.state.now in
+    let new = c.push_forced-in-Yield.new.state in
+    timed-yield old new c.args.timers.now c.args.timers.now c.requires.ready.read
+    c.requires.timed c.in-Yield.field-0
+    (subst (λ (x : Forced). Adds old (entry_of (past old) x) new) c.in-Yield.is
+    c.push_forced-in-Yield.ensures.adds)
+
+-- a deadline passed
+pub returns-in-Expire-clause-timed : goal.returns-in-Expire-clause-timed
+returns-in-Expire-clause-timed g c =
+    let old = c.args.state.now in
+    let new = c.push_forced-in-Expire.new.state in
+    timed-late old new c.args.timers.now c.cancel-in-Expire.new.self c.requires.ready.read
+    c.requires.timed c.in-Expire.late
+    (subst (λ (x : Forced). IsFor (opens_of old.clients) x) c.in-Expire.is c.requires.known)
+    c.cancel-in-Expire.ensures
+    (subst (λ (x : Forced). Adds old (entry_of (past old) x) new) c.in-Expire.is
+    c.push_forced-in-Expire.ensures.adds)

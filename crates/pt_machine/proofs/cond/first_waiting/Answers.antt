@@ -1,0 +1,20 @@
+use Rattle.pt_state.specs.Adds.{past}
+use Rattle.pt_machine.proofs.QueueFirsts.{first-called, none-called, found-known}
+use Rattle.pt_machine.proofs.cond.first_waiting.Goals as goal
+
+pub returns-in-Some-clause-value : goal.returns-in-Some-clause-value
+returns-in-Some-clause-value g c =
+    let s = c.args.state.now in
+    first-called (past s) (g.Q.WaitList.queue c.args.queues.now) c.requires.queued.members
+    c.requires.read.follows c.args.q c.requires.cond s.clients c.requires.read.callers
+    c.first.result c.in-Some.first c.open_of.result c.first.ensures c.in-Some.is c.open_of.ensures
+
+pub returns-in-Some-clause-known : goal.returns-in-Some-clause-known
+returns-in-Some-clause-known g c =
+    found-known c.args.state.now.clients c.in-Some.first.client c.open_of.result c.open_of.ensures
+
+pub returns-in-None-clause-value : goal.returns-in-None-clause-value
+returns-in-None-clause-value g c =
+    none-called (past c.args.state.now) (g.Q.WaitList.queue c.args.queues.now)
+    c.requires.queued.members c.requires.read.follows c.args.q c.requires.cond c.first.result
+    c.first.ensures c.in-None.is

@@ -1,0 +1,12 @@
+use Rattle.std.proofs.Common.{length}
+use Rattle.pt_state.specs.Adds.{past}
+use Rattle.pt_machine.proofs.QueuedBroadcast.{IsRousing}
+use Rattle.pt_machine.proofs.cond.push_broadcast.Given as goal
+
+abbrev pub invariant-loop-first : goal.invariant-loop-first
+invariant-loop-first g l =
+    IsRousing (past l.fn.state) (past l.state) l.q (g.Q.WaitList.queue l.queues)
+    (g.Q.WaitList.admitted l.queues) (g.Q.WaitList.made l.queues)
+
+abbrev pub decreases-loop-first : goal.decreases-loop-first
+decreases-loop-first g l = length (g.Q.WaitList.queue l.queues l.q)

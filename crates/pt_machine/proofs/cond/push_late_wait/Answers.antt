@@ -1,0 +1,39 @@
+use Rattle.pt_model.specs.declared.entry.Entry.TheVariants as entry
+use Rattle.pt_state.specs.Adds.{past}
+use Rattle.pt_state.specs.Serving.{called}
+use Rattle.pt_state.proofs.ServingFinds.{are-open}
+use Rattle.pt_machine.proofs.QueuedWakes.{moves-late, stands-moved, queued-taken}
+use Rattle.pt_machine.proofs.cond.push_late_wait.Goals as goal
+
+pub take_place-requires-clause-ready : goal.take_place-requires-clause-ready
+take_place-requires-clause-ready g c =
+    let h = past c.args.state.now in
+    let read = c.requires.ready.read in
+    stands-moved c.args.state.now c.push_expire.new.self
+    (entry.Expire c.args.found.now.call.place) (called c.args.found.now) c.requires.ready
+    c.push_expire.ensures
+    (moves-late h (called c.args.found.now) read.follows
+    ((are-open h c.args.state.now.clients read.follows read.callers).known c.args.found.now
+    c.requires.known).0 c.requires.wait)
+    (g.Q.WaitList.queue c.args.queues.now) (g.Q.WaitList.queue c.remove.new.self)
+    (g.Q.WaitList.admitted c.args.queues.now) (g.Q.WaitList.admitted c.remove.new.self)
+    (g.Q.WaitList.made c.args.queues.now) (g.Q.WaitList.made c.remove.new.self)
+    c.remove.ensures.queues c.remove.ensures.admitted c.remove.ensures.made c.requires.queued
+
+pub returns-clause-queued : goal.returns-clause-queued
+returns-clause-queued g c =
+    let h = past c.args.state.now in
+    let read = c.requires.ready.read in
+    queued-taken c.args.state.now c.push_expire.new.self
+    (entry.Expire c.args.found.now.call.place) (called c.args.found.now) c.requires.ready
+    c.push_expire.ensures
+    (moves-late h (called c.args.found.now) read.follows
+    ((are-open h c.args.state.now.clients read.follows read.callers).known c.args.found.now
+    c.requires.known).0 c.requires.wait)
+    (g.Q.WaitList.queue c.args.queues.now) (g.Q.WaitList.queue c.remove.new.self)
+    (g.Q.WaitList.admitted c.args.queues.now) (g.Q.WaitList.admitted c.remove.new.self)
+    (g.Q.WaitList.made c.args.queues.now) (g.Q.WaitList.made c.remove.new.self)
+    c.remove.ensures.queues c.remove.ensures.admitted c.remove.ensures.made c.requires.queued
+    (g.Q.WaitList.queue c.take_place.new.queues) (g.Q.WaitList.admitted c.take_place.new.queues)
+    (g.Q.WaitList.made c.take_place.new.queues) c.take_place.ensures.queues
+    c.take_place.ensures.admitted c.take_place.ensures.made

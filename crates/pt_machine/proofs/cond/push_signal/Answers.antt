@@ -1,0 +1,28 @@
+use Rattle.std.proofs.Common.{Some, None, sym, ◌∙◌}
+use Rattle.pt_types.specs.declared.outcome.Outcome.TheVariants as told
+use Rattle.pt_model.specs.declared.entry.Entry.TheVariants as entry
+use Rattle.pt_state.specs.Adds.{past}
+use Rattle.pt_records.proofs.LockViews.{cond-found}
+use Rattle.pt_machine.proofs.QueuedSame.{queued-adds}
+use Rattle.pt_machine.proofs.QueuedWakes.{first-named, queued-unmoved}
+use Rattle.pt_machine.proofs.cond.push_signal.Goals as goal
+
+pub first_waiting-requires-clause-cond : goal.first_waiting-requires-clause-cond
+first_waiting-requires-clause-cond g c =
+    cond-found (past c.args.state.now) c.requires.ready.read.follows c.args.n.now
+    c.unwrap-q.result (sym c.find.ensures ∙ c.unwrap-q.ensures)
+
+pub returns-in-None-clause-queued : goal.returns-in-None-clause-queued
+returns-in-None-clause-queued g c =
+    queued-adds c.args.state.now c.push_woken.new.self
+    (entry.Call c.args.c c.args.call.now (Some told.Done)) (g.Q.WaitList.queue c.args.queues.now)
+    (g.Q.WaitList.admitted c.args.queues.now) (g.Q.WaitList.made c.args.queues.now)
+    c.push_woken.ensures
+    (queued-unmoved (past c.args.state.now) c.args.c c.args.call.now c.args.n.now
+    c.requires.ready.read.follows c.requires.ready.step c.requires.operation
+    (g.Q.WaitList.queue c.args.queues.now) (g.Q.WaitList.admitted c.args.queues.now)
+    (g.Q.WaitList.made c.args.queues.now)
+    (sym (first-named (past c.args.state.now) c.args.n.now c.unwrap-q.result
+    c.first_waiting.result (sym c.find.ensures ∙ c.unwrap-q.ensures)
+    c.first_waiting.ensures.value None c.in-None.is))
+    c.requires.queued)

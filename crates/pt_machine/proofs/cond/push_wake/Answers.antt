@@ -1,0 +1,36 @@
+use Rattle.pt_types.specs.declared.outcome.Outcome.TheVariants as told
+use Rattle.std.proofs.Common.{Some}
+use Rattle.pt_model.specs.declared.entry.Entry.TheVariants as entry
+use Rattle.pt_state.specs.Adds.{past}
+use Rattle.pt_state.specs.Serving.{called}
+use Rattle.pt_machine.proofs.QueuedWakes.{moves-first, stands-moved, queued-taken}
+use Rattle.pt_machine.proofs.cond.push_wake.Goals as goal
+
+pub take_place-requires-clause-ready : goal.take_place-requires-clause-ready
+take_place-requires-clause-ready g c =
+    stands-moved c.args.state.now c.push_woken.new.self
+    (entry.Call c.args.c c.args.call.now (Some told.Done)) (called c.args.first) c.requires.ready
+    c.push_woken.ensures
+    (moves-first (past c.args.state.now) c.args.c c.args.call.now c.args.n.now
+    c.requires.ready.read.follows c.requires.ready.step c.requires.operation (called c.args.first)
+    c.requires.first)
+    (g.Q.WaitList.queue c.args.queues.now) (g.Q.WaitList.queue c.remove.new.self)
+    (g.Q.WaitList.admitted c.args.queues.now) (g.Q.WaitList.admitted c.remove.new.self)
+    (g.Q.WaitList.made c.args.queues.now) (g.Q.WaitList.made c.remove.new.self)
+    c.remove.ensures.queues c.remove.ensures.admitted c.remove.ensures.made c.requires.queued
+
+pub returns-clause-queued : goal.returns-clause-queued
+returns-clause-queued g c =
+    queued-taken c.args.state.now c.push_woken.new.self
+    (entry.Call c.args.c c.args.call.now (Some told.Done)) (called c.args.first) c.requires.ready
+    c.push_woken.ensures
+    (moves-first (past c.args.state.now) c.args.c c.args.call.now c.args.n.now
+    c.requires.ready.read.follows c.requires.ready.step c.requires.operation (called c.args.first)
+    c.requires.first)
+    (g.Q.WaitList.queue c.args.queues.now) (g.Q.WaitList.queue c.remove.new.self)
+    (g.Q.WaitList.admitted c.args.queues.now) (g.Q.WaitList.admitted c.remove.new.self)
+    (g.Q.WaitList.made c.args.queues.now) (g.Q.WaitList.made c.remove.new.self)
+    c.remove.ensures.queues c.remove.ensures.admitted c.remove.ensures.made c.requires.queued
+    (g.Q.WaitList.queue c.take_place.new.queues) (g.Q.WaitList.admitted c.take_place.new.queues)
+    (g.Q.WaitList.made c.take_place.new.queues) c.take_place.ensures.queues
+    c.take_place.ensures.admitted c.take_place.ensures.made

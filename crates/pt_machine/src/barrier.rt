@@ -1,0 +1,52 @@
+//! Barriers: who has arrived, and trips.
+
+ghost use Rattle.std.specs.Prelude.{Some, ◌≡◌, length, option_map, true};
+ghost use Rattle.pt_model.specs.Searches.{In};
+ghost use Rattle.pt_model.specs.WaitingCall.{is_arrival as is_arrival_role};
+ghost use Rattle.pt_model.specs.Forced.{service};
+ghost use Rattle.pt_state.specs.Adds.{Adds, IsReadyFor, past};
+ghost use Rattle.pt_records.specs.Callers.{opens_of};
+ghost use Rattle.pt_state.specs.Serving.{called};
+ghost use Rattle.pt_machine.specs.Queued.{IsQueued};
+ghost use Rattle.pt_types.specs.Operations.{BarrierClass, class_of};
+ghost use Rattle.pt_model.specs.Objects.{kind_of};
+ghost use Rattle.pt_model.specs.Answers.{at_barrier, open_calls};
+ghost use Rattle.pt_state.specs.Reads.{AreTables};
+
+use crate::body::Body;
+use crate::queues::clear;
+use pt_records::Open;
+use pt_state::State;
+use pt_types::ObjectId;
+use pt_waitq::WaitList;
+use std::alloc::Allocator;
+
+// A full barrier lets its calls go on, and they leave its queue.  [XSH pthread_barrier_wait]
+pub(crate) fn push_tripped<Q: WaitList, A: Allocator + Copy>(
+    state: &mut State<A>,
+    queues: &mut Q,
+    found: &Open,
+)
+    requires ready { IsReadyFor state.old (service (past state.old) (called found.now)) }
+    requires queued { IsQueued (past state.old)
+        (Q.queue queues.old) (Q.admitted queues.old) (Q.made queues.old) }
+    requires known { In found.now (opens_of state.old.clients) }
+    requires arrival { is_arrival_role (called found.now).role ≡ true }
+    ensures adds { Adds state.old (service (past state.old) (called found.now)) state.new }
+    ensures queued { IsQueued (past state.new)
+        (Q.queue queues.new) (Q.admitted queues.new) (Q.made queues.new) }
+{
+    state.push_served(found);
+    clear(queues, ObjectId(found.call.object));
+}
+
+impl<Q: WaitList, A: Allocator + Copy> Body<Q, A> {
+    /// How many calls stand at the barrier.  [XSH pthread_barrier_wait]
+    pub(crate) fn arrivals(&self, b: ObjectId) -> u64
+        requires read { AreTables self.now }
+        requires barrier { option_map class_of (kind_of (past self.now) b) ≡ Some BarrierClass }
+        ensures { result ≡ length (at_barrier b (open_calls (past self.now))) }
+    {
+        self.queues.len(b) as u64
+    }
+}

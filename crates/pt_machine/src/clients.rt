@@ -1,0 +1,60 @@
+//! Clients: what a join and a death do to the queues.
+
+ghost use Rattle.std.specs.Prelude.{IfErr, OnErr, OnOk, ◌≡◌};
+ghost use Rattle.pt_model.specs.Histories.{place};
+ghost use Rattle.pt_model.specs.declared.entry.Entry.TheVariants as entry;
+ghost use Rattle.pt_state.specs.Adds.{Adds, IsReadyFor, Stays, past};
+ghost use Rattle.pt_machine.specs.Queued.{IsQueued};
+
+use pt_state::State;
+use pt_types::{ClientId, Priority, Refusal};
+use pt_waitq::WaitList;
+use std::alloc::Allocator;
+
+/// A client joins: it has its row, and room for one waiting call. ENOMEM where the growth of one
+/// of them is refused.  [profile]
+pub(crate) fn push_join<Q: WaitList, A: Allocator + Copy>(
+    state: &mut State<A>,
+    queues: &mut Q,
+    priority: Priority,
+) -> Result<(), Refusal>
+    requires ready { IsReadyFor state.old (entry.Join (place (past state.old)) priority) }
+    requires queued { IsQueued (past state.old)
+        (Q.queue queues.old) (Q.admitted queues.old) (Q.made queues.old) }
+    ensures ok { OnOk result
+        (Adds state.old (entry.Join (place (past state.old)) priority) state.new) }
+    ensures err { OnErr result (Stays state.old state.new) }
+    ensures reason { IfErr result (λ refusal. refusal ≡ Refusal.Enomem) }
+    ensures queued { IsQueued (past state.new)
+        (Q.queue queues.new) (Q.admitted queues.new) (Q.made queues.new) }
+{
+    let c = ClientId(state.stored.len());
+    if let Err(refusal) = queues.admit(c) {
+        return Err(refusal);
+    }
+    match state.push_join(priority) {
+        Ok(()) => Ok(()),
+        Err(refusal) => {
+            queues.dismiss(c);
+            Err(refusal)
+        }
+    }
+}
+
+/// A client's process ends: its row, its open call, and the room for one are gone.  [profile]
+pub(crate) fn push_death<Q: WaitList, A: Allocator + Copy>(
+    state: &mut State<A>,
+    queues: &mut Q,
+    c: ClientId,
+)
+    requires ready { IsReadyFor state.old (entry.Death c) }
+    requires queued { IsQueued (past state.old)
+        (Q.queue queues.old) (Q.admitted queues.old) (Q.made queues.old) }
+    ensures adds { Adds state.old (entry.Death c) state.new }
+    ensures queued { IsQueued (past state.new)
+        (Q.queue queues.new) (Q.admitted queues.new) (Q.made queues.new) }
+{
+    queues.remove(c);
+    queues.dismiss(c);
+    state.push_death(c);
+}

@@ -1,0 +1,341 @@
+//! Deadlines: set as a call waits, dropped as it ends, and the calls that are due.
+
+ghost use Rattle.pt_model.specs.declared.entry.Entry.TheVariants as entry;
+ghost use Rattle.pt_model.specs.declared.entry.Entry.TheVariants as entry_is;
+ghost use Rattle.pt_state.specs.Adds.{Adds, IsReadyFor, Stays, past};
+ghost use Rattle.pt_machine.specs.Queued.{IsQueued};
+ghost use Rattle.std.specs.Prelude.{IfErr, IfSome, IsOk, None, OnErr, OnOk, Some, ℕ, ◌&&◌, ◌==◌, ◌≡◌, false, filter, if◌then◌else◌, option_map, true};
+ghost use Rattle.pt_types.specs.Operations.{operation};
+ghost use Rattle.pt_machine.specs.Timed.{AreTimed, asked, good_of, was_moved_at};
+ghost use Rattle.std.specs.List.{list_any};
+ghost use Rattle.pt_timers.specs.Deadlines.{deadline_at};
+ghost use Rattle.pt_records.specs.Callers.{open_in, opens_of};
+ghost use Rattle.pt_types.specs.Times.{deadline_nanos, is_bad_deadline};
+ghost use Rattle.pt_model.specs.Histories.{is_forced};
+ghost use Rattle.pt_state.specs.Outer.{is_death};
+ghost use Rattle.pt_state.specs.Serving.{IsFor, called, entry_of};
+ghost use Rattle.pt_table.specs.ClientRows.{client_value};
+ghost use Rattle.pt_model.specs.Found.{keep};
+ghost use Rattle.pt_state.specs.Reads.{AreTables};
+ghost use Rattle.pt_model.specs.Queries.{caller, least_deadline as least_deadline_in};
+ghost use Rattle.pt_model.specs.Searches.{In, least};
+ghost use Rattle.pt_model.specs.WaitingCall.{at_place};
+ghost use Rattle.pt_model.specs.Answers.{open_calls};
+ghost use Rattle.pt_model.specs.Forced.{expires_before, forced, forced_service, is_overdue};
+
+use crate::body::Body;
+use crate::{calls, clients, clock, forced};
+use pt_model::Entry;
+use pt_records::Open;
+use pt_state::{Forced, State};
+use pt_timers::Timers;
+use pt_types::operations::{Operation, clock_of, deadline_of, operation_of};
+use pt_types::{Call, ClientId, Clock, Deadline, Moment, Outcome, Refusal};
+use pt_waitq::WaitList;
+use std::alloc::Allocator;
+
+/// A reading of the clock is handed in.  [profile]
+pub(crate) fn push_moment<Q: WaitList, A: Allocator + Copy>(
+    state: &mut State<A>,
+    queues: &mut Q,
+    clock: Clock,
+    moment: Moment,
+)
+    requires ready { IsReadyFor state.old (entry.Moment clock moment) }
+    requires queued { IsQueued (past state.old)
+        (Q.queue queues.old) (Q.admitted queues.old) (Q.made queues.old) }
+    ensures adds { Adds state.old (entry.Moment clock moment) state.new }
+    ensures queued { IsQueued (past state.new)
+        (Q.queue queues.new) (Q.admitted queues.new) (Q.made queues.new) }
+{
+    state.push_moment(clock, moment);
+}
+
+// The deadline of a call, where it has one that is a time.  [XSH pthread_mutex_timedlock, EINVAL]
+fn good_deadline(call: &Call) -> Option<Deadline>
+    ensures { result ≡ good_of (asked (operation call.now)) }
+{
+    let deadline = match operation_of(call) {
+        Operation::Acquires(_, _, how) => deadline_of(how),
+        Operation::Awaits(_, _, deadline) => deadline,
+        _ => None,
+    };
+    match deadline {
+        Some(deadline) if !deadline.is_bad() => Some(deadline),
+        _ => None,
+    }
+}
+
+// Whether the entry at this place moved an open call.  [XSH pthread_cond_broadcast]
+fn was_moved(open: &Open, place: u64) -> bool
+    ensures { result ≡ was_moved_at place «open».now }
+{
+    match open.moved {
+        Some(moved) => moved.at == place,
+        None => false,
+    }
+}
+
+// The deadlines of those that the entry at a place moved are set no more.
+// [XSH pthread_cond_broadcast]
+fn drop_moved<A: Allocator + Copy>(timers: &mut Timers<A>, state: &State<A>, place: u64)
+    ensures { (p : ℕ)
+        → deadline_at timers.new p
+        ≡ (if list_any (λ o. was_moved_at place o && (o.call.place == p))
+        (opens_of state.now.clients)
+        then None
+        else deadline_at timers.old p) }
+{
+    for i in 0..state.clients.len() {
+        if let Some(open) = state.open_nth(i) {
+            if was_moved(&open, place) {
+                timers.cancel(open.call.place);
+            }
+        }
+    }
+}
+
+// A call that is left waiting has its deadline set first, if that is a time. ENOMEM where the
+// growth of a table is refused.  [XSH pthread_mutex_timedlock]
+fn push_timed<Q: WaitList, A: Allocator + Copy>(
+    state: &mut State<A>,
+    queues: &mut Q,
+    timers: &mut Timers<A>,
+    c: ClientId,
+    call: &Call,
+    deadline: Deadline,
+) -> Result<(), Refusal>
+    requires ready { IsReadyFor state.old (entry_is.Call c call.now None) }
+    requires queued { IsQueued (past state.old)
+        (Q.queue queues.old) (Q.admitted queues.old) (Q.made queues.old) }
+    requires timed { AreTimed (past state.old) timers.old }
+    requires deadline { asked (operation call.now) ≡ Some deadline }
+    requires good { is_bad_deadline deadline ≡ false }
+    ensures ok { OnOk result (Adds state.old (entry_is.Call c call.now None) state.new) }
+    ensures err { OnErr result (Stays state.old state.new) }
+    ensures reason { IfErr result (λ refusal. refusal ≡ Refusal.Enomem) }
+    ensures queued { IsQueued (past state.new)
+        (Q.queue queues.new) (Q.admitted queues.new) (Q.made queues.new) }
+    ensures timed { AreTimed (past state.new) timers.new }
+{
+    let place = state.stored.len();
+    if let Err(refusal) = timers.set(place, clock_of(call), deadline) {
+        return Err(refusal);
+    }
+    match calls::push_left(state, queues, c, call) {
+        Ok(()) => Ok(()),
+        Err(refusal) => {
+            timers.cancel(place);
+            Err(refusal)
+        }
+    }
+}
+
+// A call that is left waiting. ENOMEM where the growth of a table is refused.
+// [XSH, the call's page]
+pub(crate) fn push_left<Q: WaitList, A: Allocator + Copy>(
+    state: &mut State<A>,
+    queues: &mut Q,
+    timers: &mut Timers<A>,
+    c: ClientId,
+    call: &Call,
+) -> Result<(), Refusal>
+    requires ready { IsReadyFor state.old (entry_is.Call c call.now None) }
+    requires queued { IsQueued (past state.old)
+        (Q.queue queues.old) (Q.admitted queues.old) (Q.made queues.old) }
+    requires timed { AreTimed (past state.old) timers.old }
+    ensures ok { OnOk result (Adds state.old (entry_is.Call c call.now None) state.new) }
+    ensures err { OnErr result (Stays state.old state.new) }
+    ensures reason { IfErr result (λ refusal. refusal ≡ Refusal.Enomem) }
+    ensures queued { IsQueued (past state.new)
+        (Q.queue queues.new) (Q.admitted queues.new) (Q.made queues.new) }
+    ensures timed { AreTimed (past state.new) timers.new }
+{
+    match good_deadline(call) {
+        Some(deadline) => push_timed(state, queues, timers, c, call, deadline),
+        None => calls::push_left(state, queues, c, call),
+    }
+}
+
+// A call with its answer: no deadline is set any more for those that it moves. ENOMEM where the
+// growth of a table is refused.  [XSH, the call's page]
+pub(crate) fn push_answered<Q: WaitList, A: Allocator + Copy>(
+    state: &mut State<A>,
+    queues: &mut Q,
+    timers: &mut Timers<A>,
+    c: ClientId,
+    call: &Call,
+    answer: Outcome,
+) -> Result<(), Refusal>
+    requires ready { IsReadyFor state.old (entry_is.Call c call.now (Some answer)) }
+    requires queued { IsQueued (past state.old)
+        (Q.queue queues.old) (Q.admitted queues.old) (Q.made queues.old) }
+    requires timed { AreTimed (past state.old) timers.old }
+    ensures ok { OnOk result (Adds state.old (entry_is.Call c call.now (Some answer)) state.new) }
+    ensures err { OnErr result (Stays state.old state.new) }
+    ensures reason { IfErr result (λ refusal. refusal ≡ Refusal.Enomem) }
+    ensures queued { IsQueued (past state.new)
+        (Q.queue queues.new) (Q.admitted queues.new) (Q.made queues.new) }
+    ensures timed { AreTimed (past state.new) timers.new }
+{
+    let place = state.stored.len();
+    match calls::push_answered(state, queues, c, call, answer) {
+        Ok(()) => {
+            drop_moved(timers, state, place);
+            Ok(())
+        }
+        Err(refusal) => Err(refusal),
+    }
+}
+
+// A client's process ends: no deadline is set any more for its open call.  [profile]
+pub(crate) fn push_death<Q: WaitList, A: Allocator + Copy>(
+    state: &mut State<A>,
+    queues: &mut Q,
+    timers: &mut Timers<A>,
+    c: ClientId,
+)
+    requires ready { IsReadyFor state.old (entry_is.Death c) }
+    requires queued { IsQueued (past state.old)
+        (Q.queue queues.old) (Q.admitted queues.old) (Q.made queues.old) }
+    requires timed { AreTimed (past state.old) timers.old }
+    ensures adds { Adds state.old (entry_is.Death c) state.new }
+    ensures queued { IsQueued (past state.new)
+        (Q.queue queues.new) (Q.admitted queues.new) (Q.made queues.new) }
+    ensures timed { AreTimed (past state.new) timers.new }
+{
+    let open = state.open_place(c);
+    clients::push_death(state, queues, c);
+    if let Some(place) = open {
+        timers.cancel(place);
+    }
+}
+
+/// Any outer entry. ENOMEM where a growth is refused: then nothing is pushed. A Death is never
+/// refused, and no forced entry comes here.  [profile]
+pub(crate) fn push_outer<Q: WaitList, A: Allocator + Copy>(
+    state: &mut State<A>,
+    queues: &mut Q,
+    timers: &mut Timers<A>,
+    entry: &Entry,
+) -> Result<(), Refusal>
+    requires ready { IsReadyFor state.old entry.now }
+    requires queued { IsQueued (past state.old)
+        (Q.queue queues.old) (Q.admitted queues.old) (Q.made queues.old) }
+    requires timed { AreTimed (past state.old) timers.old }
+    requires outer { is_forced entry.now ≡ false }
+    ensures ok { OnOk result (Adds state.old entry.now state.new) }
+    ensures err { OnErr result (Stays state.old state.new) }
+    ensures reason { IfErr result (λ refusal. refusal ≡ Refusal.Enomem) }
+    ensures death { is_death entry.now ≡ true → IsOk result }
+    ensures queued { IsQueued (past state.new)
+        (Q.queue queues.new) (Q.admitted queues.new) (Q.made queues.new) }
+    ensures timed { AreTimed (past state.new) timers.new }
+{
+    match entry {
+        Entry::Join(_, priority) => clients::push_join(state, queues, *priority),
+        Entry::Call(c, call, None) => push_left(state, queues, timers, *c, call),
+        Entry::Call(c, call, Some(answer)) => {
+            push_answered(state, queues, timers, *c, call, *answer)
+        }
+        Entry::Death(c) => {
+            push_death(state, queues, timers, *c);
+            Ok(())
+        }
+        Entry::Moment(clock, moment) => {
+            clock::push_moment(state, queues, *clock, *moment);
+            Ok(())
+        }
+        _ => Ok(()),
+    }
+}
+
+/// What must follow is pushed: no deadline is set any more for the call that it is for.
+/// [XSH pthread_mutex_unlock, pthread_mutex_lock EOWNERDEAD, pthread_mutex_timedlock]
+pub(crate) fn push_forced<Q: WaitList, A: Allocator + Copy>(
+    state: &mut State<A>,
+    queues: &mut Q,
+    timers: &mut Timers<A>,
+    forced: &Forced,
+)
+    requires ready { IsReadyFor state.old (entry_of (past state.old) forced.now) }
+    requires queued { IsQueued (past state.old)
+        (Q.queue queues.old) (Q.admitted queues.old) (Q.made queues.old) }
+    requires timed { AreTimed (past state.old) timers.old }
+    requires known { IsFor (opens_of state.old.clients) forced.now }
+    ensures adds { Adds state.old (entry_of (past state.old) forced.now) state.new }
+    ensures queued { IsQueued (past state.new)
+        (Q.queue queues.new) (Q.admitted queues.new) (Q.made queues.new) }
+    ensures timed { AreTimed (past state.new) timers.new }
+{
+    match forced {
+        Forced::Serve(found) => {
+            forced::push_forced(state, queues, forced);
+            timers.cancel(found.call.place);
+        }
+        Forced::Yield(_) => forced::push_forced(state, queues, forced),
+        Forced::Expire(late) => {
+            forced::push_forced(state, queues, forced);
+            timers.cancel(late.call.place);
+        }
+    }
+}
+
+impl<Q: WaitList, A: Allocator + Copy> Body<Q, A> {
+    // The client's open call, if it came at this place.
+    fn open_if_at(&self, c: ClientId, place: u64) -> Option<Open>
+        requires { AreTables self.now }
+        ensures { result
+            ≡ keep (λ o. o.call.place == place) (open_in (client_value self.now.clients c)) }
+    {
+        match self.state.open_of(c) {
+            Some(open) if open.call.place == place => Some(open),
+            _ => None,
+        }
+    }
+
+    // The client of the call at a place.
+    fn caller_at(&self, place: u64) -> Option<ClientId>
+        ensures { result ≡ caller (past self.now) place }
+    {
+        match self.state.stored.entry(place)? {
+            Entry::Call(c, _, _) => Some(*c),
+            _ => None,
+        }
+    }
+
+    // The open call that came at a place, if there is one.  [profile]
+    fn open_at(&self, place: u64) -> Option<Open>
+        requires { AreTables self.now }
+        ensures value { option_map called result ≡ at_place place (open_calls (past self.now)) }
+        ensures known { IfSome result (λ o. In o (opens_of self.now.clients)) }
+    {
+        self.open_if_at(self.caller_at(place)?, place)
+    }
+
+    /// The call whose deadline ends it first, where no call is to be served.
+    /// [XSH pthread_mutex_timedlock, the order is profile]
+    pub(crate) fn first_overdue(&self) -> Option<Open>
+        requires read { AreTables self.now }
+        requires unserved { forced_service (past self.now) ≡ None }
+        ensures value { option_map called result
+            ≡ least expires_before
+            (filter (is_overdue (past self.now)) (open_calls (past self.now))) }
+        ensures known { IfSome result (λ found. In found (opens_of self.now.clients)) }
+    {
+        let clocks = &self.state.clocks;
+        let place = self.timers.least_due(clocks.real, clocks.mono)?;
+        self.open_at(place)
+    }
+
+    /// The least deadline by a clock of the open calls that aren't moved, as it was written, where
+    /// nothing is forced.  [profile]
+    pub fn least_deadline(&self, clock: Clock) -> Option<Deadline>
+        requires read { AreTables self.now }
+        requires quiet { forced (past self.now) ≡ None }
+        ensures value { option_map deadline_nanos result ≡ least_deadline_in (past self.now) clock }
+        ensures time { IfSome result (λ deadline. is_bad_deadline deadline ≡ false) }
+    {
+        self.timers.least(clock)
+    }
+}

@@ -1,0 +1,227 @@
+//! Condition variables: verdicts of waits, signals and broadcasts, and the waits that they move.
+
+ghost use Rattle.std.specs.Prelude.{IfSome, None, Some, ◌≡◌, ◌≤◌, filter, length, nat_lt, option_map, true};
+ghost use Rattle.pt_types.specs.declared.outcome.Outcome.TheVariants as told;
+ghost use Rattle.pt_types.specs.Operations.{Awaits, Broadcasts, CondClass, Signals, operation};
+ghost use Rattle.pt_model.specs.declared.entry.Entry.TheVariants as entry;
+ghost use Rattle.pt_model.specs.Searches.{In, least};
+ghost use Rattle.pt_model.specs.Moves.{cond_waits, moved, precedes, precedes_by, waiting_at};
+ghost use Rattle.pt_state.specs.Adds.{Adds, IsReadyFor, past};
+ghost use Rattle.pt_state.specs.Serving.{called, waits_in};
+ghost use Rattle.pt_machine.specs.Queued.{IsQueued};
+ghost use Rattle.pt_model.specs.WaitingCall.{is_wait as is_wait_role};
+ghost use Rattle.pt_records.specs.Callers.{opens_of};
+ghost use Rattle.pt_types.specs.declared.call.ObjectKind.TheVariants as kind;
+ghost use Rattle.pt_model.specs.Objects.{find as find_in, find, kind_of};
+ghost use Rattle.pt_model.specs.Answers.{open_calls};
+ghost use Rattle.pt_state.specs.Reads.{AreTables};
+ghost use Rattle.pt_model.specs.Verdicts.{bound_by, on, operation_verdict as said_of};
+ghost use Rattle.pt_types.specs.Limits.{most_clients};
+ghost use Rattle.pt_types.specs.declared.outcome.Verdict.TheVariants as reply_of;
+ghost use Rattle.pt_model.specs.Histories.{history};
+ghost use Rattle.pt_state.specs.Needed.{waiting_if};
+ghost use Rattle.pt_records.specs.Counts.{one_if};
+
+use crate::body::Body;
+use crate::queues::take_place;
+use pt_model::waiting_call::mutex_awaited;
+use pt_records::Open;
+use pt_state::State;
+use pt_types::operations::ObjectClass;
+use pt_types::tables::wait_verdict;
+use pt_types::{Call, ClientId, Deadline, Name, ObjectId, Outcome, Verdict};
+use pt_waitq::WaitList;
+use std::alloc::Allocator;
+
+// The first wait at a condition is woken, and stands at its mutex.  [XSH pthread_cond_signal]
+fn push_wake<Q: WaitList, A: Allocator + Copy>(
+    state: &mut State<A>,
+    queues: &mut Q,
+    c: ClientId,
+    call: &Call,
+    n: &Name,
+    first: Open,
+)
+    requires ready { IsReadyFor state.old (entry.Call c call.now (Some told.Done)) }
+    requires queued { IsQueued (past state.old)
+        (Q.queue queues.old) (Q.admitted queues.old) (Q.made queues.old) }
+    requires operation { operation call.now ≡ Signals n.now }
+    requires first { Some (called first)
+        ≡ least (precedes_by (moved (past state.old)))
+        (cond_waits (past state.old) (moved (past state.old)) n.now) }
+    ensures adds { Adds state.old (entry.Call c call.now (Some told.Done)) state.new }
+    ensures queued { IsQueued (past state.new)
+        (Q.queue queues.new) (Q.admitted queues.new) (Q.made queues.new) }
+{
+    let woken = ClientId(first.call.client);
+    state.push_woken(c, call, n, Some(first));
+    queues.remove(woken);
+    take_place(queues, state, woken);
+}
+
+// A signal wakes the first wait, if there is one.  [XSH pthread_cond_signal]
+pub(crate) fn push_signal<Q: WaitList, A: Allocator + Copy>(
+    state: &mut State<A>,
+    queues: &mut Q,
+    c: ClientId,
+    call: &Call,
+    n: &Name,
+)
+    requires ready { IsReadyFor state.old (entry.Call c call.now (Some told.Done)) }
+    requires queued { IsQueued (past state.old)
+        (Q.queue queues.old) (Q.admitted queues.old) (Q.made queues.old) }
+    requires operation { operation call.now ≡ Signals n.now }
+    ensures adds { Adds state.old (entry.Call c call.now (Some told.Done)) state.new }
+    ensures queued { IsQueued (past state.new)
+        (Q.queue queues.new) (Q.admitted queues.new) (Q.made queues.new) }
+{
+    let q = state.find(n, ObjectClass::Cond).unwrap();
+    match first_waiting(queues, state, q) {
+        Some(first) => push_wake(state, queues, c, call, n, first),
+        None => state.push_woken(c, call, n, None),
+    }
+}
+
+// All waits at a condition are woken, and stand at its mutex.  [XSH pthread_cond_broadcast]
+pub(crate) fn push_broadcast<Q: WaitList, A: Allocator + Copy>(
+    state: &mut State<A>,
+    queues: &mut Q,
+    c: ClientId,
+    call: &Call,
+    n: &Name,
+)
+    requires ready { IsReadyFor state.old (entry.Call c call.now (Some told.Done)) }
+    requires queued { IsQueued (past state.old)
+        (Q.queue queues.old) (Q.admitted queues.old) (Q.made queues.old) }
+    requires operation { operation call.now ≡ Broadcasts n.now }
+    ensures adds { Adds state.old (entry.Call c call.now (Some told.Done)) state.new }
+    ensures queued { IsQueued (past state.new)
+        (Q.queue queues.new) (Q.admitted queues.new) (Q.made queues.new) }
+{
+    let q = state.find(n, ObjectClass::Cond).unwrap();
+    state.push_broadcast(c, call, n);
+    while let Some(first) = queues.first(q) {
+        queues.remove(first.client);
+        take_place(queues, state, first.client);
+    }
+}
+
+// The deadline of a wait has passed: it stands at its mutex.  [XSH pthread_cond_timedwait]
+pub(crate) fn push_late_wait<Q: WaitList, A: Allocator + Copy>(
+    state: &mut State<A>,
+    queues: &mut Q,
+    found: &Open,
+)
+    requires ready { IsReadyFor state.old (entry.Expire found.now.call.place) }
+    requires queued { IsQueued (past state.old)
+        (Q.queue queues.old) (Q.admitted queues.old) (Q.made queues.old) }
+    requires known { In found.now (opens_of state.old.clients) }
+    requires wait { is_wait_role (called found.now).role ≡ true }
+    ensures adds { Adds state.old (entry.Expire found.now.call.place) state.new }
+    ensures queued { IsQueued (past state.new)
+        (Q.queue queues.new) (Q.admitted queues.new) (Q.made queues.new) }
+{
+    let late = ClientId(found.call.client);
+    state.push_expire(found);
+    queues.remove(late);
+    take_place(queues, state, late);
+}
+
+/// The wait that a signal at this condition wakes.  [XSH pthread_cond_signal]
+pub(crate) fn first_waiting<Q: WaitList, A: Allocator + Copy>(
+    queues: &Q,
+    state: &State<A>,
+    q: ObjectId,
+) -> Option<Open>
+    requires read { AreTables state.now }
+    requires queued { IsQueued (past state.now)
+        (Q.queue queues.now) (Q.admitted queues.now) (Q.made queues.now) }
+    requires cond { kind_of (past state.now) q ≡ Some kind.Cond }
+    ensures value { option_map called result
+        ≡ least (precedes (past state.now))
+        (filter (waits_in (past state.now) q) (open_calls (past state.now))) }
+    ensures known { IfSome result (λ found. In found (opens_of state.now.clients)) }
+{
+    match queues.first(q) {
+        Some(first) => state.open_of(first.client),
+        None => None,
+    }
+}
+
+impl<Q: WaitList, A: Allocator + Copy> Body<Q, A> {
+    /// The mutex with which calls wait at the condition, where some do.  [XSH pthread_cond_wait]
+    pub(crate) fn bound(&self, q: ObjectId) -> Option<ObjectId>
+        requires read { AreTables self.now }
+        requires cond { kind_of (past self.now) q ≡ Some kind.Cond }
+        ensures { result ≡ bound_by (waiting_at (past self.now) q) }
+    {
+        match first_waiting(&self.queues, &self.state, q) {
+            Some(first) => mutex_awaited(first.call.role),
+            None => None,
+        }
+    }
+
+    /// How many waits stand at the condition and aren't moved.  [XSH pthread_cond_wait]
+    pub(crate) fn waiting(&self, q: ObjectId) -> u64
+        requires read { AreTables self.now }
+        requires cond { kind_of (past self.now) q ≡ Some kind.Cond }
+        ensures value { result
+            ≡ length (filter (waits_in (past self.now) q) (open_calls (past self.now))) }
+        ensures small { result ≤ most_clients }
+    {
+        self.queues.len(q) as u64
+    }
+
+    /// A client's wait at a condition with a mutex.  [XSH pthread_cond_timedwait]
+    pub(crate) fn awaits_verdict(
+        &self,
+        c: ClientId,
+        n: &Name,
+        k: &Name,
+        deadline: Option<Deadline>,
+    ) -> Verdict
+        requires { AreTables self.now }
+        ensures { result ≡ said_of (past self.now) c (Awaits n.now k.now deadline) }
+    {
+        let Some(q) = self.state.find(n, ObjectClass::Cond) else {
+            return Verdict::Reply(Outcome::Einval);
+        };
+        let Some((m, kept)) = self.state.mutex_named(k) else {
+            return Verdict::Reply(Outcome::Einval);
+        };
+        wait_verdict(self.bound(q), m, kept.is_owned_by(c), deadline)
+    }
+
+    /// A call that wakes waits at a condition.  [XSH pthread_cond_broadcast]
+    pub(crate) fn woken_verdict(&self, n: &Name) -> Verdict
+        requires { AreTables self.now }
+        ensures { result
+            ≡ on (find_in (past self.now) n.now CondClass) (λ o. reply_of.Reply told.Done) }
+    {
+        self.state
+            .known_verdict(n, ObjectClass::Cond, Verdict::Reply(Outcome::Done))
+    }
+
+    // How many waits stand at the condition that is found, if one is.  [XSH pthread_cond_wait]
+    pub(crate) fn waiting_found(&self, n: &Name) -> u64
+        requires { AreTables self.now }
+        ensures value { let h = history self.now.stored.entries in
+            result ≡ waiting_if h (find h n.now CondClass) }
+        ensures small { result ≤ 1024 }
+    {
+        match self.state.find(n, ObjectClass::Cond) {
+            Some(q) => self.waiting(q),
+            None => 0,
+        }
+    }
+
+    // One where waits stand at the condition that is found.  [XSH pthread_cond_signal]
+    pub(crate) fn first_found(&self, n: &Name) -> u64
+        requires { AreTables self.now }
+        ensures value { let h = history self.now.stored.entries in
+            result ≡ one_if (nat_lt 0 (waiting_if h (find h n.now CondClass))) }
+        ensures small { result ≤ 1 }
+    {
+        if 0 < self.waiting_found(n) { 1 } else { 0 }
+    }
+}

@@ -1,0 +1,110 @@
+//! Objects: calls that make and destroy them, with their queues.
+
+ghost use Rattle.std.specs.Prelude.{IfErr, OnErr, OnOk, Some, ◌≡◌, option_map};
+ghost use Rattle.pt_types.specs.declared.outcome.Outcome.TheVariants as told;
+ghost use Rattle.pt_types.specs.Operations.{Ends, Makes, class_of, operation};
+ghost use Rattle.pt_model.specs.declared.entry.Entry.TheVariants as entry;
+ghost use Rattle.pt_state.specs.Adds.{Adds, IsReadyFor, Stays, past};
+ghost use Rattle.pt_machine.specs.Queued.{IsQueued};
+ghost use Rattle.pt_types.specs.Shown.{shown_class};
+ghost use Rattle.pt_model.specs.Objects.{find as find_in, kind_of};
+ghost use Rattle.pt_model.specs.Verdicts.{is_busy as is_busy_in, on};
+ghost use Rattle.pt_state.specs.Reads.{AreTables};
+ghost use Rattle.pt_types.specs.ObjectTable.{destroy_verdict as destroy_table};
+
+use crate::body::Body;
+use pt_state::State;
+use pt_types::operations::ObjectClass;
+use pt_types::tables::destroy_verdict;
+use pt_types::{Call, ClientId, Name, ObjectId, ObjectKind, Outcome, Refusal, Verdict};
+use pt_waitq::WaitList;
+use std::alloc::Allocator;
+
+// An object is made, with its queue. ENOMEM where there is no memory for one of them.
+// [XSH pthread_mutex_init]
+pub(crate) fn push_made<Q: WaitList, A: Allocator + Copy>(
+    state: &mut State<A>,
+    queues: &mut Q,
+    c: ClientId,
+    call: &Call,
+    n: &Name,
+    kind: ObjectKind,
+) -> Result<(), Refusal>
+    requires ready { IsReadyFor state.old (entry.Call c call.now (Some told.Done)) }
+    requires queued { IsQueued (past state.old)
+        (Q.queue queues.old) (Q.admitted queues.old) (Q.made queues.old) }
+    requires operation { operation call.now ≡ Makes n.now kind }
+    ensures ok { OnOk result (Adds state.old (entry.Call c call.now (Some told.Done)) state.new) }
+    ensures err { OnErr result (Stays state.old state.new) }
+    ensures reason { IfErr result (λ refusal. refusal ≡ Refusal.Enomem) }
+    ensures queued { IsQueued (past state.new)
+        (Q.queue queues.new) (Q.admitted queues.new) (Q.made queues.new) }
+{
+    let o = ObjectId(state.stored.len());
+    if let Err(refusal) = queues.make(o) {
+        return Err(refusal);
+    }
+    match state.push_made(c, call, n, kind) {
+        Ok(()) => Ok(()),
+        Err(refusal) => {
+            queues.discard(o);
+            Err(refusal)
+        }
+    }
+}
+
+// An object is ended, and its queue with it.  [XSH pthread_mutex_destroy]
+pub(crate) fn push_ended<Q: WaitList, A: Allocator + Copy>(
+    state: &mut State<A>,
+    queues: &mut Q,
+    c: ClientId,
+    call: &Call,
+    n: &Name,
+    class: ObjectClass,
+)
+    requires ready { IsReadyFor state.old (entry.Call c call.now (Some told.Done)) }
+    requires queued { IsQueued (past state.old)
+        (Q.queue queues.old) (Q.admitted queues.old) (Q.made queues.old) }
+    requires operation { operation call.now ≡ Ends n.now (shown_class class) }
+    ensures adds { Adds state.old (entry.Call c call.now (Some told.Done)) state.new }
+    ensures queued { IsQueued (past state.new)
+        (Q.queue queues.new) (Q.admitted queues.new) (Q.made queues.new) }
+{
+    let o = state.find(n, class).unwrap();
+    queues.discard(o);
+    state.push_ended(c, call, n, class);
+}
+
+impl<Q: WaitList, A: Allocator + Copy> Body<Q, A> {
+    /// Whether an object can't be ended now.
+    /// [XSH pthread_mutex_destroy, that it is told is profile]
+    fn is_busy(&self, class: ObjectClass, o: ObjectId) -> bool
+        requires read { AreTables self.now }
+        requires class { option_map class_of (kind_of (past self.now) o)
+            ≡ Some (shown_class class) }
+        ensures { result ≡ is_busy_in (past self.now) (shown_class class) o }
+    {
+        match class {
+            ObjectClass::Mutex => {
+                self.state.is_alive_if(self.state.owner(o))
+                    || self.is_awaited(o)
+                    || self.state.will_return(o)
+            }
+            ObjectClass::Rwlock => self.state.is_held_alive(o) || self.is_awaited(o),
+            ObjectClass::Cond | ObjectClass::Barrier => self.is_awaited(o),
+        }
+    }
+
+    /// A call that ends an object.  [XSH pthread_mutex_destroy]
+    pub(crate) fn ends_verdict(&self, n: &Name, class: ObjectClass) -> Verdict
+        requires { AreTables self.now }
+        ensures { result
+            ≡ on (find_in (past self.now) n.now (shown_class class))
+            (λ o. destroy_table (is_busy_in (past self.now) (shown_class class) o)) }
+    {
+        match self.state.find(n, class) {
+            Some(o) => destroy_verdict(self.is_busy(class, o)),
+            None => Verdict::Reply(Outcome::Einval),
+        }
+    }
+}

@@ -1,0 +1,89 @@
+//! The queues of waiting calls: who takes a place, and who leaves it.
+
+ghost use Rattle.std.specs.Prelude.{Some, [], ℕ, ◌==◌, ◌≡◌, if◌then◌else◌, option_map};
+ghost use Rattle.pt_model.specs.Shown.{shown, shown_move};
+ghost use Rattle.pt_machine.specs.Queued.{CanStand, waiter, waiter_by};
+ghost use Rattle.pt_model.specs.Searches.{In};
+ghost use Rattle.pt_model.specs.Records.{WaitingCall};
+ghost use Rattle.pt_model.specs.Answers.{open_calls};
+ghost use Rattle.pt_model.specs.Moves.{at_object};
+ghost use Rattle.pt_waitq.specs.Queues.{insert_in_order};
+ghost use Rattle.pt_state.specs.Adds.{past};
+ghost use Rattle.pt_state.specs.Reads.{AreTables};
+ghost use Rattle.pt_model.specs.Verdicts.{is_awaited as is_awaited_in};
+
+use crate::body::Body;
+use pt_model::waiting_call::is_write;
+use pt_records::Open;
+use pt_records::calls::at_object;
+use pt_state::State;
+use pt_types::{ClientId, ObjectId, Priority};
+use pt_waitq::{WaitList, Waiter};
+use std::alloc::Allocator;
+
+// An open call as it waits, with its client's priority.  [XSH 2.8.4]
+fn waiter_of(open: &Open, prio: Priority) -> Waiter
+    ensures { result
+        ≡ record (waiter_by (option_map shown_move «open».now.moved) (shown «open».now.call)) {
+          prio = prio;
+        } }
+{
+    Waiter {
+        client: ClientId(open.call.client),
+        place: open.call.place,
+        prio,
+        writer: is_write(open.call.role),
+        moved: match open.moved {
+            Some(moved) => moved.at,
+            None => open.call.place,
+        },
+    }
+}
+
+/// The client's open call takes its place in the queue of the object at which it stands.
+/// [XSH 2.8.4, pthread_rwlock_unlock]
+pub(crate) fn take_place<Q: WaitList, A: Allocator + Copy>(
+    queues: &mut Q,
+    state: &State<A>,
+    c: ClientId,
+)
+    requires read { AreTables state.now }
+    requires ready { CanStand (past state.now) c
+        (Q.queue queues.old) (Q.admitted queues.old) (Q.made queues.old) }
+    ensures queues { (w : WaitingCall) → In w (open_calls (past state.now)) → w.client ≡ c
+        → (q : ℕ)
+        → Q.queue queues.new q
+        ≡ (if at_object (past state.now) w == q
+        then insert_in_order (waiter (past state.now) w) (Q.queue queues.old q)
+        else Q.queue queues.old q) }
+    ensures admitted { (d : ℕ) → Q.admitted queues.new d ≡ Q.admitted queues.old d }
+    ensures made { (o : ℕ) → Q.made queues.new o ≡ Q.made queues.old o }
+{
+    if let Some(open) = state.open_of(c) {
+        if let Some(prio) = state.priority(c) {
+            queues.insert(at_object(&open), waiter_of(&open, prio));
+        }
+    }
+}
+
+/// All calls leave a queue.  [XSH pthread_barrier_wait]
+pub(crate) fn clear<Q: WaitList>(queues: &mut Q, object: ObjectId)
+    ensures queues { (q : ℕ)
+        → Q.queue queues.new q ≡ (if object == q then [] else Q.queue queues.old q) }
+    ensures admitted { (c : ℕ) → Q.admitted queues.new c ≡ Q.admitted queues.old c }
+    ensures made { (o : ℕ) → Q.made queues.new o ≡ Q.made queues.old o }
+{
+    while let Some(first) = queues.first(object) {
+        queues.remove(first.client);
+    }
+}
+
+impl<Q: WaitList, A: Allocator + Copy> Body<Q, A> {
+    /// Whether a call stands at the object.  [XSH pthread_mutex_destroy]
+    pub(crate) fn is_awaited(&self, o: ObjectId) -> bool
+        requires { AreTables self.now }
+        ensures { result ≡ is_awaited_in (past self.now) o }
+    {
+        self.queues.first(o).is_some()
+    }
+}

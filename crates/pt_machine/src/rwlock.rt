@@ -1,0 +1,45 @@
+//! Read-write locks: the verdict of a call that reads.
+
+ghost use Rattle.std.specs.Prelude.{Some, ◌≡◌, unwrap_or};
+ghost use Rattle.pt_model.specs.Clients.{client};
+ghost use Rattle.pt_model.specs.Grants.{is_blocked as is_blocked_in};
+ghost use Rattle.pt_state.specs.Adds.{past};
+ghost use Rattle.pt_state.specs.Reads.{AreTables};
+ghost use Rattle.pt_types.specs.Operations.{Acquires, ReadLock};
+ghost use Rattle.pt_model.specs.Verdicts.{operation_verdict as said_of};
+
+use crate::body::Body;
+use pt_types::operations::ObjectClass;
+use pt_types::tables::read_verdict;
+use pt_types::{ClientId, How, Name, ObjectId, Outcome, Verdict};
+use pt_waitq::WaitList;
+use std::alloc::Allocator;
+
+impl<Q: WaitList, A: Allocator + Copy> Body<Q, A> {
+    /// Whether a writer of the client's priority or a higher one stands at the lock; one that
+    /// doesn't live has priority 0.  [XSH pthread_rwlock_rdlock]
+    pub(crate) fn is_blocked(&self, r: ObjectId, c: ClientId) -> bool
+        requires { AreTables self.now }
+        ensures { result
+            ≡ is_blocked_in (past self.now) r (unwrap_or (client (past self.now) c) 0) }
+    {
+        match self.state.priority(c) {
+            Some(priority) => self.queues.blocks_reader(r, priority),
+            None => self.queues.first_writer(r).is_some(),
+        }
+    }
+
+    /// A client's call to read.  [XSH pthread_rwlock_rdlock]
+    pub(crate) fn read_verdict(&self, c: ClientId, n: &Name, how: &How) -> Verdict
+        requires { AreTables self.now }
+        ensures { result ≡ said_of (past self.now) c (Acquires n.now ReadLock how.now) }
+    {
+        match self.state.find(n, ObjectClass::Rwlock) {
+            Some(r) => {
+                let blocked = self.is_blocked(r, c);
+                read_verdict(self.state.lock_view(r, c), blocked, how)
+            }
+            None => Verdict::Reply(Outcome::Einval),
+        }
+    }
+}

@@ -1,0 +1,8 @@
+use Rattle.pt_records.specs.Callers.{called_at}
+use Rattle.pt_records.proofs.CallerWrites.{writes-by}
+use Rattle.pt_records.proofs.clients.note_call.Goals as goal
+
+pub returns-in-Some : goal.returns-in-Some
+returns-in-Some g c =
+    writes-by (called_at c.args.place) c.args.clients.now c.args.c c.in-Some.row.now
+    c.in-Some.ensures.value

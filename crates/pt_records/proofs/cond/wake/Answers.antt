@@ -1,0 +1,9 @@
+use Rattle.pt_records.specs.Callers.{moved_at}
+use Rattle.pt_records.proofs.CallerWrites.{writes-by}
+use Rattle.pt_records.proofs.cond.wake.Goals as goal
+
+pub returns-in-Some : goal.returns-in-Some
+returns-in-Some g c =
+    rw c.moved-row.ensures
+    (writes-by (moved_at c.args.at c.args.cause) c.args.clients.now c.args.c c.in-Some.row.now
+    c.in-Some.ensures.value)

@@ -1,5 +1,0 @@
-use Rattle.pt_records.proofs.ObjectChanges.{removes-object}
-use Rattle.pt_records.proofs.object_rows.remove.Goals as goal
-
-pub returns : goal.returns
-returns g c = rw c.remove.ensures.rows (removes-object c.args.objects.now c.args.o c.requires)

@@ -1,0 +1,5 @@
+use Rattle.pt_records.proofs.ObjectChanges.{removes-object}
+use Rattle.pt_records.proofs.objects.remove.Goals as goal
+
+pub returns : goal.returns
+returns g c = rw c.remove.ensures.rows (removes-object c.args.objects.now c.args.o c.requires)

@@ -1,0 +1,168 @@
+//! Rows of clients that have arrived at a barrier, and the answers of a trip.
+
+ghost use Rattle.std.specs.Prelude.{None, Some, ◌++◌, ◌+◌, ◌<◌, ◌≡◌, ◌≤◌, false, length, map, option_map, vec_capacity, vec_len};
+ghost use Rattle.pt_records.specs.Callers.{AreCallers, Once, has_open, open_in};
+ghost use Rattle.pt_records.specs.Writes.{RewritesCallers, arrived_at, closed_at, rewritten_nth};
+ghost use Rattle.pt_model.specs.Histories.{history, place};
+ghost use Rattle.pt_model.specs.Found.{keep};
+ghost use Rattle.pt_model.specs.Shown.{shown};
+ghost use Rattle.pt_records.specs.Arrivals.{arrives_from, first_with, next_of, outcome_before};
+ghost use Rattle.pt_table.specs.ClientRows.{nth_value};
+ghost use Rattle.pt_records.specs.Logs.{logged, told_at};
+ghost use Rattle.pt_model.specs.declared.entry.Entry.{Entry as AnyEntry};
+ghost use Rattle.pt_model.specs.Answers.{at_barrier, open_calls, told};
+ghost use Rattle.pt_model.specs.Steps.{Follows};
+
+use crate::answers::{Answered, tell};
+use crate::clients::{Caller, Open};
+use pt_model::Entry;
+use pt_model::waiting_call::{WaitingCall, is_arrival};
+use pt_table::Clients;
+use pt_types::{ClientId, ObjectId, Outcome};
+use std::alloc::Allocator;
+
+// Whether the client's open call is an arrival at the barrier.
+fn has_arrived(caller: &Caller, b: ObjectId) -> bool
+    ensures { result ≡ has_open (arrived_at b) caller.now }
+{
+    match &caller.open {
+        Some(open) => is_arrival(open.call.role) && open.call.object == b.0,
+        None => false,
+    }
+}
+
+// Closes the client's open call in the row at this index, if it is an arrival at the barrier.
+fn close_nth<A: Allocator + Copy>(clients: &mut Clients<Caller, A>, index: usize, b: ObjectId)
+    requires { Once clients.old }
+    ensures { clients.new ≡ rewritten_nth (closed_at b) clients.old index }
+{
+    let Some((c, caller)) = clients.nth(index) else {
+        return;
+    };
+    if !has_arrived(caller, b) {
+        return;
+    }
+    if let Some(row) = clients.at_mut(c) {
+        row.open = None;
+    }
+}
+
+/// The calls at the barrier are open no more.  [profile]
+pub fn close_arrivals<A: Allocator + Copy>(clients: &mut Clients<Caller, A>, b: ObjectId)
+    requires { Once clients.old }
+    ensures { RewritesCallers clients.old clients.new (closed_at b) }
+{
+    for i in 0..clients.len() {
+        close_nth(clients, i, b);
+    }
+}
+
+// The open call, if it stands at the barrier and came at this place or behind it.
+fn arrival(kept: Option<Open>, b: ObjectId, from: u64) -> Option<WaitingCall>
+    ensures { option_map shown result
+        ≡ keep (arrives_from b from) (option_map (λ o. shown o.call) kept) }
+{
+    match kept {
+        Some(open) => {
+            let call = open.call;
+            if is_arrival(call.role) && call.object == b.0 && from <= call.place {
+                Some(call)
+            } else {
+                None
+            }
+        }
+        None => None,
+    }
+}
+
+// The open call in the row at an index, if it is such an arrival.
+fn arrival_nth<A: Allocator + Copy>(
+    clients: &Clients<Caller, A>,
+    index: usize,
+    b: ObjectId,
+    from: u64,
+) -> Option<WaitingCall>
+    ensures { option_map shown result
+        ≡ keep (arrives_from b from)
+        (option_map (λ o. shown o.call) (open_in (nth_value clients.now index))) }
+{
+    match clients.nth(index) {
+        Some((_, caller)) => arrival(caller.open, b, from),
+        None => None,
+    }
+}
+
+// The one that came first, of a call and the first of others.
+fn sooner(call: Option<WaitingCall>, best: Option<WaitingCall>) -> Option<WaitingCall>
+    ensures { option_map shown result ≡ first_with (option_map shown call) (option_map shown best) }
+{
+    match (call, best) {
+        (Some(w), Some(v)) if w.place <= v.place => Some(w),
+        (Some(w), None) => Some(w),
+        _ => best,
+    }
+}
+
+// The first open arrival at the barrier that came at this place or behind it.
+fn next_arrival<A: Allocator + Copy>(
+    clients: &Clients<Caller, A>,
+    b: ObjectId,
+    from: u64,
+) -> Option<WaitingCall>
+    ensures { option_map shown result ≡ next_of clients.now b from }
+{
+    let mut best = None;
+    let mut i = clients.len();
+    while i > 0 {
+        i -= 1;
+        best = sooner(arrival_nth(clients, i, b, from), best);
+    }
+    best
+}
+
+// What an arrival is told, where this one follows it.  [XSH pthread_barrier_wait]
+fn told_in_trip(at: u64, call: &WaitingCall, next: &Option<WaitingCall>) -> Answered
+    ensures { logged result
+        ≡ (
+          at,
+          record {
+            client = call.now.client;
+            place = call.now.place;
+            outcome = outcome_before (option_map shown next.now);
+          },
+        ) }
+{
+    Answered {
+        at,
+        client: ClientId(call.client),
+        place: call.place,
+        outcome: match next {
+            Some(_) => Outcome::Done,
+            None => Outcome::Serial,
+        },
+    }
+}
+
+/// Adds what the barrier's Trip behind these entries answers, in room that was made for it.
+/// [profile]
+pub fn tell_trip<A: Allocator + Copy>(
+    entries: &[Entry],
+    clients: &Clients<Caller, A>,
+    answers: &mut Vec<Answered, A>,
+    b: ObjectId,
+)
+    requires follows { Follows (history entries.now) }
+    requires callers { AreCallers (history entries.now) clients.now }
+    requires room { vec_len answers.old + length (at_barrier b (open_calls (history entries.now)))
+        ≤ vec_capacity answers.old }
+    ensures told { map logged answers.new.items
+        ≡ map logged answers.old.items
+        ++ told_at (length entries.now) (told (history entries.now) (AnyEntry.Trip b)) }
+    ensures capacity { vec_capacity answers.new ≡ vec_capacity answers.old }
+{
+    let mut next = next_arrival(clients, b, 0);
+    while let Some(call) = next {
+        next = next_arrival(clients, b, call.place + 1);
+        tell(answers, told_in_trip(entries.len() as u64, &call, &next));
+    }
+}

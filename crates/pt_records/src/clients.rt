@@ -1,0 +1,73 @@
+//! The row of a living client: its priority, its latest call and its open call.
+
+ghost use Rattle.std.specs.Prelude.{IfErr, OnErr, OnOk, Some, ◌<◌, ◌≡◌, false, length, true};
+ghost use Rattle.pt_table.specs.ClientRows.{client_value, has_client};
+ghost use Rattle.pt_records.specs.Writes.{AddsCaller, RemovesCaller, WritesCaller};
+ghost use Rattle.pt_records.specs.Callers.{called_at};
+ghost use Rattle.pt_types.specs.Limits.{most_clients};
+
+use pt_model::waiting_call::{Move, WaitingCall};
+use pt_table::Clients;
+use pt_types::{Priority, Refusal};
+use std::alloc::Allocator;
+
+/// What is kept of a client is this from now on.  [profile]
+pub fn write<A: Allocator + Copy>(clients: &mut Clients<Caller, A>, c: u64, caller: Caller)
+    requires { has_client clients.old c ≡ true }
+    ensures { WritesCaller clients.old clients.new c caller }
+{
+    if let Some(row) = clients.at_mut(c) {
+        *row = caller;
+    }
+}
+
+/// The client's latest call came at this place.  [profile]
+pub fn note_call<A: Allocator + Copy>(clients: &mut Clients<Caller, A>, c: u64, place: u64)
+    ensures { (v : Caller) → client_value clients.old c ≡ Some v
+        → WritesCaller clients.old clients.new c (called_at place v) }
+{
+    if let Some(row) = clients.at_mut(c) {
+        row.latest = Some(place);
+    }
+}
+
+/// A new client gets its row. ENOMEM where there is no memory for it.  [profile]
+pub fn admit<A: Allocator + Copy>(
+    clients: &mut Clients<Caller, A>,
+    c: u64,
+    caller: Caller,
+) -> Result<(), Refusal>
+    requires new { has_client clients.old c ≡ false }
+    requires room { length clients.old < most_clients }
+    ensures ok { OnOk result (AddsCaller clients.old clients.new c caller) }
+    ensures err { OnErr result (clients.new ≡ clients.old) }
+    ensures reason { IfErr result (λ refusal. refusal ≡ Refusal.Enomem) }
+{
+    match clients.add(c, caller) {
+        Ok(()) => Ok(()),
+        Err(_) => Err(Refusal::Enomem),
+    }
+}
+
+/// The client's row is taken out.  [profile]
+pub fn dismiss<A: Allocator + Copy>(clients: &mut Clients<Caller, A>, c: u64)
+    requires { has_client clients.old c ≡ true }
+    ensures { RemovesCaller clients.old clients.new c }
+{
+    let _ = clients.remove(c);
+}
+
+/// A client's open call, with its move where it is a wait that was moved.  [profile]
+#[derive(Clone, Copy, Debug, PartialEq, Eq)]
+pub struct Open {
+    pub call: WaitingCall,
+    pub moved: Option<Move>,
+}
+
+/// What is kept of a living client: its priority, its open call, and the place of its latest call.
+#[derive(Clone, Copy, Debug, PartialEq, Eq)]
+pub struct Caller {
+    pub priority: Priority,
+    pub open: Option<Open>,
+    pub latest: Option<u64>,
+}

@@ -1,0 +1,110 @@
+//! Rows of clients that wait at a condition variable.
+
+ghost use Rattle.std.specs.Prelude.{None, Some, ◌<◌, ◌≡◌, false, option_map};
+ghost use Rattle.pt_records.specs.Callers.{Once, has_open, moved_at, open_in, open_moved_at, opens_of};
+ghost use Rattle.pt_table.specs.ClientRows.{client_value, nth_value};
+ghost use Rattle.pt_records.specs.Writes.{RewritesCallers, WritesCaller, rewritten_nth, still_waits_at, woken_at};
+ghost use Rattle.pt_model.specs.Found.{passes};
+ghost use Rattle.pt_records.specs.OpenRows.{returns_to as returns_to_it};
+ghost use Rattle.std.specs.List.{list_any};
+
+use crate::calls::{is_moved, open_at};
+use crate::clients::{Caller, Open};
+use pt_model::Cause;
+use pt_model::waiting_call::{Move, Role, is_wait};
+use pt_table::Clients;
+use pt_types::ObjectId;
+use std::alloc::Allocator;
+
+// The open call, if there is one, as the entry at this place moves it.
+pub(crate) fn moved(open: Option<Open>, at: u64, cause: Cause) -> Option<Open>
+    ensures { result ≡ option_map (open_moved_at at cause) «open» }
+{
+    match open {
+        Some(open) => Some(Open {
+            call: open.call,
+            moved: Some(Move { at, cause }),
+        }),
+        None => None,
+    }
+}
+
+/// The client's open call is moved by the entry at this place.  [profile]
+pub fn wake<A: Allocator + Copy>(clients: &mut Clients<Caller, A>, c: u64, at: u64, cause: Cause)
+    ensures { (v : Caller) → client_value clients.old c ≡ Some v
+        → WritesCaller clients.old clients.new c (moved_at at cause v) }
+{
+    if let Some(row) = clients.at_mut(c) {
+        row.open = moved(row.open, at, cause);
+    }
+}
+
+// Whether the client's open call is a wait with the condition that isn't moved.
+fn is_waiting(caller: &Caller, q: ObjectId) -> bool
+    ensures { result ≡ has_open (still_waits_at q) caller.now }
+{
+    match &caller.open {
+        Some(open) => { is_wait(open.call.role) && open.moved.is_none() && q.0 == open.call.object }
+        None => false,
+    }
+}
+
+// Moves the client's open call in the row at this index, if it waits at the condition.
+fn wake_nth<A: Allocator + Copy>(
+    clients: &mut Clients<Caller, A>,
+    index: usize,
+    q: ObjectId,
+    at: u64,
+    cause: Cause,
+)
+    requires { Once clients.old }
+    ensures { clients.new ≡ rewritten_nth (woken_at q at cause) clients.old index }
+{
+    let Some((c, caller)) = clients.nth(index) else {
+        return;
+    };
+    if !is_waiting(caller, q) {
+        return;
+    }
+    if let Some(row) = clients.at_mut(c) {
+        row.open = moved(row.open, at, cause);
+    }
+}
+
+/// The waits at the condition are moved by the entry at this place.  [profile]
+pub fn wake_waits<A: Allocator + Copy>(
+    clients: &mut Clients<Caller, A>,
+    q: ObjectId,
+    at: u64,
+    cause: Cause,
+)
+    requires { Once clients.old }
+    ensures { RewritesCallers clients.old clients.new (woken_at q at cause) }
+{
+    for i in 0..clients.len() {
+        wake_nth(clients, i, q, at, cause);
+    }
+}
+
+/// Whether the open call in the row at an index is a wait that isn't moved and will come back to
+/// the mutex.  [XSH pthread_mutex_destroy]
+fn returns_from<A: Allocator + Copy>(clients: &Clients<Caller, A>, m: ObjectId, i: usize) -> bool
+    ensures { result ≡ passes (returns_to_it m) (open_in (nth_value clients.now i)) }
+{
+    match open_at(clients, i) {
+        Some(open) => matches!(open.call.role, Role::ForCond(k) if k == m.0) && !is_moved(&open),
+        None => false,
+    }
+}
+
+/// Whether a wait that isn't moved will come back to the mutex.  [XSH pthread_mutex_destroy]
+pub fn any_returns<A: Allocator + Copy>(clients: &Clients<Caller, A>, m: ObjectId) -> bool
+    ensures { result ≡ list_any (returns_to_it m) (opens_of clients.now) }
+{
+    for i in 0..clients.len() {
+        if returns_from(clients, m, i) {
+            return true;
+        }
+    }
+    false
+}

@@ -1,0 +1,113 @@
+//! Rows of mutexes: what one says of a call, and how it changes.
+
+ghost use Rattle.std.specs.Prelude.{IsTrue, Some, ◌+◌, ◌<◌, ◌≡◌, true};
+ghost use Rattle.pt_records.specs.Counts.{is_last_lock, is_robust_held};
+ghost use Rattle.pt_types.specs.MutexTable.{lock_verdict as lock_table, may_lock as may_lock_it, may_relock as may_relock_it, owns};
+ghost use Rattle.pt_mutex.specs.MutexState.{MutexState, acquired, can_acquire, released, restored, yielded};
+ghost use Rattle.pt_table.specs.ObjectRows.{object_value};
+ghost use Rattle.pt_records.specs.declared.objects.Object.TheVariants.{Mutex};
+ghost use Rattle.pt_records.specs.Writes.{WritesObject};
+
+use crate::objects::Object;
+use pt_mutex::MutexObj;
+use pt_table::Objects;
+use pt_types::{ClientId, Consistency, How, MutexKind, Verdict};
+use std::alloc::Allocator;
+
+/// Whether an object is a robust mutex with an owner.  [profile]
+pub fn is_robust_mutex<A: Allocator + Copy>(object: &Object<A>) -> bool
+    ensures { result ≡ is_robust_held object.now }
+{
+    match object {
+        Object::Mutex(m) => m.is_robust() && m.owner().is_some(),
+        _ => false,
+    }
+}
+
+/// Whether an object is a robust mutex on which the client has one lock.
+/// [XSH pthread_mutex_unlock]
+pub fn is_last<A: Allocator + Copy>(object: &Object<A>, c: ClientId) -> bool
+    ensures { result ≡ is_last_lock c object.now }
+{
+    match object {
+        Object::Mutex(m) => m.is_robust() && m.is_owned_by(c) && m.count() == 1,
+        _ => false,
+    }
+}
+
+/// What becomes of a client's call for this mutex.  [XSH pthread_mutex_lock]
+pub fn lock_verdict(m: &MutexObj, c: ClientId, how: &How) -> Verdict
+    ensures { result ≡ lock_table m.now.seen c how.now }
+{
+    match how {
+        How::Plain => m.verdict_lock(c),
+        How::Try => m.verdict_try(c),
+        How::Timed(deadline) => m.verdict_timed(c, *deadline),
+    }
+}
+
+/// Whether nothing but the order of calls keeps a call from a mutex.  [XSH pthread_mutex_unlock]
+pub fn may_lock(mutex: &MutexObj) -> bool
+    ensures { result ≡ may_lock_it mutex.now.seen true }
+{
+    mutex.consistency() == Consistency::NotRecoverable || mutex.owner().is_none()
+}
+
+/// Whether a moved wait can have it back from its own client.  [profile]
+pub fn may_relock(mutex: &MutexObj, c: ClientId) -> bool
+    ensures { result ≡ may_relock_it mutex.now.seen c }
+{
+    mutex.kind() == MutexKind::Recursive && mutex.is_owned_by(c)
+}
+
+/// The client has the mutex once more.  [XSH pthread_mutex_lock]
+pub fn acquire<A: Allocator + Copy>(objects: &mut Objects<Object<A>, A>, m: u64, c: ClientId)
+    requires { (x : MutexState) → object_value objects.old m ≡ Some (Mutex x)
+        → IsTrue (can_acquire x.seen c) }
+    ensures { (x : MutexState) → object_value objects.old m ≡ Some (Mutex x)
+        → WritesObject objects.old objects.new m (Mutex (record x { seen = acquired x.seen c })) }
+{
+    if let Some(object) = objects.at_mut(m) {
+        if let Object::Mutex(mutex) = object {
+            mutex.acquire(c);
+        }
+    }
+}
+
+/// The client gives one lock on the mutex back.  [XSH pthread_mutex_unlock]
+pub fn release<A: Allocator + Copy>(objects: &mut Objects<Object<A>, A>, m: u64, c: ClientId)
+    requires { (x : MutexState) → object_value objects.old m ≡ Some (Mutex x)
+        → IsTrue (owns x.seen c) }
+    ensures { (x : MutexState) → object_value objects.old m ≡ Some (Mutex x)
+        → WritesObject objects.old objects.new m (Mutex (record x { seen = released x.seen })) }
+{
+    if let Some(object) = objects.at_mut(m) {
+        if let Object::Mutex(mutex) = object {
+            mutex.release(c);
+        }
+    }
+}
+
+/// What the mutex guards is in order again.  [XSH pthread_mutex_consistent]
+pub fn restore<A: Allocator + Copy>(objects: &mut Objects<Object<A>, A>, m: u64)
+    ensures { (x : MutexState) → object_value objects.old m ≡ Some (Mutex x)
+        → WritesObject objects.old objects.new m (Mutex (record x { seen = restored x.seen })) }
+{
+    if let Some(object) = objects.at_mut(m) {
+        if let Object::Mutex(mutex) = object {
+            mutex.mark_consistent();
+        }
+    }
+}
+
+/// The mutex is taken from its dead owner.  [XSH pthread_mutex_lock, EOWNERDEAD]
+pub fn yield_dead<A: Allocator + Copy>(objects: &mut Objects<Object<A>, A>, m: u64)
+    ensures { (x : MutexState) → object_value objects.old m ≡ Some (Mutex x)
+        → WritesObject objects.old objects.new m (Mutex (record x { seen = yielded x.seen })) }
+{
+    if let Some(object) = objects.at_mut(m) {
+        if let Object::Mutex(mutex) = object {
+            mutex.yield_dead();
+        }
+    }
+}

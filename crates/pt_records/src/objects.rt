@@ -1,0 +1,82 @@
+//! The row of an object, whatever it is.
+
+ghost use Rattle.std.specs.Prelude.{IfErr, OnErr, OnOk, ◌+◌, ◌-◌, ◌<◌, ◌≡◌, false, length, true};
+ghost use Rattle.pt_types.specs.Operations.{class_of as class_meant};
+ghost use Rattle.pt_types.specs.Shown.{shown_class};
+ghost use Rattle.pt_records.specs.Objects.{Rising, kind_kept};
+ghost use Rattle.pt_types.specs.ObjectTable.{is_bad_kind};
+ghost use Rattle.pt_records.specs.declared.objects.Object.TheVariants.{Mutex, Rwlock};
+ghost use Rattle.pt_records.specs.Writes.{AddsObject, RemovesObject, new_object};
+ghost use Rattle.pt_types.specs.Limits.{most_objects};
+ghost use Rattle.pt_table.specs.ObjectRows.{has_object, is_taken};
+
+use pt_barrier::BarrierObj;
+use pt_cond::CondObj;
+use pt_mutex::MutexObj;
+use pt_rwlock::RwObj;
+use pt_table::Objects;
+use pt_types::operations::ObjectClass;
+use pt_types::{Name, ObjectKind, Refusal};
+use std::alloc::{Allocator, Global};
+
+/// The class of an object.  [XSH 2.9]
+pub fn class_kept<A: Allocator + Copy>(object: &Object<A>) -> ObjectClass
+    ensures { shown_class result ≡ class_meant (kind_kept object.now) }
+{
+    match object {
+        Object::Mutex(_) => ObjectClass::Mutex,
+        Object::Rwlock(_) => ObjectClass::Rwlock,
+        Object::Cond(_) => ObjectClass::Cond,
+        Object::Barrier(_) => ObjectClass::Barrier,
+    }
+}
+
+/// What is kept of an object, by what it was made as.  [XSH 2.9]
+#[derive(Drop)]
+pub enum Object<A: Allocator + Copy = Global> {
+    Mutex(MutexObj),
+    Rwlock(RwObj<A>),
+    Cond(CondObj),
+    Barrier(BarrierObj),
+}
+
+/// A new object of this kind.  [XSH 2.9]
+pub fn make<A: Allocator + Copy>(kind: ObjectKind, alloc: A) -> Object<A>
+    requires { is_bad_kind kind ≡ false }
+    ensures { result ≡ new_object kind }
+{
+    match kind {
+        ObjectKind::Mutex(kind, robust) => Object::Mutex(MutexObj::new(kind, robust)),
+        ObjectKind::Rwlock => Object::Rwlock(RwObj::new(alloc)),
+        ObjectKind::Cond => Object::Cond(CondObj::new()),
+        ObjectKind::Barrier(count) => Object::Barrier(BarrierObj::new(count as u32)),
+    }
+}
+
+/// A new object gets its row. ENOMEM where there is no memory for it.  [profile]
+pub fn add<A: Allocator + Copy>(
+    objects: &mut Objects<Object<A>, A>,
+    o: u64,
+    name: Name,
+    object: Object<A>,
+) -> Result<(), Refusal>
+    requires new { is_taken objects.old o name ≡ false }
+    requires room { length objects.old < most_objects }
+    requires rising { Rising objects.old o }
+    ensures ok { OnOk result (AddsObject objects.old objects.new o name object) }
+    ensures err { OnErr result (objects.new ≡ objects.old) }
+    ensures reason { IfErr result (λ refusal. refusal ≡ Refusal.Enomem) }
+{
+    match objects.add(o, name, object) {
+        Ok(()) => Ok(()),
+        Err(_) => Err(Refusal::Enomem),
+    }
+}
+
+/// The object's row is taken out, and its name is free.  [profile]
+pub fn remove<A: Allocator + Copy>(objects: &mut Objects<Object<A>, A>, o: u64)
+    requires { has_object objects.old o ≡ true }
+    ensures { RemovesObject objects.old objects.new o }
+{
+    let _ = objects.remove(o);
+}

@@ -1,0 +1,145 @@
+//! Rows of read-write locks: what one says of a call, and how it changes.
+
+ghost use Rattle.std.specs.Prelude.{IfErr, IsOk, IsSome, IsTrue, OnErr, OnOk, Some, ◌+◌, ◌-◌, ◌<◌, ◌≡◌, false};
+ghost use Rattle.pt_records.specs.Views.{IsAlone, reads_held};
+ghost use Rattle.pt_rwlock.specs.RwlockState.{ChangesRow, RwlockState, can_acquire_read, nobody_holds, reads_of, released as released_lock, row_of, seen_by, with_reads, with_row};
+ghost use Rattle.pt_types.specs.Shown.{shown_rwlock};
+ghost use Rattle.pt_types.specs.RwlockTable.{holds, may_read as may_read_it};
+ghost use Rattle.pt_table.specs.ObjectRows.{object_value};
+ghost use Rattle.pt_records.specs.declared.objects.Object.TheVariants.{Rwlock};
+ghost use Rattle.pt_records.specs.Writes.{WritesObject};
+ghost use Rattle.pt_types.specs.MutexTable.{is_number};
+ghost use Rattle.pt_table.specs.ClientRows.{nth_number};
+ghost use Rattle.pt_model.specs.Found.{passes};
+ghost use Rattle.std.specs.List.{list_any};
+
+use crate::clients::Caller;
+use crate::objects::Object;
+use pt_rwlock::{Held, RwObj};
+use pt_table::{Clients, Objects};
+use pt_types::views::RwlockView;
+use pt_types::{ClientId, Refusal};
+use std::alloc::Allocator;
+
+/// How often the client reads by what it holds.  [XSH pthread_rwlock_rdlock]
+pub fn reads_by(held: Held) -> u64
+    ensures { result ≡ reads_held held }
+{
+    match held {
+        Held::Read(reads) => reads as u64,
+        _ => 0,
+    }
+}
+
+/// A lock as one client sees it. While somebody writes nobody reads.  [XSH 2.9]
+pub fn view_of<A: Allocator + Copy>(r: &RwObj<A>, c: ClientId) -> RwlockView
+    requires { IsAlone r.now }
+    ensures { shown_rwlock result ≡ seen_by r.now c }
+{
+    RwlockView {
+        writes: r.writer() == Some(c),
+        reads: reads_by(r.held_by(c)),
+        is_written: r.writer().is_some(),
+        is_read: r.writer().is_none() && !r.is_free(),
+    }
+}
+
+/// Whether a client may read, behind writers or not.  [XSH pthread_rwlock_rdlock]
+pub fn may_read<A: Allocator + Copy>(lock: &RwObj<A>, c: ClientId, blocked: bool) -> bool
+    ensures { result ≡ may_read_it (seen_by lock.now c) blocked }
+{
+    lock.writer().is_none() && (!blocked || lock.holds(c))
+}
+
+/// The client has its row in the lock. ENOMEM where there is no memory for a new one.  [profile]
+pub fn make_row<A: Allocator + Copy>(
+    objects: &mut Objects<Object<A>, A>,
+    r: u64,
+    c: ClientId,
+) -> Result<(), Refusal>
+    ensures ok { (x : RwlockState) → object_value objects.old r ≡ Some (Rwlock x)
+        → OnOk result (WritesObject objects.old objects.new r (Rwlock (with_row x c))) }
+    ensures row { (x : RwlockState) → object_value objects.old r ≡ Some (Rwlock x)
+        → OnOk result (ChangesRow x (with_row x c) c (Some (reads_of x c))) }
+    ensures again { (x : RwlockState) → object_value objects.old r ≡ Some (Rwlock x)
+        → IsSome (row_of x c) → IsOk result }
+    ensures err { (x : RwlockState) → object_value objects.old r ≡ Some (Rwlock x)
+        → OnErr result (WritesObject objects.old objects.new r (Rwlock x)) }
+    ensures reason { IfErr result (λ refusal. refusal ≡ Refusal.Enomem) }
+{
+    if let Some(object) = objects.at_mut(r) {
+        if let Object::Rwlock(lock) = object {
+            lock.make_row(c)?;
+        }
+    }
+    Ok(())
+}
+
+/// The client has one read lock more.  [XSH pthread_rwlock_rdlock]
+pub fn acquire_read<A: Allocator + Copy>(objects: &mut Objects<Object<A>, A>, r: u64, c: ClientId)
+    requires { (x : RwlockState) → object_value objects.old r ≡ Some (Rwlock x)
+        → IsTrue (can_acquire_read x c) }
+    ensures lock { (x : RwlockState) → object_value objects.old r ≡ Some (Rwlock x)
+        → WritesObject objects.old objects.new r (Rwlock (with_reads x c (reads_of x c + 1))) }
+    ensures row { (x : RwlockState) → object_value objects.old r ≡ Some (Rwlock x)
+        → ChangesRow x (with_reads x c (reads_of x c + 1)) c (Some (reads_of x c + 1)) }
+{
+    if let Some(object) = objects.at_mut(r) {
+        if let Object::Rwlock(lock) = object {
+            lock.acquire_read(c);
+        }
+    }
+}
+
+/// The client has the write lock.  [XSH pthread_rwlock_wrlock]
+pub fn acquire_write<A: Allocator + Copy>(objects: &mut Objects<Object<A>, A>, r: u64, c: ClientId)
+    requires { (x : RwlockState) → object_value objects.old r ≡ Some (Rwlock x)
+        → IsTrue (nobody_holds x) }
+    ensures { (x : RwlockState) → object_value objects.old r ≡ Some (Rwlock x)
+        → WritesObject objects.old objects.new r (Rwlock (record x { writer = Some c })) }
+{
+    if let Some(object) = objects.at_mut(r) {
+        if let Object::Rwlock(lock) = object {
+            lock.acquire_write(c);
+        }
+    }
+}
+
+/// The client gives back the write lock, or one read lock.  [XSH pthread_rwlock_unlock]
+pub fn release_lock<A: Allocator + Copy>(objects: &mut Objects<Object<A>, A>, r: u64, c: ClientId)
+    requires { (x : RwlockState) → object_value objects.old r ≡ Some (Rwlock x)
+        → IsTrue (holds (seen_by x c)) }
+    ensures lock { (x : RwlockState) → object_value objects.old r ≡ Some (Rwlock x)
+        → WritesObject objects.old objects.new r (Rwlock (released_lock x c)) }
+    ensures row { (x : RwlockState) → object_value objects.old r ≡ Some (Rwlock x)
+        → is_number x.writer c ≡ false
+        → ChangesRow x (released_lock x c) c (Some (reads_of x c - 1)) }
+{
+    if let Some(object) = objects.at_mut(r) {
+        if let Object::Rwlock(lock) = object {
+            lock.release(c);
+        }
+    }
+}
+
+/// Whether the client in the row at an index holds the lock.  [XSH pthread_rwlock_unlock]
+fn holds_lock<A: Allocator + Copy>(clients: &Clients<Caller, A>, lock: &RwObj<A>, i: usize) -> bool
+    ensures { result ≡ passes (λ c. holds (seen_by lock.now c)) (nth_number clients.now i) }
+{
+    match clients.nth(i) {
+        Some((number, _)) => lock.holds(ClientId(number)),
+        None => false,
+    }
+}
+
+/// Whether a client with a row holds the lock.  [XSH pthread_rwlock_destroy]
+pub fn any_holds<A: Allocator + Copy>(clients: &Clients<Caller, A>, lock: &RwObj<A>) -> bool
+    ensures { result ≡ list_any (λ row. holds (seen_by lock.now row.number)) clients.now }
+{
+    for i in 0..clients.len() {
+        if holds_lock(clients, lock, i) {
+            return true;
+        }
+    }
+    false
+}

@@ -1,0 +1,194 @@
+//! Calls: those that are answered at once, and those that wait.
+
+ghost use Rattle.std.specs.Prelude.{IfErr, None, OnErr, OnOk, Some, ◌≡◌, false, true};
+ghost use Rattle.pt_model.specs.declared.entry.Entry.TheVariants as entry;
+ghost use Rattle.pt_state.specs.Adds.{Adds, IsNearly, IsReadyFor, Stays, past};
+ghost use Rattle.pt_state.specs.Calling.{is_done, is_plain};
+ghost use Rattle.pt_types.specs.declared.outcome.Outcome.TheVariants as told;
+ghost use Rattle.pt_types.specs.Operations.{Acquires, Arrives, Awaits, operation};
+ghost use Rattle.pt_types.specs.Shown.{shown_lock_kind};
+ghost use Rattle.pt_table.specs.ClientRows.{nth_value};
+ghost use Rattle.pt_records.specs.Callers.{open_in};
+ghost use Rattle.pt_model.specs.WaitingCall.{entered as entered_in};
+ghost use Rattle.pt_model.specs.Shown.{shown, shown_role};
+ghost use Rattle.pt_state.specs.Reads.{AreTables};
+ghost use Rattle.pt_state.specs.Left.{IsLeft, IsNearlyLeft, only_stands};
+
+use crate::state::State;
+use pt_model::Entry;
+use pt_model::waiting_call::{Role, WaitingCall, role_needed};
+use pt_records::calls::{open_at, stand};
+use pt_records::clients::note_call;
+use pt_records::{Answered, Open};
+use pt_types::operations::{
+    LockKind, Operation, class_needed, clock_of, deadline_of, operation_of,
+};
+use pt_types::{Call, ClientId, Clock, Deadline, How, Name, ObjectId, Outcome, Refusal};
+use std::alloc::Allocator;
+
+impl<A: Allocator + Copy> State<A> {
+    /// A call that is told anything but 0 changes nothing.  [XSH 2.3]
+    pub fn push_told(&mut self, c: ClientId, call: &Call, outcome: Outcome)
+        requires ready { IsReadyFor self.old (entry.Call c call.now (Some outcome)) }
+        requires other { is_done outcome ≡ false }
+        ensures { Adds self.old (entry.Call c call.now (Some outcome)) self.new }
+    {
+        self.finish(c, call, outcome);
+    }
+
+    // A lock that is had at once is a mutex that its owner locks once more.
+    // [XSH pthread_mutex_lock]
+    fn push_locked(&mut self, c: ClientId, call: &Call, n: &Name, lock_kind: LockKind, how: &How)
+        requires ready { IsReadyFor self.old (entry.Call c call.now (Some told.Done)) }
+        requires operation { operation call.now
+            ≡ Acquires n.now (shown_lock_kind lock_kind) how.now }
+        ensures { Adds self.old (entry.Call c call.now (Some told.Done)) self.new }
+    {
+        match lock_kind {
+            LockKind::MutexLock => self.push_relock(c, call, n, how),
+            LockKind::ReadLock => self.finish(c, call, Outcome::Done),
+            LockKind::WriteLock => self.finish(c, call, Outcome::Done),
+        }
+    }
+
+    /// A call that is told 0, makes no object, ends none and wakes no wait, with what it does.
+    /// [XSH, the call's page]
+    pub fn push_plain(&mut self, c: ClientId, call: &Call)
+        requires ready { IsReadyFor self.old (entry.Call c call.now (Some told.Done)) }
+        requires plain { is_plain (operation call.now) ≡ true }
+        ensures { Adds self.old (entry.Call c call.now (Some told.Done)) self.new }
+    {
+        match operation_of(call) {
+            Operation::Acquires(n, lock_kind, how) => self.push_locked(c, call, n, lock_kind, &how),
+            Operation::Unlocks(n) => self.push_unlock(c, call, n),
+            Operation::Restores(n) => self.push_restored(c, call, n),
+            Operation::Rwunlocks(n) => self.push_rwunlock(c, call, n),
+            Operation::Awaits(..) => self.finish(c, call, Outcome::Done),
+            Operation::Arrives(_) => self.finish(c, call, Outcome::Done),
+            _ => (),
+        }
+    }
+
+    /// The open call in the row of clients at this index.  [profile]
+    pub fn open_nth(&self, index: usize) -> Option<Open>
+        ensures { result ≡ open_in (nth_value self.now.clients index) }
+    {
+        open_at(&self.clients, index)
+    }
+
+    /// The call is noted, answered, and pushed.
+    pub fn finish(&mut self, c: ClientId, call: &Call, outcome: Outcome)
+        requires { IsNearly self.old c call.now (Some outcome) }
+        ensures { Adds self.old (entry.Call c call.now (Some outcome)) self.new }
+    {
+        let place = self.stored.len();
+        note_call(&mut self.clients, c.0, place);
+        self.answers.push_reserved(Answered {
+            at: place,
+            client: c,
+            place,
+            outcome,
+        });
+        self.stored
+            .push(Entry::Call(c, call.copied(), Some(outcome)));
+    }
+
+    /// A client's call that is entered now.  [profile]
+    pub fn entered(
+        &self,
+        c: ClientId,
+        object: ObjectId,
+        role: Role,
+        clock: Clock,
+        deadline: Option<Deadline>,
+    ) -> Open
+        requires { AreTables self.now }
+        ensures call { shown result.call
+            ≡ entered_in (past self.now) c object (shown_role role) clock deadline }
+        ensures unmoved { result.moved ≡ None }
+    {
+        let call = WaitingCall {
+            place: self.stored.len(),
+            client: c.0,
+            priority: self.priority_of(c),
+            object: object.0,
+            role,
+            clock,
+            deadline: match deadline {
+                Some(deadline) => Some(deadline.nanos()),
+                None => None,
+            },
+        };
+        Open { call, moved: None }
+    }
+
+    /// The call is noted, opened, and pushed.
+    pub fn leave(&mut self, c: ClientId, call: &Call, open: Open)
+        requires { IsNearlyLeft self.old c call.now «open» }
+        ensures { Adds self.old (entry.Call c call.now None) self.new }
+    {
+        let place = self.stored.len();
+        stand(&mut self.clients, c.0, open, place);
+        self.stored.push(Entry::Call(c, call.copied(), None));
+    }
+
+    /// A call that changes no object as it begins to stand.
+    /// [XSH pthread_mutex_lock, pthread_rwlock_wrlock, pthread_barrier_wait]
+    pub fn push_waiting(&mut self, c: ClientId, call: &Call, open: Open)
+        requires ready { IsReadyFor self.old (entry.Call c call.now None) }
+        requires left { IsLeft (past self.old) c call.now «open» }
+        requires plain { only_stands (shown_role «open».call.role) ≡ true }
+        ensures { Adds self.old (entry.Call c call.now None) self.new }
+    {
+        self.leave(c, call, open);
+    }
+
+    // A call for a lock.  [XSH pthread_mutex_lock, pthread_rwlock_rdlock, pthread_rwlock_wrlock]
+    fn push_acquire(
+        &mut self,
+        c: ClientId,
+        call: &Call,
+        n: &Name,
+        lock_kind: LockKind,
+        how: How,
+    ) -> Result<(), Refusal>
+        requires ready { IsReadyFor self.old (entry.Call c call.now None) }
+        requires operation { operation call.now ≡ Acquires n.now (shown_lock_kind lock_kind) how }
+        ensures ok { OnOk result (Adds self.old (entry.Call c call.now None) self.new) }
+        ensures err { OnErr result (Stays self.old self.new) }
+        ensures refusal { IfErr result (λ r. r ≡ Refusal.Enomem) }
+    {
+        let object = self.meant(n, class_needed(lock_kind));
+        let role = role_needed(lock_kind);
+        let open = self.entered(c, object, role, clock_of(call), deadline_of(how));
+        match lock_kind {
+            LockKind::ReadLock => self.push_reading(c, call, open),
+            LockKind::MutexLock | LockKind::WriteLock => {
+                self.push_waiting(c, call, open);
+                Ok(())
+            }
+        }
+    }
+
+    /// A call that is left waiting. ENOMEM where there is no memory for it. No other operation than
+    /// these three is left so.  [XSH, the call's page]
+    pub fn push_left(&mut self, c: ClientId, call: &Call) -> Result<(), Refusal>
+        requires ready { IsReadyFor self.old (entry.Call c call.now None) }
+        ensures ok { OnOk result (Adds self.old (entry.Call c call.now None) self.new) }
+        ensures err { OnErr result (Stays self.old self.new) }
+        ensures refusal { IfErr result (λ r. r ≡ Refusal.Enomem) }
+    {
+        match operation_of(call) {
+            Operation::Acquires(n, lock_kind, how) => self.push_acquire(c, call, n, lock_kind, how),
+            Operation::Awaits(n, m, deadline) => {
+                self.push_await(c, call, n, m, deadline);
+                Ok(())
+            }
+            Operation::Arrives(n) => {
+                self.push_arrival(c, call, n);
+                Ok(())
+            }
+            _ => Ok(()),
+        }
+    }
+}

@@ -1,0 +1,131 @@
+//! Living clients: who lives, with which priority, and what a join and a death change.
+
+ghost use Rattle.std.specs.Prelude.{IfErr, OnErr, OnOk, Some, ◌≡◌, unwrap_or};
+ghost use Rattle.pt_model.specs.Histories.{history, place};
+ghost use Rattle.pt_model.specs.Clients.{client, is_alive as is_alive_in, living as living_in};
+ghost use Rattle.pt_state.specs.Reads.{AreTables};
+ghost use Rattle.pt_table.specs.ClientRows.{client_value};
+ghost use Rattle.pt_records.specs.Callers.{open_in};
+ghost use Rattle.pt_model.specs.Answers.{open_place as open_place_in};
+ghost use Rattle.pt_model.specs.Verdicts.{is_alive_if as is_alive_if_in};
+ghost use Rattle.pt_state.specs.Adds.{Adds, IsReadyFor, Stays, past};
+ghost use Rattle.pt_model.specs.declared.entry.Entry.TheVariants as entry;
+ghost use Rattle.pt_state.specs.Serving.{is_gone as is_gone_in};
+
+use crate::state::State;
+use pt_model::Entry;
+use pt_records::clients::{admit, dismiss};
+use pt_records::{Caller, Open};
+use pt_types::{ClientId, Priority, Refusal};
+use std::alloc::Allocator;
+
+impl<A: Allocator + Copy> State<A> {
+    /// Whether a client lives.  [profile]
+    pub fn is_alive(&self, c: ClientId) -> bool
+        requires { AreTables self.now }
+        ensures { result ≡ is_alive_in (history self.now.stored.entries) c }
+    {
+        self.clients.at(c.0).is_some()
+    }
+
+    /// The priority of a living client.  [XSH 2.8.4]
+    pub fn priority(&self, c: ClientId) -> Option<Priority>
+        requires { AreTables self.now }
+        ensures { result ≡ client (history self.now.stored.entries) c }
+    {
+        match self.clients.at(c.0) {
+            Some(caller) => Some(caller.priority),
+            None => None,
+        }
+    }
+
+    /// The priority of a living client; 0 of any other.  [XSH 2.8.4]
+    pub fn priority_of(&self, c: ClientId) -> u64
+        requires { AreTables self.now }
+        ensures { result ≡ unwrap_or (client (history self.now.stored.entries) c) 0 }
+    {
+        match self.clients.at(c.0) {
+            Some(caller) => caller.priority.level() as u64,
+            None => 0,
+        }
+    }
+
+    /// A client's open call, with its move.  [profile]
+    pub fn open_of(&self, c: ClientId) -> Option<Open>
+        requires { AreTables self.now }
+        ensures { result ≡ open_in (client_value self.now.clients c) }
+    {
+        match self.clients.at(c.0) {
+            Some(caller) => caller.open,
+            None => None,
+        }
+    }
+
+    /// The place of a client's open call.  [profile]
+    pub fn open_place(&self, c: ClientId) -> Option<u64>
+        requires { AreTables self.now }
+        ensures { result ≡ open_place_in (history self.now.stored.entries) c }
+    {
+        match self.open_of(c) {
+            Some(open) => Some(open.call.place),
+            None => None,
+        }
+    }
+
+    /// How many clients live.  [profile]
+    pub fn living(&self) -> usize
+        requires { AreTables self.now }
+        ensures { result ≡ living_in (history self.now.stored.entries) }
+    {
+        self.clients.len()
+    }
+
+    /// Whether an owner is a living client.  [XSH pthread_mutex_destroy]
+    pub fn is_alive_if(&self, owner: Option<ClientId>) -> bool
+        requires { AreTables self.now }
+        ensures { result ≡ is_alive_if_in (past self.now) owner }
+    {
+        match owner {
+            Some(c) => self.is_alive(c),
+            None => false,
+        }
+    }
+
+    /// A client joins, and has its row; ENOMEM where the row's growth is refused.
+    pub fn push_join(&mut self, priority: Priority) -> Result<(), Refusal>
+        requires { IsReadyFor self.old (entry.Join (place (past self.old)) priority) }
+        ensures ok { OnOk result
+            (Adds self.old (entry.Join (place (past self.old)) priority) self.new) }
+        ensures err { OnErr result (Stays self.old self.new) }
+        ensures refusal { IfErr result (λ refusal. refusal ≡ Refusal.Enomem) }
+    {
+        let place = self.stored.len();
+        let caller = Caller {
+            priority,
+            open: None,
+            latest: None,
+        };
+        admit(&mut self.clients, place, caller)?;
+        self.stored.push(Entry::Join(ClientId(place), priority));
+        Ok(())
+    }
+
+    /// A client's process ends, and its row and its open call are gone.
+    pub fn push_death(&mut self, c: ClientId)
+        requires { IsReadyFor self.old (entry.Death c) }
+        ensures { Adds self.old (entry.Death c) self.new }
+    {
+        dismiss(&mut self.clients, c.0);
+        self.stored.push(Entry::Death(c));
+    }
+
+    // Whether an owner isn't one of the living clients.
+    pub(crate) fn is_gone(&self, owner: Option<ClientId>) -> bool
+        ensures { result ≡ is_gone_in self.now.clients owner }
+    {
+        match owner {
+            Some(c) => self.clients.at(c.0).is_none(),
+            None => false,
+        }
+    }
+}

@@ -1,0 +1,100 @@
+//! Condition variables: waits, signals and broadcasts.
+
+ghost use Rattle.std.specs.Prelude.{None, Some, ◌||◌, ◌≡◌, option_map};
+ghost use Rattle.pt_types.specs.declared.outcome.Outcome.TheVariants as told;
+ghost use Rattle.pt_types.specs.Operations.{Awaits, Broadcasts, Signals, operation};
+ghost use Rattle.pt_model.specs.declared.entry.Entry.TheVariants as entry;
+ghost use Rattle.pt_model.specs.Searches.{least};
+ghost use Rattle.pt_model.specs.Moves.{cond_waits, moved, precedes_by};
+ghost use Rattle.pt_state.specs.Adds.{Adds, IsReadyFor, past};
+ghost use Rattle.pt_state.specs.Serving.{called};
+ghost use Rattle.pt_table.specs.ObjectRows.{object_value};
+ghost use Rattle.pt_model.specs.Found.{passes};
+ghost use Rattle.pt_state.specs.Granting.{is_open_to};
+ghost use Rattle.pt_model.specs.Records.{ForCond};
+ghost use Rattle.pt_model.specs.Shown.{shown_role};
+ghost use Rattle.pt_state.specs.Left.{IsLeft};
+
+use crate::state::State;
+use pt_model::Cause;
+use pt_model::waiting_call::Role;
+use pt_records::cond::{wake, wake_waits};
+use pt_records::mutex::{may_lock, may_relock, release};
+use pt_records::{Object, Open};
+use pt_types::operations::{ObjectClass, clock_of};
+use pt_types::{Call, ClientId, Deadline, Name, ObjectId, Outcome};
+use std::alloc::Allocator;
+
+impl<A: Allocator + Copy> State<A> {
+    /// The first wait at a condition, if there is one, is woken.  [XSH pthread_cond_signal]
+    pub fn push_woken(&mut self, c: ClientId, call: &Call, n: &Name, first: Option<Open>)
+        requires ready { IsReadyFor self.old (entry.Call c call.now (Some told.Done)) }
+        requires operation { operation call.now ≡ Signals n.now }
+        requires first { option_map called first
+            ≡ least (precedes_by (moved (past self.old)))
+            (cond_waits (past self.old) (moved (past self.old)) n.now) }
+        ensures { Adds self.old (entry.Call c call.now (Some told.Done)) self.new }
+    {
+        match first {
+            Some(open) => {
+                let place = self.stored.len();
+                wake(&mut self.clients, open.call.client, place, Cause::Signalled);
+                self.finish(c, call, Outcome::Done);
+            }
+            None => self.finish(c, call, Outcome::Done),
+        }
+    }
+
+    /// All waits at a condition are woken.  [XSH pthread_cond_broadcast]
+    pub fn push_broadcast(&mut self, c: ClientId, call: &Call, n: &Name)
+        requires ready { IsReadyFor self.old (entry.Call c call.now (Some told.Done)) }
+        requires operation { operation call.now ≡ Broadcasts n.now }
+        ensures { Adds self.old (entry.Call c call.now (Some told.Done)) self.new }
+    {
+        let q = self.find(n, ObjectClass::Cond).unwrap();
+        let place = self.stored.len();
+        wake_waits(&mut self.clients, q, place, Cause::Broadcasted);
+        self.finish(c, call, Outcome::Done);
+    }
+
+    /// Whether nothing but that keeps a moved wait of this client from it.  [XSH pthread_cond_wait]
+    pub fn may_return(&self, m: ObjectId, c: ClientId) -> bool
+        ensures { result ≡ passes (is_open_to c) (object_value self.now.objects m) }
+    {
+        match self.objects.at(m.0) {
+            Some(Object::Mutex(mutex)) => may_lock(mutex) || may_relock(mutex, c),
+            _ => false,
+        }
+    }
+
+    /// A wait: its client gives one lock on the mutex back.  [XSH pthread_cond_wait]
+    pub fn push_wait(&mut self, c: ClientId, call: &Call, m: ObjectId, open: Open)
+        requires ready { IsReadyFor self.old (entry.Call c call.now None) }
+        requires left { IsLeft (past self.old) c call.now «open» }
+        requires role { shown_role «open».call.role ≡ ForCond m }
+        ensures { Adds self.old (entry.Call c call.now None) self.new }
+    {
+        release(&mut self.objects, m.0, c);
+        self.leave(c, call, open);
+    }
+
+    // A wait at a condition.  [XSH pthread_cond_wait]
+    pub(crate) fn push_await(
+        &mut self,
+        c: ClientId,
+        call: &Call,
+        n: &Name,
+        m: &Name,
+        deadline: Option<Deadline>,
+    )
+        requires ready { IsReadyFor self.old (entry.Call c call.now None) }
+        requires operation { operation call.now ≡ Awaits n.now m.now deadline }
+        ensures { Adds self.old (entry.Call c call.now None) self.new }
+    {
+        let mutex = self.meant(m, ObjectClass::Mutex);
+        let object = self.meant(n, ObjectClass::Cond);
+        let role = Role::ForCond(mutex.0);
+        let open = self.entered(c, object, role, clock_of(call), deadline);
+        self.push_wait(c, call, mutex, open);
+    }
+}

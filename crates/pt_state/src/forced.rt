@@ -1,0 +1,113 @@
+//! Forced entries: grants, what they answer, and the calls that they serve.
+
+ghost use Rattle.std.specs.Prelude.{◌<◌, ◌≡◌};
+ghost use Rattle.pt_model.specs.declared.entry.Entry.TheVariants as entry;
+ghost use Rattle.pt_model.specs.Searches.{In};
+ghost use Rattle.pt_state.specs.Adds.{Adds, IsReadyFor, past};
+ghost use Rattle.pt_records.specs.Callers.{opens_of};
+ghost use Rattle.pt_state.specs.Forcing.{IsGranted};
+ghost use Rattle.pt_model.specs.Records.{ForRead, ForWrite};
+ghost use Rattle.pt_model.specs.Forced.{service};
+ghost use Rattle.pt_state.specs.Serving.{IsFor, called, entry_of};
+ghost use Rattle.pt_state.specs.Granting.{outcome_kept as outcome_kept_in};
+ghost use Rattle.pt_model.specs.Histories.{history};
+ghost use Rattle.pt_model.specs.Grants.{grant_outcome as grant_outcome_in};
+ghost use Rattle.pt_state.specs.Reads.{AreTables};
+
+use crate::state::State;
+use pt_model::waiting_call::{Role, is_wait};
+use pt_model::{Cause, Entry};
+use pt_records::Open;
+use pt_records::cond::wake;
+use pt_types::{ObjectId, Outcome};
+use std::alloc::Allocator;
+
+/// What must follow: a call is served, a dead owner's mutex is taken from it, or a deadline ends a
+/// call.  [XSH pthread_mutex_unlock, pthread_mutex_lock EOWNERDEAD, pthread_mutex_timedlock]
+#[derive(Clone, Copy, Debug, PartialEq, Eq)]
+pub enum Forced {
+    Serve(Open),
+    Yield(ObjectId),
+    Expire(Open),
+}
+
+impl<A: Allocator + Copy> State<A> {
+    /// A deadline has passed: a wait goes on to its mutex, another call ends.
+    /// [XSH pthread_cond_timedwait, pthread_mutex_timedlock]
+    pub fn push_expire(&mut self, found: &Open)
+        requires ready { IsReadyFor self.old (entry.Expire found.now.call.place) }
+        requires known { In found.now (opens_of self.old.clients) }
+        ensures { Adds self.old (entry.Expire found.now.call.place) self.new }
+    {
+        let call = found.call;
+        if is_wait(call.role) {
+            let at = self.stored.len();
+            wake(&mut self.clients, call.client, at, Cause::Expired);
+            self.stored.push(Entry::Expire(call.place));
+        } else {
+            self.answer(found, Outcome::Etimedout);
+            self.stored.push(Entry::Expire(call.place));
+        }
+    }
+
+    // The call goes on, now that its object is written.
+    pub(crate) fn grant(&mut self, found: &Open, outcome: Outcome)
+        requires { IsGranted self.old found.now outcome }
+        ensures { Adds self.old (entry.Grant found.now.call.place outcome) self.new }
+    {
+        self.answer(found, outcome);
+        self.stored.push(Entry::Grant(found.call.place, outcome));
+    }
+
+    /// A call is served: a full barrier trips, another call is granted.
+    /// [XSH pthread_barrier_wait, pthread_mutex_unlock, pthread_rwlock_unlock]
+    pub fn push_served(&mut self, found: &Open)
+        requires ready { IsReadyFor self.old (service (past self.old) (called found.now)) }
+        requires known { In found.now (opens_of self.old.clients) }
+        ensures { Adds self.old (service (past self.old) (called found.now)) self.new }
+    {
+        let o = ObjectId(found.call.object);
+        match found.call.role {
+            Role::ForMutex => self.push_grant_mutex(found, o),
+            Role::ForCond(m) => self.push_grant_mutex(found, ObjectId(m)),
+            Role::ForRead => self.push_grant_read(found),
+            Role::ForWrite => self.push_grant_write(found),
+            Role::ForBarrier => self.push_trip(o),
+        }
+    }
+
+    /// What must follow is pushed.
+    /// [XSH pthread_mutex_unlock, pthread_mutex_lock EOWNERDEAD, pthread_mutex_timedlock]
+    pub fn push_forced(&mut self, forced: &Forced)
+        requires ready { IsReadyFor self.old (entry_of (past self.old) forced.now) }
+        requires known { IsFor (opens_of self.old.clients) forced.now }
+        ensures { Adds self.old (entry_of (past self.old) forced.now) self.new }
+    {
+        match forced {
+            Forced::Serve(found) => self.push_served(found),
+            Forced::Yield(m) => self.push_yield(*m),
+            Forced::Expire(found) => self.push_expire(found),
+        }
+    }
+
+    // What a call is told when it is granted, by its role.  [XSH, its page]
+    fn outcome_kept(&self, kept: &Open) -> Outcome
+        ensures { result ≡ outcome_kept_in self.now.objects kept.now }
+    {
+        match kept.call.role {
+            Role::ForMutex => self.told_at(ObjectId(kept.call.object), kept.moved),
+            Role::ForCond(m) => self.told_at(ObjectId(m), kept.moved),
+            _ => Outcome::Done,
+        }
+    }
+
+    /// What an open call is told when it is granted.  [XSH, the call's page]
+    pub fn grant_outcome(&self, kept: &Open) -> Outcome
+        requires read { AreTables self.now }
+        requires known { In kept.now (opens_of self.now.clients) }
+        ensures { result
+            ≡ grant_outcome_in (history self.now.stored.entries) (called kept.now) }
+    {
+        self.outcome_kept(kept)
+    }
+}

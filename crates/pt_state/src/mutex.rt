@@ -1,0 +1,277 @@
+//! Mutexes: verdicts, locking, unlocking, and the robust ones of dead owners.
+
+ghost use Rattle.std.specs.Prelude.{IfSome, Some, ◌<◌, ◌≡◌, ◌≤◌, option_map};
+ghost use Rattle.std.specs.List.{list_any};
+ghost use Rattle.pt_model.specs.Histories.{history, place};
+ghost use Rattle.pt_model.specs.Answers.{open_calls};
+ghost use Rattle.pt_model.specs.Verdicts.{on, operation_verdict as said_of, will_return as will_return_in};
+ghost use Rattle.pt_state.specs.Reads.{AreTables};
+ghost use Rattle.pt_types.specs.declared.outcome.Outcome.TheVariants as told;
+ghost use Rattle.pt_types.specs.Operations.{Acquires, MutexClass, MutexLock, Restores, Unlocks, class_of, operation};
+ghost use Rattle.pt_model.specs.declared.entry.Entry.TheVariants as entry;
+ghost use Rattle.pt_state.specs.Adds.{Adds, IsReadyFor, past};
+ghost use Rattle.pt_table.specs.ObjectRows.{nth_value as nth_object, object_value};
+ghost use Rattle.pt_records.specs.Counts.{counted, is_robust_held, one_if};
+ghost use Rattle.pt_model.specs.Searches.{In, count_below, first_below};
+ghost use Rattle.pt_model.specs.Room.{is_robust_owned};
+ghost use Rattle.pt_model.specs.WaitingCall.{mutex_of};
+ghost use Rattle.pt_model.specs.Grants.{grant_outcome as grant_outcome_in};
+ghost use Rattle.pt_records.specs.Callers.{opens_of};
+ghost use Rattle.pt_state.specs.Serving.{called, is_orphaned as is_orphaned_in, orphan_nth as orphan_nth_in};
+ghost use Rattle.pt_model.specs.Found.{passes};
+ghost use Rattle.pt_state.specs.Granting.{consistency_kept, is_lockable, told_at as told_at_in};
+ghost use Rattle.pt_model.specs.Shown.{shown_move};
+ghost use Rattle.pt_model.specs.Objects.{find as find_in, kind_of, objects};
+ghost use Rattle.std.specs.Option.{option_copied};
+ghost use Rattle.pt_records.specs.Kept.{mutex_in};
+ghost use Rattle.pt_model.specs.Mutexes.{mutex_view, owner as owner_in};
+ghost use Rattle.pt_types.specs.MutexTable.{lock_verdict as lock_table};
+ghost use Rattle.pt_model.specs.Forced.{is_orphan as is_orphan_in};
+
+use crate::state::State;
+use pt_model::Entry;
+use pt_model::waiting_call::{Move, is_expired};
+use pt_mutex::MutexObj;
+use pt_records::cond::any_returns;
+use pt_records::mutex::{
+    acquire, is_robust_mutex, lock_verdict, may_lock, release, restore, yield_dead,
+};
+use pt_records::{Object, Open};
+use pt_types::operations::ObjectClass;
+use pt_types::tables::lock_outcome;
+use pt_types::views::is_acquired;
+use pt_types::{Call, ClientId, Consistency, How, Name, ObjectId, Outcome, Verdict};
+use std::alloc::Allocator;
+
+impl<A: Allocator + Copy> State<A> {
+    /// Whether a wait that isn't moved will come back to the mutex.  [XSH pthread_mutex_destroy]
+    pub fn will_return(&self, m: ObjectId) -> bool
+        requires { AreTables self.now }
+        ensures { result
+            ≡ list_any (will_return_in (history self.now.stored.entries) m)
+            (open_calls (history self.now.stored.entries)) }
+    {
+        any_returns(&self.clients, m)
+    }
+
+    /// The owner of a mutex locks it once more.  [XSH pthread_mutex_lock]
+    pub fn push_relock(&mut self, c: ClientId, call: &Call, n: &Name, how: &How)
+        requires ready { IsReadyFor self.old (entry.Call c call.now (Some told.Done)) }
+        requires operation { operation call.now ≡ Acquires n.now MutexLock how.now }
+        ensures { Adds self.old (entry.Call c call.now (Some told.Done)) self.new }
+    {
+        let m = self.find(n, ObjectClass::Mutex).unwrap();
+        acquire(&mut self.objects, m.0, c);
+        self.finish(c, call, Outcome::Done);
+    }
+
+    /// The owner of a mutex gives one lock back.  [XSH pthread_mutex_unlock]
+    pub fn push_unlock(&mut self, c: ClientId, call: &Call, n: &Name)
+        requires ready { IsReadyFor self.old (entry.Call c call.now (Some told.Done)) }
+        requires operation { operation call.now ≡ Unlocks n.now }
+        ensures { Adds self.old (entry.Call c call.now (Some told.Done)) self.new }
+    {
+        let m = self.find(n, ObjectClass::Mutex).unwrap();
+        release(&mut self.objects, m.0, c);
+        self.finish(c, call, Outcome::Done);
+    }
+
+    /// The owner of a mutex makes it consistent.  [XSH pthread_mutex_consistent]
+    pub fn push_restored(&mut self, c: ClientId, call: &Call, n: &Name)
+        requires ready { IsReadyFor self.old (entry.Call c call.now (Some told.Done)) }
+        requires operation { operation call.now ≡ Restores n.now }
+        ensures { Adds self.old (entry.Call c call.now (Some told.Done)) self.new }
+    {
+        let m = self.find(n, ObjectClass::Mutex).unwrap();
+        restore(&mut self.objects, m.0);
+        self.finish(c, call, Outcome::Done);
+    }
+
+    // One for the object at this index, if it is a robust mutex with an owner.  [profile]
+    fn robust_nth(&self, index: usize) -> u64
+        ensures value { result
+            ≡ counted (λ x. one_if (is_robust_held x)) (nth_object self.now.objects index) }
+        ensures small { result ≤ 1 }
+    {
+        match self.objects.nth(index) {
+            Some((_, object)) => { if is_robust_mutex(object) { 1 } else { 0 } }
+            None => 0,
+        }
+    }
+
+    /// How many robust mutexes have an owner.  [profile]
+    pub fn robust_owned(&self) -> u64
+        requires { AreTables self.now }
+        ensures value { let h = history self.now.stored.entries in
+            result ≡ count_below (place h) (is_robust_owned h) }
+        ensures small { result ≤ 4096 }
+    {
+        let mut count = 0;
+        for i in 0..self.objects.len() {
+            count += self.robust_nth(i);
+        }
+        count
+    }
+
+    /// A robust mutex is taken from its dead owner.  [XSH pthread_mutex_lock, EOWNERDEAD]
+    pub fn push_yield(&mut self, m: ObjectId)
+        requires { IsReadyFor self.old (entry.Yield m) }
+        ensures { Adds self.old (entry.Yield m) self.new }
+    {
+        yield_dead(&mut self.objects, m.0);
+        self.stored.push(Entry::Yield(m));
+    }
+
+    /// A call gets its mutex, or is told that the mutex is lost.  [XSH pthread_mutex_lock]
+    pub(crate) fn push_grant_mutex(&mut self, found: &Open, m: ObjectId)
+        requires ready { IsReadyFor self.old (entry.Grant found.now.call.place
+            (grant_outcome_in (past self.old) (called found.now))) }
+        requires known { In found.now (opens_of self.old.clients) }
+        requires mutex { mutex_of (called found.now).role found.now.call.object ≡ Some m }
+        ensures { Adds self.old (entry.Grant found.now.call.place
+            (grant_outcome_in (past self.old) (called found.now))) self.new }
+    {
+        let outcome = self.grant_outcome(found);
+        if is_acquired(outcome) {
+            acquire(&mut self.objects, m.0, ClientId(found.call.client));
+            self.grant(found, outcome);
+        } else {
+            self.grant(found, outcome);
+        }
+    }
+
+    /// Whether nothing but the order of calls keeps a call from it.  [XSH pthread_mutex_unlock]
+    pub fn may_lock(&self, m: ObjectId) -> bool
+        ensures { result ≡ passes is_lockable (object_value self.now.objects m) }
+    {
+        match self.objects.at(m.0) {
+            Some(Object::Mutex(mutex)) => may_lock(mutex),
+            _ => false,
+        }
+    }
+
+    // Its consistency.  [XSH pthread_mutex_consistent]
+    fn consistency_at(&self, m: ObjectId) -> Consistency
+        ensures { result ≡ consistency_kept (object_value self.now.objects m) }
+    {
+        match self.objects.at(m.0) {
+            Some(Object::Mutex(mutex)) => mutex.consistency(),
+            _ => Consistency::Consistent,
+        }
+    }
+
+    // What a mutex tells to a call with this move.  [XSH pthread_mutex_lock]
+    pub(crate) fn told_at(&self, m: ObjectId, moved: Option<Move>) -> Outcome
+        ensures { result ≡ told_at_in self.now.objects m (option_map shown_move moved) }
+    {
+        lock_outcome(self.consistency_at(m), is_expired(moved))
+    }
+
+    /// The mutex with this number, if it is one.  [profile]
+    pub fn mutex_at(&self, m: ObjectId) -> Option<&MutexObj>
+        ensures { option_copied result ≡ mutex_in (object_value self.now.objects m) }
+    {
+        match self.objects.at(m.0) {
+            Some(Object::Mutex(kept)) => Some(kept),
+            _ => None,
+        }
+    }
+
+    /// The mutex of this name, with its number.  [profile]
+    pub fn mutex_named(&self, n: &Name) -> Option<(ObjectId, &MutexObj)>
+        requires { AreTables self.now }
+        ensures number { option_map (λ found. found.0) result
+            ≡ find_in (past self.now) n.now MutexClass }
+        ensures view { IfSome result (λ found. found.1.now.seen
+            ≡ mutex_view (past self.now) found.0) }
+    {
+        let m = self.find(n, ObjectClass::Mutex)?;
+        match self.mutex_at(m) {
+            Some(kept) => Some((m, kept)),
+            None => None,
+        }
+    }
+
+    /// A client's call for a mutex.  [XSH pthread_mutex_lock]
+    pub fn mutex_verdict(&self, c: ClientId, n: &Name, how: &How) -> Verdict
+        requires { AreTables self.now }
+        ensures { result
+            ≡ on (find_in (past self.now) n.now MutexClass)
+            (λ m. lock_table (mutex_view (past self.now) m) c how.now) }
+    {
+        match self.mutex_named(n) {
+            Some((_, m)) => lock_verdict(m, c, how),
+            None => Verdict::Reply(Outcome::Einval),
+        }
+    }
+
+    /// The owner of a mutex that exists.  [XSH 2.9.3]
+    pub fn owner(&self, m: ObjectId) -> Option<ClientId>
+        requires read { AreTables self.now }
+        requires class { option_map class_of (kind_of (past self.now) m) ≡ Some MutexClass }
+        ensures { result ≡ owner_in (past self.now) m }
+    {
+        match self.mutex_at(m) {
+            Some(kept) => kept.owner(),
+            None => None,
+        }
+    }
+
+    /// A client's call on a mutex that it may own.  [XSH pthread_mutex_unlock]
+    pub fn unlocks_verdict(&self, c: ClientId, n: &Name) -> Verdict
+        requires { AreTables self.now }
+        ensures { result ≡ said_of (past self.now) c (Unlocks n.now) }
+    {
+        match self.mutex_named(n) {
+            Some((_, m)) => m.verdict_unlock(c),
+            None => Verdict::Reply(Outcome::Einval),
+        }
+    }
+
+    /// A client's call to make a mutex consistent.  [XSH pthread_mutex_consistent]
+    pub fn restores_verdict(&self, c: ClientId, n: &Name) -> Verdict
+        requires { AreTables self.now }
+        ensures { result ≡ said_of (past self.now) c (Restores n.now) }
+    {
+        match self.mutex_named(n) {
+            Some((_, m)) => m.verdict_consistent(c),
+            None => Verdict::Reply(Outcome::Einval),
+        }
+    }
+
+    // Whether it is a robust mutex with a dead owner.  [XSH pthread_mutex_lock, EOWNERDEAD]
+    fn is_orphaned(&self, object: &Object<A>) -> bool
+        ensures { result ≡ is_orphaned_in self.now.clients object.now }
+    {
+        match object {
+            Object::Mutex(mutex) => mutex.is_robust() && self.is_gone(mutex.owner()),
+            _ => false,
+        }
+    }
+
+    // The number of the object in the row at an index, if it is one.
+    fn orphan_nth(&self, i: usize) -> Option<ObjectId>
+        ensures { result ≡ orphan_nth_in self.now.clients self.now.objects i }
+    {
+        match self.objects.nth(i) {
+            Some((number, object)) if self.is_orphaned(object) => Some(ObjectId(number)),
+            _ => None,
+        }
+    }
+
+    /// The robust mutex to take from its dead owner first.
+    /// [XSH pthread_mutex_lock, EOWNERDEAD; the lowest first is profile]
+    pub fn first_orphan(&self) -> Option<ObjectId>
+        requires { AreTables self.now }
+        ensures { result
+            ≡ first_below (place (history self.now.stored.entries))
+            (is_orphan_in (history self.now.stored.entries)) }
+    {
+        for i in 0..self.objects.len() {
+            if let Some(m) = self.orphan_nth(i) {
+                return Some(m);
+            }
+        }
+        None
+    }
+}

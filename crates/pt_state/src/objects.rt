@@ -1,0 +1,125 @@
+//! Objects by name and by number, and the calls that make and destroy them.
+
+ghost use Rattle.std.specs.Prelude.{IfErr, None, OnErr, OnOk, Some, ◌≡◌, is_some};
+ghost use Rattle.pt_types.specs.declared.outcome.Outcome.TheVariants as told;
+ghost use Rattle.pt_types.specs.Operations.{Ends, Makes, class_of as class_meant, operation, same_class};
+ghost use Rattle.pt_model.specs.declared.entry.Entry.TheVariants as entry;
+ghost use Rattle.pt_state.specs.Adds.{Adds, IsReadyFor, Stays, past};
+ghost use Rattle.pt_types.specs.Shown.{shown_class};
+ghost use Rattle.pt_table.specs.ObjectRows.{object_value};
+ghost use Rattle.pt_model.specs.Found.{passes};
+ghost use Rattle.pt_records.specs.Objects.{kind_kept};
+ghost use Rattle.pt_model.specs.Histories.{history};
+ghost use Rattle.pt_model.specs.Objects.{find as find_in, object_named, objects};
+ghost use Rattle.pt_state.specs.Reads.{AreTables};
+ghost use Rattle.pt_model.specs.Verdicts.{on};
+ghost use Rattle.pt_types.specs.ObjectTable.{init_verdict as init_table};
+ghost use Rattle.pt_model.specs.WaitingCall.{meant as meant_in};
+
+use crate::state::State;
+use pt_records::objects::{add, class_kept, make, remove};
+use pt_types::operations::{ObjectClass, is_same};
+use pt_types::tables::init_verdict;
+use pt_types::{Call, ClientId, Name, ObjectId, ObjectKind, Outcome, Refusal, Verdict};
+use std::alloc::Allocator;
+
+impl<A: Allocator + Copy> State<A> {
+    /// An object is made. ENOMEM where there is no memory for its row.
+    pub fn push_made(
+        &mut self,
+        c: ClientId,
+        call: &Call,
+        n: &Name,
+        kind: ObjectKind,
+    ) -> Result<(), Refusal>
+        requires ready { IsReadyFor self.old (entry.Call c call.now (Some told.Done)) }
+        requires operation { operation call.now ≡ Makes n.now kind }
+        ensures ok { OnOk result (Adds self.old (entry.Call c call.now (Some told.Done)) self.new) }
+        ensures err { OnErr result (Stays self.old self.new) }
+        ensures reason { IfErr result (λ refusal. refusal ≡ Refusal.Enomem) }
+    {
+        let place = self.stored.len();
+        match add(&mut self.objects, place, n.copied(), make(kind, self.alloc)) {
+            Ok(()) => {
+                self.finish(c, call, Outcome::Done);
+                Ok(())
+            }
+            Err(refusal) => Err(refusal),
+        }
+    }
+
+    /// An object is ended.
+    pub fn push_ended(&mut self, c: ClientId, call: &Call, n: &Name, class: ObjectClass)
+        requires ready { IsReadyFor self.old (entry.Call c call.now (Some told.Done)) }
+        requires operation { operation call.now ≡ Ends n.now (shown_class class) }
+        ensures { Adds self.old (entry.Call c call.now (Some told.Done)) self.new }
+    {
+        let o = self.find(n, class).unwrap();
+        remove(&mut self.objects, o.0);
+        self.finish(c, call, Outcome::Done);
+    }
+
+    /// Whether the number is that of an object of this class.  [XSH 2.9]
+    pub fn is_of_class(&self, number: u64, class: ObjectClass) -> bool
+        ensures { result
+            ≡ passes (λ x. same_class (class_meant (kind_kept x)) (shown_class class))
+            (object_value self.now.objects number) }
+    {
+        match self.objects.at(number) {
+            Some(object) => is_same(class_kept(object), class),
+            None => false,
+        }
+    }
+
+    /// The object of this class that bears the name, if one does.  [profile]
+    pub fn find(&self, n: &Name, class: ObjectClass) -> Option<ObjectId>
+        requires { AreTables self.now }
+        ensures { result ≡ find_in (history self.now.stored.entries) n.now (shown_class class) }
+    {
+        match self.objects.find(n) {
+            Some(number) => {
+                if self.is_of_class(number, class) {
+                    Some(ObjectId(number))
+                } else {
+                    None
+                }
+            }
+            None => None,
+        }
+    }
+
+    /// A call on an object of this class, where nothing but the object is asked for.
+    /// [XSH pthread_cond_signal, pthread_barrier_wait]
+    pub fn known_verdict(&self, n: &Name, class: ObjectClass, known: Verdict) -> Verdict
+        requires { AreTables self.now }
+        ensures { result
+            ≡ on (find_in (past self.now) n.now (shown_class class)) (λ o. known) }
+    {
+        match self.find(n, class) {
+            Some(_) => known,
+            None => Verdict::Reply(Outcome::Einval),
+        }
+    }
+
+    /// A call that makes an object.  [XSH pthread_mutex_init]
+    pub fn makes_verdict(&self, n: &Name, kind: ObjectKind) -> Verdict
+        requires { AreTables self.now }
+        ensures { result
+            ≡ init_table kind (is_some (object_named (past self.now) n.now))
+            (objects (past self.now)) }
+    {
+        let in_use = self.objects.find(n).is_some();
+        init_verdict(kind, in_use, self.objects.len() as u64)
+    }
+
+    // The object that a name means as the call comes; 0 where it means none.  [profile]
+    pub(crate) fn meant(&self, n: &Name, class: ObjectClass) -> ObjectId
+        requires { AreTables self.now }
+        ensures { result ≡ meant_in (past self.now) n.now (shown_class class) }
+    {
+        match self.find(n, class) {
+            Some(object) => object,
+            None => ObjectId(0),
+        }
+    }
+}

@@ -1,0 +1,162 @@
+//! Room: how many entries must follow, and which events are refused.
+
+ghost use Rattle.std.specs.Prelude.{None, ◌*◌, ◌≡◌, ◌≤◌, map, sum};
+ghost use Rattle.pt_types.specs.Operations.{MutexClass, operation};
+ghost use Rattle.pt_state.specs.Needed.{added_by, added_by_operation, last_lock, last_lock_if, used_to_wait};
+ghost use Rattle.pt_model.specs.Histories.{history};
+ghost use Rattle.pt_model.specs.Answers.{open_calls};
+ghost use Rattle.pt_model.specs.Room.{kept_for, need as need_in, refusal as refusal_in, refusal_of_stranger as refusal_of_stranger_in};
+ghost use Rattle.pt_state.specs.Reads.{AreTables};
+ghost use Rattle.pt_model.specs.Objects.{find};
+ghost use Rattle.pt_model.specs.WaitingCall.{meant};
+ghost use Rattle.pt_table.specs.ClientRows.{client_value};
+ghost use Rattle.pt_records.specs.Callers.{open_in};
+ghost use Rattle.pt_records.specs.Counts.{counted, kept_open};
+ghost use Rattle.pt_state.specs.Adds.{past};
+
+use crate::state::State;
+use pt_model::{Entry, Event};
+use pt_records::calls::kept_by;
+use pt_records::mutex::is_last;
+use pt_types::operations::{ObjectClass, Operation, operation_of};
+use pt_types::{Call, ClientId, Name, ObjectId, Refusal};
+use std::alloc::Allocator;
+
+// The entries kept for a call that is left waiting.  [profile]
+fn added_by_call(call: &Call) -> u64
+    ensures value { result ≡ added_by_operation (operation call.now) }
+    ensures small { result ≤ 3 }
+{
+    match operation_of(call) {
+        Operation::Acquires(..) => 3,
+        Operation::Awaits(..) => 3,
+        Operation::Arrives(_) => 3,
+        _ => 0,
+    }
+}
+
+/// The entries that are kept from an outer entry on.  [profile]
+pub fn added(entry: &Entry) -> u64
+    ensures value { result ≡ added_by entry.now }
+    ensures small { result ≤ 3 }
+{
+    match entry {
+        Entry::Join(..) => 1,
+        Entry::Call(_, call, None) => added_by_call(call),
+        _ => 0,
+    }
+}
+
+impl<A: Allocator + Copy> State<A> {
+    /// The entries kept for all open calls.  [profile]
+    pub fn kept(&self) -> u64
+        requires { AreTables self.now }
+        ensures value { let h = history self.now.stored.entries in
+            result ≡ sum (map (kept_for h) (open_calls h)) }
+        ensures small { result ≤ 3 * 1024 }
+    {
+        let mut count = 0;
+        for i in 0..self.clients.len() {
+            count += kept_by(self.open_nth(i));
+        }
+        count
+    }
+
+    // One where the client's lock is the last one on a robust mutex.  [profile]
+    fn last_lock(&self, c: ClientId, m: ObjectId) -> u64
+        requires { AreTables self.now }
+        ensures value { result ≡ last_lock (history self.now.stored.entries) c m }
+        ensures small { result ≤ 1 }
+    {
+        match self.objects.at(m.0) {
+            Some(object) => { if is_last(object, c) { 1 } else { 0 } }
+            None => 0,
+        }
+    }
+
+    // The same of the mutex that is meant; 0 stands for none.  [profile]
+    fn last_lock_meant(&self, c: ClientId, n: &Name) -> u64
+        requires { AreTables self.now }
+        ensures value { let h = history self.now.stored.entries in
+            result ≡ last_lock h c (meant h n.now MutexClass) }
+        ensures small { result ≤ 1 }
+    {
+        match self.find(n, ObjectClass::Mutex) {
+            Some(m) => self.last_lock(c, m),
+            None => self.last_lock(c, ObjectId(0)),
+        }
+    }
+
+    /// The same of the mutex that is found, if one is.  [profile]
+    pub fn last_lock_found(&self, c: ClientId, n: &Name) -> u64
+        requires { AreTables self.now }
+        ensures value { let h = history self.now.stored.entries in
+            result ≡ last_lock_if h c (find h n.now MutexClass) }
+        ensures small { result ≤ 1 }
+    {
+        match self.find(n, ObjectClass::Mutex) {
+            Some(m) => self.last_lock(c, m),
+            None => 0,
+        }
+    }
+
+    /// The entries that aren't kept any more where a call is left waiting.  [profile]
+    pub fn used_to_wait(&self, c: ClientId, call: &Call) -> u64
+        requires { AreTables self.now }
+        ensures value { result
+            ≡ used_to_wait (history self.now.stored.entries) c (operation call.now) }
+        ensures small { result ≤ 1 }
+    {
+        match operation_of(call) {
+            Operation::Awaits(_, n, _) => self.last_lock_meant(c, n),
+            _ => 0,
+        }
+    }
+
+    /// The entries kept for a client's open call, if it has one.  [profile]
+    pub fn kept_of(&self, c: ClientId) -> u64
+        ensures value { result ≡ counted kept_open (open_in (client_value self.now.clients c)) }
+        ensures small { result ≤ 3 }
+    {
+        match self.clients.at(c.0) {
+            Some(caller) => kept_by(caller.open),
+            None => 0,
+        }
+    }
+
+    /// The entries kept: for the Death of each living client, for open calls, for Yields.
+    /// [profile]
+    pub fn need(&self) -> u64
+        requires { AreTables self.now }
+        ensures value { result ≡ need_in (history self.now.stored.entries) }
+        ensures small { result ≤ 8192 }
+    {
+        self.clients.len() as u64 + self.kept() + self.robust_owned()
+    }
+
+    /// A client that doesn't live: DEAD where a place has its number, else NOHELLO.  [profile]
+    #[tactic(auto, using(crate::proofs::Places::place_of_next))]
+    fn refusal_of_stranger(&self, c: ClientId) -> Refusal
+        ensures { result ≡ refusal_of_stranger_in (past self.now) c }
+    {
+        if c.0 < self.stored.len() {
+            Refusal::Dead
+        } else {
+            Refusal::Nohello
+        }
+    }
+
+    /// Why an event is refused for its sender, or at 1,024 living clients; or none.  [profile]
+    pub fn refusal(&self, event: &Event) -> Option<Refusal>
+        requires { AreTables self.now }
+        ensures { result ≡ refusal_in (past self.now) event.now }
+    {
+        match event {
+            Event::Join(_) if 1024 <= self.living() => Some(Refusal::Limit),
+            Event::Call(c, _) if !self.is_alive(*c) => Some(self.refusal_of_stranger(*c)),
+            Event::Call(c, _) if self.open_place(*c).is_some() => Some(Refusal::Blocked),
+            Event::Death(c) if !self.is_alive(*c) => Some(self.refusal_of_stranger(*c)),
+            _ => None,
+        }
+    }
+}

@@ -1,0 +1,182 @@
+//! Read-write locks: verdicts, reading, writing, and who holds the last lock of a client.
+
+ghost use Rattle.std.specs.Prelude.{IfErr, IfSome, None, OnErr, OnOk, Some, ◌<◌, ◌≡◌, option_map};
+ghost use Rattle.pt_model.specs.Histories.{history};
+ghost use Rattle.pt_model.specs.Objects.{find as find_in, kind_of, objects};
+ghost use Rattle.pt_model.specs.Rwlocks.{is_held_alive as is_held_alive_in, rwlock_view as rwlock_seen};
+ghost use Rattle.pt_state.specs.Reads.{AreTables};
+ghost use Rattle.pt_types.specs.declared.outcome.Outcome.TheVariants as told;
+ghost use Rattle.pt_types.specs.Operations.{Acquires, RwlockClass, Rwunlocks, WriteLock, operation};
+ghost use Rattle.pt_model.specs.declared.entry.Entry.TheVariants as entry;
+ghost use Rattle.pt_state.specs.Adds.{Adds, IsReadyFor, Stays, past};
+ghost use Rattle.pt_model.specs.Searches.{In};
+ghost use Rattle.pt_model.specs.Records.{ForRead, ForWrite};
+ghost use Rattle.pt_model.specs.Grants.{grant_outcome as grant_outcome_in};
+ghost use Rattle.pt_records.specs.Callers.{opens_of};
+ghost use Rattle.pt_state.specs.Serving.{called};
+ghost use Rattle.pt_table.specs.ObjectRows.{object_value};
+ghost use Rattle.pt_model.specs.Found.{passes};
+ghost use Rattle.pt_state.specs.Granting.{is_readable as is_readable_kept, is_unheld};
+ghost use Rattle.std.specs.Option.{option_copied};
+ghost use Rattle.pt_records.specs.Kept.{rwlock_in};
+ghost use Rattle.pt_records.specs.Objects.{IsRwlock};
+ghost use Rattle.pt_types.specs.Shown.{shown_rwlock};
+ghost use Rattle.pt_model.specs.Verdicts.{operation_verdict as said_of};
+ghost use Rattle.pt_model.specs.Shown.{shown_role};
+ghost use Rattle.pt_state.specs.Left.{IsLeft};
+
+use crate::state::State;
+use pt_records::rwlock::{
+    acquire_read, acquire_write, any_holds, make_row, may_read, release_lock, view_of,
+};
+use pt_records::{Object, Open};
+use pt_rwlock::RwObj;
+use pt_types::operations::ObjectClass;
+use pt_types::views::RwlockView;
+use pt_types::{Call, ClientId, How, Name, ObjectId, ObjectKind, Outcome, Refusal, Verdict};
+use std::alloc::Allocator;
+
+impl<A: Allocator + Copy> State<A> {
+    /// Whether a living client holds the lock.  [XSH pthread_rwlock_destroy]
+    pub fn is_held_alive(&self, r: ObjectId) -> bool
+        requires read { AreTables self.now }
+        requires lock { kind_of (history self.now.stored.entries) r ≡ Some ObjectKind.Rwlock }
+        ensures { result ≡ is_held_alive_in (history self.now.stored.entries) r }
+    {
+        match self.objects.at(r.0) {
+            Some(Object::Rwlock(lock)) => any_holds(&self.clients, lock),
+            _ => false,
+        }
+    }
+
+    /// A holder of a read-write lock gives it back.  [XSH pthread_rwlock_unlock]
+    pub fn push_rwunlock(&mut self, c: ClientId, call: &Call, n: &Name)
+        requires ready { IsReadyFor self.old (entry.Call c call.now (Some told.Done)) }
+        requires operation { operation call.now ≡ Rwunlocks n.now }
+        ensures { Adds self.old (entry.Call c call.now (Some told.Done)) self.new }
+    {
+        let r = self.find(n, ObjectClass::Rwlock).unwrap();
+        release_lock(&mut self.objects, r.0, c);
+        self.finish(c, call, Outcome::Done);
+    }
+
+    /// A call gets its read lock.  [XSH pthread_rwlock_rdlock]
+    pub(crate) fn push_grant_read(&mut self, found: &Open)
+        requires ready { IsReadyFor self.old (entry.Grant found.now.call.place
+            (grant_outcome_in (past self.old) (called found.now))) }
+        requires known { In found.now (opens_of self.old.clients) }
+        requires role { (called found.now).role ≡ ForRead }
+        ensures { Adds self.old (entry.Grant found.now.call.place
+            (grant_outcome_in (past self.old) (called found.now))) self.new }
+    {
+        let call = found.call;
+        acquire_read(&mut self.objects, call.object, ClientId(call.client));
+        self.grant(found, Outcome::Done);
+    }
+
+    /// A call gets its write lock.  [XSH pthread_rwlock_wrlock]
+    pub(crate) fn push_grant_write(&mut self, found: &Open)
+        requires ready { IsReadyFor self.old (entry.Grant found.now.call.place
+            (grant_outcome_in (past self.old) (called found.now))) }
+        requires known { In found.now (opens_of self.old.clients) }
+        requires role { (called found.now).role ≡ ForWrite }
+        ensures { Adds self.old (entry.Grant found.now.call.place
+            (grant_outcome_in (past self.old) (called found.now))) self.new }
+    {
+        let call = found.call;
+        acquire_write(&mut self.objects, call.object, ClientId(call.client));
+        self.grant(found, Outcome::Done);
+    }
+
+    /// Whether a client may read there, behind writers or not.  [XSH pthread_rwlock_rdlock]
+    pub fn may_read(&self, r: ObjectId, c: ClientId, blocked: bool) -> bool
+        ensures { result
+            ≡ passes (is_readable_kept c blocked) (object_value self.now.objects r) }
+    {
+        match self.objects.at(r.0) {
+            Some(Object::Rwlock(lock)) => may_read(lock, c, blocked),
+            _ => false,
+        }
+    }
+
+    /// Whether nobody holds it.  [XSH pthread_rwlock_wrlock]
+    pub fn may_write(&self, r: ObjectId) -> bool
+        ensures { result ≡ passes is_unheld (object_value self.now.objects r) }
+    {
+        match self.objects.at(r.0) {
+            Some(Object::Rwlock(lock)) => lock.is_free(),
+            _ => false,
+        }
+    }
+
+    /// The read-write lock with this number, if it is one.  [profile]
+    pub fn rwlock_at(&self, r: ObjectId) -> Option<&RwObj<A>>
+        ensures { option_copied result ≡ rwlock_in (object_value self.now.objects r) }
+    {
+        match self.objects.at(r.0) {
+            Some(Object::Rwlock(kept)) => Some(kept),
+            _ => None,
+        }
+    }
+
+    /// The read-write lock of this name, with its number.  [profile]
+    pub fn rwlock_named(&self, n: &Name) -> Option<(ObjectId, &RwObj<A>)>
+        requires { AreTables self.now }
+        ensures number { option_map (λ found. found.0) result
+            ≡ find_in (past self.now) n.now RwlockClass }
+        ensures lock { IfSome result (λ found.
+            IsRwlock (past self.now) found.0 found.1.now) }
+    {
+        let r = self.find(n, ObjectClass::Rwlock)?;
+        match self.rwlock_at(r) {
+            Some(kept) => Some((r, kept)),
+            None => None,
+        }
+    }
+
+    /// A lock that exists, as its tables see it.  [XSH 2.9]
+    pub fn lock_view(&self, r: ObjectId, c: ClientId) -> RwlockView
+        requires read { AreTables self.now }
+        requires lock { kind_of (past self.now) r ≡ Some ObjectKind.Rwlock }
+        ensures { shown_rwlock result ≡ rwlock_seen (past self.now) r c }
+    {
+        view_of(self.rwlock_at(r).unwrap(), c)
+    }
+
+    /// A client's call to write.  [XSH pthread_rwlock_wrlock]
+    pub fn write_verdict(&self, c: ClientId, n: &Name, how: &How) -> Verdict
+        requires { AreTables self.now }
+        ensures { result ≡ said_of (past self.now) c (Acquires n.now WriteLock how.now) }
+    {
+        match self.rwlock_named(n) {
+            Some((_, r)) => r.verdict_write(c, *how),
+            None => Verdict::Reply(Outcome::Einval),
+        }
+    }
+
+    /// A client's call to give a read-write lock back.  [XSH pthread_rwlock_unlock]
+    pub fn rwunlocks_verdict(&self, c: ClientId, n: &Name) -> Verdict
+        requires { AreTables self.now }
+        ensures { result ≡ said_of (past self.now) c (Rwunlocks n.now) }
+    {
+        match self.rwlock_named(n) {
+            Some((_, r)) => r.verdict_unlock(c),
+            None => Verdict::Reply(Outcome::Einval),
+        }
+    }
+
+    /// A call for a read lock: its client gets a row in the lock. ENOMEM where there is no memory
+    /// for it.  [XSH pthread_rwlock_rdlock]
+    pub fn push_reading(&mut self, c: ClientId, call: &Call, open: Open) -> Result<(), Refusal>
+        requires ready { IsReadyFor self.old (entry.Call c call.now None) }
+        requires left { IsLeft (past self.old) c call.now «open» }
+        requires role { shown_role «open».call.role ≡ ForRead }
+        ensures ok { OnOk result (Adds self.old (entry.Call c call.now None) self.new) }
+        ensures err { OnErr result (Stays self.old self.new) }
+        ensures refusal { IfErr result (λ r. r ≡ Refusal.Enomem) }
+    {
+        make_row(&mut self.objects, open.call.object, c)?;
+        self.leave(c, call, open);
+        Ok(())
+    }
+}

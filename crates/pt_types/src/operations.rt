@@ -1,0 +1,135 @@
+//! What each call word does, and to which class of objects.
+
+ghost use Rattle.std.specs.Prelude.{◌≡◌};
+ghost use Rattle.pt_types.specs.Operations.{operation as operation_meant, clock_of as clock_meant, same_class, class_of as class_meant, class_needed as class_meant_by, deadline_of as deadline_meant};
+ghost use Rattle.pt_types.specs.Shown.{shown_operation, shown_class, shown_lock_kind};
+
+use crate::{Call, Clock, Deadline, How, Name, ObjectKind};
+
+/// The four classes of objects.  [XSH 2.9]
+#[derive(Clone, Copy)]
+pub enum ObjectClass {
+    Mutex,
+    Rwlock,
+    Cond,
+    Barrier,
+}
+
+/// The three locks that can be asked for.
+/// [XSH pthread_mutex_lock, pthread_rwlock_rdlock, pthread_rwlock_wrlock]
+#[derive(Clone, Copy)]
+pub enum LockKind {
+    MutexLock,
+    ReadLock,
+    WriteLock,
+}
+
+/// What a call does, with the names of its objects.  [XSH, the call's page]
+#[derive(Drop)]
+pub enum Operation<'a> {
+    Makes(&'a Name, ObjectKind),
+    Ends(&'a Name, ObjectClass),
+    Acquires(&'a Name, LockKind, How),
+    Unlocks(&'a Name),
+    Restores(&'a Name),
+    Rwunlocks(&'a Name),
+    Awaits(&'a Name, &'a Name, Option<Deadline>),
+    Signals(&'a Name),
+    Broadcasts(&'a Name),
+    Arrives(&'a Name),
+}
+
+/// What a call word does.  [XSH, the call's page]
+pub fn operation_of(call: &Call) -> Operation<'_>
+    ensures { shown_operation result ≡ operation_meant call.now }
+{
+    match call {
+        Call::MutexInit(n, kind, robust) => Operation::Makes(n, ObjectKind::Mutex(*kind, *robust)),
+        Call::Lock(n) => Operation::Acquires(n, LockKind::MutexLock, How::Plain),
+        Call::Trylock(n) => Operation::Acquires(n, LockKind::MutexLock, How::Try),
+        Call::Timedlock(n, d) => Operation::Acquires(n, LockKind::MutexLock, How::Timed(*d)),
+        Call::Clocklock(n, _, d) => Operation::Acquires(n, LockKind::MutexLock, How::Timed(*d)),
+        Call::Unlock(n) => Operation::Unlocks(n),
+        Call::Consistent(n) => Operation::Restores(n),
+        Call::MutexDestroy(n) => Operation::Ends(n, ObjectClass::Mutex),
+        Call::RwlockInit(n) => Operation::Makes(n, ObjectKind::Rwlock),
+        Call::Rdlock(n) => Operation::Acquires(n, LockKind::ReadLock, How::Plain),
+        Call::Tryrdlock(n) => Operation::Acquires(n, LockKind::ReadLock, How::Try),
+        Call::Timedrdlock(n, d) => Operation::Acquires(n, LockKind::ReadLock, How::Timed(*d)),
+        Call::Clockrdlock(n, _, d) => Operation::Acquires(n, LockKind::ReadLock, How::Timed(*d)),
+        Call::Wrlock(n) => Operation::Acquires(n, LockKind::WriteLock, How::Plain),
+        Call::Trywrlock(n) => Operation::Acquires(n, LockKind::WriteLock, How::Try),
+        Call::Timedwrlock(n, d) => Operation::Acquires(n, LockKind::WriteLock, How::Timed(*d)),
+        Call::Clockwrlock(n, _, d) => Operation::Acquires(n, LockKind::WriteLock, How::Timed(*d)),
+        Call::Rwunlock(n) => Operation::Rwunlocks(n),
+        Call::RwlockDestroy(n) => Operation::Ends(n, ObjectClass::Rwlock),
+        Call::CondInit(n) => Operation::Makes(n, ObjectKind::Cond),
+        Call::CondDestroy(n) => Operation::Ends(n, ObjectClass::Cond),
+        Call::Wait(n, m) => Operation::Awaits(n, m, None),
+        Call::Timedwait(n, m, d) => Operation::Awaits(n, m, Some(*d)),
+        Call::Clockwait(n, m, _, d) => Operation::Awaits(n, m, Some(*d)),
+        Call::Signal(n) => Operation::Signals(n),
+        Call::Broadcast(n) => Operation::Broadcasts(n),
+        Call::BarrierInit(n, count) => Operation::Makes(n, ObjectKind::Barrier(*count)),
+        Call::Bwait(n) => Operation::Arrives(n),
+        Call::BarrierDestroy(n) => Operation::Ends(n, ObjectClass::Barrier),
+    }
+}
+
+/// The clock of a call's deadline.  [XSH pthread_mutex_clocklock]
+pub fn clock_of(call: &Call) -> Clock
+    ensures { result ≡ clock_meant call.now }
+{
+    match call {
+        Call::Clocklock(_, clock, _)
+        | Call::Clockrdlock(_, clock, _)
+        | Call::Clockwrlock(_, clock, _)
+        | Call::Clockwait(_, _, clock, _) => *clock,
+        _ => Clock::Real,
+    }
+}
+
+/// The class of an object, whatever else is known of it.  [XSH 2.9]
+pub fn class_of(kind: ObjectKind) -> ObjectClass
+    ensures { shown_class result ≡ class_meant kind }
+{
+    match kind {
+        ObjectKind::Mutex(..) => ObjectClass::Mutex,
+        ObjectKind::Rwlock => ObjectClass::Rwlock,
+        ObjectKind::Cond => ObjectClass::Cond,
+        ObjectKind::Barrier(_) => ObjectClass::Barrier,
+    }
+}
+
+/// The class of object that has such a lock.  [XSH 2.9]
+pub fn class_needed(lock_kind: LockKind) -> ObjectClass
+    ensures { shown_class result ≡ class_meant_by (shown_lock_kind lock_kind) }
+{
+    match lock_kind {
+        LockKind::MutexLock => ObjectClass::Mutex,
+        LockKind::ReadLock | LockKind::WriteLock => ObjectClass::Rwlock,
+    }
+}
+
+/// Whether two classes are one.  [profile]
+pub fn is_same(one: ObjectClass, other: ObjectClass) -> bool
+    ensures { result ≡ same_class (shown_class one) (shown_class other) }
+{
+    matches!(
+        (one, other),
+        (ObjectClass::Mutex, ObjectClass::Mutex)
+            | (ObjectClass::Rwlock, ObjectClass::Rwlock)
+            | (ObjectClass::Cond, ObjectClass::Cond)
+            | (ObjectClass::Barrier, ObjectClass::Barrier)
+    )
+}
+
+/// The deadline of a call for a lock.  [XSH pthread_mutex_timedlock]
+pub fn deadline_of(how: How) -> Option<Deadline>
+    ensures { result ≡ deadline_meant how }
+{
+    match how {
+        How::Timed(deadline) => Some(deadline),
+        _ => None,
+    }
+}
