@@ -14,7 +14,7 @@ import textwrap
 
 TOP = pathlib.Path(__file__).resolve().parent.parent
 CRATES = (
-    "pt_core pt_script pt_lines pt_io pt_history pt_table pt_waitq pt_timers "
+    "pt_core pt_hub pt_script pt_lines pt_io pt_history pt_table pt_waitq pt_timers "
     "pt_mutex pt_rwlock pt_cond pt_barrier"
 ).split()
 HEAD = """# Definitions

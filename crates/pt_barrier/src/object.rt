@@ -1,11 +1,8 @@
-ghost use Rattle.std.specs.Prelude.{◌≡◌, ◌≤◌, ◌↔◌, IsTrue, false};
+ghost use Rattle.std.specs.Prelude.{◌≡◌, ◌==◌, ◌≤◌, false};
 ghost use Rattle.pt_types.specs.ObjectTable.{init_verdict};
 
-use pt_types::{ObjectKind, Outcome, Verdict};
+use pt_types::{MOST_AT_BARRIER, ObjectKind, Outcome, Verdict};
 use std::marker::Model;
-
-/// Calls that the largest barrier waits for.  [profile]
-const MOST_AT_BARRIER: u32 = 1024;
 
 /// What becomes of a `barrier-init` with this count, where its name is free and no object exists:
 /// EINVAL for 0, and above 1,024, which is profile.  [XSH pthread_barrier_init]
@@ -63,7 +60,7 @@ impl BarrierObj {
     /// Whether it lets the calls go that stand at it, where they are so many.
     /// [XSH pthread_barrier_wait]
     pub fn full(&self, waiting: usize) -> bool
-        ensures { IsTrue result ↔ (waiting ≡ self.now) }
+        ensures { result ≡ (waiting == self.now) }
     {
         waiting == self.count as usize
     }

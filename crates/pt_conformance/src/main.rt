@@ -10,15 +10,12 @@
 //! with status 1. Only its run shows what is printed.
 #![tactic(auto)]
 
-mod case;
-mod difference;
-mod files;
 mod playing;
 mod way;
 
 use anyhow::Result;
-use files::cases_of;
 use playing::all_agree;
+use pt_cases::cases_of;
 use std::env;
 use std::process::ExitCode;
 use way::Way;

@@ -1,39 +1,12 @@
 ghost use Rattle.std.specs.Prelude.{◌<◌};
 
-use crate::case::Case;
-use crate::difference::{Difference, first_difference};
 use crate::way::Way;
 use anyhow::{Context, Result};
+use pt_cases::{Case, agrees};
 use pt_io::{Counted, Faulty};
 use pt_script::script;
+use std::fs;
 use std::rt::Files;
-use std::{fs, io};
-
-// Shows where the text that is written for a case differs from the expected one.
-fn show(rt: &impl Print, case: &Case, difference: &Difference<'_>) -> io::Result<()> {
-    let path = case.path.as_str();
-    let number = difference.number;
-    println!(rt; "{path}: line {number} differs")?;
-    println!(rt;
-        "expected: {}",
-        difference.expected.unwrap_or(b"").escape_ascii()
-    )?;
-    println!(rt;
-        "written:  {}",
-        difference.written.unwrap_or(b"").escape_ascii()
-    )
-}
-
-// Whether this text is what is expected of a case; if not, shows where it differs.
-fn agrees(rt: &impl Print, case: &Case, written: &[u8]) -> Result<bool> {
-    match first_difference(&case.expected, written) {
-        None => Ok(true),
-        Some(difference) => {
-            show(rt, case, &difference)?;
-            Ok(false)
-        }
-    }
-}
 
 // Plays a script that lies in memory, in reads and writes of up to `step` bytes.
 fn agrees_in_pieces(rt: &(impl Print + AllocGlobal), step: usize, case: &Case) -> Result<bool>
@@ -43,7 +16,7 @@ fn agrees_in_pieces(rt: &(impl Print + AllocGlobal), step: usize, case: &Case) -
     let mut reader = Faulty::new(bytes, step, 0);
     let mut writer = Faulty::new(Vec::new(rt.alloc()), step, 0);
     script(rt.alloc(), &mut reader, &mut writer)?;
-    agrees(rt, case, writer.written())
+    Ok(agrees(rt, case, writer.written())?)
 }
 
 // Plays a script while its file is read.
@@ -52,7 +25,7 @@ fn agrees_from_file(rt: &(impl Files + Print + AllocGlobal), case: &Case) -> Res
     let mut reader = Counted::new(fs::open(rt, path.as_str())?);
     let mut writer = Faulty::new(Vec::new(rt.alloc()), 4096, 0);
     script(rt.alloc(), &mut reader, &mut writer)?;
-    agrees(rt, case, writer.written())
+    Ok(agrees(rt, case, writer.written())?)
 }
 
 // Plays a case in this way.

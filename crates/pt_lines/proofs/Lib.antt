@@ -1,11 +1,22 @@
+-- CutLemmas: lines by the bytes that they begin with
 pub mod CutLemmas
+-- TestLemmas: tests, and options that are some
 pub mod TestLemmas
+-- FieldLemmas: a text and its fields
 pub mod FieldLemmas
+-- NumberLemmas: numbers and their decimals
 pub mod NumberLemmas
+-- VerbLemmas: each verb is found by its word, and its word is short and has no space
 pub mod VerbLemmas
+-- ArgumentLemmas: what fields are read as, and what is read again from its fields
 pub mod ArgumentLemmas
+-- SpelledLemmas: the text of a line is the word of a verb and the fields that it is read from
 pub mod SpelledLemmas
+-- CallLemmas: each call is spelled by its verb
 pub mod CallLemmas
+-- GrammarLemmas: a text is read as just the line that it spells
 pub mod GrammarLemmas
+-- ClientLemmas: a line's client, and what is behind it
 pub mod ClientLemmas
+-- ScriptLemmas: a line of a script is read as just what it spells
 pub mod ScriptLemmas

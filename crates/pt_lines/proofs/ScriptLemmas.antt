@@ -14,7 +14,7 @@ use Rattle.pt_lines.specs.ClientNames.{IsClientName}
 use Rattle.pt_lines.specs.Clients.{who_text, who_named, before_space, behind_space}
 use Rattle.pt_lines.specs.Grammar.{Spells}
 use Rattle.pt_lines.specs.Reading.{call_read, line_read}
-use Rattle.pt_lines.specs.Script.{SpellsBody, SpellsScript, long_line, AreTablesAs, body_of, body_from, body_read, body_behind, short_read}
+use Rattle.pt_lines.specs.Script.{SpellsBody, SpellsScript, long_line, IsReadAs, body_of, body_from, body_read, body_behind, short_read}
 use Rattle.pt_lines.proofs.ArgumentLemmas.{bytes_are}
 use Rattle.pt_lines.proofs.ClientLemmas.{before-word, behind-word, both_sides, client_name_is_word, IsNamed, named_is, named_again}
 use Rattle.pt_lines.proofs.FieldLemmas.{is_word}
@@ -268,7 +268,7 @@ read_why text short = by (behind_space text) refl
         body_why (who_named (before_space text)) rest less
 
 -- a line that is not too long
-pub is_read_short : (text : List ℕ) → length text ≤ 128 → AreTablesAs text (short_read text)
+pub is_read_short : (text : List ℕ) → length text ≤ 128 → IsReadAs text (short_read text)
 is_read_short text short =
     let test : nat_lt 128 (length text) ≡ false = grind arith in
     let why : cond (nat_lt 128 (length text)) refusal.Long refusal.Syntax ≡ refusal.Syntax =
@@ -281,7 +281,7 @@ is_read_short text short =
     }
 
 -- a line that is too long
-pub is_read_long : (text : List ℕ) → 128 < length text → AreTablesAs text long_line
+pub is_read_long : (text : List ℕ) → 128 < length text → IsReadAs text long_line
 is_read_long text long =
     let test : nat_lt 128 (length text) ≡ true = grind arith in
     record {

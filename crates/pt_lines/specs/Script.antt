@@ -37,7 +37,7 @@ long_line = record { who = Unknown; body = Err refusal.Long }
 
 -- how a text is read as a line of a script: whose it is; just what it spells, or else LONG past
 -- 128 bytes and SYNTAX up to them  [profile]
-pub record AreTablesAs (text : List ℕ) (read : ScriptLine) : Type 0 where
+pub record IsReadAs (text : List ℕ) (read : ScriptLine) : Type 0 where
   pub who : read.who ≡ who_of text
   pub found : IfOk read.body (SpellsScript text read.who)
   pub exact :
@@ -48,9 +48,9 @@ pub record AreTablesAs (text : List ℕ) (read : ScriptLine) : Type 0 where
       (λ why. why ≡ (if nat_lt 128 (length text) then refusal.Long else refusal.Syntax))
 
 -- the same of what a cutter gives  [profile]
-abbrev pub AreTablesOf : Cut → ScriptLine → Type 0
-AreTablesOf (Line text) read = AreTablesAs text.items read
-AreTablesOf Long read = read ≡ long_line
+abbrev pub IsReadOf : Cut → ScriptLine → Type 0
+IsReadOf (Line text) read = IsReadAs text.items read
+IsReadOf Long read = read ≡ long_line
 
 -- what a client's line is, by what it would be on a connection  [profile]
 abbrev pub body_of : Who → CallLine → Result ScriptBody Refusal

@@ -10,7 +10,7 @@ use crate::arguments::{
 use crate::cutter::Cut;
 use crate::fields::Fields;
 use crate::verb::Verb;
-use pt_types::{Call, Clock, Moment, Priority, Refusal};
+use pt_types::{Call, Clock, MOST_IN_LINE, Moment, Priority, Refusal};
 
 /// A line of a connection: a hello, a call, or a reading of a clock.  [profile]
 #[derive(Debug, PartialEq, Eq, Drop)]
@@ -81,7 +81,7 @@ pub fn read_call(text: &[u8]) -> Result<CallLine, Refusal>
         ≡ (if nat_lt 128 (length text.now) then Refusal.Long else Refusal.Syntax)) }
     ensures short { IsOk result → length text.now ≤ 128 }
 {
-    if text.len() > 128 {
+    if text.len() > MOST_IN_LINE {
         return Err(Refusal::Long);
     }
     read_text(text).ok_or(Refusal::Syntax)

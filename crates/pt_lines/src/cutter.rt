@@ -7,7 +7,7 @@ ghost use Rattle.pt_lines.specs.Lines.{lines, lines_past_newline, to_come, NoNew
 use arrayvec::ArrayVec;
 use bytes::BytesMut;
 use memchr::memchr;
-use pt_types::Refusal;
+use pt_types::{MOST_IN_LINE, Refusal};
 use std::alloc::{Allocator, Global};
 use std::marker::Model;
 
@@ -15,7 +15,7 @@ use std::marker::Model;
 /// [profile]
 #[derive(Debug, PartialEq, Eq, Drop)]
 pub enum Cut {
-    Line(ArrayVec<u8, 128>),
+    Line(ArrayVec<u8, MOST_IN_LINE>),
     Long,
 }
 
@@ -39,7 +39,7 @@ impl<A: Allocator + Copy> Model for Cutter<A> {
 }
 
 // A line of at most 128 bytes.
-fn line_of(text: &[u8]) -> ArrayVec<u8, 128>
+fn line_of(text: &[u8]) -> ArrayVec<u8, MOST_IN_LINE>
     requires { length text.now ≤ 128 }
     ensures { result.items ≡ text.now }
 {
@@ -84,7 +84,7 @@ fn take_line<A: Allocator + Copy>(held: &mut BytesMut<A>) -> Option<Cut>
             held.advance(end + 1);
             Some(Cut::Line(line))
         }
-        None if count > 128 => {
+        None if count > MOST_IN_LINE => {
             held.advance(129);
             Some(Cut::Long)
         }

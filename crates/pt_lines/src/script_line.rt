@@ -1,13 +1,13 @@
 ghost use Rattle.std.specs.Prelude.{◌≡◌};
 ghost use Rattle.std.specs.Option.{option_copied};
 ghost use Rattle.pt_lines.specs.Clients.{before_space, behind_space};
-ghost use Rattle.pt_lines.specs.Script.{body_of, body_read, AreTablesAs, short_read, script_read};
+ghost use Rattle.pt_lines.specs.Script.{body_of, body_read, IsReadAs, short_read, script_read};
 
 use crate::call_line::{CallLine, read_call};
 use crate::client::Who;
 use crate::cutter::Cut;
 use memchr::memchr;
-use pt_types::{Call, Clock, Moment, Priority, Refusal};
+use pt_types::{Call, Clock, MOST_IN_LINE, Moment, Priority, Refusal};
 
 /// What a line of a script says.  [profile]
 #[derive(Debug, PartialEq, Eq, Drop)]
@@ -78,16 +78,16 @@ fn read_short(text: &[u8]) -> ScriptLine
 /// Reads a line of a script. It takes no memory.  [profile]
 pub fn read_script_line(text: &[u8]) -> ScriptLine
     ensures value { result ≡ script_read text.now }
-    ensures read { AreTablesAs text.now result }
+    ensures read { IsReadAs text.now result }
 {
-    if text.len() > 128 {
+    if text.len() > MOST_IN_LINE {
         return ScriptLine::long();
     }
     read_short(text)
 }
 
 impl ScriptLine {
-    ghost use Rattle.pt_lines.specs.Script.{AreTablesOf, script_of, long_line};
+    ghost use Rattle.pt_lines.specs.Script.{IsReadOf, script_of, long_line};
 
     /// A line that is too long: nobody's, and LONG.  [profile]
     pub fn long() -> ScriptLine
@@ -102,7 +102,7 @@ impl ScriptLine {
     /// Reads what a cutter gave. It takes no memory.
     pub fn of(cut: &Cut) -> ScriptLine
         ensures value { result ≡ script_of cut.now }
-        ensures read { AreTablesOf cut.now result }
+        ensures read { IsReadOf cut.now result }
     {
         match cut {
             Cut::Line(text) => read_script_line(text.as_slice()),

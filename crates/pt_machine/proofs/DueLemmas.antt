@@ -9,7 +9,7 @@ use Rattle.pt_types.specs.declared.time.Clock.{Clock}
 use Rattle.pt_types.specs.declared.time.Clock.TheVariants.{Real, Mono}
 use Rattle.pt_types.specs.Operations.{same_clock}
 use Rattle.pt_types.specs.Times.{Timespec, deadline_nanos, has_bad_deadline, pair_before}
-use Rattle.pt_timers.specs.Deadlines.{deadline_at, reading as shown, is_reached, IsLeastDue, IsLeast}
+use Rattle.pt_timers.specs.Deadlines.{deadline_at, moments, is_reached, IsLeastDue, IsLeast}
 use Rattle.pt_model.specs.declared.entry.Entry.TheVariants.{Grant}
 use Rattle.pt_model.specs.Searches.{In, first_below, least}
 use Rattle.pt_model.specs.Histories.{History, place}
@@ -67,7 +67,7 @@ clocked c (Some n) k m e = (
 
 -- the clocks that are kept are those of the history
 pub as-read : {A : Type 0} (h : History) (inside s : State A) → inside ≡ s → AreClocks h s.clocks
-    → (k : Clock) → shown inside.clocks.real inside.clocks.mono k ≡ clock h k
+    → (k : Clock) → moments inside.clocks.real inside.clocks.mono k ≡ clock h k
 as-read h inside s is all Real = ap (λ (t : State _). t.clocks.real) is ∙ all Real
 as-read h inside s is all Mono = ap (λ (t : State _). t.clocks.mono) is ∙ all Mono
 

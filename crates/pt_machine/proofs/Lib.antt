@@ -1,36 +1,92 @@
-pub mod ArrivalBounds
-pub mod BadDeadlines
-pub mod BadVerdicts
-pub mod Bindings
-pub mod Broadcasts
-pub mod DueLemmas
-pub mod MayLemmas
-pub mod Membership
-pub mod NoBadDeadlines
+-- Open calls:
+-- OpenPlaces: the open call that came at a place: its client made the call whose entry stands
+-- there
 pub mod OpenPlaces
+-- OpenPriorities: an open call has the priority of its client
 pub mod OpenPriorities
+-- ArrivalBounds: what waits arrived before the next entry, at an object that exists
+pub mod ArrivalBounds
+-- PlaceTakes: what a client's row has of its open call is the call that takes its place
 pub mod PlaceTakes
-pub mod QueueClears
-pub mod QueueCounts
-pub mod QueueFirsts
-pub mod QueueReads
-pub mod QueueClasses
-pub mod QueuedAnswers
-pub mod QueuedArrivals
-pub mod QueuedBroadcast
-pub mod QueuedCalls
-pub mod QueuedForced
-pub mod QueuedLeft
-pub mod QueuedMoves
-pub mod QueuedObjects
-pub mod QueuedOut
-pub mod QueuedSame
-pub mod QueuedWakes
+-- MayLemmas: what decides whether an open call in the rows may go on: its client's priority, and
+-- the class of its object
+pub mod MayLemmas
+-- TableViews: what the tables answer, of the body that has them
 pub mod TableViews
-pub mod TimedArrivals
-pub mod TimedCalls
-pub mod TimedMoves
-pub mod TimedStates
+-- What a queue answers:
+-- Membership: one of a list, in the words of the queues and in those of the definitions
+pub mod Membership
+-- QueueClasses: which calls stand at a condition, and which at a barrier
+pub mod QueueClasses
+-- QueueReads: what is asked of a queue is what the definitions say of the calls that stand there
+pub mod QueueReads
+-- QueueCounts: as many stand in a queue as open calls stand at its object
+pub mod QueueCounts
+-- QueueFirsts: the first of a condition's queue is the wait that a signal wakes
+pub mod QueueFirsts
+-- QueueClears: A queue whose first is taken out until none is left
+pub mod QueueClears
+-- Bindings: a condition's mutex is that of the first wait of its queue
+pub mod Bindings
+-- Queues after each entry:
+-- QueuedSame: queues that are right still: nothing that they are read off has changed
+pub mod QueuedSame
+-- QueuedOut: the queues behind an entry that lets open calls go
+pub mod QueuedOut
+-- QueuedArrivals: queues before the first entry, as clients join and die, as the clock is read,
+-- and at a Yield
+pub mod QueuedArrivals
+-- QueuedAnswers: pushes of answered calls that change no queue
+pub mod QueuedAnswers
+-- QueuedCalls: queues behind a call that is answered at once: no call comes or goes by it
+pub mod QueuedCalls
+-- QueuedObjects: pushes that make an object or end one: what the queues are before them and behind
+-- them
+pub mod QueuedObjects
+-- QueuedLeft: A call that is left waiting takes its place in a queue
+pub mod QueuedLeft
+-- QueuedMoves: one wait is moved: it leaves its condition's queue, and takes its place in its
+-- mutex's
+pub mod QueuedMoves
+-- QueuedWakes: what a signal and a passed deadline move, and the queues behind them
+pub mod QueuedWakes
+-- Broadcasts: what a broadcast makes of the history: the waits at its condition are moved, and
+-- nothing else
+pub mod Broadcasts
+-- QueuedBroadcast: the queues while a broadcast moves the waits at its condition, one by one in
+-- key order
+pub mod QueuedBroadcast
+-- QueuedForced: the queues of a state behind an entry that must follow
+pub mod QueuedForced
+-- Deadlines:
+-- BadDeadlines: A call whose deadline is no time is answered at once, or is granted by the next
+-- entry
+pub mod BadDeadlines
+-- BadVerdicts: which calls are left waiting with a deadline that is no time: those for a lock that
+-- is free
+pub mod BadVerdicts
+-- NoBadDeadlines: where nothing is forced, no open call has a deadline that is no time
+pub mod NoBadDeadlines
+-- DueLemmas: the deadlines that are set, and which open call is overdue first
+pub mod DueLemmas
+-- TimedSteps: how the deadlines that are set change with one entry
 pub mod TimedSteps
+-- TimedStates: the deadlines that are set beside a state, as entries are pushed
+pub mod TimedStates
+-- TimedArrivals: the deadlines that are set behind a Join or a Moment: they are those that were
+-- set before
+pub mod TimedArrivals
+-- TimedCalls: how the deadlines that are set change as a call is left waiting, and as a barrier
+-- trips
+pub mod TimedCalls
+-- TimedMoves: the deadlines that are set behind a call with its answer: those of the waits that it
+-- moves are set no more
+pub mod TimedMoves
+-- TimerDrops: deadlines that are dropped, row by row
 pub mod TimerDrops
+-- Seals:
+-- SealedQueues: the queues and the deadlines are those of the seal too, where nothing must follow
 pub mod SealedQueues
+-- Others:
+-- NeedsMemory: what follows where a call needs no memory to wait
+pub mod NeedsMemory

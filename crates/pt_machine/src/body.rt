@@ -1,10 +1,10 @@
 //! The tables with their queues and deadlines, and the two ways by which an entry comes in.
 
 ghost use Rattle.pt_state.specs.Adds.{Adds, IsReadyFor, Stays, past};
-ghost use Rattle.std.specs.Prelude.{IfErr, IsOk, OnErr, OnOk, [], ◌+◌, ◌<◌, ◌≡◌, ◌≤◌, false, length, true, vec_len};
+ghost use Rattle.std.specs.Prelude.{IfErr, IsOk, OnErr, OnOk, [], ◌+◌, ◌<◌, ◌≡◌, ◌≤◌, false, length, vec_len};
 ghost use Rattle.pt_types.specs.Limits.{most_clients};
 ghost use Rattle.pt_model.specs.Histories.{is_forced};
-ghost use Rattle.pt_state.specs.Outer.{is_death};
+ghost use Rattle.pt_machine.specs.Memory.{needs_memory};
 ghost use Rattle.pt_records.specs.Callers.{opens_of};
 ghost use Rattle.pt_state.specs.Serving.{IsFor, entry_of};
 ghost use Rattle.pt_model.specs.Answers.{open_place as open_place_in};
@@ -53,15 +53,16 @@ impl<Q: WaitList, A: Allocator + Copy> Body<Q, A> {
         self.state.clients.len()
     }
 
-    /// Any outer entry. ENOMEM where a growth is refused: then nothing is pushed. A Death is never
-    /// refused, and no forced entry comes here.  [profile]
+    /// Any outer entry. ENOMEM where a growth is refused: then nothing is pushed. An entry that
+    /// needs no memory, as a Death and a Moment, is never refused, and no forced entry comes here.
+    /// [profile]
     pub fn push_outer(&mut self, entry: &Entry) -> Result<(), Refusal>
         requires ready { IsReadyFor self.old entry.now }
         requires outer { is_forced entry.now ≡ false }
         ensures ok { OnOk result (Adds self.old entry.now self.new) }
         ensures err { OnErr result (Stays self.old self.new) }
         ensures reason { IfErr result (λ refusal. refusal ≡ Refusal.Enomem) }
-        ensures death { is_death entry.now ≡ true → IsOk result }
+        ensures enough { needs_memory entry.now ≡ false → IsOk result }
     {
         clock::push_outer(&mut self.state, &mut self.queues, &mut self.timers, entry)
     }

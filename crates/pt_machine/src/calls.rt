@@ -1,10 +1,11 @@
 //! Calls: the verdict of each, and how those that are answered at once and those that wait come in.
 
-ghost use Rattle.std.specs.Prelude.{IfErr, None, OnErr, OnOk, Some, ◌≡◌, false, true};
+ghost use Rattle.std.specs.Prelude.{IfErr, IsOk, None, OnErr, OnOk, Some, ◌≡◌, false, true};
+ghost use Rattle.pt_types.specs.Operations.{Acquires, Awaits, Broadcasts, Ends, Makes, ReadLock, Restores, Rwunlocks, Signals, Unlocks, WriteLock, operation};
 ghost use Rattle.pt_model.specs.declared.entry.Entry.TheVariants as entry;
 ghost use Rattle.pt_state.specs.Adds.{Adds, IsReadyFor, Stays, past};
+ghost use Rattle.pt_state.specs.Outer.{asks_to_read, makes_object};
 ghost use Rattle.pt_machine.specs.Queued.{IsQueued};
-ghost use Rattle.pt_types.specs.Operations.{Acquires, Awaits, Broadcasts, Ends, Makes, ReadLock, Restores, Rwunlocks, Signals, Unlocks, WriteLock, operation};
 ghost use Rattle.pt_state.specs.Calling.{is_plain as is_plain_operation};
 ghost use Rattle.pt_types.specs.declared.outcome.Outcome.TheVariants as told;
 ghost use Rattle.pt_model.specs.Verdicts.{operation_verdict as said_of, verdict as verdict_in};
@@ -17,13 +18,12 @@ use crate::objects::{push_ended, push_made};
 use crate::queues::take_place;
 use pt_state::State;
 use pt_types::operations::{LockKind, ObjectClass, Operation, operation_of};
-use pt_types::tables::read_verdict;
 use pt_types::{Call, ClientId, How, Name, Outcome, Refusal, Verdict};
 use pt_waitq::WaitList;
 use std::alloc::Allocator;
 
 /// A call that is left waiting takes its place in a queue. ENOMEM where there is no memory for
-/// its row.  [XSH, the call's page]
+/// its row in a read-write lock; another call needs none.  [XSH, the call's page]
 pub(crate) fn push_left<Q: WaitList, A: Allocator + Copy>(
     state: &mut State<A>,
     queues: &mut Q,
@@ -36,6 +36,7 @@ pub(crate) fn push_left<Q: WaitList, A: Allocator + Copy>(
     ensures ok { OnOk result (Adds state.old (entry.Call c call.now None) state.new) }
     ensures err { OnErr result (Stays state.old state.new) }
     ensures reason { IfErr result (λ refusal. refusal ≡ Refusal.Enomem) }
+    ensures enough { asks_to_read (operation call.now) ≡ false → IsOk result }
     ensures queued { IsQueued (past state.new)
         (Q.queue queues.new) (Q.admitted queues.new) (Q.made queues.new) }
 {
@@ -61,7 +62,8 @@ fn is_plain(call: &Call) -> bool
     }
 }
 
-// A call that is told 0, with what it does. ENOMEM where there is no memory for that.
+// A call that is told 0, with what it does. ENOMEM where there is no memory for the object that
+// it makes.
 // [XSH, the call's page]
 fn push_done<Q: WaitList, A: Allocator + Copy>(
     state: &mut State<A>,
@@ -75,6 +77,7 @@ fn push_done<Q: WaitList, A: Allocator + Copy>(
     ensures ok { OnOk result (Adds state.old (entry.Call c call.now (Some told.Done)) state.new) }
     ensures err { OnErr result (Stays state.old state.new) }
     ensures reason { IfErr result (λ refusal. refusal ≡ Refusal.Enomem) }
+    ensures enough { makes_object (operation call.now) ≡ false → IsOk result }
     ensures queued { IsQueued (past state.new)
         (Q.queue queues.new) (Q.admitted queues.new) (Q.made queues.new) }
 {
@@ -100,7 +103,8 @@ fn push_done<Q: WaitList, A: Allocator + Copy>(
     }
 }
 
-/// A call with its answer. ENOMEM where a growth is refused.  [XSH, the call's page]
+/// A call with its answer. ENOMEM where there is no memory for the object that it makes.
+/// [XSH, the call's page]
 pub(crate) fn push_answered<Q: WaitList, A: Allocator + Copy>(
     state: &mut State<A>,
     queues: &mut Q,
@@ -114,6 +118,7 @@ pub(crate) fn push_answered<Q: WaitList, A: Allocator + Copy>(
     ensures ok { OnOk result (Adds state.old (entry.Call c call.now (Some answer)) state.new) }
     ensures err { OnErr result (Stays state.old state.new) }
     ensures reason { IfErr result (λ refusal. refusal ≡ Refusal.Enomem) }
+    ensures enough { makes_object (operation call.now) ≡ false → IsOk result }
     ensures queued { IsQueued (past state.new)
         (Q.queue queues.new) (Q.admitted queues.new) (Q.made queues.new) }
 {

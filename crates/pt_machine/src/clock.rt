@@ -1,18 +1,18 @@
 //! Deadlines: set as a call waits, dropped as it ends, and the calls that are due.
 
-ghost use Rattle.pt_model.specs.declared.entry.Entry.TheVariants as entry;
 ghost use Rattle.pt_model.specs.declared.entry.Entry.TheVariants as entry_is;
 ghost use Rattle.pt_state.specs.Adds.{Adds, IsReadyFor, Stays, past};
 ghost use Rattle.pt_machine.specs.Queued.{IsQueued};
-ghost use Rattle.std.specs.Prelude.{IfErr, IfSome, IsOk, None, OnErr, OnOk, Some, ℕ, ◌&&◌, ◌==◌, ◌≡◌, false, filter, if◌then◌else◌, option_map, true};
+ghost use Rattle.std.specs.Prelude.{IfErr, IfSome, IsOk, None, OnErr, OnOk, Some, ℕ, ◌&&◌, ◌==◌, ◌≡◌, false, filter, if◌then◌else◌, option_map};
 ghost use Rattle.pt_types.specs.Operations.{operation};
 ghost use Rattle.pt_machine.specs.Timed.{AreTimed, asked, good_of, was_moved_at};
 ghost use Rattle.std.specs.List.{list_any};
 ghost use Rattle.pt_timers.specs.Deadlines.{deadline_at};
 ghost use Rattle.pt_records.specs.Callers.{open_in, opens_of};
 ghost use Rattle.pt_types.specs.Times.{deadline_nanos, is_bad_deadline};
+ghost use Rattle.pt_machine.specs.Memory.{needs_memory, needs_memory_to_wait};
+ghost use Rattle.pt_state.specs.Outer.{makes_object};
 ghost use Rattle.pt_model.specs.Histories.{is_forced};
-ghost use Rattle.pt_state.specs.Outer.{is_death};
 ghost use Rattle.pt_state.specs.Serving.{IsFor, called, entry_of};
 ghost use Rattle.pt_table.specs.ClientRows.{client_value};
 ghost use Rattle.pt_model.specs.Found.{keep};
@@ -41,10 +41,10 @@ pub(crate) fn push_moment<Q: WaitList, A: Allocator + Copy>(
     clock: Clock,
     moment: Moment,
 )
-    requires ready { IsReadyFor state.old (entry.Moment clock moment) }
+    requires ready { IsReadyFor state.old (entry_is.Moment clock moment) }
     requires queued { IsQueued (past state.old)
         (Q.queue queues.old) (Q.admitted queues.old) (Q.made queues.old) }
-    ensures adds { Adds state.old (entry.Moment clock moment) state.new }
+    ensures adds { Adds state.old (entry_is.Moment clock moment) state.new }
     ensures queued { IsQueued (past state.new)
         (Q.queue queues.new) (Q.admitted queues.new) (Q.made queues.new) }
 {
@@ -131,7 +131,7 @@ fn push_timed<Q: WaitList, A: Allocator + Copy>(
     }
 }
 
-// A call that is left waiting. ENOMEM where the growth of a table is refused.
+// A call that is left waiting. ENOMEM where there is no memory for its row or its deadline.
 // [XSH, the call's page]
 pub(crate) fn push_left<Q: WaitList, A: Allocator + Copy>(
     state: &mut State<A>,
@@ -147,6 +147,7 @@ pub(crate) fn push_left<Q: WaitList, A: Allocator + Copy>(
     ensures ok { OnOk result (Adds state.old (entry_is.Call c call.now None) state.new) }
     ensures err { OnErr result (Stays state.old state.new) }
     ensures reason { IfErr result (λ refusal. refusal ≡ Refusal.Enomem) }
+    ensures enough { needs_memory_to_wait (operation call.now) ≡ false → IsOk result }
     ensures queued { IsQueued (past state.new)
         (Q.queue queues.new) (Q.admitted queues.new) (Q.made queues.new) }
     ensures timed { AreTimed (past state.new) timers.new }
@@ -157,8 +158,8 @@ pub(crate) fn push_left<Q: WaitList, A: Allocator + Copy>(
     }
 }
 
-// A call with its answer: no deadline is set any more for those that it moves. ENOMEM where the
-// growth of a table is refused.  [XSH, the call's page]
+// A call with its answer: no deadline is set any more for those that it moves. ENOMEM where there
+// is no memory for the object that it makes.  [XSH, the call's page]
 pub(crate) fn push_answered<Q: WaitList, A: Allocator + Copy>(
     state: &mut State<A>,
     queues: &mut Q,
@@ -174,6 +175,7 @@ pub(crate) fn push_answered<Q: WaitList, A: Allocator + Copy>(
     ensures ok { OnOk result (Adds state.old (entry_is.Call c call.now (Some answer)) state.new) }
     ensures err { OnErr result (Stays state.old state.new) }
     ensures reason { IfErr result (λ refusal. refusal ≡ Refusal.Enomem) }
+    ensures enough { makes_object (operation call.now) ≡ false → IsOk result }
     ensures queued { IsQueued (past state.new)
         (Q.queue queues.new) (Q.admitted queues.new) (Q.made queues.new) }
     ensures timed { AreTimed (past state.new) timers.new }
@@ -211,8 +213,8 @@ pub(crate) fn push_death<Q: WaitList, A: Allocator + Copy>(
     }
 }
 
-/// Any outer entry. ENOMEM where a growth is refused: then nothing is pushed. A Death is never
-/// refused, and no forced entry comes here.  [profile]
+/// Any outer entry. ENOMEM where a growth is refused: then nothing is pushed. An entry that needs
+/// no memory is never refused, and no forced entry comes here.  [profile]
 pub(crate) fn push_outer<Q: WaitList, A: Allocator + Copy>(
     state: &mut State<A>,
     queues: &mut Q,
@@ -227,7 +229,7 @@ pub(crate) fn push_outer<Q: WaitList, A: Allocator + Copy>(
     ensures ok { OnOk result (Adds state.old entry.now state.new) }
     ensures err { OnErr result (Stays state.old state.new) }
     ensures reason { IfErr result (λ refusal. refusal ≡ Refusal.Enomem) }
-    ensures death { is_death entry.now ≡ true → IsOk result }
+    ensures enough { needs_memory entry.now ≡ false → IsOk result }
     ensures queued { IsQueued (past state.new)
         (Q.queue queues.new) (Q.admitted queues.new) (Q.made queues.new) }
     ensures timed { AreTimed (past state.new) timers.new }

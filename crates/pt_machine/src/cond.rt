@@ -12,10 +12,10 @@ ghost use Rattle.pt_machine.specs.Queued.{IsQueued};
 ghost use Rattle.pt_model.specs.WaitingCall.{is_wait as is_wait_role};
 ghost use Rattle.pt_records.specs.Callers.{opens_of};
 ghost use Rattle.pt_types.specs.declared.call.ObjectKind.TheVariants as kind;
-ghost use Rattle.pt_model.specs.Objects.{find as find_in, find, kind_of};
+ghost use Rattle.pt_model.specs.Objects.{find, find as find_in, kind_of};
 ghost use Rattle.pt_model.specs.Answers.{open_calls};
 ghost use Rattle.pt_state.specs.Reads.{AreTables};
-ghost use Rattle.pt_model.specs.Verdicts.{bound_by, on, operation_verdict as said_of};
+ghost use Rattle.pt_model.specs.Verdicts.{bound_by, cond_view, on, operation_verdict as said_of};
 ghost use Rattle.pt_types.specs.Limits.{most_clients};
 ghost use Rattle.pt_types.specs.declared.outcome.Verdict.TheVariants as reply_of;
 ghost use Rattle.pt_model.specs.Histories.{history};
@@ -24,11 +24,11 @@ ghost use Rattle.pt_records.specs.Counts.{one_if};
 
 use crate::body::Body;
 use crate::queues::take_place;
+use pt_cond::CondObj;
 use pt_model::waiting_call::mutex_awaited;
 use pt_records::Open;
 use pt_state::State;
 use pt_types::operations::ObjectClass;
-use pt_types::tables::wait_verdict;
 use pt_types::{Call, ClientId, Deadline, Name, ObjectId, Outcome, Verdict};
 use pt_waitq::WaitList;
 use std::alloc::Allocator;
@@ -161,6 +161,20 @@ impl<Q: WaitList, A: Allocator + Copy> Body<Q, A> {
         }
     }
 
+    /// The condition, bound to the mutex with which calls wait there, where some do.
+    /// [XSH pthread_cond_wait]
+    pub(crate) fn condition(&self, q: ObjectId) -> CondObj
+        requires read { AreTables self.now }
+        requires cond { kind_of (past self.now) q ≡ Some kind.Cond }
+        ensures { result ≡ cond_view (past self.now) q }
+    {
+        let mut found = CondObj::new();
+        if let Some(mutex) = self.bound(q) {
+            found.bind(mutex);
+        }
+        found
+    }
+
     /// How many waits stand at the condition and aren't moved.  [XSH pthread_cond_wait]
     pub(crate) fn waiting(&self, q: ObjectId) -> u64
         requires read { AreTables self.now }
@@ -189,7 +203,8 @@ impl<Q: WaitList, A: Allocator + Copy> Body<Q, A> {
         let Some((m, kept)) = self.state.mutex_named(k) else {
             return Verdict::Reply(Outcome::Einval);
         };
-        wait_verdict(self.bound(q), m, kept.is_owned_by(c), deadline)
+        let owns = kept.is_owned_by(c);
+        self.condition(q).verdict_wait(m, owns, deadline)
     }
 
     /// A call that wakes waits at a condition.  [XSH pthread_cond_broadcast]

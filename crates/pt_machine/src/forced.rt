@@ -172,7 +172,7 @@ impl<Q: WaitList, A: Allocator + Copy> Body<Q, A> {
             Role::ForCond(m) => kept.moved.is_some() && self.state.may_return(ObjectId(m), c),
             Role::ForRead => self.state.may_read(o, c, self.is_blocked(o, c)),
             Role::ForWrite => self.state.may_write(o),
-            Role::ForBarrier => self.arrivals(o) == self.state.count_at(o),
+            Role::ForBarrier => self.state.is_full(o, self.arrivals(o)),
         }
     }
 

@@ -7,10 +7,10 @@ ghost use Rattle.pt_model.specs.declared.entry.Entry.TheVariants as entry;
 ghost use Rattle.pt_state.specs.Adds.{Adds, IsReadyFor, Stays, past};
 ghost use Rattle.pt_machine.specs.Queued.{IsQueued};
 ghost use Rattle.pt_types.specs.Shown.{shown_class};
+ghost use Rattle.pt_types.specs.ObjectTable.{destroy_verdict as destroy_table};
 ghost use Rattle.pt_model.specs.Objects.{find as find_in, kind_of};
 ghost use Rattle.pt_model.specs.Verdicts.{is_busy as is_busy_in, on};
 ghost use Rattle.pt_state.specs.Reads.{AreTables};
-ghost use Rattle.pt_types.specs.ObjectTable.{destroy_verdict as destroy_table};
 
 use crate::body::Body;
 use pt_state::State;
@@ -76,22 +76,21 @@ pub(crate) fn push_ended<Q: WaitList, A: Allocator + Copy>(
 }
 
 impl<Q: WaitList, A: Allocator + Copy> Body<Q, A> {
-    /// Whether an object can't be ended now.
-    /// [XSH pthread_mutex_destroy, that it is told is profile]
-    fn is_busy(&self, class: ObjectClass, o: ObjectId) -> bool
+    /// A call that ends this object.  [XSH pthread_mutex_destroy, that EBUSY is told is profile]
+    fn end_verdict(&self, class: ObjectClass, o: ObjectId) -> Verdict
         requires read { AreTables self.now }
         requires class { option_map class_of (kind_of (past self.now) o)
             ≡ Some (shown_class class) }
-        ensures { result ≡ is_busy_in (past self.now) (shown_class class) o }
+        ensures { result ≡ destroy_table (is_busy_in (past self.now) (shown_class class) o) }
     {
+        let awaited = self.is_awaited(o);
         match class {
             ObjectClass::Mutex => {
-                self.state.is_alive_if(self.state.owner(o))
-                    || self.is_awaited(o)
-                    || self.state.will_return(o)
+                let returns = self.state.will_return(o);
+                self.state.mutex_end_verdict(o, awaited || returns)
             }
-            ObjectClass::Rwlock => self.state.is_held_alive(o) || self.is_awaited(o),
-            ObjectClass::Cond | ObjectClass::Barrier => self.is_awaited(o),
+            ObjectClass::Rwlock => destroy_verdict(self.state.is_held_alive(o) || awaited),
+            ObjectClass::Cond | ObjectClass::Barrier => destroy_verdict(awaited),
         }
     }
 
@@ -103,7 +102,7 @@ impl<Q: WaitList, A: Allocator + Copy> Body<Q, A> {
             (λ o. destroy_table (is_busy_in (past self.now) (shown_class class) o)) }
     {
         match self.state.find(n, class) {
-            Some(o) => destroy_verdict(self.is_busy(class, o)),
+            Some(o) => self.end_verdict(class, o),
             None => Verdict::Reply(Outcome::Einval),
         }
     }

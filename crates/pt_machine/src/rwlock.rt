@@ -10,7 +10,6 @@ ghost use Rattle.pt_model.specs.Verdicts.{operation_verdict as said_of};
 
 use crate::body::Body;
 use pt_types::operations::ObjectClass;
-use pt_types::tables::read_verdict;
 use pt_types::{ClientId, How, Name, ObjectId, Outcome, Verdict};
 use pt_waitq::WaitList;
 use std::alloc::Allocator;
@@ -37,7 +36,7 @@ impl<Q: WaitList, A: Allocator + Copy> Body<Q, A> {
         match self.state.find(n, ObjectClass::Rwlock) {
             Some(r) => {
                 let blocked = self.is_blocked(r, c);
-                read_verdict(self.state.lock_view(r, c), blocked, how)
+                self.state.read_verdict(c, r, blocked, how)
             }
             None => Verdict::Reply(Outcome::Einval),
         }

@@ -2,11 +2,8 @@ ghost use Rattle.std.specs.Prelude.{◌≡◌, ◌<◌, ◌+◌, ◌-◌, ◌↔
 ghost use Rattle.pt_types.specs.ObjectTable.{destroy_verdict};
 ghost use Rattle.pt_types.specs.MutexTable.{owns, lock_verdict, unlock_verdict, consistent_verdict};
 
-use pt_types::{ClientId, Consistency, Deadline, How, MutexKind, Outcome, Verdict};
+use pt_types::{ClientId, Consistency, Deadline, How, MOST_LOCKS, MutexKind, Outcome, Verdict};
 use std::marker::Model;
-
-/// Locks of one owner on a RECURSIVE mutex.  [XSH pthread_mutex_lock, the number is profile]
-const MOST_LOCKS: u8 = 255;
 
 // condition        count falls to 0    owner dies        consistent
 // Consistent       Consistent          Inconsistent      -

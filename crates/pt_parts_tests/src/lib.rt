@@ -1,4 +1,4 @@
-//! Tests of the words, of the parts, of each object alone and of the stored history.
+//! Tests of the words, of the parts, of the tables and of the stored history.
 //!
 //! There are only tests here, a file for each crate that is tested. They see what is public of it.
 #![tactic(auto)]

@@ -1,11 +1,7 @@
-mod barrier;
-mod cond;
 mod history;
 mod lanes;
 mod model;
-mod mutex;
 mod refusing;
-mod rwlock;
 mod table;
 mod timers;
 mod types;
@@ -13,8 +9,8 @@ mod waitq;
 
 // A test plays on a thing that it borrows. Each early end of a function that owns one has to drop
 // it, and each such drop is proved; so this function owns it.
-fn lend<T: Drop, R, F: FnOnce(&mut T) -> R>(mut object_row: T, play: F) -> R
+fn lend<T: Drop, R, F: FnOnce(&mut T) -> R>(mut owned: T, play: F) -> R
     requires { F.IsAlwaysCallable play }
 {
-    play(&mut object_row)
+    play(&mut owned)
 }

@@ -51,6 +51,11 @@ pub once-apart : (rows : List (ClientRow Caller)) → Apart number_in rows → O
 once-apart [] a = tt
 once-apart (r ∷ rows) a = (any-none rows r.number a.0, once-apart rows a.1)
 
+-- a client of whom something is kept has a row
+pub client-there : (rows : List (ClientRow Caller)) (c : ℕ) (v : Caller)
+    → client_value rows c ≡ Some v → has_client rows c ≡ true
+client-there rows c v e = value-there number_in value_in rows c v e
+
 -- the rows with a new value in the row of a client
 pub writes-caller : (rows : List (ClientRow Caller)) (c : ℕ) (v : Caller)
     → has_client rows c ≡ true → WritesCaller rows (with_client rows c v) c v
@@ -71,7 +76,7 @@ pub writes-by : (f : Caller → Caller) (rows : List (ClientRow Caller)) (c : �
     → WritesCaller rows (with_client rows c (f u)) c (f v)
 writes-by f rows c u is v e =
     let same : v ≡ u = cc in
-    rw same (writes-caller rows c (f u) (value-there number_in value_in rows c v e))
+    rw same (writes-caller rows c (f u) (client-there rows c v e))
 
 -- a client has no row where none is found
 unfound : (o : Option (ClientRow Caller)) → is_some o ≡ false → o ≡ None

@@ -5,5 +5,4 @@ pub mod Kept
 pub mod Logs
 pub mod OpenRows
 pub mod Objects
-pub mod Views
 pub mod Writes

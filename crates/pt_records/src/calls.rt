@@ -1,7 +1,7 @@
 //! Open calls as the clients' rows have them.
 
-ghost use Rattle.std.specs.Prelude.{None, Some, ◌<◌, ◌≡◌, ◌≤◌, is_some};
-ghost use Rattle.pt_table.specs.ClientRows.{client_value, nth_value};
+ghost use Rattle.std.specs.Prelude.{None, Some, ◌<◌, ◌≡◌, ◌≤◌, is_some, true};
+ghost use Rattle.pt_table.specs.ClientRows.{client_value, has_client, nth_value};
 ghost use Rattle.pt_records.specs.Writes.{WritesCaller};
 ghost use Rattle.pt_records.specs.Callers.{closed, open_in};
 ghost use Rattle.pt_records.specs.Counts.{counted, kept_open};
@@ -15,6 +15,7 @@ use std::alloc::Allocator;
 
 /// The client's latest call came at this place, and is open.  [profile]
 pub fn stand<A: Allocator + Copy>(clients: &mut Clients<Caller, A>, c: u64, open: Open, place: u64)
+    requires { has_client clients.old c ≡ true }
     ensures { (v : Caller) → client_value clients.old c ≡ Some v
         → WritesCaller clients.old clients.new c
         (record v { «open» = Some «open»; latest = Some place }) }
@@ -27,6 +28,7 @@ pub fn stand<A: Allocator + Copy>(clients: &mut Clients<Caller, A>, c: u64, open
 
 /// The client has no open call any more.  [profile]
 pub fn close<A: Allocator + Copy>(clients: &mut Clients<Caller, A>, c: u64)
+    requires { has_client clients.old c ≡ true }
     ensures { (v : Caller) → client_value clients.old c ≡ Some v
         → WritesCaller clients.old clients.new c (closed v) }
 {

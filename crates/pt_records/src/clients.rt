@@ -2,8 +2,8 @@
 
 ghost use Rattle.std.specs.Prelude.{IfErr, OnErr, OnOk, Some, ◌<◌, ◌≡◌, false, length, true};
 ghost use Rattle.pt_table.specs.ClientRows.{client_value, has_client};
-ghost use Rattle.pt_records.specs.Writes.{AddsCaller, RemovesCaller, WritesCaller};
 ghost use Rattle.pt_records.specs.Callers.{called_at};
+ghost use Rattle.pt_records.specs.Writes.{AddsCaller, RemovesCaller, WritesCaller};
 ghost use Rattle.pt_types.specs.Limits.{most_clients};
 
 use pt_model::waiting_call::{Move, WaitingCall};
@@ -11,18 +11,9 @@ use pt_table::Clients;
 use pt_types::{Priority, Refusal};
 use std::alloc::Allocator;
 
-/// What is kept of a client is this from now on.  [profile]
-pub fn write<A: Allocator + Copy>(clients: &mut Clients<Caller, A>, c: u64, caller: Caller)
-    requires { has_client clients.old c ≡ true }
-    ensures { WritesCaller clients.old clients.new c caller }
-{
-    if let Some(row) = clients.at_mut(c) {
-        *row = caller;
-    }
-}
-
 /// The client's latest call came at this place.  [profile]
 pub fn note_call<A: Allocator + Copy>(clients: &mut Clients<Caller, A>, c: u64, place: u64)
+    requires { has_client clients.old c ≡ true }
     ensures { (v : Caller) → client_value clients.old c ≡ Some v
         → WritesCaller clients.old clients.new c (called_at place v) }
 {

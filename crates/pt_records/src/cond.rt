@@ -1,8 +1,8 @@
 //! Rows of clients that wait at a condition variable.
 
-ghost use Rattle.std.specs.Prelude.{None, Some, ◌<◌, ◌≡◌, false, option_map};
+ghost use Rattle.std.specs.Prelude.{None, Some, ◌<◌, ◌≡◌, false, option_map, true};
 ghost use Rattle.pt_records.specs.Callers.{Once, has_open, moved_at, open_in, open_moved_at, opens_of};
-ghost use Rattle.pt_table.specs.ClientRows.{client_value, nth_value};
+ghost use Rattle.pt_table.specs.ClientRows.{client_value, has_client, nth_value};
 ghost use Rattle.pt_records.specs.Writes.{RewritesCallers, WritesCaller, rewritten_nth, still_waits_at, woken_at};
 ghost use Rattle.pt_model.specs.Found.{passes};
 ghost use Rattle.pt_records.specs.OpenRows.{returns_to as returns_to_it};
@@ -31,6 +31,7 @@ pub(crate) fn moved(open: Option<Open>, at: u64, cause: Cause) -> Option<Open>
 
 /// The client's open call is moved by the entry at this place.  [profile]
 pub fn wake<A: Allocator + Copy>(clients: &mut Clients<Caller, A>, c: u64, at: u64, cause: Cause)
+    requires { has_client clients.old c ≡ true }
     ensures { (v : Caller) → client_value clients.old c ≡ Some v
         → WritesCaller clients.old clients.new c (moved_at at cause v) }
 {

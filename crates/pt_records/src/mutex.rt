@@ -1,10 +1,11 @@
 //! Rows of mutexes: what one says of a call, and how it changes.
 
-ghost use Rattle.std.specs.Prelude.{IsTrue, Some, ◌+◌, ◌<◌, ◌≡◌, true};
+ghost use Rattle.std.specs.Prelude.{IsSome, IsTrue, Some, ◌+◌, ◌<◌, ◌≡◌, true};
 ghost use Rattle.pt_records.specs.Counts.{is_last_lock, is_robust_held};
 ghost use Rattle.pt_types.specs.MutexTable.{lock_verdict as lock_table, may_lock as may_lock_it, may_relock as may_relock_it, owns};
 ghost use Rattle.pt_mutex.specs.MutexState.{MutexState, acquired, can_acquire, released, restored, yielded};
 ghost use Rattle.pt_table.specs.ObjectRows.{object_value};
+ghost use Rattle.pt_records.specs.Kept.{mutex_in};
 ghost use Rattle.pt_records.specs.declared.objects.Object.TheVariants.{Mutex};
 ghost use Rattle.pt_records.specs.Writes.{WritesObject};
 
@@ -62,7 +63,8 @@ pub fn may_relock(mutex: &MutexObj, c: ClientId) -> bool
 
 /// The client has the mutex once more.  [XSH pthread_mutex_lock]
 pub fn acquire<A: Allocator + Copy>(objects: &mut Objects<Object<A>, A>, m: u64, c: ClientId)
-    requires { (x : MutexState) → object_value objects.old m ≡ Some (Mutex x)
+    requires there { IsSome (mutex_in (object_value objects.old m)) }
+    requires may { (x : MutexState) → object_value objects.old m ≡ Some (Mutex x)
         → IsTrue (can_acquire x.seen c) }
     ensures { (x : MutexState) → object_value objects.old m ≡ Some (Mutex x)
         → WritesObject objects.old objects.new m (Mutex (record x { seen = acquired x.seen c })) }
@@ -76,7 +78,8 @@ pub fn acquire<A: Allocator + Copy>(objects: &mut Objects<Object<A>, A>, m: u64,
 
 /// The client gives one lock on the mutex back.  [XSH pthread_mutex_unlock]
 pub fn release<A: Allocator + Copy>(objects: &mut Objects<Object<A>, A>, m: u64, c: ClientId)
-    requires { (x : MutexState) → object_value objects.old m ≡ Some (Mutex x)
+    requires there { IsSome (mutex_in (object_value objects.old m)) }
+    requires owned { (x : MutexState) → object_value objects.old m ≡ Some (Mutex x)
         → IsTrue (owns x.seen c) }
     ensures { (x : MutexState) → object_value objects.old m ≡ Some (Mutex x)
         → WritesObject objects.old objects.new m (Mutex (record x { seen = released x.seen })) }
@@ -90,6 +93,7 @@ pub fn release<A: Allocator + Copy>(objects: &mut Objects<Object<A>, A>, m: u64,
 
 /// What the mutex guards is in order again.  [XSH pthread_mutex_consistent]
 pub fn restore<A: Allocator + Copy>(objects: &mut Objects<Object<A>, A>, m: u64)
+    requires { IsSome (mutex_in (object_value objects.old m)) }
     ensures { (x : MutexState) → object_value objects.old m ≡ Some (Mutex x)
         → WritesObject objects.old objects.new m (Mutex (record x { seen = restored x.seen })) }
 {
@@ -102,6 +106,7 @@ pub fn restore<A: Allocator + Copy>(objects: &mut Objects<Object<A>, A>, m: u64)
 
 /// The mutex is taken from its dead owner.  [XSH pthread_mutex_lock, EOWNERDEAD]
 pub fn yield_dead<A: Allocator + Copy>(objects: &mut Objects<Object<A>, A>, m: u64)
+    requires { IsSome (mutex_in (object_value objects.old m)) }
     ensures { (x : MutexState) → object_value objects.old m ≡ Some (Mutex x)
         → WritesObject objects.old objects.new m (Mutex (record x { seen = yielded x.seen })) }
 {

@@ -1,11 +1,10 @@
 //! Rows of read-write locks: what one says of a call, and how it changes.
 
 ghost use Rattle.std.specs.Prelude.{IfErr, IsOk, IsSome, IsTrue, OnErr, OnOk, Some, ◌+◌, ◌-◌, ◌<◌, ◌≡◌, false};
-ghost use Rattle.pt_records.specs.Views.{IsAlone, reads_held};
-ghost use Rattle.pt_rwlock.specs.RwlockState.{ChangesRow, RwlockState, can_acquire_read, nobody_holds, reads_of, released as released_lock, row_of, seen_by, with_reads, with_row};
-ghost use Rattle.pt_types.specs.Shown.{shown_rwlock};
 ghost use Rattle.pt_types.specs.RwlockTable.{holds, may_read as may_read_it};
+ghost use Rattle.pt_rwlock.specs.RwlockState.{ChangesRow, RwlockState, can_acquire_read, nobody_holds, reads_of, released as released_lock, row_of, seen_by, with_reads, with_row};
 ghost use Rattle.pt_table.specs.ObjectRows.{object_value};
+ghost use Rattle.pt_records.specs.Kept.{rwlock_in};
 ghost use Rattle.pt_records.specs.declared.objects.Object.TheVariants.{Rwlock};
 ghost use Rattle.pt_records.specs.Writes.{WritesObject};
 ghost use Rattle.pt_types.specs.MutexTable.{is_number};
@@ -15,34 +14,10 @@ ghost use Rattle.std.specs.List.{list_any};
 
 use crate::clients::Caller;
 use crate::objects::Object;
-use pt_rwlock::{Held, RwObj};
+use pt_rwlock::RwObj;
 use pt_table::{Clients, Objects};
-use pt_types::views::RwlockView;
 use pt_types::{ClientId, Refusal};
 use std::alloc::Allocator;
-
-/// How often the client reads by what it holds.  [XSH pthread_rwlock_rdlock]
-pub fn reads_by(held: Held) -> u64
-    ensures { result ≡ reads_held held }
-{
-    match held {
-        Held::Read(reads) => reads as u64,
-        _ => 0,
-    }
-}
-
-/// A lock as one client sees it. While somebody writes nobody reads.  [XSH 2.9]
-pub fn view_of<A: Allocator + Copy>(r: &RwObj<A>, c: ClientId) -> RwlockView
-    requires { IsAlone r.now }
-    ensures { shown_rwlock result ≡ seen_by r.now c }
-{
-    RwlockView {
-        writes: r.writer() == Some(c),
-        reads: reads_by(r.held_by(c)),
-        is_written: r.writer().is_some(),
-        is_read: r.writer().is_none() && !r.is_free(),
-    }
-}
 
 /// Whether a client may read, behind writers or not.  [XSH pthread_rwlock_rdlock]
 pub fn may_read<A: Allocator + Copy>(lock: &RwObj<A>, c: ClientId, blocked: bool) -> bool
@@ -57,6 +32,7 @@ pub fn make_row<A: Allocator + Copy>(
     r: u64,
     c: ClientId,
 ) -> Result<(), Refusal>
+    requires { IsSome (rwlock_in (object_value objects.old r)) }
     ensures ok { (x : RwlockState) → object_value objects.old r ≡ Some (Rwlock x)
         → OnOk result (WritesObject objects.old objects.new r (Rwlock (with_row x c))) }
     ensures row { (x : RwlockState) → object_value objects.old r ≡ Some (Rwlock x)
@@ -77,7 +53,8 @@ pub fn make_row<A: Allocator + Copy>(
 
 /// The client has one read lock more.  [XSH pthread_rwlock_rdlock]
 pub fn acquire_read<A: Allocator + Copy>(objects: &mut Objects<Object<A>, A>, r: u64, c: ClientId)
-    requires { (x : RwlockState) → object_value objects.old r ≡ Some (Rwlock x)
+    requires there { IsSome (rwlock_in (object_value objects.old r)) }
+    requires may { (x : RwlockState) → object_value objects.old r ≡ Some (Rwlock x)
         → IsTrue (can_acquire_read x c) }
     ensures lock { (x : RwlockState) → object_value objects.old r ≡ Some (Rwlock x)
         → WritesObject objects.old objects.new r (Rwlock (with_reads x c (reads_of x c + 1))) }
@@ -93,7 +70,8 @@ pub fn acquire_read<A: Allocator + Copy>(objects: &mut Objects<Object<A>, A>, r:
 
 /// The client has the write lock.  [XSH pthread_rwlock_wrlock]
 pub fn acquire_write<A: Allocator + Copy>(objects: &mut Objects<Object<A>, A>, r: u64, c: ClientId)
-    requires { (x : RwlockState) → object_value objects.old r ≡ Some (Rwlock x)
+    requires there { IsSome (rwlock_in (object_value objects.old r)) }
+    requires free { (x : RwlockState) → object_value objects.old r ≡ Some (Rwlock x)
         → IsTrue (nobody_holds x) }
     ensures { (x : RwlockState) → object_value objects.old r ≡ Some (Rwlock x)
         → WritesObject objects.old objects.new r (Rwlock (record x { writer = Some c })) }
@@ -107,7 +85,8 @@ pub fn acquire_write<A: Allocator + Copy>(objects: &mut Objects<Object<A>, A>, r
 
 /// The client gives back the write lock, or one read lock.  [XSH pthread_rwlock_unlock]
 pub fn release_lock<A: Allocator + Copy>(objects: &mut Objects<Object<A>, A>, r: u64, c: ClientId)
-    requires { (x : RwlockState) → object_value objects.old r ≡ Some (Rwlock x)
+    requires there { IsSome (rwlock_in (object_value objects.old r)) }
+    requires held { (x : RwlockState) → object_value objects.old r ≡ Some (Rwlock x)
         → IsTrue (holds (seen_by x c)) }
     ensures lock { (x : RwlockState) → object_value objects.old r ≡ Some (Rwlock x)
         → WritesObject objects.old objects.new r (Rwlock (released_lock x c)) }

@@ -8,7 +8,7 @@ use pt_model::{Entry, Event};
 use pt_readings::answers::open_place;
 use pt_readings::clients::{is_alive, living};
 use pt_types::tables::reply;
-use pt_types::{ClientId, Refusal};
+use pt_types::{ClientId, MOST_CLIENTS, Refusal};
 
 /// The entries kept: for the Death of each living client, for open calls, for Yields.  [profile]
 pub fn need(entries: &[Entry]) -> u64
@@ -55,7 +55,7 @@ pub fn refusal(entries: &[Entry], event: &Event) -> Option<Refusal>
     ensures { result ≡ refusal_in (history entries.now) event.now }
 {
     match event {
-        Event::Join(_) if 1024 <= living(entries) => Some(Refusal::Limit),
+        Event::Join(_) if living(entries) >= MOST_CLIENTS as u64 => Some(Refusal::Limit),
         Event::Call(c, _) if !is_alive(entries, *c) => Some(refusal_of_stranger(entries, *c)),
         Event::Call(c, _) if open_place(entries, *c).is_some() => Some(Refusal::Blocked),
         Event::Death(c) if !is_alive(entries, *c) => Some(refusal_of_stranger(entries, *c)),

@@ -7,14 +7,11 @@ ghost use Rattle.pt_types.specs.MutexTable.{is_number};
 ghost use Rattle.pt_types.specs.RwlockTable.{read_verdict, write_verdict, rwunlock_verdict, holds, is_free};
 
 use pt_lanes::any_from;
-use pt_types::{ClientId, How, MOST_PRIORITY, Outcome, Priority, Refusal, Verdict};
+use pt_types::{ClientId, How, MOST_PRIORITY, MOST_READS, Outcome, Priority, Refusal, Verdict};
 use pt_waitq::Waiter;
 use std::alloc::{Allocator, Global};
 use std::collections::BTreeMap;
 use std::marker::Model;
-
-/// Read locks of one client on one lock.  [XSH pthread_rwlock_rdlock, the number is profile]
-const MOST_READS: u8 = 255;
 
 /// How a client holds a lock.  [XSH pthread_rwlock_unlock]
 #[derive(Clone, Copy, Debug, PartialEq, Eq)]
@@ -160,6 +157,14 @@ impl<A: Allocator + Copy> RwObj<A> {
         ensures { (blocked : Bool) → SaysBlocked self.now priority blocked
             → result ≡ read_verdict (seen_by self.now caller) blocked how }
     {
+        self.verdict_read_behind(caller, self.is_blocked(priority), how)
+    }
+
+    /// The same, told whether a writer of the client's priority or a higher one waits.
+    /// [XSH pthread_rwlock_rdlock]
+    pub fn verdict_read_behind(&self, caller: ClientId, blocked: bool, how: How) -> Verdict
+        ensures { result ≡ read_verdict (seen_by self.now caller) blocked how }
+    {
         let reads = self.reads_of(caller);
         let writes = self.is_writer(caller);
         match how {
@@ -167,7 +172,7 @@ impl<A: Allocator + Copy> RwObj<A> {
             _ if writes => Verdict::Reply(Outcome::Edeadlk),
             _ if reads >= MOST_READS => Verdict::Reply(Outcome::Eagain),
             _ if reads > 0 => Verdict::Stands,
-            _ if self.writer.is_none() && !self.is_blocked(priority) => Verdict::Stands,
+            _ if self.writer.is_none() && !blocked => Verdict::Stands,
             How::Try => Verdict::Reply(Outcome::Ebusy),
             How::Timed(deadline) if deadline.is_bad() => Verdict::Reply(Outcome::Einval),
             _ => Verdict::Stands,

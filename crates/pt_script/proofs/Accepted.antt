@@ -11,18 +11,21 @@ use Rattle.pt_lines.specs.declared.client.Who.TheVariants.{Named, Star, Unknown}
 use Rattle.pt_model.specs.declared.entry.Entry.{Entry}
 use Rattle.pt_model.specs.declared.entry.Event.{Event}
 use Rattle.pt_model.specs.declared.entry.Event.TheVariants as event
-use Rattle.pt_model.specs.Histories.{history}
+use Rattle.pt_model.specs.Starts.{nothing}
+use Rattle.pt_model.specs.Histories.{history, place}
 use Rattle.pt_model.specs.Answers.{replies_from}
-use Rattle.pt_model.specs.Queries.{answers_from}
+use Rattle.pt_model.specs.Queries.{answers_behind, answers_from}
 use Rattle.pt_model.specs.Room.{refusal_within, entry_for}
+use Rattle.pt_model.proofs.Histories.{place-history}
+use Rattle.pt_model.proofs.Induction.{less_none}
 use Rattle.pt_core.specs.declared.applied.Applied.{Applied}
 use Rattle.pt_core.specs.Cores.{Kept}
-use Rattle.pt_core.specs.Applying.{Applies, IsApplied, IsRefusal, IsWantOfMemory}
+use Rattle.pt_core.specs.Applying.{IsApplied, IsRefusal, IsWantOfMemory}
 use Rattle.pt_script.specs.declared.line_id.LineId.{LineId}
 use Rattle.pt_script.specs.declared.engine.Mark.{Mark}
 use Rattle.pt_script.specs.declared.engine.Mark.TheVariants as mark
 use Rattle.pt_script.specs.Scripts.{Script, line_at, told_text, refusal_text, greeting, clients_with, calls_with, same_who, lines_of_who}
-use Rattle.pt_script.specs.Says.{core_of, SaysOf, refuses, lacks, accepts}
+use Rattle.pt_script.specs.Says.{SaysOf, refuses, lacks, accepts}
 use Rattle.pt_script.specs.Names.{Known}
 use Rattle.pt_script.specs.Engines.{Adds, IsFresh, mark_of, clients_marked, calls_marked, greeting_marked}
 use Rattle.pt_script.proofs.Counted.{lookup_push, count_by_push}
@@ -64,58 +67,107 @@ answers_added old added =
     (take-append_seam old added)
     ∙ ap (λ es. replies_from (history old) es) (drop-append_seam old added)
 
-limited : (core : Kept) → core.limit ≡ most_entries
-    → core ≡ record { entries = core.entries; limit = most_entries }
-limited core same = ap (λ n. let k : Kept = record { entries = core.entries; limit = n } in k) same
+-- a core whose history has these entries, before which there was nothing
+abbrev first : List Entry → Kept
+first es = record { start = nothing; entries = es; limit = most_entries }
+
+-- before a core's entries there was nothing, and it has the greatest limit
+abbrev pub IsFirst : Kept → Type 0
+IsFirst core = (core.start ≡ nothing) × (core.limit ≡ most_entries)
+
+limited : (core : Kept) → IsFirst core → core ≡ first core.entries
+limited core same =
+    ap (λ s. let k : Kept = record { start = s; entries = core.entries; limit = core.limit } in k)
+    same.0
+    ∙ ap (λ n. let k : Kept = record { start = nothing; entries = core.entries; limit = n } in k)
+    same.1
+
+-- an event that is applied to such a core leaves such a core
+applied_first : (core next : Kept) (v : Event) (a : Applied) → IsFirst core
+    → IsApplied core v next a → IsApplied (first core.entries) v (first next.entries) a
+applied_first core next v a is applied =
+    let from = subst (λ k. IsApplied k v next a) (limited core is) applied in
+    subst (λ k. IsApplied (first core.entries) v k a)
+    (limited next (from.applies.starts, from.applies.same_limit)) from
+
+first_next : (core next : Kept) (v : Event) (a : Applied) → IsFirst core
+    → IsApplied core v next a → IsFirst next
+first_next core next v a is applied =
+    (applied.applies.starts ∙ is.0, applied.applies.same_limit ∙ is.1)
+
+-- its place is the number of entries
+place_first : (core : Kept) (at : ℕ) → at ≡ place (history core.entries) → at ≡ length core.entries
+place_first core at is = is ∙ place-history core.entries
+
+-- no call is noted yet at the place of an accepted event's entry
+pub fresh_here : (core next : Kept) (calls rows : List (ℕ × LineId)) (v : Event) (a : Applied)
+    → IsFirst core → IsFresh calls (length core.entries) → IsApplied core v next a → rows ≡ calls
+    → line_at rows a.first ≡ None
+fresh_here core next calls rows v a whole fresh applies same =
+    let here = place_first core a.first (applied_first core next v a whole applies).first in
+    ap (λ cs. line_at cs a.first) same ∙ fresh a.first (omega (arith, here))
+
+-- the answers of a core before whose entries there was nothing
+pub answers_first : (core : Kept) (k : ℕ) → IsFirst core
+    → answers_behind core.start k core.entries ≡ answers_from k core.entries
+answers_first core k is =
+    ap (λ s. answers_behind s k core.entries) is.0
+    ∙ ap (λ n. answers_from n core.entries) (less_none k)
 
 -- an accepted event: its parts were noted, and its answers appended
 pub accepted : (s : Script) (core next : Kept) (names known : Known)
     (calls noted : List (ℕ × LineId)) (v : Event) (line : LineId) (a : Applied) (m : Mark)
     (out greeted told : List ℕ)
-    → s ≡ seen_as core names calls → core.limit ≡ most_entries → m ≡ mark_of v
+    → s ≡ seen_as core names calls → IsFirst core → m ≡ mark_of v
     → IsApplied core v next a
     → known ≡ record names { clients = clients_marked m line.who a.first names.clients }
     → noted ≡ calls_marked m line a.first calls
     → greeted ≡ out ++ greeting_marked m line
-    → told ≡ greeted ++ told_text noted (answers_from a.first next.entries)
+    → told ≡ greeted ++ told_text noted (answers_behind next.start a.first next.entries)
     → Adds (SaysOf s v line (seen_as next known noted)) out told
-accepted s core next names known calls noted v line a m out greeted told is limit marks applied
+accepted s core next names known calls noted v line a m out greeted told is whole marks applies
     knows notes greets tells =
     subst (λ t. Adds (SaysOf t v line (seen_as next known noted)) out told) (sym is) (record {
       text = greeting_marked m line ++ answers;
       grows =
           tells
+          ∙ ap (λ ts. greeted ++ told_text noted ts) (answers_first next a.first whole_next)
           ∙ ap (λ xs. xs ++ answers) greets
           ∙ append_assoc out (greeting_marked m line) answers;
       holds = accepts (record {
-        applies =
-            subst (λ k. Applies k v (core_of (seen_as next known noted))) (limited core limit)
-            (subst (λ k. Applies core v k)
-            (limited next (applied.applies.same_limit ∙ limit)) applied.applies);
+        applies = applied.applies;
         added = added;
         extends = applied.applies.extends.1;
         seen = ap (λ k. k.seen) knows;
         clients =
             ap (λ k. k.clients) knows
             ∙ ap (λ n. clients_marked n line.who a.first names.clients) marks
-            ∙ ap (λ n. clients_marked (mark_of v) line.who n names.clients) applied.first
+            ∙ ap (λ n. clients_marked (mark_of v) line.who n names.clients) here
             ∙ clients_as v line.who (length core.entries) names.clients;
         calls =
             notes
             ∙ ap (λ n. calls_marked n line a.first calls) marks
-            ∙ ap (λ n. calls_marked (mark_of v) line n calls) applied.first
+            ∙ ap (λ n. calls_marked (mark_of v) line n calls) here
             ∙ calls_as v line (length core.entries) calls;
         written =
             ap (λ n. greeting_marked n line ++ answers) marks
             ∙ ap (λ g. g ++ answers) (greeting_as v line)
-            ∙ ap (λ n. greeting v line ++ told_text noted (answers_from n next.entries))
-            applied.first
+            ∙ ap (λ n. greeting v line ++ told_text noted (answers_from n next.entries)) here
             ∙ ap (λ es. greeting v line ++ told_text noted (answers_from (length core.entries) es))
             applied.applies.extends.1
             ∙ ap (λ ts. greeting v line ++ told_text noted ts) (answers_added core.entries added);
       });
     })
   where
+    applied : IsApplied (first core.entries) v (first next.entries) a
+    applied = applied_first core next v a whole applies
+
+    whole_next : IsFirst next
+    whole_next = first_next core next v a whole applies
+
+    here : a.first ≡ length core.entries
+    here = place_first core a.first applied.first
+
     added : List Entry
     added = entry_for (history core.entries) v ∷ applied.applies.extends.0
 
@@ -126,15 +178,15 @@ accepted s core next names known calls noted v line a m out greeted told is limi
 pub refused : (s : Script) (core next : Kept) (names : Known)
     (calls noted : List (ℕ × LineId)) (v : Event) (line : LineId) (why : Refusal)
     (out told : List ℕ)
-    → s ≡ seen_as core names calls → core.limit ≡ most_entries → next ≡ core → noted ≡ calls
+    → s ≡ seen_as core names calls → IsFirst core → next ≡ core → noted ≡ calls
     → IsRefusal core v why → told ≡ out ++ refusal_text line why
     → Adds (SaysOf s v line (seen_as next names noted)) out told
-refused s core next names calls noted v line why out told is limit stays kept refuses_it tells =
+refused s core next names calls noted v line why out told is whole stays kept refuses_it tells =
     subst (λ t. Adds (SaysOf t v line (seen_as next names noted)) out told) (sym is) (record {
       text = refusal_text line why;
       grows = tells;
       holds = by (refusal_within most_entries (history core.entries) v) refl
-          (subst (λ k. IsRefusal k v why) (limited core limit) refuses_it);
+          (subst (λ k. IsRefusal k v why) (limited core whole) refuses_it);
     })
   where
     same : seen_as next names noted ≡ seen_as core names calls
@@ -194,15 +246,16 @@ some_seen seen who =
 
 -- what a core and its calls keep, behind an accepted event
 pub kept_noted : (core next : Kept) (calls noted : List (ℕ × LineId)) (v : Event) (line : LineId)
-    (a : Applied) (m : Mark) → core.limit ≡ most_entries → IsFresh calls (length core.entries)
+    (a : Applied) (m : Mark) → IsFirst core → IsFresh calls (length core.entries)
     → IsApplied core v next a → noted ≡ calls_marked m line a.first calls
-    → (next.limit ≡ most_entries) × IsFresh noted (length next.entries)
-kept_noted core next calls noted v line a m limit fresh applied notes =
+    → IsFirst next × IsFresh noted (length next.entries)
+kept_noted core next calls noted v line a m whole fresh applies notes =
+    let applied = applied_first core next v a whole applies in
     let longer = ap length applied.applies.extends.1 ∙ length-append core.entries
     (entry_for (history core.entries) v ∷ applied.applies.extends.0) in
-    let first = applied.first in
-    let below : a.first < length next.entries = omega (arith, longer, first) in (
-      applied.applies.same_limit ∙ limit,
+    let here = place_first core a.first applied.first in
+    let below : a.first < length next.entries = omega (arith, longer, here) in (
+      first_next core next v a whole applies,
       fresh_noted calls noted m line a.first (length next.entries)
-          (subst (λ n. IsFresh calls n) (sym first) fresh) below notes,
+          (subst (λ n. IsFresh calls n) (sym here) fresh) below notes,
     )

@@ -1,20 +1,20 @@
--- counts of lines, and look-ups, behind one row more
+-- Counted: counts of lines, and look-ups, behind one row more
 mod Counted
--- rows of names, behind one that was written
+-- Rows: rows of names, behind one that was written
 mod Rows
--- texts of answers, one answer more
+-- Texts: texts of answers, and how they are written
 mod Texts
--- what is told of an event: it is refused, or accepted
+-- Accepted: what is told of an event: it is refused, or accepted
 mod Accepted
--- lines one after the other: what is said of them, and how many they are
+-- Runs: lines one after the other: what is said of them, and how many they are
 mod Runs
--- a whole script, as its pieces come
+-- Wholes: A whole script, as its pieces come
 mod Wholes
--- who made the call of each answer
+-- Callers: who made the call of each answer
 mod Callers
--- the line that made a call is noted
+-- Noted: the line that made a call is noted at its place, and is the line of the call's client
 mod Noted
--- a history goes on by forced entries until nothing is forced
+-- Settled: A history goes on by forced entries until nothing is forced
 mod Settled
--- there is one text for all lines
+-- OneTexts: there is one text for all lines, and each of its beginnings begins it
 mod OneTexts

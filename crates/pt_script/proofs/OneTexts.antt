@@ -153,6 +153,7 @@ can_accept s v line legal none = (
   record {
     applies = record {
       accepted = none;
+      starts = refl;
       extends = (rest.0, refl);
       legal = longer;
       same_limit = refl;

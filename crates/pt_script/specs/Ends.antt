@@ -1,5 +1,5 @@
 -- Ends: what a whole script has read and written.
-use Rattle.std.specs.Prelude.{◌≡◌, ℕ, ◌≤◌, ◌<◌, ◌⊎◌, ◌++◌, List, length, take, map, Bool, false}
+use Rattle.std.specs.Prelude.{◌≡◌, ℕ, ◌-◌, ◌≤◌, ◌<◌, ◌⊎◌, ◌++◌, List, length, take, map, Bool, false}
 use mathlib.Core.List.{IsPrefix}
 use Rattle.pt_lines.specs.declared.script_line.ScriptLine.{ScriptLine}
 use Rattle.pt_lines.specs.declared.cutter.Cut.{Cut}
@@ -54,6 +54,19 @@ pub record Reading : Type 0 where
   pub failures : ℕ
   pub reads : ℕ
   pub has_ended : Bool
+
+-- the same of a reader of some type, by what is known of one: what it gave, what it gave before its
+-- latest read, how often it failed, how many reads there were, and whether it has reported its end;
+-- with the reader before and after  [profile]
+abbrev pub reading : {R : Type 0} → (R → List ℕ) → (R → List ℕ) → (R → ℕ) → (R → ℕ) → (R → Bool)
+    → R → R → Reading
+reading given earlier failures reads ended old new = record {
+  given = given new;
+  earlier = earlier new;
+  failures = failures new;
+  reads = reads new - reads old;
+  has_ended = ended new;
+}
 
 -- how a run went: the reader and the writer after it, and how many reads there may be  [profile]
 pub record Course : Type 0 where

@@ -7,6 +7,7 @@ use Rattle.pt_lines.specs.declared.client.Who.{Who}
 use Rattle.pt_lines.specs.declared.script_line.ScriptLine.{ScriptLine}
 use Rattle.pt_model.specs.declared.entry.Entry.{Entry}
 use Rattle.pt_model.specs.declared.entry.Event.{Event}
+use Rattle.pt_model.specs.Starts.{nothing}
 use Rattle.pt_model.specs.Histories.{history}
 use Rattle.pt_model.specs.Answers.{replies_from}
 use Rattle.pt_model.specs.Room.{refusal_within}
@@ -17,7 +18,7 @@ use Rattle.pt_script.specs.Scripts.{Script, line_id, event_of_line, told_text, r
 
 -- the core behind these lines  [profile]
 abbrev pub core_of : Script → Kept
-core_of s = record { entries = s.entries; limit = most_entries }
+core_of s = record { start = nothing; entries = s.entries; limit = most_entries }
 
 -- why an event of a line is refused, or none; the line may have a refusal of its own before
 -- [profile]

@@ -1,5 +1,5 @@
 -- Texts: how a text is written, and how its writing breaks off.
-use Rattle.std.specs.Prelude.{◌≡◌, ℕ, ◌<◌, ◌++◌, ◌⊎◌, List, length}
+use Rattle.std.specs.Prelude.{◌≡◌, ℕ, ◌-◌, ◌<◌, ◌++◌, ◌⊎◌, List, length}
 
 -- a front of these bytes was taken after the old text, and not all of them  [profile]
 pub record IsCutShort (old bytes text : List ℕ) : Type 0 where
@@ -22,6 +22,18 @@ pub record Writing : Type 0 where
   pub flushed : List ℕ
   pub failures : ℕ
   pub rejections : ℕ
+
+-- the same of a writer of some type, by what is known of one: what it took, what is flushed, how
+-- often it failed, and how many of its writes took none; with the writer before and after
+-- [profile]
+abbrev pub writing : {W : Type 0} → (W → List ℕ) → (W → List ℕ) → (W → ℕ) → (W → ℕ) → W → W
+    → Writing
+writing taken flushed failures rejections old new = record {
+  taken = taken new;
+  flushed = flushed new;
+  failures = failures new;
+  rejections = rejections new - rejections old;
+}
 
 -- the writer broke while these bytes were written after the old text, or flushed: some were taken,
 -- in order, and none of them is flushed  [profile]

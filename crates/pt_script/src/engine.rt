@@ -1,5 +1,6 @@
 ghost use Rattle.std.specs.Prelude.{◌≡◌, ◌<◌, ◌+◌, ◌^◌, ◌++◌, [], length, None, OnOk, IfOk, IfErr};
-ghost use Rattle.pt_model.specs.Queries.{answers_from as answers_in};
+ghost use Rattle.pt_model.specs.Queries.{answers_behind};
+ghost use Rattle.pt_core.specs.Cores.{shown};
 ghost use Rattle.indexmap.specs.IndexMap.{spare};
 ghost use Rattle.pt_script.specs.Scripts.{lines_of_who, number_of, line_at, told_text};
 ghost use Rattle.pt_script.specs.Engines.{mark_of, clients_marked, calls_marked, greeting_marked};
@@ -83,7 +84,8 @@ fn tell_from<A: Allocator + Copy>(
     place: u64,
 ) -> Result<(), ScriptFault>
     ensures ok { OnOk result (out.new.items ≡ out.old.items
-        ++ told_text calls.now.entries (answers_in place core.now.entries)) }
+        ++ told_text calls.now.entries
+        (answers_behind (shown core.now).start place core.now.entries)) }
     ensures why { IfErr result (λ fault. fault ≡ ScriptFault.Memory) }
 {
     match core.answers_from(place) {
@@ -105,6 +107,8 @@ pub struct Engine<A: Allocator + Copy = Global> {
 impl<A: Allocator + Copy> Model for Engine<A> {
     ghost use Rattle.std.specs.Prelude.{◌≡◌, length};
     ghost use Rattle.pt_types.specs.Limits.{most_entries};
+    ghost use Rattle.pt_model.specs.Starts.{nothing};
+    ghost use Rattle.pt_core.specs.Cores.{shown};
     ghost use Rattle.pt_script.specs.Scripts.{Script};
     ghost use Rattle.pt_script.specs.Engines.{IsFresh};
 
@@ -118,7 +122,8 @@ impl<A: Allocator + Copy> Model for Engine<A> {
     } };
 
     ghost invariant = { λ e.
-        (e.core.limit ≡ most_entries) × IsFresh e.calls.entries (length e.core.entries) };
+        (((shown e.core).start ≡ nothing) × (e.core.limit ≡ most_entries))
+        × IsFresh e.calls.entries (length e.core.entries) };
 }
 
 impl<A: Allocator + Copy> Engine<A> {

@@ -1,4 +1,6 @@
-ghost use Rattle.std.specs.Prelude.{◌≡◌, ◌≤◌, ◌+◌, ◌-◌, ◌^◌, [], false};
+ghost use Rattle.std.specs.Prelude.{◌≡◌, ◌≤◌, ◌+◌, ◌^◌, [], false};
+ghost use Rattle.pt_script.specs.Ends.{reading};
+ghost use Rattle.pt_script.specs.Texts.{writing};
 ghost use Rattle.pt_script.specs.Programs.{EndsWith, Reports, report_of, status_of};
 
 use crate::fault::ScriptFault;
@@ -38,12 +40,8 @@ fn report_of(fault: ScriptFault) -> &'static [u8]
 // Writes what a fault is reported by. A fault of this writer is reported nowhere.
 fn report<E: Sink>(errors: &mut E, fault: ScriptFault)
     requires { E.failures errors.old ≡ 0 }
-    ensures { Reports (E.taken errors.old) (report_of fault) (record {
-      taken = E.taken errors.new;
-      flushed = E.flushed errors.new;
-      failures = E.failures errors.new;
-      rejections = E.rejections errors.new - E.rejections errors.old;
-    }) }
+    ensures { Reports (E.taken errors.old) (report_of fault)
+        (writing E.taken E.flushed E.failures E.rejections errors.old errors.new) }
 {
     if put(errors, report_of(fault)).is_ok() {
         let _ = errors.flush();
@@ -65,26 +63,11 @@ pub fn answer<R: Source, W: Sink, E: Sink, A: Allocator + Copy>(
     requires working { (R.failures reader.old ≡ 0) × (W.failures writer.old ≡ 0)
         × (E.failures errors.old ≡ 0) }
     ensures ends { EndsWith (record {
-      reader = record {
-        given = R.given reader.new;
-        earlier = R.earlier reader.new;
-        failures = R.failures reader.new;
-        reads = R.reads reader.new - R.reads reader.old;
-        has_ended = R.ended reader.new;
-      };
-      writer = record {
-        taken = W.taken writer.new;
-        flushed = W.flushed writer.new;
-        failures = W.failures writer.new;
-        rejections = W.rejections writer.new - W.rejections writer.old;
-      };
+      reader = reading R.given R.earlier R.failures R.reads R.ended reader.old reader.new;
+      writer = writing W.taken W.flushed W.failures W.rejections writer.old writer.new;
       limit = 2 ^ 40;
-    }) (E.taken errors.old) (record {
-      taken = E.taken errors.new;
-      flushed = E.flushed errors.new;
-      failures = E.failures errors.new;
-      rejections = E.rejections errors.new - E.rejections errors.old;
-    }) result }
+    }) (E.taken errors.old)
+        (writing E.taken E.flushed E.failures E.rejections errors.old errors.new) result }
     ensures calls { R.reads reader.new ≤ R.reads reader.old + 2 ^ 40 }
 {
     match script(alloc, reader, writer) {

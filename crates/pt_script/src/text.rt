@@ -1,8 +1,8 @@
-ghost use Rattle.std.specs.Prelude.{◌≡◌, ◌-◌, ◌++◌, map, OnOk, OnErr, IfErr, Some};
+ghost use Rattle.std.specs.Prelude.{◌≡◌, ◌<◌, ◌≤◌, ◌-◌, ◌++◌, length, map, take, OnOk, OnErr, IfOk, IfErr, Some};
 ghost use Rattle.pt_lines.specs.Replies.{reply_line};
 ghost use Rattle.pt_core.specs.Replies.{told_of};
 ghost use Rattle.pt_script.specs.Scripts.{told_text};
-ghost use Rattle.pt_script.specs.Texts.{BreaksOff, IsBroken, IsCutShort};
+ghost use Rattle.pt_script.specs.Texts.{BreaksOff, IsBroken, IsCutShort, writing};
 
 use crate::fault::ScriptFault;
 use crate::line_id::LineId;
@@ -51,6 +51,29 @@ pub fn tell_all<A: Allocator + Copy>(
     Ok(())
 }
 
+// Writes some of the bytes, and returns how many the writer took.
+fn put_some<W: Sink>(writer: &mut W, bytes: &[u8]) -> Result<usize, ScriptFault>
+    requires working { W.failures writer.old ≡ 0 }
+    requires some { 0 < length bytes.now }
+    ensures ok { IfOk result (λ n. (0 < n) × (n ≤ length bytes.now)
+        × (W.taken writer.new ≡ W.taken writer.old ++ take n bytes.now)) }
+    ensures accepted { OnOk result ((W.failures writer.new ≡ 0)
+        × (W.rejections writer.new ≡ W.rejections writer.old)) }
+
+    // A fault has a cause, and no byte is taken with it.
+    ensures cause { OnErr result
+        (IsBroken (W.failures writer.new) (W.rejections writer.new - W.rejections writer.old)) }
+    ensures err { OnErr result (W.taken writer.new ≡ W.taken writer.old) }
+    ensures out { W.flushed writer.new ≡ W.flushed writer.old }
+    ensures why { IfErr result (λ fault. fault ≡ ScriptFault.Write) }
+{
+    match writer.write(bytes) {
+        Ok(0) => Err(ScriptFault::Write),
+        Ok(n) => Ok(n),
+        Err(_) => Err(ScriptFault::Write),
+    }
+}
+
 /// Writes all the bytes.
 pub fn put<W: Sink>(writer: &mut W, bytes: &[u8]) -> Result<(), ScriptFault>
     requires { W.failures writer.old ≡ 0 }
@@ -66,11 +89,8 @@ pub fn put<W: Sink>(writer: &mut W, bytes: &[u8]) -> Result<(), ScriptFault>
 {
     let mut rest = bytes;
     while !rest.is_empty() {
-        match writer.write(rest) {
-            Ok(0) => return Err(ScriptFault::Write),
-            Ok(n) => rest = &rest[n..],
-            Err(_) => return Err(ScriptFault::Write),
-        }
+        let n = put_some(writer, rest)?;
+        rest = &rest[n..];
     }
     Ok(())
 }
@@ -83,12 +103,8 @@ pub fn deliver<W: Sink>(writer: &mut W, bytes: &[u8]) -> Result<(), ScriptFault>
         ((W.taken writer.new ≡ W.taken writer.old ++ bytes.now) × (W.failures writer.new ≡ 0)) }
     ensures accepted { OnOk result (W.rejections writer.new ≡ W.rejections writer.old) }
     ensures out { OnOk result (W.flushed writer.new ≡ W.taken writer.new) }
-    ensures err { OnErr result (BreaksOff (W.taken writer.old) bytes.now (record {
-      taken = W.taken writer.new;
-      flushed = W.flushed writer.new;
-      failures = W.failures writer.new;
-      rejections = W.rejections writer.new - W.rejections writer.old;
-    })) }
+    ensures err { OnErr result (BreaksOff (W.taken writer.old) bytes.now
+        (writing W.taken W.flushed W.failures W.rejections writer.old writer.new)) }
     ensures why { IfErr result (λ fault. fault ≡ ScriptFault.Write) }
 {
     if bytes.is_empty() {

@@ -1,6 +1,7 @@
-ghost use Rattle.std.specs.Prelude.{◌≡◌, ◌≤◌, ◌<◌, ◌+◌, ◌-◌, ◌^◌, ◌++◌, [], length, true, false, OnOk, OnErr, IfOk, IfErr};
+ghost use Rattle.std.specs.Prelude.{◌≡◌, ◌≤◌, ◌<◌, ◌+◌, ◌^◌, ◌++◌, [], length, true, false, OnOk, OnErr, IfOk, IfErr};
 ghost use Rattle.pt_lines.specs.Lines.{to_come, IsBegun};
-ghost use Rattle.pt_script.specs.Ends.{IsScriptText, BeginsScriptText, IsFaultOf};
+ghost use Rattle.pt_script.specs.Ends.{IsScriptText, BeginsScriptText, IsFaultOf, reading};
+ghost use Rattle.pt_script.specs.Texts.{writing};
 ghost use Rattle.pt_script.specs.Engines.{Answers, IsStopped, IsEnd};
 ghost use Rattle.pt_script.specs.Scripts.{begun};
 
@@ -46,12 +47,8 @@ fn take_in<W: Sink, A: Allocator + Copy>(
     ensures out { OnOk result (W.flushed writer.new ≡ W.taken writer.new) }
     ensures err { IfErr result (λ fault. IsStopped fault
         (record cutter.old { rest = cutter.old.rest ++ piece.now })
-        engine.old (W.taken writer.old) (record {
-          taken = W.taken writer.new;
-          flushed = W.flushed writer.new;
-          failures = W.failures writer.new;
-          rejections = W.rejections writer.new - W.rejections writer.old;
-        })) }
+        engine.old (W.taken writer.old)
+        (writing W.taken W.flushed W.failures W.rejections writer.old writer.new)) }
 {
     let Ok(()) = cutter.feed(piece) else {
         return Err(ScriptFault::Memory);
@@ -79,12 +76,8 @@ fn finish<W: Sink, A: Allocator + Copy>(
         ((W.failures writer.new ≡ 0) × (W.rejections writer.new ≡ W.rejections writer.old)) }
     ensures out { OnOk result (W.flushed writer.new ≡ W.taken writer.new) }
     ensures err { IfErr result (λ fault. IsStopped fault cutter engine.old
-        (W.taken writer.old) (record {
-          taken = W.taken writer.new;
-          flushed = W.flushed writer.new;
-          failures = W.failures writer.new;
-          rejections = W.rejections writer.new - W.rejections writer.old;
-        })) }
+        (W.taken writer.old)
+        (writing W.taken W.flushed W.failures W.rejections writer.old writer.new)) }
 {
     let mut out = Vec::new(alloc);
     engine.answer_last(cutter, &mut out)?;
@@ -95,7 +88,7 @@ fn finish<W: Sink, A: Allocator + Copy>(
     })
 }
 
-// The same by an engine that has answered nothing yet.  [profile]
+// Does what `script_within` says, with an engine that has answered nothing yet.
 fn run_within<R: Source, W: Sink, A: Allocator + Copy>(
     alloc: A,
     reads: u64,
@@ -108,31 +101,16 @@ fn run_within<R: Source, W: Sink, A: Allocator + Copy>(
         × (R.ended reader.old ≡ false) }
     requires working { (R.failures reader.old ≡ 0) × (W.failures writer.old ≡ 0) }
     requires few { reads ≤ 2 ^ 40 }
-
-    // All is read, and all of its text written and nothing else.
     ensures ok { IfOk result (λ end. IsScriptText
         (R.given reader.new) (W.taken writer.new) end.lines end.entries) }
     ensures ended { OnOk result (R.ended reader.new ≡ true) }
     ensures out { OnOk result (W.flushed writer.new ≡ W.taken writer.new) }
     ensures working { OnOk result ((R.failures reader.new ≡ 0) × (W.failures writer.new ≡ 0)) }
     ensures calls { R.reads reader.new ≤ R.reads reader.old + reads }
-
-    // A fault: what is written begins such a text, and the fault says what stopped it.
     ensures err { OnErr result (BeginsScriptText (R.given reader.new) (W.taken writer.new)) }
     ensures why { IfErr result (λ fault. IsFaultOf (record {
-      reader = record {
-        given = R.given reader.new;
-        earlier = R.earlier reader.new;
-        failures = R.failures reader.new;
-        reads = R.reads reader.new - R.reads reader.old;
-        has_ended = R.ended reader.new;
-      };
-      writer = record {
-        taken = W.taken writer.new;
-        flushed = W.flushed writer.new;
-        failures = W.failures writer.new;
-        rejections = W.rejections writer.new - W.rejections writer.old;
-      };
+      reader = reading R.given R.earlier R.failures R.reads R.ended reader.old reader.new;
+      writer = writing W.taken W.flushed W.failures W.rejections writer.old writer.new;
       limit = reads;
     }) fault) }
 {
@@ -180,19 +158,8 @@ pub fn script_within<R: Source, W: Sink, A: Allocator + Copy>(
     // A fault: what is written begins such a text, and the fault says what stopped it.
     ensures err { OnErr result (BeginsScriptText (R.given reader.new) (W.taken writer.new)) }
     ensures why { IfErr result (λ fault. IsFaultOf (record {
-      reader = record {
-        given = R.given reader.new;
-        earlier = R.earlier reader.new;
-        failures = R.failures reader.new;
-        reads = R.reads reader.new - R.reads reader.old;
-        has_ended = R.ended reader.new;
-      };
-      writer = record {
-        taken = W.taken writer.new;
-        flushed = W.flushed writer.new;
-        failures = W.failures writer.new;
-        rejections = W.rejections writer.new - W.rejections writer.old;
-      };
+      reader = reading R.given R.earlier R.failures R.reads R.ended reader.old reader.new;
+      writer = writing W.taken W.flushed W.failures W.rejections writer.old writer.new;
       limit = reads;
     }) fault) }
 {
@@ -221,19 +188,8 @@ pub fn script<R: Source, W: Sink, A: Allocator + Copy>(
     // A fault: what is written begins such a text, and the fault says what stopped it.
     ensures err { OnErr result (BeginsScriptText (R.given reader.new) (W.taken writer.new)) }
     ensures why { IfErr result (λ fault. IsFaultOf (record {
-      reader = record {
-        given = R.given reader.new;
-        earlier = R.earlier reader.new;
-        failures = R.failures reader.new;
-        reads = R.reads reader.new - R.reads reader.old;
-        has_ended = R.ended reader.new;
-      };
-      writer = record {
-        taken = W.taken writer.new;
-        flushed = W.flushed writer.new;
-        failures = W.failures writer.new;
-        rejections = W.rejections writer.new - W.rejections writer.old;
-      };
+      reader = reading R.given R.earlier R.failures R.reads R.ended reader.old reader.new;
+      writer = writing W.taken W.flushed W.failures W.rejections writer.old writer.new;
       limit = 2 ^ 40;
     }) fault) }
 {

@@ -1,5 +1,5 @@
 -- The rows of objects behind a forced entry, and what the writes of its object ask.
-use Rattle.std.proofs.Common.{◌≡◌, ℕ, ◌+◌, true, false, List, Option, Some, None, option_map, refl, sym, ap, ◌∙◌}
+use Rattle.std.proofs.Common.{◌≡◌, ℕ, ◌+◌, true, false, List, Option, Some, None, IsSome, option_map, refl, sym, ap, ◌∙◌}
 use Rattle.std.proofs.lemmas.Bool.{and_parts}
 use Rattle.pt_types.specs.Operations.{MutexClass, RwlockClass}
 use Rattle.pt_types.specs.MutexTable.{is_acquired}
@@ -25,6 +25,7 @@ use Rattle.pt_model.specs.Steps.{Step, joins, calls, dies, ticks, grants, trips,
 use Rattle.pt_model.proofs.Seats.{exists_as, HousedBy, housed}
 use Rattle.pt_records.specs.declared.objects.Object.{Object}
 use Rattle.pt_records.specs.declared.objects.Object.TheVariants.{Mutex, Rwlock, Cond, Barrier}
+use Rattle.pt_records.specs.Kept.{mutex_in, rwlock_in}
 use Rattle.pt_records.specs.Objects.{kind_kept, ObjectsLook, AreObjects}
 use Rattle.pt_records.specs.Writes.{WritesObject}
 use Rattle.pt_state.proofs.BoundCounts.{grant-can}
@@ -114,15 +115,24 @@ module _ {A : Type 0} (h : History) (f : Follows h) (old : List (ObjectRow (Obje
       (λ n. refl)
       refl
 
+  -- the mutex of a Yield has its row
+  yielded-kept : (m : ℕ) → Step h (Yield m) → (x : MutexState)
+      × (object_value old m ≡ Some (Mutex x))
+  yielded-kept m s =
+      let class = robust-class (kind_of h m) (and_parts (is_robust (kind_of h m))
+      (is_dead_if h (owner h m)) (yielded-orphan h m s)).0 in
+      kept-mutex h (object_value old) t.look m class
+
+  pub yielded-there : (m : ℕ) → Step h (Yield m) → IsSome (mutex_in (object_value old m))
+  yielded-there m s = rw (yielded-kept m s).1 refl
+
   -- a Yield takes the mutex from its owner
   pub object_rows-behind-yield : (new : List (ObjectRow (Object A))) (m : ℕ) → Step h (Yield m)
       → ((x : MutexState) → object_value old m ≡ Some (Mutex x)
       → WritesObject old new m (Mutex (record x { seen = yielded x.seen })))
       → AreObjects (h ▷ Yield m) new
   object_rows-behind-yield new m s w =
-      let class = robust-class (kind_of h m) (and_parts (is_robust (kind_of h m))
-      (is_dead_if h (owner h m)) (yielded-orphan h m s)).0 in
-      let x = kept-mutex h (object_value old) t.look m class in
+      let x = yielded-kept m s in
       let here = w x.0 x.1 in
       object_rows-written h (Yield m) old new m
       (Mutex (record x.0 { seen = yielded x.0.seen })) t here
@@ -131,6 +141,36 @@ module _ {A : Type 0} (h : History) (f : Follows h) (old : List (ObjectRow (Obje
 
   module _ (w : WaitingCall) (i : In w (open_calls h))
       (s : Step h (Grant w.place (grant_outcome h w))) where
+    -- the mutex of a granted call has its row
+    granted-mutex : (m : ℕ) → mutex_of w.role w.object ≡ Some m
+        → (x : MutexState) × (object_value old m ≡ Some (Mutex x))
+    granted-mutex m e =
+        kept-mutex h (object_value old) t.look m
+        (housed-mutex h m w.object w.role (moved h w.place) (housed h f w i) e)
+
+    pub granted-mutex-there : (m : ℕ) → mutex_of w.role w.object ≡ Some m
+        → IsSome (mutex_in (object_value old m))
+    granted-mutex-there m e = rw (granted-mutex m e).1 refl
+
+    -- and so has its read-write lock
+    read-lock : w.role ≡ ForRead
+        → (r : RwlockState) × (object_value old w.object ≡ Some (Rwlock r))
+    read-lock role =
+        kept-rwlock h (object_value old) t.look w.object
+        ((housed-rwlock h w.object w.role (moved h w.place) (housed h f w i)).0 role)
+
+    pub read-lock-there : w.role ≡ ForRead → IsSome (rwlock_in (object_value old w.object))
+    read-lock-there role = rw (read-lock role).1 refl
+
+    write-lock : w.role ≡ ForWrite
+        → (r : RwlockState) × (object_value old w.object ≡ Some (Rwlock r))
+    write-lock role =
+        kept-rwlock h (object_value old) t.look w.object
+        ((housed-rwlock h w.object w.role (moved h w.place) (housed h f w i)).1 role)
+
+    pub write-lock-there : w.role ≡ ForWrite → IsSome (rwlock_in (object_value old w.object))
+    write-lock-there role = rw (write-lock role).1 refl
+
     -- the client can be given the mutex
     pub acquires : (m : ℕ) → mutex_of w.role w.object ≡ Some m
         → is_acquired (grant_outcome h w) ≡ true → (x : MutexState)
@@ -146,8 +186,7 @@ module _ {A : Type 0} (h : History) (f : Follows h) (old : List (ObjectRow (Obje
         → WritesObject old new m (Mutex (record x { seen = acquired x.seen w.client })))
         → AreObjects (after_grant h w) new
     object_rows-behind-mutex new m e told wr =
-        let there = housed-mutex h m w.object w.role (moved h w.place) (housed h f w i) e in
-        let x = kept-mutex h (object_value old) t.look m there in
+        let x = granted-mutex m e in
         let here = wr x.0 x.1 in
         object_rows-written h (Grant w.place (grant_outcome h w)) old new m
         (Mutex (record x.0 { seen = acquired x.0.seen w.client })) t here
@@ -177,8 +216,7 @@ module _ {A : Type 0} (h : History) (f : Follows h) (old : List (ObjectRow (Obje
         (Some (reads_of r w.client + 1)))
         → AreObjects (after_grant h w) new
     object_rows-behind-read new role wr row =
-        let there = (housed-rwlock h w.object w.role (moved h w.place) (housed h f w i)).0 role in
-        let r = kept-rwlock h (object_value old) t.look w.object there in
+        let r = read-lock role in
         let here = wr r.0 r.1 in
         let r' = with_reads r.0 w.client (reads_of r.0 w.client + 1) in
         object_rows-written h (Grant w.place (grant_outcome h w)) old new w.object
@@ -199,8 +237,7 @@ module _ {A : Type 0} (h : History) (f : Follows h) (old : List (ObjectRow (Obje
         → WritesObject old new w.object (Rwlock (record r { writer = Some w.client })))
         → AreObjects (after_grant h w) new
     object_rows-behind-write new role wr =
-        let there = (housed-rwlock h w.object w.role (moved h w.place) (housed h f w i)).1 role in
-        let r = kept-rwlock h (object_value old) t.look w.object there in
+        let r = write-lock role in
         let here = wr r.0 r.1 in
         object_rows-written h (Grant w.place (grant_outcome h w)) old new w.object
         (Rwlock (record r.0 { writer = Some w.client })) t here

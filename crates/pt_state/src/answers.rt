@@ -1,7 +1,8 @@
 //! Answers: what is told to whom, from which place on.
 
-ghost use Rattle.std.specs.Prelude.{◌<◌, ◌≡◌, map, option_map, vec_capacity, vec_len};
+ghost use Rattle.std.specs.Prelude.{◌<◌, ◌≡◌, map, option_map, true, vec_capacity, vec_len};
 ghost use Rattle.pt_records.specs.Logs.{logged};
+ghost use Rattle.pt_table.specs.ClientRows.{has_client};
 ghost use Rattle.pt_state.specs.Forcing.{Answers};
 ghost use Rattle.pt_model.specs.Histories.{history};
 ghost use Rattle.pt_model.specs.Answers.{outcome as said};
@@ -34,7 +35,8 @@ fn to_client(answer: Option<Answered>, c: ClientId) -> Option<Answered>
 impl<A: Allocator + Copy> State<A> {
     // The call is open no more, and is answered.
     pub(crate) fn answer(&mut self, found: &Open, outcome: Outcome)
-        requires { vec_len self.old.answers < vec_capacity self.old.answers }
+        requires there { has_client self.old.clients found.now.call.client ≡ true }
+        requires spare { vec_len self.old.answers < vec_capacity self.old.answers }
         ensures { Answers self.old self.new found.now outcome }
     {
         let call = found.call;

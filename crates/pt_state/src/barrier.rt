@@ -1,6 +1,6 @@
 //! Barriers: arrivals and trips.
 
-ghost use Rattle.std.specs.Prelude.{None, ◌++◌, ◌+◌, ◌<◌, ◌≡◌, ◌≤◌, length, map, vec_capacity, vec_len};
+ghost use Rattle.std.specs.Prelude.{None, ◌++◌, ◌+◌, ◌<◌, ◌==◌, ◌≡◌, ◌≤◌, length, map, vec_capacity, vec_len};
 ghost use Rattle.pt_model.specs.declared.entry.Entry.TheVariants as entry;
 ghost use Rattle.pt_model.specs.declared.entry.Entry.{Entry as AnyEntry};
 ghost use Rattle.pt_state.specs.Adds.{Adds, IsReadyFor};
@@ -32,13 +32,14 @@ impl<A: Allocator + Copy> State<A> {
         self.stored.push(Entry::Trip(b));
     }
 
-    /// How many calls it waits for.  [XSH pthread_barrier_init]
-    pub fn count_at(&self, b: ObjectId) -> u64
-        ensures { result ≡ count_kept (object_value self.now.objects b) }
+    /// Whether it lets the calls go that stand at it, where they are so many.
+    /// [XSH pthread_barrier_wait]
+    pub fn is_full(&self, b: ObjectId, waiting: usize) -> bool
+        ensures { result ≡ (waiting == count_kept (object_value self.now.objects b)) }
     {
         match self.objects.at(b.0) {
-            Some(Object::Barrier(barrier)) => barrier.count() as u64,
-            _ => 0,
+            Some(Object::Barrier(barrier)) => barrier.full(waiting),
+            _ => waiting == 0,
         }
     }
 

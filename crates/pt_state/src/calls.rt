@@ -1,6 +1,6 @@
 //! Calls: those that are answered at once, and those that wait.
 
-ghost use Rattle.std.specs.Prelude.{IfErr, None, OnErr, OnOk, Some, ◌≡◌, false, true};
+ghost use Rattle.std.specs.Prelude.{IfErr, IsOk, None, OnErr, OnOk, Some, ◌≡◌, false, true};
 ghost use Rattle.pt_model.specs.declared.entry.Entry.TheVariants as entry;
 ghost use Rattle.pt_state.specs.Adds.{Adds, IsNearly, IsReadyFor, Stays, past};
 ghost use Rattle.pt_state.specs.Calling.{is_done, is_plain};
@@ -13,6 +13,7 @@ ghost use Rattle.pt_model.specs.WaitingCall.{entered as entered_in};
 ghost use Rattle.pt_model.specs.Shown.{shown, shown_role};
 ghost use Rattle.pt_state.specs.Reads.{AreTables};
 ghost use Rattle.pt_state.specs.Left.{IsLeft, IsNearlyLeft, only_stands};
+ghost use Rattle.pt_state.specs.Outer.{asks_to_read};
 
 use crate::state::State;
 use pt_model::Entry;
@@ -157,6 +158,7 @@ impl<A: Allocator + Copy> State<A> {
         ensures ok { OnOk result (Adds self.old (entry.Call c call.now None) self.new) }
         ensures err { OnErr result (Stays self.old self.new) }
         ensures refusal { IfErr result (λ r. r ≡ Refusal.Enomem) }
+        ensures enough { asks_to_read (operation call.now) ≡ false → IsOk result }
     {
         let object = self.meant(n, class_needed(lock_kind));
         let role = role_needed(lock_kind);
@@ -170,13 +172,14 @@ impl<A: Allocator + Copy> State<A> {
         }
     }
 
-    /// A call that is left waiting. ENOMEM where there is no memory for it. No other operation than
-    /// these three is left so.  [XSH, the call's page]
+    /// A call that is left waiting. ENOMEM where there is no memory for its row in a read-write
+    /// lock. No other operation than these three is left so.  [XSH, the call's page]
     pub fn push_left(&mut self, c: ClientId, call: &Call) -> Result<(), Refusal>
         requires ready { IsReadyFor self.old (entry.Call c call.now None) }
         ensures ok { OnOk result (Adds self.old (entry.Call c call.now None) self.new) }
         ensures err { OnErr result (Stays self.old self.new) }
         ensures refusal { IfErr result (λ r. r ≡ Refusal.Enomem) }
+        ensures enough { asks_to_read (operation call.now) ≡ false → IsOk result }
     {
         match operation_of(call) {
             Operation::Acquires(n, lock_kind, how) => self.push_acquire(c, call, n, lock_kind, how),

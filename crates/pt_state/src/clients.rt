@@ -1,6 +1,6 @@
 //! Living clients: who lives, with which priority, and what a join and a death change.
 
-ghost use Rattle.std.specs.Prelude.{IfErr, OnErr, OnOk, Some, ◌≡◌, unwrap_or};
+ghost use Rattle.std.specs.Prelude.{IfErr, OnErr, OnOk, Some, ◌≡◌, false, unwrap_or};
 ghost use Rattle.pt_model.specs.Histories.{history, place};
 ghost use Rattle.pt_model.specs.Clients.{client, is_alive as is_alive_in, living as living_in};
 ghost use Rattle.pt_state.specs.Reads.{AreTables};

@@ -1,10 +1,10 @@
 //! Mutexes: verdicts, locking, unlocking, and the robust ones of dead owners.
 
-ghost use Rattle.std.specs.Prelude.{IfSome, Some, ◌<◌, ◌≡◌, ◌≤◌, option_map};
+ghost use Rattle.std.specs.Prelude.{IfSome, Some, ◌<◌, ◌||◌, ◌≡◌, ◌≤◌, option_map};
 ghost use Rattle.std.specs.List.{list_any};
 ghost use Rattle.pt_model.specs.Histories.{history, place};
 ghost use Rattle.pt_model.specs.Answers.{open_calls};
-ghost use Rattle.pt_model.specs.Verdicts.{on, operation_verdict as said_of, will_return as will_return_in};
+ghost use Rattle.pt_model.specs.Verdicts.{is_alive_if as is_alive_if_in, on, operation_verdict as said_of, will_return as will_return_in};
 ghost use Rattle.pt_state.specs.Reads.{AreTables};
 ghost use Rattle.pt_types.specs.declared.outcome.Outcome.TheVariants as told;
 ghost use Rattle.pt_types.specs.Operations.{Acquires, MutexClass, MutexLock, Restores, Unlocks, class_of, operation};
@@ -26,6 +26,7 @@ ghost use Rattle.std.specs.Option.{option_copied};
 ghost use Rattle.pt_records.specs.Kept.{mutex_in};
 ghost use Rattle.pt_model.specs.Mutexes.{mutex_view, owner as owner_in};
 ghost use Rattle.pt_types.specs.MutexTable.{lock_verdict as lock_table};
+ghost use Rattle.pt_types.specs.ObjectTable.{destroy_verdict as destroy_table};
 ghost use Rattle.pt_model.specs.Forced.{is_orphan as is_orphan_in};
 
 use crate::state::State;
@@ -205,16 +206,17 @@ impl<A: Allocator + Copy> State<A> {
         }
     }
 
-    /// The owner of a mutex that exists.  [XSH 2.9.3]
-    pub fn owner(&self, m: ObjectId) -> Option<ClientId>
+    /// A call that ends a mutex, where a call waits for it or will come back to it, or none does.
+    /// [XSH pthread_mutex_destroy]
+    pub fn mutex_end_verdict(&self, m: ObjectId, awaited: bool) -> Verdict
         requires read { AreTables self.now }
         requires class { option_map class_of (kind_of (past self.now) m) ≡ Some MutexClass }
-        ensures { result ≡ owner_in (past self.now) m }
+        ensures { let owner_lives = is_alive_if_in (past self.now) (owner_in (past self.now) m) in
+            result ≡ destroy_table (owner_lives || awaited) }
     {
-        match self.mutex_at(m) {
-            Some(kept) => kept.owner(),
-            None => None,
-        }
+        let mutex = self.mutex_at(m).unwrap();
+        let owner_lives = self.is_alive_if(mutex.owner());
+        mutex.verdict_destroy(owner_lives, awaited)
     }
 
     /// A client's call on a mutex that it may own.  [XSH pthread_mutex_unlock]

@@ -1,6 +1,7 @@
 //! Objects by name and by number, and the calls that make and destroy them.
 
-ghost use Rattle.std.specs.Prelude.{IfErr, None, OnErr, OnOk, Some, ◌≡◌, is_some};
+ghost use Rattle.std.specs.Prelude.{IfErr, None, OnErr, OnOk, Some, ◌≡◌, false, is_some};
+ghost use Rattle.pt_types.specs.ObjectTable.{init_verdict as init_table};
 ghost use Rattle.pt_types.specs.declared.outcome.Outcome.TheVariants as told;
 ghost use Rattle.pt_types.specs.Operations.{Ends, Makes, class_of as class_meant, operation, same_class};
 ghost use Rattle.pt_model.specs.declared.entry.Entry.TheVariants as entry;
@@ -13,15 +14,29 @@ ghost use Rattle.pt_model.specs.Histories.{history};
 ghost use Rattle.pt_model.specs.Objects.{find as find_in, object_named, objects};
 ghost use Rattle.pt_state.specs.Reads.{AreTables};
 ghost use Rattle.pt_model.specs.Verdicts.{on};
-ghost use Rattle.pt_types.specs.ObjectTable.{init_verdict as init_table};
 ghost use Rattle.pt_model.specs.WaitingCall.{meant as meant_in};
 
 use crate::state::State;
+use pt_barrier::verdict_init;
 use pt_records::objects::{add, class_kept, make, remove};
 use pt_types::operations::{ObjectClass, is_same};
-use pt_types::tables::init_verdict;
-use pt_types::{Call, ClientId, Name, ObjectId, ObjectKind, Outcome, Refusal, Verdict};
+use pt_types::{
+    Call, ClientId, MOST_OBJECTS, Name, ObjectId, ObjectKind, Outcome, Refusal, Verdict,
+};
 use std::alloc::Allocator;
+
+// What becomes of a call that makes an object of this kind, as far as the kind decides it.
+// [XSH pthread_barrier_init]
+fn kind_verdict(kind: ObjectKind) -> Verdict
+    ensures { result ≡ init_table kind false 0 }
+{
+    match kind {
+        ObjectKind::Barrier(count) => verdict_init(count),
+        ObjectKind::Mutex(..) | ObjectKind::Rwlock | ObjectKind::Cond => {
+            Verdict::Reply(Outcome::Done)
+        }
+    }
+}
 
 impl<A: Allocator + Copy> State<A> {
     /// An object is made. ENOMEM where there is no memory for its row.
@@ -109,7 +124,13 @@ impl<A: Allocator + Copy> State<A> {
             (objects (past self.now)) }
     {
         let in_use = self.objects.find(n).is_some();
-        init_verdict(kind, in_use, self.objects.len() as u64)
+        match kind_verdict(kind) {
+            Verdict::Reply(Outcome::Done) if in_use => Verdict::Reply(Outcome::Ebusy),
+            Verdict::Reply(Outcome::Done) if self.objects.len() >= MOST_OBJECTS => {
+                Verdict::Reply(Outcome::Eagain)
+            }
+            told => told,
+        }
     }
 
     // The object that a name means as the call comes; 0 where it means none.  [profile]

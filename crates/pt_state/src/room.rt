@@ -19,7 +19,7 @@ use pt_model::{Entry, Event};
 use pt_records::calls::kept_by;
 use pt_records::mutex::is_last;
 use pt_types::operations::{ObjectClass, Operation, operation_of};
-use pt_types::{Call, ClientId, Name, ObjectId, Refusal};
+use pt_types::{Call, ClientId, MOST_CLIENTS, Name, ObjectId, Refusal};
 use std::alloc::Allocator;
 
 // The entries kept for a call that is left waiting.  [profile]
@@ -152,7 +152,7 @@ impl<A: Allocator + Copy> State<A> {
         ensures { result ≡ refusal_in (past self.now) event.now }
     {
         match event {
-            Event::Join(_) if 1024 <= self.living() => Some(Refusal::Limit),
+            Event::Join(_) if self.living() >= MOST_CLIENTS => Some(Refusal::Limit),
             Event::Call(c, _) if !self.is_alive(*c) => Some(self.refusal_of_stranger(*c)),
             Event::Call(c, _) if self.open_place(*c).is_some() => Some(Refusal::Blocked),
             Event::Death(c) if !self.is_alive(*c) => Some(self.refusal_of_stranger(*c)),

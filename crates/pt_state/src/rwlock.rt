@@ -20,19 +20,18 @@ ghost use Rattle.pt_state.specs.Granting.{is_readable as is_readable_kept, is_un
 ghost use Rattle.std.specs.Option.{option_copied};
 ghost use Rattle.pt_records.specs.Kept.{rwlock_in};
 ghost use Rattle.pt_records.specs.Objects.{IsRwlock};
-ghost use Rattle.pt_types.specs.Shown.{shown_rwlock};
+ghost use Rattle.pt_types.specs.RwlockTable.{read_verdict as read_table};
 ghost use Rattle.pt_model.specs.Verdicts.{operation_verdict as said_of};
 ghost use Rattle.pt_model.specs.Shown.{shown_role};
 ghost use Rattle.pt_state.specs.Left.{IsLeft};
 
 use crate::state::State;
 use pt_records::rwlock::{
-    acquire_read, acquire_write, any_holds, make_row, may_read, release_lock, view_of,
+    acquire_read, acquire_write, any_holds, make_row, may_read, release_lock,
 };
 use pt_records::{Object, Open};
 use pt_rwlock::RwObj;
 use pt_types::operations::ObjectClass;
-use pt_types::views::RwlockView;
 use pt_types::{Call, ClientId, How, Name, ObjectId, ObjectKind, Outcome, Refusal, Verdict};
 use std::alloc::Allocator;
 
@@ -134,13 +133,15 @@ impl<A: Allocator + Copy> State<A> {
         }
     }
 
-    /// A lock that exists, as its tables see it.  [XSH 2.9]
-    pub fn lock_view(&self, r: ObjectId, c: ClientId) -> RwlockView
+    /// A client's call to read, where a writer goes before it or none does.
+    /// [XSH pthread_rwlock_rdlock]
+    pub fn read_verdict(&self, c: ClientId, r: ObjectId, blocked: bool, how: &How) -> Verdict
         requires read { AreTables self.now }
         requires lock { kind_of (past self.now) r ≡ Some ObjectKind.Rwlock }
-        ensures { shown_rwlock result ≡ rwlock_seen (past self.now) r c }
+        ensures { result ≡ read_table (rwlock_seen (past self.now) r c) blocked how.now }
     {
-        view_of(self.rwlock_at(r).unwrap(), c)
+        let lock = self.rwlock_at(r).unwrap();
+        lock.verdict_read_behind(c, blocked, *how)
     }
 
     /// A client's call to write.  [XSH pthread_rwlock_wrlock]

@@ -1,6 +1,12 @@
+-- Lookups: look-ups in lists of entries, and what an added or a removed entry changes in them
 mod Lookups
+-- Listed: the rows that are listed: a look-up by number goes through the listed slots
 mod Listed
+-- Added: adding a row: a new row in a vacant slot is the last one that is listed
 mod Added
+-- Written: changing a row in its slot, where the row keeps its number
 mod Written
+-- Removed: taking a row out: its slot is empty, and its number is no longer listed
 mod Removed
+-- Named: the names of the listed rows: a look-up by name goes through the slots of the names
 mod Named

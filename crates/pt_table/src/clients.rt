@@ -8,12 +8,10 @@ ghost use Rattle.pt_table.specs.Faults.{IsFault};
 use crate::fault::TableFault;
 use crate::rows::{Numbers, make_room, nth_row, put, row_in, slot_of, take_out};
 use indexmap::IndexMap;
+use pt_types::MOST_CLIENTS;
 use slab::Slab;
 use std::alloc::{Allocator, Global};
 use std::marker::Model;
-
-/// How many clients may live at one time.  [profile]
-pub const MOST_CLIENTS: usize = 1024;
 
 /// A row of the table of clients, as its contracts see it.
 #[derive(Debug, Drop)]

@@ -12,6 +12,6 @@ mod fault;
 mod objects;
 mod rows;
 
-pub use clients::{ClientRow, Clients, MOST_CLIENTS};
+pub use clients::{ClientRow, Clients};
 pub use fault::TableFault;
-pub use objects::{MOST_OBJECTS, ObjectRow, Objects};
+pub use objects::{ObjectRow, Objects};

@@ -14,14 +14,11 @@ ghost use Rattle.pt_table.specs.NameSlots.{IsForgotten};
 use crate::fault::TableFault;
 use crate::rows::{Numbers, make_room, nth_row, put, row_in, slot_of, take_out};
 use indexmap::IndexMap;
-use pt_types::Name;
+use pt_types::{MOST_OBJECTS, Name};
 use slab::Slab;
 use std::alloc::{AllocError, Allocator, Global};
 use std::hash::{BuildHasherDefault, FoldHasher};
 use std::marker::Model;
-
-/// How many objects there may be at one time.  [profile]
-pub const MOST_OBJECTS: usize = 4096;
 
 /// A row of the table of objects, as its contracts see it.
 #[derive(Debug, Drop)]

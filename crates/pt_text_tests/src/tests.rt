@@ -1,4 +1,5 @@
 mod call_line;
+mod command;
 mod cutter;
 mod devices;
 mod reply;
@@ -11,10 +12,10 @@ use std::test::Fail;
 
 // A test plays on a thing that it borrows. Each early end of a function that owns one has to drop
 // it, and each such drop is proved; so this function owns it.
-fn lend<T: Drop, R, F: FnOnce(&mut T) -> R>(mut object_row: T, play: F) -> R
+fn lend<T: Drop, R, F: FnOnce(&mut T) -> R>(mut owned: T, play: F) -> R
     requires { F.IsAlwaysCallable play }
 {
-    play(&mut object_row)
+    play(&mut owned)
 }
 
 // The first line of a text.

@@ -6,6 +6,7 @@
 #![tactic(auto)]
 
 mod call;
+mod limits;
 mod name;
 mod number;
 pub mod operations;
@@ -15,7 +16,11 @@ mod time;
 pub mod views;
 
 pub use call::{Call, How, MutexKind, ObjectKind};
+pub use limits::{
+    MOST_AT_BARRIER, MOST_CLIENTS, MOST_ENTRIES, MOST_IN_LINE, MOST_LOCKS, MOST_OBJECTS,
+    MOST_PRIORITY, MOST_READS,
+};
 pub use name::Name;
-pub use number::{ClientId, MOST_PRIORITY, ObjectId, Priority};
+pub use number::{ClientId, ObjectId, Priority};
 pub use outcome::{Consistency, Outcome, Refusal, Verdict};
 pub use time::{Clock, Deadline, Moment};

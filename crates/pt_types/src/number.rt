@@ -1,3 +1,4 @@
+use crate::limits::MOST_PRIORITY;
 use std::marker::Model;
 
 /// A client, by the place of its join.  [profile]
@@ -27,9 +28,6 @@ impl Model for ObjectId {
 
     ghost inverse = { λ n. record { 0 = n } };
 }
-
-/// The highest priority; the lowest is 1.  [XSH 2.8.4, the number is profile]
-pub const MOST_PRIORITY: usize = 99;
 
 /// A priority of SCHED_FIFO, from 1 to the highest.  [XSH 2.8.4]
 #[derive(Clone, Copy, Debug, PartialEq, Eq)]

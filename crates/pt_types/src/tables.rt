@@ -12,7 +12,8 @@ ghost use Rattle.pt_types.specs.Shown.{shown_mutex, shown_rwlock};
 
 use crate::views::{MutexView, RwlockView};
 use crate::{
-    ClientId, Consistency, Deadline, How, MutexKind, ObjectId, ObjectKind, Outcome, Verdict,
+    ClientId, Consistency, Deadline, How, MOST_AT_BARRIER, MOST_LOCKS, MOST_OBJECTS, MOST_READS,
+    MutexKind, ObjectId, ObjectKind, Outcome, Verdict,
 };
 
 /// The answer that a call gets at once, or none where it stands.  [profile]
@@ -30,7 +31,7 @@ pub fn is_bad_kind(kind: ObjectKind) -> bool
     ensures { result ≡ is_bad kind }
 {
     match kind {
-        ObjectKind::Barrier(count) => count == 0 || 1024 < count,
+        ObjectKind::Barrier(count) => count == 0 || count > MOST_AT_BARRIER as u64,
         _ => false,
     }
 }
@@ -43,7 +44,7 @@ pub fn init_verdict(kind: ObjectKind, in_use: bool, objects: u64) -> Verdict
         Verdict::Reply(Outcome::Einval)
     } else if in_use {
         Verdict::Reply(Outcome::Ebusy)
-    } else if 4096 <= objects {
+    } else if objects >= MOST_OBJECTS as u64 {
         Verdict::Reply(Outcome::Eagain)
     } else {
         Verdict::Reply(Outcome::Done)
@@ -106,7 +107,7 @@ pub fn lock_verdict(m: &MutexView, c: ClientId, how: &How) -> Verdict
         return Verdict::Stands;
     }
     if owns(m, c) && m.kind == MutexKind::Recursive {
-        if m.count < 255 {
+        if m.count < MOST_LOCKS as u64 {
             return Verdict::Reply(Outcome::Done);
         }
         return Verdict::Reply(Outcome::Eagain);
@@ -206,7 +207,7 @@ pub fn read_verdict(r: RwlockView, blocked: bool, how: &How) -> Verdict
     if r.writes {
         return Verdict::Reply(relock_outcome(is_try(how)));
     }
-    if 255 <= r.reads {
+    if r.reads >= MOST_READS as u64 {
         return Verdict::Reply(Outcome::Eagain);
     }
     if 0 < r.reads || !r.is_written && !blocked {

@@ -1,4 +1,32 @@
+-- RemovalLemmas: elements that are taken away from the end of a list to its start
 mod RemovalLemmas
+-- ChangeLemmas: who is admitted and who stands, as the lists change
 mod ChangeLemmas
+-- CallerLemmas: for callers: what inserting and removing ask, and what they leave
 pub mod CallerLemmas
+-- MemberLemmas: members of queues, as calls come, go and are moved
 pub mod MemberLemmas
+-- LinkLemmas: what is kept of a chain's links as a node is put behind the last one, or taken out
+mod LinkLemmas
+-- EndLemmas: A chain, its ends and its count, as a node goes behind the last or is taken out
+mod EndLemmas
+-- SortedLemmas: chains in the order of arrival, and the queues that they make
+mod SortedLemmas
+-- HeadLemmas: the head of a queue, found as the head of a chain
+mod HeadLemmas
+-- ChainLemmas: what nodes and the ends of chains say of the queues
+mod ChainLemmas
+-- HomeLemmas: nodes as clients come and go
+mod HomeLemmas
+-- InsertLemmas: what stays true of nodes and chains as a waiter is put in
+mod InsertLemmas
+-- PutLemmas: A waiter is put in: what is true of nodes, chains and queues stays true
+mod PutLemmas
+-- TakeLemmas: A waiter is taken out: what is true of nodes, chains and queues stays true
+mod TakeLemmas
+-- StepLemmas: A waiter put in or taken out: from what the calls below say to what is true of all
+mod StepLemmas
+-- FirstLemmas: the first of a queue and its writers, found by the counts of its chains
+mod FirstLemmas
+-- MadeLemmas: queues as they are made and discarded
+mod MadeLemmas

@@ -10,3 +10,5 @@ pub mod ListLemmas
 pub mod OrderLemmas
 pub mod QueueLemmas
 pub mod WaitingLemmas
+-- Chains: what nodes and the ends of chains say of the waiters that stand
+pub mod Chains

@@ -5,12 +5,16 @@
 //! Only tests show that room which is asked for is found.
 #![tactic(auto)]
 
+mod chains;
 mod changes;
 mod entries;
+mod nodes;
 mod plain_list;
+mod sides;
 mod wait_list;
 mod waiter;
 
+pub use chains::Chains;
 pub use plain_list::PlainList;
 pub use wait_list::WaitList;
 pub use waiter::Waiter;

@@ -4,8 +4,9 @@ use Rattle.pt_types.specs.declared.outcome.Refusal.TheVariants.{Syntax}
 use Rattle.pt_lines.proofs.GrammarLemmas.{found_by, length-spelled, line_read-spelled}
 use Rattle.pt_lines.proofs.call_line.read_call.Goals as goal
 
-pub returns-then-text-gt128-clause-exact : goal.returns-then-text-gt128-clause-exact
-returns-then-text-gt128-clause-exact c =
+pub returns-then-text-gt-MOST_IN_LINE-clause-exact :
+    goal.returns-then-text-gt-MOST_IN_LINE-clause-exact
+returns-then-text-gt-MOST_IN_LINE-clause-exact c =
     λ line s. let short = length-spelled c.args.text.now line s in absurd (omega arith)
 
 pub returns-clause-found : goal.returns-clause-found

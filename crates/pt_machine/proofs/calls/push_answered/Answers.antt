@@ -1,4 +1,4 @@
-use Rattle.std.proofs.Common.{rules, ◌≡◌, false}
+use Rattle.std.proofs.Common.{rules, ◌≡◌, false, refl}
 use Rattle.pt_state.specs.Calling.{is_done}
 use Rattle.pt_machine.proofs.QueuedAnswers.{told-queued}
 use Rattle.pt_machine.proofs.calls.push_answered.Goals as goal
@@ -10,6 +10,7 @@ returns-in_default g c =
       ok = c.push_told.ensures;
       err = tt;
       reason = tt;
+      enough = λ small. refl;
       queued = told-queued c.args.state.now c.args.c c.args.call.now
           (g.Q.WaitList.queue c.args.queues.now) (g.Q.WaitList.admitted c.args.queues.now)
           (g.Q.WaitList.made c.args.queues.now) c.requires.queued c.push_told.new.self

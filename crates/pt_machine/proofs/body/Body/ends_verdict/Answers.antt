@@ -4,8 +4,8 @@ use Rattle.pt_records.proofs.LockViews.{class-found}
 use Rattle.pt_machine.proofs.TableViews.{found-in}
 use Rattle.pt_machine.proofs.body.Body.ends_verdict.Goals as goal
 
-pub is_busy-requires-clause-class : goal.is_busy-requires-clause-class
-is_busy-requires-clause-class g c =
+pub end_verdict-requires-clause-class : goal.end_verdict-requires-clause-class
+end_verdict-requires-clause-class g c =
     class-found (past c.args.self.now) c.requires.follows c.args.n.now (shown_class c.args.class)
     c.in-Some.o
     (found-in _ _ c.self.view_is c.args.n.now (shown_class c.args.class) _ _ c.find.ensures

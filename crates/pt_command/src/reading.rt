@@ -1,0 +1,68 @@
+use crate::words::command;
+use clap::Error;
+use clap::error::ErrorKind;
+use std::process::ExitCode;
+use std::{env, io};
+
+/// The exit status of a fault of the command line.  [profile]
+const USAGE: u8 = 2;
+
+/// The exit status of want of memory.  [profile]
+const MEMORY: u8 = 5;
+
+/// What a command line asks of the program.
+pub enum Task {
+    /// To answer a script.
+    Script,
+    /// Nothing more: what was asked for, or what is wrong, has been shown.
+    End(ExitCode),
+}
+
+// Shows what was asked for, or what is wrong with the words.
+fn show(rt: &HostRuntime, error: &Error) -> ExitCode {
+    let _ = error.print(rt);
+    if error.use_stderr() {
+        return ExitCode::from(USAGE);
+    }
+    ExitCode::SUCCESS
+}
+
+// The task that these words ask for. The error is want of memory.
+fn task_of(rt: &HostRuntime, words: &[String]) -> Result<Task, Error> {
+    let matches = match command(rt.alloc())?.try_get_matches_from(words) {
+        Ok(matches) => matches,
+        Err(error) if error.kind() == ErrorKind::OutOfMemory => return Err(error),
+        Err(error) => return Ok(Task::End(show(rt, &error))),
+    };
+    match matches.subcommand() {
+        Some(("script", _)) => Ok(Task::Script),
+        _ => Ok(Task::End(ExitCode::from(USAGE))),
+    }
+}
+
+fn out_of_memory(rt: &HostRuntime) -> ExitCode {
+    let _ = eprintln!(rt; "ptserver: out of memory");
+    ExitCode::from(MEMORY)
+}
+
+// The words of the command line cannot be had: memory was refused, or one is not UTF-8.
+fn refuse_words(rt: &HostRuntime, error: &io::Error) -> ExitCode {
+    if error.kind() == io::ErrorKind::OutOfMemory {
+        return out_of_memory(rt);
+    }
+    let _ = eprintln!(rt; "error: invalid UTF-8 was detected in one or more arguments");
+    ExitCode::from(USAGE)
+}
+
+/// Reads the command line, and shows what it asks to be shown, or what is wrong with it.
+pub fn read_task(rt: &HostRuntime) -> Task {
+    let args = match env::args(rt) {
+        Ok(args) => args,
+        Err(error) => return Task::End(refuse_words(rt, &error)),
+    };
+    let words: Result<Vec<String>, _> = args.collect(rt.alloc());
+    let Ok(words) = words else {
+        return Task::End(out_of_memory(rt));
+    };
+    task_of(rt, words.as_slice()).unwrap_or_else(|_| Task::End(out_of_memory(rt)))
+}

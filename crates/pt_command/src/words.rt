@@ -1,0 +1,63 @@
+use clap::{Command, Error};
+use std::alloc::Global;
+
+const ABOUT: &str = "\
+POSIX mutexes, read-write locks, condition variables and barriers, shared by clients of fixed
+priority. Every answer is proved to be what the rules say.";
+
+const SCRIPT: &str = "Answers the lines of standard input on standard output, each as it comes";
+
+const LINES: &str = "\
+A line is a client's name and a call, separated by single spaces. The client comes first. There are
+no comments and no empty lines, and a line ends with a newline alone.
+
+  A hello 10                     client A joins with priority 10 (1 to 99, 99 the highest)
+  A mutex-init m normal robust   makes the mutex m
+  A lock m                       is answered once A has the mutex
+  A die                          A's process ends
+  * moment 5 0                   the clock real shows 5 seconds and 0 nanoseconds
+  * mono-moment 5 0              and so does the clock mono
+
+Calls, with S and N the seconds and nanoseconds of a deadline, and CLOCK real or mono:
+
+  mutex-init NAME KIND ROBUST    KIND normal, default, errorcheck or recursive;
+                                 ROBUST stalled or robust
+  lock NAME      trylock NAME    timedlock NAME S N    clocklock NAME CLOCK S N
+  unlock NAME    consistent NAME    mutex-destroy NAME
+  rwlock-init NAME    rwunlock NAME    rwlock-destroy NAME
+  rdlock NAME    tryrdlock NAME    timedrdlock NAME S N    clockrdlock NAME CLOCK S N
+  wrlock NAME    trywrlock NAME    timedwrlock NAME S N    clockwrlock NAME CLOCK S N
+  cond-init NAME    signal NAME    broadcast NAME    cond-destroy NAME
+  wait NAME MUTEX    timedwait NAME MUTEX S N    clockwait NAME MUTEX CLOCK S N
+  barrier-init NAME COUNT    bwait NAME    barrier-destroy NAME
+
+An answer is the client's name, the number of its line, and a result:
+
+  A 3 0                          A's third line is done
+  B 2 EBUSY                      what POSIX calls the failure of B's second line
+  B 4 BLOCKED                    a refusal, which changes nothing: B waits for an earlier call
+
+A call that waits is answered when its wait ends: after a later line, or never.
+
+Status: 0 done, whatever was answered; 2 a wrong command line; 3 reading or writing failed;
+5 out of memory.
+
+docs/RULES.md has the rules, and examples/ has scripts to try:
+
+  ptserver script < examples/two-clients.script";
+
+/// The command line: `script`, `--help` and `--version`.
+pub fn command<'a>(alloc: Global) -> Result<Command<'a>, Error> {
+    let script = Command::new(alloc, "script")
+        .about(SCRIPT)
+        .after_help(LINES);
+    Ok(
+        Command::new(alloc, "ptserver")
+            .bin_name("ptserver")?
+            .version("0.1.0")
+            .about(ABOUT)
+            .after_help(LINES)
+            .subcommand_required(true)
+            .subcommand(script)?,
+    )
+}

@@ -1,0 +1,29 @@
+//! The program `pt_failing_device`: a script whose reader fails, and then one whose writer does.
+//!
+//! Both faults are reported on standard output, so that the run of this program compares them. It
+//! ends with the status that the program `ptserver` gives for either, if that is one status.
+#![tactic(auto)]
+
+use pt_io::{Counted, Faulty};
+use pt_script::answer;
+use std::alloc::AllocError;
+use std::io;
+use std::process::ExitCode;
+
+// The exit status of a script, if the reader or the writer fails at this call; at none with 0.
+fn status(rt: &HostRuntime, read_fails_at: u64, write_fails_at: u64) -> Result<u8, AllocError> {
+    let script = Vec::from_slice(rt.alloc(), b"A hello 10\n")?;
+    let mut reader = Faulty::new(script, 4096, read_fails_at);
+    let mut writer = Faulty::new(Vec::new(rt.alloc()), 4096, write_fails_at);
+    let mut errors = Counted::new(io::writer(rt));
+    Ok(answer(rt.alloc(), &mut reader, &mut writer, &mut errors))
+}
+
+fn main(rt: HostRuntime) -> io::Result<ExitCode> {
+    let read = status(&rt, 1, 0)?;
+    let write = status(&rt, 0, 1)?;
+    if read != write {
+        return Ok(ExitCode::FAILURE);
+    }
+    Ok(ExitCode::from(read))
+}

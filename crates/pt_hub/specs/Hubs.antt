@@ -1,0 +1,165 @@
+-- Hubs: what is seen of a hub, what always holds of it, and what each call makes of it.
+use Rattle.std.specs.Prelude.{ℕ, ◌≡◌, ◌+◌, ◌≤◌, ◌==◌, Bool, true, false, nat_eq, List, [], ◌∷◌, ◌++◌, length, Option, Some, None, is_some, is_none, slice_get, slice_set, ◌-◌, ◌&&◌, ◌^◌, if◌then◌else◌}
+use Rattle.std.specs.Map.{lookup}
+use Rattle.pt_types.specs.declared.call.Call.{Call as Asked}
+use Rattle.pt_types.specs.declared.outcome.Outcome.{Outcome}
+use Rattle.pt_types.specs.declared.time.Clock.{Clock}
+use Rattle.pt_model.specs.declared.entry.Event.TheVariants as event
+use Rattle.pt_model.specs.Records.{Told}
+use Rattle.pt_model.specs.Histories.{place, outer}
+use Rattle.pt_model.specs.Clients.{is_alive}
+use Rattle.pt_model.specs.Answers.{outcome}
+use Rattle.pt_model.specs.Legal.{LegalBehind, events_of}
+use Rattle.pt_model.specs.Steps.{IsStart}
+use Rattle.pt_core.specs.Cores.{past}
+use Rattle.pt_core.specs.Applying.{Applies}
+use Rattle.pt_hub.specs.declared.pass.Receipt.{Receipt}
+use Rattle.pt_hub.specs.declared.pass.Sent.{Sent}
+use Rattle.pt_hub.specs.declared.pass.Answer.{Answer}
+use Rattle.pt_hub.specs.Desks.{Desk, kept, IsTakenButOne, Wrote, account_of, awaiting, after_taking, next_answer}
+use Rattle.pt_hub.specs.Passes.{PassView}
+
+-- the history with the accounts; the open sessions with their marks; how many were opened; and
+-- the book of the ledger  [profile]
+pub record HubView : Type 0 where
+  pub desk : Desk
+  pub marks : List (ℕ × Bool)
+  pub opened : ℕ
+  pub booked : ℕ
+
+-- the place of the next entry  [profile]
+abbrev pub next_place : Desk → ℕ
+next_place d = place (past (kept d))
+
+-- how many events the history has, those before its Start included  [profile]
+abbrev pub outer_count : Desk → ℕ
+outer_count d = outer (past (kept d))
+
+-- how many events were counted, how many parts of the ledger are left, and its book  [profile]
+pub record TallyView : Type 0 where
+  pub outer : ℕ
+  pub parts : ℕ
+  pub total : ℕ
+
+-- the ledger has counted each event, and there are parts left for all clients and sessions
+-- [profile]
+pub record IsHub (v : HubView) (t : TallyView) : Type 0 where
+  pub outer : t.outer ≡ outer_count v.desk
+  pub book : v.booked ≡ t.outer
+  pub parts : 2 ^ 63 ≤ t.parts + next_place v.desk + v.opened + 1
+  pub sessions : v.opened ≤ 2 ^ 32
+
+-- what holds whenever the lock is free  [profile]
+pub record Fits (v : HubView) : Type 0 where
+  pub starts : IsStart (kept v.desk).start
+  pub legal : LegalBehind (kept v.desk).start (kept v.desk).entries
+      (events_of (kept v.desk).entries)
+  pub taken : (c : ℕ) → is_alive (past (kept v.desk)) c ≡ true → IsTakenButOne v.desk c
+  pub book : v.booked ≡ outer_count v.desk
+
+-- a client joined, and this is its pass  [profile]
+pub record Joins (old : HubView) (priority : ℕ) (new : HubView) (pass : PassView) : Type 0 where
+  pub applies : Applies (kept old.desk) (event.Join priority) (kept new.desk)
+  pub its_pass : pass ≡ record {
+    client = next_place old.desk;
+    priority = priority;
+    receipts = [];
+  }
+  pub account : Wrote old.desk.accounts new.desk.accounts (next_place old.desk)
+      (Some (record { owed = 0; taken = 0; awaits = false }))
+  pub marks : new.marks ≡ old.marks
+  pub opened : new.opened ≡ old.opened
+
+-- a client's call was sent  [profile]
+pub record Sends (old : HubView) (before : PassView) (call : Asked) (new : HubView)
+    (after : PassView) (s : Sent) : Type 0 where
+  pub applies : Applies (kept old.desk) (event.Call before.client call) (kept new.desk)
+  pub place : s.place ≡ next_place old.desk
+  pub ready : s.ready ≡ is_some (outcome (past (kept new.desk)) s.place)
+  pub its_pass : after ≡ record before {
+    receipts = before.receipts
+        ++ record { place = s.place; call = call; answer = None } ∷ [];
+  }
+  pub account : Wrote old.desk.accounts new.desk.accounts before.client
+      (awaiting (account_of old.desk before.client))
+  pub marks : new.marks ≡ old.marks
+  pub opened : new.opened ≡ old.opened
+
+-- the last of these receipts  [profile]
+abbrev pub last_receipt : List Receipt → Option Receipt
+last_receipt rs = slice_get rs (length rs - 1)
+
+-- whether a receipt is of this place, and has no answer
+abbrev pub is_pending_if : Option Receipt → ℕ → Bool
+is_pending_if None j = false
+is_pending_if (Some r) j = (r.place == j) && is_none r.answer
+
+-- whether the last of these receipts is of this place, and has no answer  [profile]
+abbrev pub is_pending : List Receipt → ℕ → Bool
+is_pending rs j = is_pending_if (last_receipt rs) j
+
+-- the receipts, of which the last is this one now
+abbrev pub with_last : List Receipt → Option Receipt → Outcome → List Receipt
+with_last rs None x = rs
+with_last rs (Some r) x = slice_set rs (length rs - 1) (record r { answer = Some x })
+
+-- the last of these receipts gets its answer  [profile]
+abbrev pub answered : List Receipt → Outcome → List Receipt
+answered rs x = with_last rs (last_receipt rs) x
+
+-- an answer that a pass may take
+abbrev pub takeable_if : List Receipt → Option Told → Option Told
+takeable_if rs None = None
+takeable_if rs (Some t) = if is_pending rs t.place then Some t else None
+
+-- the answer that a client may take with its pass  [profile]
+abbrev pub takeable : HubView → PassView → Option Told
+takeable v p = takeable_if p.receipts (next_answer v.desk p.client)
+
+-- a client took this answer  [profile]
+pub record Takes (old : HubView) (before : PassView) (new : HubView) (after : PassView)
+    (a : Answer) : Type 0 where
+  pub there : takeable old before
+      ≡ Some (record { client = before.client; place = a.place; outcome = a.outcome })
+  pub its_pass : after ≡ record before { receipts = answered before.receipts a.outcome }
+  pub same_core : new.desk.core ≡ old.desk.core
+  pub account : Wrote old.desk.accounts new.desk.accounts before.client
+      (after_taking (account_of old.desk before.client))
+  pub marks : new.marks ≡ old.marks
+  pub opened : new.opened ≡ old.opened
+
+-- a moment was handed in  [profile]
+pub record Ticks (old : HubView) (k : Clock) (t : ℕ) (new : HubView) : Type 0 where
+  pub applies : Applies (kept old.desk) (event.Moment k t) (kept new.desk)
+  pub accounts : new.desk.accounts ≡ old.desk.accounts
+  pub marks : new.marks ≡ old.marks
+  pub opened : new.opened ≡ old.opened
+
+-- a living client died  [profile]
+pub record Dies (old : HubView) (c : ℕ) (new : HubView) : Type 0 where
+  pub applies : Applies (kept old.desk) (event.Death c) (kept new.desk)
+  pub account : Wrote old.desk.accounts new.desk.accounts c None
+  pub marks : new.marks ≡ old.marks
+  pub opened : new.opened ≡ old.opened
+
+-- whether the input of a session has ended; it has if the session isn't open  [profile]
+abbrev pub ended_in : Option Bool → Bool
+ended_in None = true
+ended_in (Some b) = b
+
+-- the same of a session's number  [profile]
+abbrev pub has_ended : HubView → ℕ → Bool
+has_ended v s = ended_in (lookup (nat_eq s) v.marks)
+
+-- a session's mark is this one now, or it isn't open, and the others are as before  [profile]
+abbrev pub Marked : List (ℕ × Bool) → List (ℕ × Bool) → ℕ → Option Bool → Type 0
+Marked old new s o = (t : ℕ) → lookup (nat_eq t) new ≡ if s == t then o else lookup (nat_eq t) old
+
+-- the mark of an ended input; none if the session isn't open
+abbrev pub set_in : Option Bool → Option Bool
+set_in None = None
+set_in (Some b) = Some true
+
+-- a session's mark is set, if it is open  [profile]
+abbrev pub IsEndedIf : List (ℕ × Bool) → List (ℕ × Bool) → ℕ → Type 0
+IsEndedIf old new s = Marked old new s (set_in (lookup (nat_eq s) old))

@@ -1,0 +1,51 @@
+//! The end of a hub: are the events of its history those that are handed in?
+
+ghost use Rattle.std.specs.Prelude.{◌≡◌, ◌<◌, ◌^◌, sum_by};
+ghost use Rattle.pt_hub.specs.Passes.{events_of_left, events_of_clock};
+
+use crate::hub::Hub;
+use crate::pass::{ClockPass, Left};
+use std::alloc::{Allocator, Global};
+use std::sync::ledger::Ledger;
+
+/// How many events and how many entries a history has.  [profile]
+#[derive(Clone, Copy, Debug, PartialEq, Eq)]
+pub struct Closed {
+    pub outer: u64,
+    pub entries: u64,
+}
+
+/// What is handed back if a hub doesn't close: it has had `expected` events, and `found` were
+/// handed in.
+#[derive(Drop)]
+pub struct CloseRefused<L: Ledger, A: Allocator + Copy = Global> {
+    pub expected: u64,
+    pub found: u128,
+    pub hub: Hub<L, A>,
+    pub left: Vec<Left<L, A>, A>,
+    pub clock: Vec<ClockPass<L, A>, A>,
+}
+
+/// How many events these clients made.
+pub(crate) fn left_events<L: Ledger, A: Allocator + Copy>(lefts: &[Left<L, A>]) -> u128
+    ensures is { result ≡ sum_by events_of_left lefts.now }
+    ensures bound { result < 2 ^ 127 }
+{
+    let mut count: u128 = 0;
+    for left in lefts {
+        count += 1 + u128::from(left.deaths) + left.receipts.len() as u128;
+    }
+    count
+}
+
+/// How many moments these clocks submitted.
+pub(crate) fn clock_events<L: Ledger, A: Allocator + Copy>(clocks: &[ClockPass<L, A>]) -> u128
+    ensures is { result ≡ sum_by events_of_clock clocks.now }
+    ensures bound { result < 2 ^ 127 }
+{
+    let mut count: u128 = 0;
+    for clock in clocks {
+        count += clock.moments.len() as u128;
+    }
+    count
+}

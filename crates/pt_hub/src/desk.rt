@@ -1,0 +1,241 @@
+//! The core with an account for each living client.
+
+ghost use Rattle.std.specs.Prelude.{◌≡◌, ◌+◌, ◌-◌, ◌<◌, ◌≤◌, ℕ, [], Some, None, false, true, length, option_map, option_copied, slice_get, nat_eq, IfOk, IfErr, IfSome, IfNone, OnOk, OnErr, IsSome};
+ghost use Rattle.std.specs.Map.{lookup};
+ghost use Rattle.pt_types.specs.Limits.{most_entries, most_places};
+ghost use Rattle.pt_types.specs.Times.{deadline_nanos};
+ghost use Rattle.pt_model.specs.declared.entry.Event.TheVariants as event;
+ghost use Rattle.pt_model.specs.Starts.{nothing};
+ghost use Rattle.pt_model.specs.Histories.{place as place_of, outer};
+ghost use Rattle.pt_model.specs.Clients.{is_alive};
+ghost use Rattle.pt_model.specs.Queries.{least_deadline as least_deadline_in};
+ghost use Rattle.pt_model.specs.Room.{refusal_within};
+ghost use Rattle.pt_model.specs.Legal.{LegalBehind, events_of};
+ghost use Rattle.pt_model.specs.Steps.{IsStart};
+ghost use Rattle.pt_core.specs.Cores.{past};
+ghost use Rattle.pt_core.specs.Applying.{IsApplied};
+ghost use Rattle.pt_core.specs.Replies.{told_of};
+ghost use Rattle.pt_hub.specs.Desks.{Wrote, IsRefusedAs, kept, account_of, awaiting, after_taking, is_blocked, call_refusal, next_answer, IsTakenButOne};
+
+use crate::account::{Account, Accounts, erase, read, write};
+use indexmap::IndexMap;
+use pt_core::{Applied, Core, Reply};
+use pt_model::{Entry, Event};
+use pt_types::{Call, ClientId, Clock, Deadline, Moment, Priority, Refusal};
+use std::alloc::Allocator;
+use std::marker::Model;
+
+/// The core with an account for each living client.
+#[derive(Drop)]
+pub struct Desk<A: Allocator + Copy> {
+    core: Core<A>,
+    accounts: Accounts<A>,
+}
+
+impl<A: Allocator + Copy> Model for Desk<A> {
+    ghost use Rattle.pt_hub.specs.Desks.{Desk as Seen, IsDesk};
+
+    ghost Value = { Seen };
+
+    ghost view = { λ d. record { core = d.core; accounts = d.accounts.entries } };
+
+    ghost invariant = { λ d. IsDesk (record { core = d.core; accounts = d.accounts.entries }) };
+}
+
+impl<A: Allocator + Copy> Desk<A> {
+    /// The empty history, with no client. ENOMEM if a growth is refused.
+    pub fn new(alloc: A) -> Result<Desk<A>, Refusal>
+        ensures ok { IfOk result (λ desk. (kept desk
+            ≡ record { start = nothing; entries = []; limit = most_entries })
+            × (desk.accounts ≡ [])) }
+        ensures err { IfErr result (λ refusal. refusal ≡ Refusal.Enomem) }
+    {
+        Ok(Desk {
+            core: Core::new(alloc)?,
+            accounts: IndexMap::new(alloc),
+        })
+    }
+
+    /// A client joins, and gets an account.
+    pub fn join(&mut self, priority: Priority) -> Result<Applied, Refusal>
+        ensures ok { IfOk result (λ applied.
+            IsApplied (kept self.old) (event.Join priority) (kept self.new) applied) }
+        ensures account { OnOk result (Wrote self.old.accounts self.new.accounts
+            (place_of (past (kept self.old)))
+            (Some (record { owed = 0; taken = 0; awaits = false }))) }
+        ensures err { IfErr result (IsRefusedAs
+            (refusal_within (kept self.old).limit (past (kept self.old)) (event.Join priority))) }
+        ensures unchanged { OnErr result (self.new ≡ self.old) }
+    {
+        let event = Event::Join(priority);
+        if let Some(refusal) = self.core.would_refuse(&event) {
+            return Err(refusal);
+        }
+        if self.accounts.reserve(1).is_err() {
+            return Err(Refusal::Enomem);
+        }
+        match self.core.apply(event) {
+            Ok(applied) => {
+                let account = Account {
+                    owed: 0,
+                    taken: 0,
+                    awaits: false,
+                };
+                write(&mut self.accounts, applied.first, account);
+                Ok(applied)
+            }
+            Err(refusal) => Err(refusal),
+        }
+    }
+
+    /// Whether a client's last call is open, or its answer isn't taken.
+    pub fn is_blocked(&self, c: ClientId) -> bool
+        ensures { result ≡ is_blocked self.now c }
+    {
+        match read(&self.accounts, c.0) {
+            Some(account) => account.awaits,
+            None => false,
+        }
+    }
+
+    /// Why a client's call would be refused, for another reason than want of memory.
+    pub fn call_refusal(&self, c: ClientId, call: &Call) -> Option<Refusal>
+        ensures { result ≡ call_refusal self.now c call.now }
+    {
+        if self.is_blocked(c) {
+            return Some(Refusal::Blocked);
+        }
+        self.core.would_refuse(&Event::Call(c, call.copied()))
+    }
+
+    /// A client makes a call that isn't refused, and awaits its answer. ENOMEM if a growth is
+    /// refused.
+    pub fn call(&mut self, c: ClientId, call: &Call) -> Result<Applied, Refusal>
+        requires { call_refusal self.old c call.now ≡ None }
+        ensures ok { IfOk result (λ applied.
+            IsApplied (kept self.old) (event.Call c call.now) (kept self.new) applied) }
+        ensures account { OnOk result (Wrote self.old.accounts self.new.accounts c
+            (awaiting (account_of self.old c))) }
+        ensures err { IfErr result (λ refusal. refusal ≡ Refusal.Enomem) }
+        ensures unchanged { OnErr result (self.new ≡ self.old) }
+    {
+        let number = c.0;
+        let Some(account) = read(&self.accounts, number) else {
+            unreachable!()
+        };
+        match self.core.apply(Event::Call(c, call.copied())) {
+            Ok(applied) => {
+                let account = Account {
+                    owed: account.owed,
+                    taken: account.taken,
+                    awaits: true,
+                };
+                write(&mut self.accounts, number, account);
+                Ok(applied)
+            }
+            Err(refusal) => Err(refusal),
+        }
+    }
+
+    /// The answer that a client hasn't taken.
+    pub fn next_answer(&self, c: ClientId) -> Option<Reply>
+        ensures { option_map told_of result ≡ next_answer self.now c }
+    {
+        if self.is_blocked(c) && self.core.open_call(c).is_none() {
+            self.core.answer_of(c)
+        } else {
+            None
+        }
+    }
+
+    /// A client takes the answer that it hasn't taken.
+    pub fn take(&mut self, c: ClientId)
+        requires { IsSome (next_answer self.old c) }
+        ensures kept { self.new.core ≡ self.old.core }
+        ensures account { Wrote self.old.accounts self.new.accounts c
+            (after_taking (account_of self.old c)) }
+    {
+        let Some(account) = read(&self.accounts, c.0) else {
+            unreachable!()
+        };
+        let account = Account {
+            owed: account.owed,
+            taken: account.taken + 1,
+            awaits: false,
+        };
+        write(&mut self.accounts, c.0, account);
+    }
+
+    /// A living client dies. An answer that it hasn't taken is dropped. `None` if it doesn't live.
+    pub fn die(&mut self, c: ClientId) -> Option<Applied>
+        ensures some { IfSome result (λ applied.
+            IsApplied (kept self.old) (event.Death c) (kept self.new) applied) }
+        ensures account { IsSome result → Wrote self.old.accounts self.new.accounts c None }
+        ensures none { IfNone result ((is_alive (past (kept self.old)) c ≡ false)
+            × (self.new ≡ self.old)) }
+    {
+        match self.core.apply(Event::Death(c)) {
+            Ok(applied) => {
+                erase(&mut self.accounts, c.0);
+                Some(applied)
+            }
+            Err(_) => None,
+        }
+    }
+
+    /// A reading of a clock is handed in, which isn't refused. ENOMEM if a growth is refused.
+    pub fn moment(&mut self, clock: Clock, moment: Moment) -> Result<Applied, Refusal>
+        requires { refusal_within (kept self.old).limit (past (kept self.old))
+            (event.Moment clock moment) ≡ None }
+        ensures ok { IfOk result (λ applied.
+            IsApplied (kept self.old) (event.Moment clock moment) (kept self.new) applied) }
+        ensures accounts { self.new.accounts ≡ self.old.accounts }
+        ensures err { IfErr result (λ refusal. refusal ≡ Refusal.Enomem) }
+        ensures unchanged { OnErr result (self.new ≡ self.old) }
+    {
+        self.core.apply(Event::Moment(clock, moment))
+    }
+
+    /// Why an event would be refused, for another reason than want of memory.
+    pub fn would_refuse(&self, event: &Event) -> Option<Refusal>
+        ensures { result ≡ refusal_within (kept self.now).limit (past (kept self.now)) event.now }
+    {
+        self.core.would_refuse(event)
+    }
+
+    /// The least deadline by this clock of the open calls that are not moved, as it was written.
+    pub fn least_deadline(&self, clock: Clock) -> Option<Deadline>
+        ensures { option_map deadline_nanos result
+            ≡ least_deadline_in (past (kept self.now)) clock }
+    {
+        self.core.least_deadline(clock)
+    }
+
+    /// Of a living client's answers all were taken, or all but one.
+    pub fn law_taken(&self)
+        ensures { (c : ℕ) → is_alive (past (kept self.now)) c ≡ true → IsTakenButOne self.now c }
+    {
+        let _ = &self.core;
+    }
+
+    /// The place of the next entry.
+    pub fn len(&self) -> u64
+        ensures value { result ≡ place_of (past (kept self.now)) }
+        ensures starts { IsStart (kept self.now).start }
+        ensures legal { LegalBehind (kept self.now).start (kept self.now).entries
+            (events_of (kept self.now).entries) }
+        ensures within { place_of (past (kept self.now)) ≤ most_places + most_entries }
+        ensures counted { outer (past (kept self.now)) ≤ place_of (past (kept self.now)) }
+    {
+        self.core.len()
+    }
+
+    /// The entry at a place, if the history has it.
+    pub fn entry(&self, place: u64) -> Option<&Entry>
+        ensures before { place < (kept self.now).start.at → result ≡ None }
+        ensures since { (kept self.now).start.at ≤ place → option_copied result
+            ≡ slice_get (kept self.now).entries (place - (kept self.now).start.at) }
+    {
+        self.core.entry(place)
+    }
+}

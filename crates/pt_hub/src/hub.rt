@@ -1,0 +1,350 @@
+//! The value that the lock keeps.
+
+ghost use Rattle.std.specs.Prelude.{◌≡◌, ◌+◌, ◌<◌, ◌≤◌, ◌^◌, ◌↔◌, ◌≢◌, ◌⊎◌, ◌∷◌, ◌++◌, ℕ, [], Some, None, false, true, length, is_some, option_map, nat_eq, IfOk, IfErr, IfSome, IfNone, OnOk, OnErr, IsSome, IsErr};
+ghost use Rattle.std.specs.Map.{lookup};
+ghost use Rattle.pt_types.specs.Limits.{most_entries};
+ghost use Rattle.pt_types.specs.Times.{deadline_nanos};
+ghost use Rattle.pt_model.specs.declared.entry.Event.TheVariants as event;
+ghost use Rattle.pt_model.specs.Starts.{nothing};
+ghost use Rattle.pt_model.specs.Clients.{is_alive};
+ghost use Rattle.pt_model.specs.Queries.{least_deadline as least_deadline_in};
+ghost use Rattle.pt_model.specs.Room.{refusal_within};
+ghost use Rattle.pt_model.specs.Legal.{LegalBehind, events_of};
+ghost use Rattle.pt_core.specs.Cores.{past};
+ghost use Rattle.pt_hub.specs.Desks.{IsRefusedAs, kept, call_refusal, one_if};
+ghost use Rattle.pt_hub.specs.Hubs.{Joins, Sends, Ticks, Dies, Takes, takeable, next_place, outer_count, has_ended, Marked, IsEndedIf, Fits};
+ghost use Rattle.pt_hub.specs.Passes.{events_found};
+
+use crate::closing::{CloseRefused, Closed, clock_events, left_events};
+use crate::desk::Desk;
+use crate::marks;
+use crate::marks::Marks;
+use crate::pass::{Answer, ClockPass, Left, Pass, Receipt, Sent, SessionId, Tick};
+use crate::receipts::{answer, is_pending};
+use crate::tally::Tally;
+use indexmap::IndexMap;
+use pt_model::Event;
+use pt_types::{Call, ClientId, Clock, Deadline, Moment, Priority, Refusal};
+use std::alloc::{Allocator, Global};
+use std::marker::Model;
+use std::sync::ledger::{Blank, Ledger};
+
+/// How many sessions there may be in all.  [profile]
+const MOST_SESSIONS: u64 = 1 << 32;
+
+/// What the lock keeps: the core, what each client took of its answers, and the open sessions.
+#[derive(Drop)]
+pub struct Hub<L: Ledger, A: Allocator + Copy = Global> {
+    desk: Desk<A>,
+    marks: Marks<A>,
+    opened: u64,
+    tally: Tally<L>,
+    alloc: A,
+}
+
+impl<L: Ledger, A: Allocator + Copy> Model for Hub<L, A> {
+    ghost use Rattle.pt_hub.specs.Hubs.{HubView, IsHub};
+
+    ghost Value = { HubView };
+
+    ghost view = { λ h.
+        record {
+          desk = h.desk;
+          marks = h.marks.entries;
+          opened = h.opened;
+          booked = h.tally.total;
+        } };
+
+    ghost invariant = { λ h.
+        IsHub (record {
+          desk = h.desk;
+          marks = h.marks.entries;
+          opened = h.opened;
+          booked = h.tally.total;
+        }) h.tally };
+}
+
+impl<L: Ledger, A: Allocator + Copy> Hub<L, A> {
+    /// The empty history with a ledger of its own, and a clock. ENOMEM if a growth is refused.
+    pub fn new(alloc: A, blank: Blank) -> Result<(Hub<L, A>, ClockPass<L, A>), (Blank, Refusal)>
+        requires name { (blank.name ≡ L.name) × (blank.parts ≡ L.parts) }
+        requires parts { blank.parts ≡ 2 ^ 63 }
+        ensures kept { IfOk result (λ r. kept r.0.desk
+            ≡ record { start = nothing; entries = []; limit = most_entries }) }
+        ensures hub { IfOk result (λ r. (r.0.desk.accounts ≡ []) × (r.0.marks ≡ [])
+            × (r.0.opened ≡ 0) × (r.0.booked ≡ 0)) }
+        ensures clock { IfOk result (λ r. r.1.moments ≡ []) }
+        ensures err { IfErr result (λ r. (r.0 ≡ blank) × (r.1 ≡ Refusal.Enomem)) }
+    {
+        match Desk::new(alloc) {
+            Ok(desk) => {
+                let mut tally = Tally::open(blank);
+                let share = tally.part();
+                let hub = Hub {
+                    desk,
+                    marks: IndexMap::new(alloc),
+                    opened: 0,
+                    tally,
+                    alloc,
+                };
+                let clock = ClockPass {
+                    moments: Vec::new(alloc),
+                    share,
+                };
+                Ok((hub, clock))
+            }
+            Err(refusal) => Err((blank, refusal)),
+        }
+    }
+
+    /// A client joins.
+    pub fn join(&mut self, priority: Priority) -> Result<Pass<L, A>, Refusal>
+        ensures ok { IfOk result (λ pass. Joins self.old priority self.new pass) }
+        ensures err { IfErr result (IsRefusedAs (refusal_within (kept self.old.desk).limit
+            (past (kept self.old.desk)) (event.Join priority))) }
+        ensures unchanged { OnErr result (self.new ≡ self.old) }
+    {
+        let place = self.desk.len();
+        match self.desk.join(priority) {
+            Ok(_) => {
+                let mut share = self.tally.part();
+                self.tally.count(&mut share);
+                Ok(Pass {
+                    client: ClientId(place),
+                    priority,
+                    receipts: Vec::new(self.alloc),
+                    share,
+                })
+            }
+            Err(refusal) => Err(refusal),
+        }
+    }
+
+    /// A client makes a call, which is in its receipts from then on.
+    pub fn call(&mut self, pass: &mut Pass<L, A>, call: Call) -> Result<Sent, Refusal>
+        ensures ok { IfOk result (λ sent. Sends self.old pass.old call self.new pass.new sent) }
+        ensures err { IfErr result (IsRefusedAs
+            (call_refusal self.old.desk pass.old.client call)) }
+        ensures unchanged { OnErr result ((self.new ≡ self.old) × (pass.new ≡ pass.old)) }
+    {
+        let place = self.desk.len();
+        let client = pass.client;
+        if let Some(refusal) = self.desk.call_refusal(client, &call) {
+            return Err(refusal);
+        }
+        if pass.receipts.reserve(1).is_err() {
+            return Err(Refusal::Enomem);
+        }
+        match self.desk.call(client, &call) {
+            Ok(applied) => {
+                self.tally.count(&mut pass.share);
+                let receipt = Receipt {
+                    place,
+                    call,
+                    answer: None,
+                };
+                pass.receipts.push_reserved(receipt);
+                Ok(Sent {
+                    place,
+                    ready: applied.outcome.is_some(),
+                })
+            }
+            Err(refusal) => Err(refusal),
+        }
+    }
+
+    /// The client's answer that isn't taken, if its last receipt waits for it. The receipt has it
+    /// from then on.
+    pub fn take(&mut self, pass: &mut Pass<L, A>) -> Option<Answer>
+        ensures some { IfSome result (λ answer. Takes self.old pass.old self.new pass.new answer) }
+        ensures none { IfNone result (takeable self.old pass.old ≡ None) }
+        ensures same { IfNone result ((self.new ≡ self.old) × (pass.new ≡ pass.old)) }
+    {
+        let client = pass.client;
+        let reply = self.desk.next_answer(client)?;
+        if !is_pending(pass.receipts.as_slice(), reply.place) {
+            return None;
+        }
+        answer(&mut pass.receipts, reply.outcome);
+        self.desk.take(client);
+        Some(Answer {
+            place: reply.place,
+            outcome: reply.outcome,
+        })
+    }
+
+    /// A client dies.
+    pub fn die(&mut self, pass: Pass<L, A>) -> Left<L, A>
+        ensures alive { is_alive (past (kept self.old.desk)) pass.client ≡ true
+            → Dies self.old pass.client self.new }
+        ensures dead { is_alive (past (kept self.old.desk)) pass.client ≡ false
+            → self.new ≡ self.old }
+        ensures left { result ≡ record {
+          client = pass.client;
+          priority = pass.priority;
+          receipts = pass.receipts;
+          died_at = next_place self.old.desk;
+          deaths = one_if (is_alive (past (kept self.old.desk)) pass.client);
+        } }
+    {
+        let died_at = self.desk.len();
+        let Pass {
+            client,
+            priority,
+            receipts,
+            mut share,
+        } = pass;
+        let deaths = match self.desk.die(client) {
+            Some(_) => {
+                self.tally.count(&mut share);
+                1
+            }
+            None => 0,
+        };
+        Left {
+            client,
+            priority,
+            receipts,
+            died_at,
+            deaths,
+            share,
+        }
+    }
+
+    /// A reading of a clock is handed in.
+    pub fn moment(
+        &mut self,
+        pass: &mut ClockPass<L, A>,
+        clock: Clock,
+        moment: Moment,
+    ) -> Result<(), Refusal>
+        ensures ok { OnOk result (Ticks self.old clock moment self.new) }
+        ensures told { OnOk result (pass.new.moments
+            ≡ pass.old.moments ++ record { clock = clock; moment = moment } ∷ []) }
+        ensures err { IfErr result (IsRefusedAs (refusal_within (kept self.old.desk).limit
+            (past (kept self.old.desk)) (event.Moment clock moment))) }
+        ensures unchanged { OnErr result ((self.new ≡ self.old) × (pass.new ≡ pass.old)) }
+    {
+        let _ = self.desk.len();
+        if let Some(refusal) = self.desk.would_refuse(&Event::Moment(clock, moment)) {
+            return Err(refusal);
+        }
+        if pass.moments.reserve(1).is_err() {
+            return Err(Refusal::Enomem);
+        }
+        match self.desk.moment(clock, moment) {
+            Ok(_) => {
+                self.tally.count(&mut pass.share);
+                pass.moments.push_reserved(Tick { clock, moment });
+                Ok(())
+            }
+            Err(refusal) => Err(refusal),
+        }
+    }
+
+    /// The least deadline by this clock of the open calls that are not moved, as it was written.
+    pub fn least_deadline(&self, clock: Clock) -> Option<Deadline>
+        ensures { option_map deadline_nanos result
+            ≡ least_deadline_in (past (kept self.now.desk)) clock }
+    {
+        self.desk.least_deadline(clock)
+    }
+
+    /// A session opens, with a clock. LIMIT after 2^32 sessions; else ENOMEM if a growth is
+    /// refused.  [profile]
+    pub fn open_session(&mut self) -> Result<(SessionId, ClockPass<L, A>), Refusal>
+        ensures id { IfOk result (λ r. r.0.0 ≡ self.old.opened) }
+        ensures clock { IfOk result (λ r. r.1.moments ≡ []) }
+        ensures mark { OnOk result (Marked self.old.marks self.new.marks self.old.opened
+            (Some false)) }
+        ensures ok { OnOk result ((self.new.desk ≡ self.old.desk)
+            × (self.new.opened ≡ self.old.opened + 1) × (self.new.booked ≡ self.old.booked)) }
+        ensures limit { (result ≡ Err Refusal.Limit) ↔ (self.old.opened ≡ 2 ^ 32) }
+        ensures err { IfErr result (λ r. (r ≡ Refusal.Limit) ⊎ (r ≡ Refusal.Enomem)) }
+        ensures unchanged { OnErr result (self.new ≡ self.old) }
+    {
+        let _ = self.desk.len();
+        let session = self.opened;
+        if session == MOST_SESSIONS {
+            return Err(Refusal::Limit);
+        }
+        if self.marks.reserve(1).is_err() {
+            return Err(Refusal::Enomem);
+        }
+        marks::open(&mut self.marks, session);
+        self.opened += 1;
+        let share = self.tally.part();
+        let clock = ClockPass {
+            moments: Vec::new(self.alloc),
+            share,
+        };
+        Ok((SessionId(session), clock))
+    }
+
+    /// The input of a session has ended, if it is open.
+    pub fn end_input(&mut self, session: SessionId)
+        ensures mark { IsEndedIf self.old.marks self.new.marks session.0 }
+        ensures rest { (self.new.desk ≡ self.old.desk) × (self.new.opened ≡ self.old.opened)
+            × (self.new.booked ≡ self.old.booked) }
+    {
+        marks::end(&mut self.marks, session.0);
+    }
+
+    /// Whether the input of a session has ended, or the session isn't open.
+    pub fn input_ended(&self, session: SessionId) -> bool
+        ensures { result ≡ has_ended self.now session.0 }
+    {
+        marks::has_ended(&self.marks, session.0)
+    }
+
+    /// A session isn't open any more.
+    pub fn close_session(&mut self, session: SessionId)
+        ensures mark { Marked self.old.marks self.new.marks session.0 None }
+        ensures rest { (self.new.desk ≡ self.old.desk) × (self.new.opened ≡ self.old.opened)
+            × (self.new.booked ≡ self.old.booked) }
+    {
+        marks::close(&mut self.marks, session.0);
+    }
+
+    /// What holds whenever the lock is free.  [profile]
+    pub fn law_fits(&self)
+        ensures { Fits self.now }
+    {
+        let _ = self.desk.len();
+        self.desk.law_taken();
+    }
+
+    /// Ends the hub, if each event of its history is one of those handed in.
+    pub fn close(
+        self,
+        lefts: Vec<Left<L, A>, A>,
+        clocks: Vec<ClockPass<L, A>, A>,
+    ) -> Result<Closed, CloseRefused<L, A>>
+        ensures ok { IfOk result (λ c. (c.outer ≡ outer_count self.desk)
+            × (c.outer ≡ events_found lefts.items clocks.items)
+            × (c.entries ≡ next_place self.desk)) }
+        ensures legal { OnOk result (LegalBehind (kept self.desk).start (kept self.desk).entries
+            (events_of (kept self.desk).entries)) }
+        ensures missing { IfErr result (λ e. (e.expected ≡ outer_count self.desk)
+            × (e.found ≡ events_found lefts.items clocks.items) × (e.expected ≢ e.found)) }
+        ensures handed { IfErr result (λ e. (e.hub ≡ self) × (e.left ≡ lefts)
+            × (e.clock ≡ clocks)) }
+    {
+        let entries = self.desk.len();
+        let expected = self.tally.outer();
+        let found = left_events(lefts.as_slice()) + clock_events(clocks.as_slice());
+        if u128::from(expected) == found {
+            return Ok(Closed {
+                outer: expected,
+                entries,
+            });
+        }
+        Err(CloseRefused {
+            expected,
+            found,
+            hub: self,
+            left: lefts,
+            clock: clocks,
+        })
+    }
+}

@@ -1,0 +1,20 @@
+//! The state behind the lock: the core, what each client took of its answers, and a ledger of
+//! events.
+//!
+//! Contracts see a hub as its history, the accounts of its living clients, and the sessions that
+//! are open. No method waits.
+#![tactic(auto)]
+
+mod account;
+mod closing;
+mod desk;
+mod hub;
+mod marks;
+mod pass;
+mod receipts;
+mod tally;
+
+pub use account::Account;
+pub use closing::{CloseRefused, Closed};
+pub use hub::Hub;
+pub use pass::{Answer, ClockPass, Left, Pass, Receipt, Sent, SessionId, Tick};

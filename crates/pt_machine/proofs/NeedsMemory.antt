@@ -1,0 +1,25 @@
+-- What follows where a call needs no memory to wait.
+use Rattle.std.proofs.Common.{◌≡◌, Bool, true, false, ◌||◌, Some, is_some, refl, sym, ap, ◌∙◌}
+use Rattle.pt_types.specs.Times.{Timespec}
+use Rattle.pt_types.specs.Operations.{Operation}
+use Rattle.pt_state.specs.Outer.{asks_to_read}
+use Rattle.pt_machine.specs.Timed.{asked, good_of}
+use Rattle.pt_machine.specs.Memory.{needs_memory_to_wait}
+
+-- it asks for no read lock
+pub small-unread : (o : Operation) → needs_memory_to_wait o ≡ false → asks_to_read o ≡ false
+small-unread o e = go (asks_to_read o) refl e
+  where
+    go : (b : Bool) → asks_to_read o ≡ b → (b || is_some (good_of (asked o))) ≡ false
+        → asks_to_read o ≡ false
+    go false same none = same
+    go true same none = absurd cc
+
+-- and has no deadline that is a time
+pub small-untimed : (o : Operation) (d : Timespec) → good_of (asked o) ≡ Some d
+    → needs_memory_to_wait o ≡ false → ⊥
+small-untimed o d good e = go (asks_to_read o) e
+  where
+    go : (b : Bool) → (b || is_some (good_of (asked o))) ≡ false → ⊥
+    go true none = cc
+    go false none = let some : is_some (good_of (asked o)) ≡ true = ap is_some good in cc

@@ -1,0 +1,123 @@
+ghost use Rattle.std.specs.Prelude.{◌<◌, length};
+
+use crate::question::Question;
+use crate::reading::event_of;
+use crate::showing::write_entry;
+use anyhow::{Context, Result, bail};
+use pt_model::{Entry, Event};
+use pt_reference::forced::forced;
+use pt_reference::queries::told_at;
+use pt_reference::room::{entry_for, refusal_within};
+use std::alloc::{AllocError, Global};
+
+// How many entries may be in a history before a script says otherwise.  [profile]
+const LIMIT: u64 = 1 << 20;
+
+// How many entries may follow an event of these scripts.
+const MOST_FORCED: u64 = 100;
+
+// Enters an event, and what must follow.
+fn enter(entries: &mut Vec<Entry>, event: &Event) -> Result<()> {
+    let entry = entry_for(entries, event);
+    entries.push(entry)?;
+    for _ in 0..MOST_FORCED {
+        match forced(entries) {
+            Some(entry) => entries.push(entry)?,
+            None => return Ok(()),
+        }
+    }
+    bail!("more must follow")
+}
+
+// Writes the answer that an entry gives to the call at a place, if it gives one.
+fn write_told(
+    text: &mut String,
+    before: &[Entry],
+    entry: &Entry,
+    place: u64,
+) -> Result<(), AllocError> {
+    if let Some(told) = told_at(before, entry, place) {
+        let (client, word) = (told.client, told.outcome.word());
+        write!(text, ", {client} {place} {word}")?;
+    }
+    Ok(())
+}
+
+// Writes the line of the entry at a place, with the answers that it gives.
+fn write_line(text: &mut String, entries: &[Entry], i: usize) -> Result<(), AllocError>
+    requires { i < length entries.now }
+{
+    write_entry(text, i, &entries[i])?;
+    for place in 0..entries.len() {
+        write_told(text, &entries[..i], &entries[i], place as u64)?;
+    }
+    writeln!(text)
+}
+
+// Writes the lines of the entries from this place on.
+fn write_lines(text: &mut String, entries: &[Entry], first: usize) -> Result<(), AllocError> {
+    for i in first..entries.len() {
+        write_line(text, entries, i)?;
+    }
+    Ok(())
+}
+
+/// A history that grows by the lines of a script, and the text of what came of them.
+#[derive(Drop)]
+pub struct Player {
+    entries: Vec<Entry>,
+    limit: u64,
+    text: String,
+}
+
+impl Player {
+    /// A player of no line so far.
+    pub fn new(alloc: Global) -> Player {
+        Player {
+            entries: Vec::new(alloc),
+            limit: LIMIT,
+            text: String::new(alloc),
+        }
+    }
+
+    /// What came of the lines so far.
+    pub fn text(&self) -> &str {
+        self.text.as_str()
+    }
+
+    // Refuses an event, or enters it with what must follow.
+    fn apply(&mut self, event: &Event) -> Result<()> {
+        if let Some(refusal) = refusal_within(&self.entries, self.limit, event) {
+            let word = refusal.word();
+            writeln!(&mut self.text, "{word}")?;
+            return Ok(());
+        }
+        let first = self.entries.len();
+        enter(&mut self.entries, event)?;
+        write_lines(&mut self.text, &self.entries, first)?;
+        Ok(())
+    }
+
+    fn play_line(&mut self, line: &str) -> Result<()> {
+        if let Some(limit) = line.strip_prefix("limit ") {
+            self.limit = limit.parse::<u64>()?;
+            return Ok(());
+        }
+        match line.strip_prefix("? ") {
+            Some(question) => {
+                let question = Question::read(question)?;
+                question.write_answer(&mut self.text, &self.entries)?;
+                Ok(())
+            }
+            None => self.apply(&event_of(line)?),
+        }
+    }
+
+    /// Plays the lines of a script.
+    pub fn play(&mut self, script: &str) -> Result<()> {
+        for line in script.lines() {
+            self.play_line(line).context(format_args!("{line}"))?;
+        }
+        Ok(())
+    }
+}

@@ -1,0 +1,55 @@
+-- A client that has not joined yet was told nothing.
+use Rattle.std.proofs.Common.{◌≡◌, ℕ, ◌≤◌, ◌<◌, ◌==◌, false, List, [], ◌∷◌, refl, sym, ◌∙◌, arith}
+use Rattle.std.proofs.lemmas.Bool.Decides.{nat_tests}
+use Rattle.pt_model.specs.declared.entry.Entry.{Entry}
+use Rattle.pt_model.specs.Searches.{Each}
+use Rattle.pt_model.specs.Records.{Told}
+use Rattle.pt_model.specs.Starts.{Start}
+use Rattle.pt_model.specs.Histories.{History, Begin, ◌▷◌, place, onto, behind}
+use Rattle.pt_model.specs.Answers.{told, replies_from, open_calls}
+use Rattle.pt_model.specs.Steps.{Follows}
+use Rattle.pt_model.proofs.Lists.{Each-weaker}
+use Rattle.pt_model.proofs.Histories.{follows-part, place-onto}
+use Rattle.pt_model.proofs.Sound.{Fresh-follows, alive_below, below_open}
+use Rattle.pt_model.proofs.Gone.{ToLiving, told-alive}
+use Rattle.pt_told.specs.Tallies.{heard, told_count, open_count}
+use Rattle.pt_told.proofs.CallCounts.{calls_of-none, calls_of-open}
+use Rattle.pt_told.proofs.EntryTallies.{heard-append}
+
+-- answers to clients below a number, none of which is this one
+heard_below : (n c : ℕ) (ts : List Told) → Each (λ (t : Told). t.client < n) ts → n ≤ c
+    → heard c ts ≡ 0
+heard_below n c [] a le = refl
+heard_below n c (t ∷ ts) a le =
+    let lt : t.client < n = a.0 in
+    let ne : (t.client == c) ≡ false = grind (arith, nat_tests) in
+    rw ne (heard_below n c ts a.1 le)
+
+heard_from : (c : ℕ) (h : History) (es : List Entry) → Follows (onto h es)
+    → place (onto h es) ≤ c → heard c (replies_from h es) ≡ 0
+heard_from c h [] f le = refl
+heard_from c h (e ∷ es) f le =
+    let s = follows-part (h ▷ e) es f in
+    let low : place h ≤ c = omega (arith, le, place-onto (h ▷ e) es) in
+    let here : heard c (told h e) ≡ 0 =
+    heard_below (place h) c (told h e)
+    (Each-weaker (ToLiving h) (λ (t : Told). t.client < place h)
+    (λ t a. alive_below h t.client (Fresh-follows h s.0) a) (told h e) (told-alive h e s.0 s.1))
+    low in
+    omega (
+      arith,
+      heard-append c (told h e) (replies_from (h ▷ e) es),
+      here,
+      heard_from c (h ▷ e) es f le,
+    )
+
+pub stranger-told : (s : Start) (es : List Entry) (c : ℕ) → Follows (behind s es)
+    → place (behind s es) ≤ c → told_count s es c ≡ 0
+stranger-told s es c f le = heard_from c (Begin s) es f le
+
+pub stranger-open : (h : History) (c : ℕ) → Follows h → place h ≤ c → open_count h c ≡ 0
+stranger-open h c f le =
+    sym (calls_of-open h c f)
+    ∙ calls_of-none c (open_calls h)
+    (λ w i. let lt : w.client < place h = (below_open h w (Fresh-follows h f) i).1 in
+    grind (arith, nat_tests))

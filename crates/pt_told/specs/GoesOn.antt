@@ -1,0 +1,15 @@
+-- GoesOn: how entries go on by one event.
+use Rattle.std.specs.Prelude.{◌≡◌, List, [], ◌∷◌, ◌++◌}
+use Rattle.pt_model.specs.declared.entry.Entry.{Entry}
+use Rattle.pt_model.specs.declared.entry.Event.{Event}
+use Rattle.pt_model.specs.Starts.{Start}
+use Rattle.pt_model.specs.Histories.{behind}
+use Rattle.pt_model.specs.Room.{entry_for}
+use Rattle.pt_model.specs.Legal.{LegalBehind, events_of}
+use Rattle.pt_model.specs.Steps.{IsStart}
+
+-- the event's entry and forced ones follow the old entries of a Start, legally  [profile]
+pub record GoesOn (s : Start) (old : List Entry) (v : Event) (new : List Entry) : Type 0 where
+  pub starts : IsStart s
+  pub extends : (fs : List Entry) × (new ≡ old ++ entry_for (behind s old) v ∷ fs)
+  pub legal : LegalBehind s new (events_of old ++ v ∷ [])

@@ -1,0 +1,123 @@
+-- Queues as they are made and discarded.
+use Rattle.std.proofs.Common.{◌≡◌, ℕ, ◌==◌, ◌<◌, ◌+◌, Bool, true, false, cond, ◌&&◌, not, List, [], ◌∷◌, ◌++◌, length, filter, Option, Some, None, is_some, slice_index_or, nat_eq, inl, inr, refl, sym, ap, ◌∙◌, subst, arith}
+use Rattle.std.specs.Prelude.{slice_index}
+use Rattle.std.specs.Map.{lookup}
+use Rattle.std.specs.List.{AllByRecursion as Each}
+use Rattle.std.proofs.lemmas.Bool.Decides.{nat_tests}
+use Rattle.std.proofs.lemmas.Bool.{false≢true}
+use Rattle.pt_types.specs.Limits.{most_priority}
+use Rattle.pt_waitq.specs.declared.waiter.Waiter.{Waiter}
+use Rattle.pt_waitq.specs.declared.nodes.Node.{Node}
+use Rattle.pt_waitq.specs.declared.sides.Queue.{Queue}
+use Rattle.pt_waitq.specs.Waits.{is_listed, queue_of, AllStand}
+use Rattle.pt_waitq.specs.Chains.{numbers, side_of, IsChain, is_kind, chain_of, nodes_of, next_in, before_in, index_of, AreChains, HasNone}
+use Rattle.pt_waitq.proofs.ChangeLemmas.{stand-more, stand-fewer}
+use Rattle.pt_waitq.proofs.ChainLemmas.{some_same, listed-lookup, unmade-none, queue-none}
+
+none_some : {X : Type 0} (x : X) → None ≡ Some x → ⊥
+none_some x e = cc
+
+-- a queue with no entry has no chain with one
+chain-none : (o : ℕ) (k : Bool) (p : ℕ) (es : List (ℕ × Waiter))
+    → Each (λ e. (e.0 == o) ≡ false) es → chain_of o k p es ≡ []
+chain-none o k p [] a = refl
+chain-none o k p (e ∷ es) a = rw a.0 (chain-none o k p es a.1)
+
+-- a queue is made, or there is no memory for it
+module _ (homes : List (ℕ × ℕ)) (nodes : List (Option Node)) (queues queues' : List (ℕ × Queue))
+    (es : List (ℕ × Waiter)) (o : ℕ) (b : Bool) (a : AreChains homes nodes queues es)
+    (none : lookup (nat_eq o) queues ≡ None)
+    (listed : numbers queues' ≡ cond b (numbers queues ++ o ∷ []) (numbers queues))
+    (others : (x : ℕ) → (o == x) ≡ false
+    → lookup (nat_eq x) queues' ≡ lookup (nat_eq x) queues)
+    (new : (q : Queue) → lookup (nat_eq o) queues' ≡ Some q → HasNone q) where
+  pub made-stand : AllStand (numbers queues') es
+  made-stand = go b listed
+    where
+      go : (t : Bool) → numbers queues' ≡ cond t (numbers queues ++ o ∷ []) (numbers queues)
+          → AllStand (numbers queues') es
+      go true e = stand-more (numbers queues) (numbers queues') o es a.stand e
+      go false e = subst (λ os. AllStand os es) (sym e) a.stand
+
+  absent : Each (λ e. (e.0 == o) ≡ false) es
+  absent =
+      unmade-none o (numbers queues) es a.stand.made (listed-lookup o queues ∙ ap is_some none)
+
+  made-len : (x : ℕ) (q : Queue) (t : Bool) → (o == x) ≡ t → lookup (nat_eq x) queues' ≡ Some q
+      → q.len ≡ length (queue_of x es)
+  made-len x q true e h =
+      let same : x ≡ o = grind (arith, nat_tests) in
+      let empty = queue-none o es absent in
+      (new q (ap (λ y. lookup (nat_eq y) queues') (sym same) ∙ h)).len
+      ∙ sym (ap (λ y. length (queue_of y es)) same ∙ ap length empty)
+  made-len x q false e h = a.len x q (sym (others x e) ∙ h)
+
+  made-chain : (x : ℕ) (q : Queue) (t : Bool) → (o == x) ≡ t → lookup (nat_eq x) queues' ≡ Some q
+      → (k : Bool) (p : ℕ) → p < most_priority
+      → IsChain (next_in nodes) (before_in nodes) (side_of k q) p
+      (nodes_of (index_of homes) (chain_of x k (p + 1) es))
+  made-chain x q true e h k p lt =
+      let same : o ≡ x = grind (arith, nat_tests) in
+      let n = new q (ap (λ y. lookup (nat_eq y) queues') same ∙ h) in
+      let empty = ap (λ y. chain_of y k (p + 1) es) (sym same) ∙ chain-none o k (p + 1) es absent in
+      subst (λ ds. IsChain (next_in nodes) (before_in nodes) (side_of k q) p
+      (nodes_of (index_of homes) ds)) (sym empty)
+      (record {
+        count = n.counts k p lt;
+        head = n.heads k p lt;
+        tail = n.tails k p lt;
+        links = tt;
+      })
+  made-chain x q false e h k p lt = a.chains x q (sym (others x e) ∙ h) k p lt
+
+  pub chains-made : AreChains homes nodes queues' es
+  chains-made =
+      record {
+        stand = made-stand;
+        homed = a.homed;
+        own = a.own;
+        levels = a.levels;
+        len = λ x q h. made-len x q (o == x) refl h;
+        sorted = a.sorted;
+        chains = λ x q h k p lt. made-chain x q (o == x) refl h k p lt;
+      }
+
+-- an empty queue is discarded
+module _ (homes : List (ℕ × ℕ)) (nodes : List (Option Node)) (queues queues' : List (ℕ × Queue))
+    (es : List (ℕ × Waiter)) (o : ℕ) (a : AreChains homes nodes queues es)
+    (now : (x : ℕ) → lookup (nat_eq x) queues' ≡ cond (o == x) None (lookup (nat_eq x) queues))
+    (empty : queue_of o es ≡ []) where
+  pub discard-made : (x : ℕ) → is_listed x (numbers queues')
+      ≡ (not (o == x) && is_listed x (numbers queues))
+  discard-made x =
+      listed-lookup x queues' ∙ (ap is_some (now x) ∙ go (o == x))
+    where
+      go : (t : Bool) → is_some (cond t None (lookup (nat_eq x) queues))
+          ≡ (not t && is_listed x (numbers queues))
+      go true = refl
+      go false = sym (listed-lookup x queues)
+
+  pub discard-stand : AllStand (numbers queues') es
+  discard-stand =
+      stand-fewer (numbers queues) (numbers queues') o es a.stand discard-made empty
+
+  left : (x : ℕ) (q : Queue) → lookup (nat_eq x) queues' ≡ Some q
+      → lookup (nat_eq x) queues ≡ Some q
+  left x q h = go (o == x) (sym (now x) ∙ h)
+    where
+      go : (t : Bool) → cond t None (lookup (nat_eq x) queues) ≡ Some q
+          → lookup (nat_eq x) queues ≡ Some q
+      go true e = absurd (none_some q e)
+      go false e = e
+
+  pub chains-discarded : AreChains homes nodes queues' es
+  chains-discarded =
+      record {
+        stand = discard-stand;
+        homed = a.homed;
+        own = a.own;
+        levels = a.levels;
+        len = λ x q h. a.len x q (left x q h);
+        sorted = a.sorted;
+        chains = λ x q h k p lt. a.chains x q (left x q h) k p lt;
+      }

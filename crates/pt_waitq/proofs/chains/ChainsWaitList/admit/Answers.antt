@@ -1,0 +1,36 @@
+use Rattle.std.proofs.Common.{◌≡◌, ◌+◌, ◌<◌, ◌^◌, ℕ, length, refl, sym, ap, ◌∙◌, subst, arith}
+use Rattle.pt_waitq.specs.Waits.{is_admitted, is_listed, has_waiter}
+use Rattle.pt_waitq.specs.Chains.{numbers, waiting_by, home_of, AreChains}
+use Rattle.pt_waitq.proofs.ChainLemmas.{not-listed}
+use Rattle.pt_waitq.proofs.LinkLemmas.{or_parts}
+use Rattle.pt_waitq.proofs.HomeLemmas.{chains-joined}
+use Rattle.pt_waitq.proofs.chains.ChainsWaitList.admit.Goals as goal
+
+pub admit-requires-clause-new : goal.admit-requires-clause-new
+admit-requires-clause-new g c =
+    let homes = c.self.inside.homes.entries in
+    let k = c.client.inside.0 in
+    let out = ap (λ s. is_admitted s k) c.self.view_is
+    ∙ (ap (is_admitted c.args.self.now) c.client.view_is ∙ c.requires) in
+    ap (λ hs. home_of hs k) c.make_room.ensures.homes
+    ∙ not-listed homes k
+    (or_parts (is_listed k (numbers homes))
+    (has_waiter k (waiting_by c.self.inside.log.items)) out).0
+
+pub invariant_of-self-2 : goal.invariant_of-self-2
+invariant_of-self-2 g c =
+    let homes = c.self.inside.homes.entries in
+    let k = c.client.inside.0 in
+    let es = waiting_by c.self.inside.log.items in
+    let out = ap (λ s. is_admitted s k) c.self.view_is
+    ∙ (ap (is_admitted c.args.self.now) c.client.view_is ∙ c.requires) in
+    let none = not-listed homes k (or_parts (is_listed k (numbers homes))
+    (has_waiter k es) out).0 in
+    let few : length homes + 1 < 2 ^ 32 =
+    omega (arith, c.len.ensures.len, c.if-len-ge-MOST_NODES.false) in
+    let room = c.make_room.ensures in
+    let done = c.admit.ensures in
+    chains-joined homes c.make_room.new.homes.entries c.admit.new.homes.entries
+    c.self.inside.nodes.slots c.make_room.new.nodes.slots c.admit.new.nodes.slots
+    c.self.inside.queues.entries es k c.admit.result c.self.invariant none few room.homes
+    room.nodes done.homes done.vacant done.node done.others

@@ -1,0 +1,37 @@
+use Rattle.std.proofs.Common.{◌≡◌, ℕ, ◌==◌, not, ◌&&◌, List, [], refl, sym, ap, ◌∙◌}
+use Rattle.pt_waitq.specs.Waits.{queue_of, is_made, is_listed}
+use Rattle.pt_waitq.specs.Chains.{numbers, waiting_by}
+use Rattle.pt_waitq.proofs.ChangeLemmas.{queue-change, read-as}
+use Rattle.pt_waitq.proofs.MadeLemmas.{discard-made, discard-stand, chains-discarded}
+use Rattle.pt_waitq.proofs.chains.ChainsWaitList.discard.Goals as goal
+
+pub invariant_of-self : goal.invariant_of-self
+invariant_of-self g c =
+    let es = waiting_by c.self.inside.log.items in
+    let empty = ap (λ o. queue_of o es) c.object.view_is
+    ∙ (read-as _ _ es es _ c.self.view_is c.self.invariant.stand refl c.args.object
+    ∙ c.requires.empty) in
+    chains-discarded _ _ c.self.inside.queues.entries _ es c.object.inside.0 c.self.invariant
+    c.discard.ensures empty
+
+pub returns-clause-made : goal.returns-clause-made
+returns-clause-made g c = λ q.
+    let es = waiting_by c.self.inside.log.items in
+    let empty = ap (λ o. queue_of o es) c.object.view_is
+    ∙ (read-as _ _ es es _ c.self.view_is c.self.invariant.stand refl c.args.object
+    ∙ c.requires.empty) in
+    discard-made _ _ c.self.inside.queues.entries _ es c.object.inside.0 c.self.invariant
+    c.discard.ensures empty q
+    ∙ (ap (λ o. not (o == q) && is_listed q (numbers c.self.inside.queues.entries))
+    c.object.view_is
+    ∙ ap (λ w. not (c.args.object == q) && is_made w q) c.self.view_is)
+
+pub returns-clause-queues : goal.returns-clause-queues
+returns-clause-queues g c = λ q.
+    let es = waiting_by c.self.inside.log.items in
+    let stand = c.self.invariant.stand in
+    let empty = ap (λ o. queue_of o es) c.object.view_is
+    ∙ (read-as _ _ es es _ c.self.view_is stand refl c.args.object ∙ c.requires.empty) in
+    let now = discard-stand _ _ c.self.inside.queues.entries _ es c.object.inside.0
+    c.self.invariant c.discard.ensures empty in
+    queue-change _ _ _ es es _ c.self.view_is stand now (λ ws. ws) q refl

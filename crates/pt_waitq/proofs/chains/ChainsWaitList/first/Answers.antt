@@ -1,0 +1,21 @@
+use Rattle.std.proofs.Common.{◌≡◌, ℕ, Option, Some, None, nat_eq, refl, sym, ap, ◌∙◌}
+use Rattle.std.specs.Option.{option_map, option_and_then}
+use Rattle.std.specs.Map.{lookup}
+use Rattle.pt_waitq.specs.declared.waiter.Waiter.{Waiter}
+use Rattle.pt_waitq.specs.declared.sides.Queue.{Queue}
+use Rattle.pt_waitq.specs.Queues.{head_of}
+use Rattle.pt_waitq.specs.Waits.{queue_of}
+use Rattle.pt_waitq.specs.Chains.{waiting_by, entry_in}
+use Rattle.pt_waitq.proofs.ChangeLemmas.{read-as}
+use Rattle.pt_waitq.proofs.FirstLemmas.{first-told}
+use Rattle.pt_waitq.proofs.chains.ChainsWaitList.first.Goals as goal
+
+pub returns : goal.returns
+returns g c =
+    let es = waiting_by c.self.inside.log.items in
+    let found = c.first_of.ensures in
+    c.waiter_of.ensures
+    ∙ (first-told c.self.inside.homes.entries c.self.inside.nodes.slots
+    c.self.inside.queues.entries es c.self.invariant c.object.inside.0 _ found.none found.queue
+    ∙ (ap (λ o. head_of (queue_of o es)) c.object.view_is
+    ∙ ap head_of (read-as _ _ es es _ c.self.view_is c.self.invariant.stand refl c.args.object)))

@@ -1,0 +1,19 @@
+use Rattle.std.proofs.Common.{◌≡◌, ℕ, ◌<◌, None, arith}
+use Rattle.std.proofs.lemmas.List.{get_or-replicate}
+use Rattle.pt_types.specs.Limits.{most_priority}
+use Rattle.pt_waitq.proofs.ChainLemmas.{chains-agree}
+use Rattle.pt_waitq.proofs.HomeLemmas.{chains-admitted, chains-dismissed}
+use Rattle.pt_waitq.proofs.HeadLemmas.{queue-head}
+use Rattle.pt_waitq.proofs.PutLemmas.{chains-put}
+use Rattle.pt_waitq.proofs.TakeLemmas.{chains-taken}
+use Rattle.pt_waitq.proofs.StepLemmas.{step-put, step-take}
+use Rattle.pt_waitq.proofs.sides.no_side.Goals as goal
+
+pub returns-clause-counts : goal.returns-clause-counts
+returns-clause-counts c p lt = get_or-replicate most_priority p 0 0 lt
+
+pub returns-clause-heads : goal.returns-clause-heads
+returns-clause-heads c p lt = get_or-replicate most_priority p None None lt
+
+pub returns-clause-tails : goal.returns-clause-tails
+returns-clause-tails c p lt = get_or-replicate most_priority p None None lt

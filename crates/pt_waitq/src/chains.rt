@@ -1,0 +1,150 @@
+//! A node for each client, and for each queue a chain of each priority and kind.
+ghost use Rattle.std.specs.Prelude.{◌≡◌};
+ghost use Rattle.pt_waitq.specs.Waits.{no_waits};
+
+use crate::nodes::{self, Node, Rows};
+use crate::sides::{self, Queue};
+use crate::wait_list::WaitList;
+use crate::waiter::Waiter;
+use http_server::Log;
+use indexmap::IndexMap;
+use pt_types::{ClientId, ObjectId, Priority, Refusal};
+use slab::Slab;
+use std::alloc::{Allocator, Global};
+use std::marker::Model;
+
+/// How many clients may have a node.
+const MOST_NODES: usize = 4294967295;
+
+/// All queues as chains of nodes, each linked both ways by the nodes' indices.
+///
+/// A queue counts its writers and its readers by priority.
+#[derive(Drop)]
+pub struct Chains<A: Allocator + Copy = Global> {
+    homes: Rows<usize, A>,
+    nodes: Slab<Node, A>,
+    queues: Rows<Queue, A>,
+    /// What was put in and taken out. Only proofs read it.
+    log: Log<Option<u64>, Waiter>,
+}
+
+impl<A: Allocator + Copy> Model for Chains<A> {
+    ghost use Rattle.pt_waitq.specs.Waits.{Waits, waits_of};
+    ghost use Rattle.pt_waitq.specs.Chains.{numbers, waiting_by, AreChains};
+
+    ghost Value = { Waits };
+
+    ghost view = { λ p. waits_of (numbers p.homes.entries) (numbers p.queues.entries)
+        (waiting_by p.log.items) };
+
+    ghost invariant = { λ p. AreChains p.homes.entries p.nodes.slots p.queues.entries
+        (waiting_by p.log.items) };
+}
+
+impl<A: Allocator + Copy> Chains<A> {
+    /// No client and no queue. It takes no memory.
+    pub fn new(alloc: A) -> Self
+        ensures { result ≡ no_waits }
+    {
+        Chains {
+            homes: IndexMap::new(alloc),
+            nodes: Slab::new(alloc),
+            queues: IndexMap::new(alloc),
+            log: Log::new(),
+        }
+    }
+}
+
+impl<A: Allocator + Copy> WaitList for Chains<A> {
+    ghost use Rattle.pt_waitq.specs.Waits.{queue_in, is_admitted, is_made};
+    ghost use Rattle.pt_waitq.specs.WaitLaws.{in_order, once, one_queue, admits, makes};
+
+    ghost queue = { queue_in };
+
+    ghost admitted = { is_admitted };
+
+    ghost made = { is_made };
+
+    ghost in_order = { in_order };
+
+    ghost once = { once };
+
+    ghost one_queue = { one_queue };
+
+    ghost admits = { admits };
+
+    ghost makes = { makes };
+
+    fn admit(&mut self, client: ClientId) -> Result<(), Refusal> {
+        if self.homes.len() >= MOST_NODES
+            || nodes::make_room(&mut self.homes, &mut self.nodes).is_err()
+        {
+            return Err(Refusal::Enomem);
+        }
+        nodes::admit(&mut self.homes, &mut self.nodes, client.0);
+        Ok(())
+    }
+
+    fn dismiss(&mut self, client: ClientId) {
+        nodes::dismiss(&mut self.homes, &mut self.nodes, client.0);
+    }
+
+    fn make(&mut self, object: ObjectId) -> Result<(), Refusal> {
+        if sides::make(&mut self.queues, object.0) {
+            Ok(())
+        } else {
+            Err(Refusal::Enomem)
+        }
+    }
+
+    fn discard(&mut self, object: ObjectId) {
+        sides::discard(&mut self.queues, object.0);
+    }
+
+    fn insert(&mut self, object: ObjectId, waiter: Waiter) {
+        let client = waiter.client;
+        let node = nodes::home_of(&self.homes, client.0);
+        let p = waiter.prio.level() as usize - 1;
+        let last = sides::insert(&mut self.queues, object.0, waiter.writer, p, node);
+        nodes::insert(&mut self.nodes, last, node, (object.0, waiter));
+        self.log = self.log.and(&Some(object.0), &waiter);
+    }
+
+    fn remove(&mut self, client: ClientId) -> Option<(ObjectId, Waiter)> {
+        let place = nodes::place_of(&self.homes, &self.nodes, client.0)?;
+        let waiter = place.waiter;
+        let p = waiter.prio.level() as usize - 1;
+        sides::remove(
+            &mut self.queues,
+            place.object,
+            waiter.writer,
+            p,
+            place.before,
+            place.next,
+        );
+        nodes::remove(&mut self.nodes, place.node, place.before, place.next);
+        self.log = self.log.and(&None, &waiter);
+        Some((ObjectId(place.object), waiter))
+    }
+
+    fn at(&self, client: ClientId) -> Option<(ObjectId, Waiter)> {
+        let place = nodes::place_of(&self.homes, &self.nodes, client.0)?;
+        Some((ObjectId(place.object), place.waiter))
+    }
+
+    fn first(&self, object: ObjectId) -> Option<Waiter> {
+        nodes::waiter_of(&self.nodes, sides::first_of(&self.queues, object.0))
+    }
+
+    fn first_writer(&self, object: ObjectId) -> Option<Waiter> {
+        nodes::waiter_of(&self.nodes, sides::first_writer_of(&self.queues, object.0))
+    }
+
+    fn blocks_reader(&self, object: ObjectId, prio: Priority) -> bool {
+        sides::has_writer_from(&self.queues, object.0, prio.level() as usize - 1)
+    }
+
+    fn len(&self, object: ObjectId) -> usize {
+        sides::len_of(&self.queues, object.0)
+    }
+}

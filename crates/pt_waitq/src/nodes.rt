@@ -1,0 +1,264 @@
+//! A node for each client, linked to those next to it in its chain.
+
+ghost use Rattle.std.specs.Prelude.{◌≡◌, ◌≢◌, ◌+◌, ◌-◌, ◌<◌, ◌≤◌, ◌^◌, ◌==◌, Some, None, IsSome, IfSome, IfNone, false, OnOk, OnErr, unwrap_or, ◌++◌, ◌∷◌, [], slice_index, ◌&&◌, slice_index_or, is_some, if◌then◌else◌, ℕ, not, List, nat_eq, length};
+ghost use Rattle.std.specs.Map.{lookup};
+ghost use Rattle.std.specs.Option.{option_map, option_and_then};
+ghost use Rattle.indexmap.specs.IndexMap.{spare};
+ghost use Rattle.slab.specs.Slab.{HasRoomFor};
+ghost use Rattle.pt_waitq.specs.declared.waiter.Waiter.{Waiter};
+ghost use Rattle.pt_waitq.specs.Chains.{numbers, is_at, node_in, next_in, before_in, entry_in, home_of, entry_of};
+
+use crate::waiter::Waiter;
+use indexmap::IndexMap;
+use slab::Slab;
+use std::alloc::{AllocError, Allocator};
+use std::hash::{BuildHasherDefault, FoldHasher};
+
+/// Rows by number.
+pub(crate) type Rows<T, A> = IndexMap<u64, T, BuildHasherDefault<FoldHasher>, A>;
+
+/// A client's place in a chain, if it stands in one.
+#[derive(Clone, Copy)]
+pub(crate) struct Node {
+    pub(crate) entry: Option<(u64, Waiter)>,
+    pub(crate) next: Option<usize>,
+    pub(crate) before: Option<usize>,
+}
+
+/// A waiter in its chain: its node, its queue's number, and the nodes next to it.
+#[derive(Clone, Copy)]
+pub(crate) struct Place {
+    pub(crate) node: usize,
+    pub(crate) object: u64,
+    pub(crate) waiter: Waiter,
+    pub(crate) before: Option<usize>,
+    pub(crate) next: Option<usize>,
+}
+
+/// Lets a node lead to this one.
+pub(crate) fn set_next<A: Allocator + Copy>(
+    nodes: &mut Slab<Node, A>,
+    node: usize,
+    next: Option<usize>,
+)
+    requires { IsSome (node_in nodes.old.slots node) }
+    ensures there { (n : ℕ)
+        → is_some (node_in nodes.new.slots n) ≡ is_some (node_in nodes.old.slots n) }
+    ensures next { (n : ℕ)
+        → next_in nodes.new.slots n ≡ (if node == n then next else next_in nodes.old.slots n) }
+    ensures before { (n : ℕ) → before_in nodes.new.slots n ≡ before_in nodes.old.slots n }
+    ensures entry { (n : ℕ) → entry_in nodes.new.slots n ≡ entry_in nodes.old.slots n }
+{
+    nodes.get_mut(node).unwrap().next = next;
+}
+
+/// Lets a node lead back to this one.
+pub(crate) fn set_before<A: Allocator + Copy>(
+    nodes: &mut Slab<Node, A>,
+    node: usize,
+    before: Option<usize>,
+)
+    requires { IsSome (node_in nodes.old.slots node) }
+    ensures there { (n : ℕ)
+        → is_some (node_in nodes.new.slots n) ≡ is_some (node_in nodes.old.slots n) }
+    ensures next { (n : ℕ) → next_in nodes.new.slots n ≡ next_in nodes.old.slots n }
+    ensures before { (n : ℕ)
+        → before_in nodes.new.slots n
+        ≡ (if node == n then before else before_in nodes.old.slots n) }
+    ensures entry { (n : ℕ) → entry_in nodes.new.slots n ≡ entry_in nodes.old.slots n }
+{
+    nodes.get_mut(node).unwrap().before = before;
+}
+
+/// Writes a node anew.
+pub(crate) fn set_node<A: Allocator + Copy>(nodes: &mut Slab<Node, A>, node: usize, value: Node)
+    requires { IsSome (node_in nodes.old.slots node) }
+    ensures there { (n : ℕ)
+        → is_some (node_in nodes.new.slots n) ≡ is_some (node_in nodes.old.slots n) }
+    ensures next { (n : ℕ)
+        → next_in nodes.new.slots n
+        ≡ (if node == n then value.next else next_in nodes.old.slots n) }
+    ensures before { (n : ℕ)
+        → before_in nodes.new.slots n
+        ≡ (if node == n then value.before else before_in nodes.old.slots n) }
+    ensures entry { (n : ℕ)
+        → entry_in nodes.new.slots n
+        ≡ (if node == n then value.entry else entry_in nodes.old.slots n) }
+{
+    *nodes.get_mut(node).unwrap() = value;
+}
+
+/// The waiter of a node that stands in a chain.
+pub(crate) fn waiter_of<A: Allocator + Copy>(
+    nodes: &Slab<Node, A>,
+    node: Option<usize>,
+) -> Option<Waiter>
+    ensures { result
+        ≡ option_map (λ e. e.1) (option_and_then (λ n. entry_in nodes.now.slots n) node) }
+{
+    let (_, waiter) = nodes.get(node?)?.entry?;
+    Some(waiter)
+}
+
+/// Puts a node behind the last of its chain.
+pub(crate) fn insert<A: Allocator + Copy>(
+    nodes: &mut Slab<Node, A>,
+    last: Option<usize>,
+    node: usize,
+    entry: (u64, Waiter),
+)
+    requires there { IsSome (node_in nodes.old.slots node) }
+    requires last { IfSome last (λ l. IsSome (node_in nodes.old.slots l)) }
+    ensures there { (n : ℕ)
+        → is_some (node_in nodes.new.slots n) ≡ is_some (node_in nodes.old.slots n) }
+    ensures next { (n : ℕ)
+        → next_in nodes.new.slots n
+        ≡ (if node == n
+        then None
+        else if is_at n last then Some node else next_in nodes.old.slots n) }
+    ensures before { (n : ℕ)
+        → before_in nodes.new.slots n ≡ (if node == n then last else before_in nodes.old.slots n) }
+    ensures entry { (n : ℕ)
+        → entry_in nodes.new.slots n
+        ≡ (if node == n then Some entry else entry_in nodes.old.slots n) }
+{
+    if let Some(l) = last {
+        set_next(nodes, l, Some(node));
+    }
+    let value = Node {
+        entry: Some(entry),
+        next: None,
+        before: last,
+    };
+    set_node(nodes, node, value);
+}
+
+/// Takes a node out from between these two.
+pub(crate) fn remove<A: Allocator + Copy>(
+    nodes: &mut Slab<Node, A>,
+    node: usize,
+    before: Option<usize>,
+    next: Option<usize>,
+)
+    requires there { IsSome (node_in nodes.old.slots node) }
+    requires before { IfSome before (λ n. IsSome (node_in nodes.old.slots n)) }
+    requires next { IfSome next (λ n. IsSome (node_in nodes.old.slots n)) }
+    ensures there { (n : ℕ)
+        → is_some (node_in nodes.new.slots n) ≡ is_some (node_in nodes.old.slots n) }
+    ensures next { (n : ℕ)
+        → next_in nodes.new.slots n
+        ≡ (if node == n
+        then None
+        else if is_at n before then next else next_in nodes.old.slots n) }
+    ensures before { (n : ℕ)
+        → before_in nodes.new.slots n
+        ≡ (if node == n
+        then None
+        else if is_at n next then before else before_in nodes.old.slots n) }
+    ensures entry { (n : ℕ)
+        → entry_in nodes.new.slots n ≡ (if node == n then None else entry_in nodes.old.slots n) }
+{
+    if let Some(n) = before {
+        set_next(nodes, n, next);
+    }
+    if let Some(n) = next {
+        set_before(nodes, n, before);
+    }
+    let value = Node {
+        entry: None,
+        next: None,
+        before: None,
+    };
+    set_node(nodes, node, value);
+}
+
+/// The index of a client's node, which it has.
+pub(crate) fn home_of<A: Allocator + Copy>(homes: &Rows<usize, A>, client: u64) -> usize
+    requires { IsSome (home_of homes.now.entries client) }
+    ensures { home_of homes.now.entries client ≡ Some result }
+{
+    *homes.get(&client).unwrap()
+}
+
+/// Where a client stands, if it does.
+pub(crate) fn place_of<A: Allocator + Copy>(
+    homes: &Rows<usize, A>,
+    nodes: &Slab<Node, A>,
+    client: u64,
+) -> Option<Place>
+    ensures none { IfNone result (entry_of homes.now.entries nodes.now.slots client ≡ None) }
+    ensures home { IfSome result (λ p. home_of homes.now.entries client ≡ Some p.node) }
+    ensures node { IfSome result (λ p. node_in nodes.now.slots p.node
+        ≡ Some (record { entry = Some (p.object, p.waiter); next = p.next; before = p.before })) }
+{
+    let index = *homes.get(&client)?;
+    let node = *nodes.get(index)?;
+    let (object, waiter) = node.entry?;
+    Some(Place {
+        node: index,
+        object,
+        waiter,
+        before: node.before,
+        next: node.next,
+    })
+}
+
+/// Makes room for one more node.
+pub(crate) fn make_room<A: Allocator + Copy>(
+    homes: &mut Rows<usize, A>,
+    nodes: &mut Slab<Node, A>,
+) -> Result<(), AllocError>
+    ensures homes { homes.new.entries ≡ homes.old.entries }
+    ensures nodes { nodes.new.slots ≡ nodes.old.slots }
+    ensures home_room { OnOk result (0 < spare homes.new) }
+    ensures node_room { OnOk result (HasRoomFor nodes.new 1) }
+{
+    homes.reserve(1)?;
+    nodes.reserve(1)
+}
+
+/// Adds a node that stands nowhere, and returns its index.
+pub(crate) fn admit<A: Allocator + Copy>(
+    homes: &mut Rows<usize, A>,
+    nodes: &mut Slab<Node, A>,
+    client: u64,
+) -> usize
+    requires new { lookup (nat_eq client) homes.old.entries ≡ None }
+    requires home_room { 0 < spare homes.old }
+    requires node_room { HasRoomFor nodes.old 1 }
+    ensures homes { homes.new.entries ≡ homes.old.entries ++ (client, result) ∷ [] }
+    ensures vacant { node_in nodes.old.slots result ≡ None }
+    ensures node { node_in nodes.new.slots result
+        ≡ Some (record { entry = None; next = None; before = None }) }
+    ensures others { (n : ℕ)
+        → n ≢ result
+        → node_in nodes.new.slots n ≡ node_in nodes.old.slots n }
+{
+    let value = Node {
+        entry: None,
+        next: None,
+        before: None,
+    };
+    let node = nodes.insert_reserved(value);
+    homes.insert(client, node).unwrap();
+    node
+}
+
+/// Takes a client's node away.
+pub(crate) fn dismiss<A: Allocator + Copy>(
+    homes: &mut Rows<usize, A>,
+    nodes: &mut Slab<Node, A>,
+    client: u64,
+)
+    ensures homes { (d : ℕ)
+        → home_of homes.new.entries d
+        ≡ (if client == d then None else home_of homes.old.entries d) }
+    ensures nodes { (n : ℕ)
+        → is_at n (home_of homes.old.entries client) ≡ false
+        → node_in nodes.new.slots n ≡ node_in nodes.old.slots n }
+    ensures len { length homes.new.entries ≤ length homes.old.entries }
+{
+    if let Some(node) = homes.swap_remove(&client) {
+        nodes.try_remove(node);
+    }
+}

@@ -1,0 +1,341 @@
+//! Queues as the ends and the counts of their chains.
+
+ghost use Rattle.std.specs.Prelude.{◌≡◌, ◌↔◌, ◌+◌, ◌++◌, ◌∷◌, [], false, IsTrue, ◌-◌, ◌<◌, ◌≤◌, ◌^◌, ◌==◌, Some, None, IsSome, IfSome, unwrap_or, slice_index, ◌&&◌, slice_index_or, is_some, if◌then◌else◌, ℕ, not, List, nat_eq};
+ghost use Rattle.std.specs.Map.{lookup};
+ghost use Rattle.std.specs.Option.{option_map};
+ghost use Rattle.pt_types.specs.Limits.{most_priority};
+ghost use Rattle.pt_waitq.specs.declared.sides.Queue.{Queue};
+ghost use Rattle.pt_waitq.specs.Chains.{numbers, side_of, IsPut, IsTaken, HasNone, IsFirst, IsFirstWriter, HasWriterFrom};
+
+use crate::nodes::Rows;
+use pt_lanes::{any_from, highest};
+use pt_types::MOST_PRIORITY;
+use std::alloc::Allocator;
+
+/// The chains of one kind, by priority from 1 on.
+#[derive(Clone, Copy)]
+pub(crate) struct Side {
+    pub(crate) counts: [u32; MOST_PRIORITY],
+    pub(crate) heads: [Option<usize>; MOST_PRIORITY],
+    pub(crate) tails: [Option<usize>; MOST_PRIORITY],
+}
+
+/// A queue's chains of both kinds.
+#[derive(Clone, Copy)]
+pub(crate) struct Queue {
+    pub(crate) writers: Side,
+    pub(crate) readers: Side,
+    pub(crate) len: usize,
+}
+
+/// Empty chains of one kind.
+pub(crate) fn no_side() -> Side
+    ensures counts { (p : ℕ) → p < most_priority → slice_index result.counts p ≡ 0 }
+    ensures heads { (p : ℕ) → p < most_priority → slice_index_or result.heads p None ≡ None }
+    ensures tails { (p : ℕ) → p < most_priority → slice_index_or result.tails p None ≡ None }
+{
+    Side {
+        counts: [0; MOST_PRIORITY],
+        heads: [None; MOST_PRIORITY],
+        tails: [None; MOST_PRIORITY],
+    }
+}
+
+/// Makes this node the tail of a chain, and returns the tail before.
+pub(crate) fn add(side: &mut Side, p: usize, node: usize) -> Option<usize>
+    requires index { p < most_priority }
+    requires room { slice_index side.old.counts p + 1 < 2 ^ 32 }
+    ensures last { result ≡ slice_index_or side.old.tails p None }
+    ensures counts { (i : ℕ)
+        → i < most_priority
+        → slice_index side.new.counts i
+        ≡ (if p == i then slice_index side.old.counts p + 1 else slice_index side.old.counts i) }
+    ensures tails { (i : ℕ)
+        → i < most_priority
+        → slice_index_or side.new.tails i None
+        ≡ (if p == i then Some node else slice_index_or side.old.tails i None) }
+    ensures heads { (i : ℕ)
+        → i < most_priority
+        → slice_index_or side.new.heads i None
+        ≡ (if (p == i) && not (is_some (slice_index_or side.old.tails p None))
+        then Some node
+        else slice_index_or side.old.heads i None) }
+{
+    let last = side.tails[p];
+    if last.is_none() {
+        side.heads[p] = Some(node);
+    }
+    side.tails[p] = Some(node);
+    side.counts[p] += 1;
+    last
+}
+
+/// Takes a node out of a chain, which stood between these two.
+pub(crate) fn take(side: &mut Side, p: usize, before: Option<usize>, next: Option<usize>)
+    requires index { p < most_priority }
+    requires stands { 1 ≤ slice_index side.old.counts p }
+    ensures counts { (i : ℕ)
+        → i < most_priority
+        → slice_index side.new.counts i
+        ≡ (if p == i then slice_index side.old.counts p - 1 else slice_index side.old.counts i) }
+    ensures tails { (i : ℕ)
+        → i < most_priority
+        → slice_index_or side.new.tails i None
+        ≡ (if (p == i) && not (is_some next)
+        then before
+        else slice_index_or side.old.tails i None) }
+    ensures heads { (i : ℕ)
+        → i < most_priority
+        → slice_index_or side.new.heads i None
+        ≡ (if (p == i) && not (is_some before)
+        then next
+        else slice_index_or side.old.heads i None) }
+{
+    if before.is_none() {
+        side.heads[p] = next;
+    }
+    if next.is_none() {
+        side.tails[p] = before;
+    }
+    side.counts[p] -= 1;
+}
+
+/// Makes a node the tail of one of a queue's chains, and returns the tail before.
+pub(crate) fn put_in(queue: &mut Queue, writer: bool, p: usize, node: usize) -> Option<usize>
+    requires index { p < most_priority }
+    requires room { slice_index (side_of writer queue.old).counts p + 1 < 2 ^ 32 }
+    requires len { queue.old.len + 1 < 2 ^ 64 }
+    ensures len { queue.new.len ≡ queue.old.len + 1 }
+    ensures other { side_of (not writer) queue.new ≡ side_of (not writer) queue.old }
+    ensures last { result ≡ slice_index_or (side_of writer queue.old).tails p None }
+    ensures counts { (i : ℕ)
+        → i < most_priority
+        → slice_index (side_of writer queue.new).counts i
+        ≡ (if p == i
+        then slice_index (side_of writer queue.old).counts p + 1
+        else slice_index (side_of writer queue.old).counts i) }
+    ensures tails { (i : ℕ)
+        → i < most_priority
+        → slice_index_or (side_of writer queue.new).tails i None
+        ≡ (if p == i then Some node else slice_index_or (side_of writer queue.old).tails i None) }
+    ensures heads { (i : ℕ)
+        → i < most_priority
+        → slice_index_or (side_of writer queue.new).heads i None
+        ≡ (if (p == i) && not (is_some (slice_index_or (side_of writer queue.old).tails p None))
+        then Some node
+        else slice_index_or (side_of writer queue.old).heads i None) }
+{
+    queue.len += 1;
+    if writer {
+        add(&mut queue.writers, p, node)
+    } else {
+        add(&mut queue.readers, p, node)
+    }
+}
+
+/// Takes a node out of one of a queue's chains, which stood between these two.
+pub(crate) fn take_out(
+    queue: &mut Queue,
+    writer: bool,
+    p: usize,
+    before: Option<usize>,
+    next: Option<usize>,
+)
+    requires index { p < most_priority }
+    requires stands { 1 ≤ slice_index (side_of writer queue.old).counts p }
+    requires len { 1 ≤ queue.old.len }
+    ensures len { queue.new.len + 1 ≡ queue.old.len }
+    ensures other { side_of (not writer) queue.new ≡ side_of (not writer) queue.old }
+    ensures counts { (i : ℕ)
+        → i < most_priority
+        → slice_index (side_of writer queue.new).counts i
+        ≡ (if p == i
+        then slice_index (side_of writer queue.old).counts p - 1
+        else slice_index (side_of writer queue.old).counts i) }
+    ensures tails { (i : ℕ)
+        → i < most_priority
+        → slice_index_or (side_of writer queue.new).tails i None
+        ≡ (if (p == i) && not (is_some next)
+        then before
+        else slice_index_or (side_of writer queue.old).tails i None) }
+    ensures heads { (i : ℕ)
+        → i < most_priority
+        → slice_index_or (side_of writer queue.new).heads i None
+        ≡ (if (p == i) && not (is_some before)
+        then next
+        else slice_index_or (side_of writer queue.old).heads i None) }
+{
+    queue.len -= 1;
+    if writer {
+        take(&mut queue.writers, p, before, next)
+    } else {
+        take(&mut queue.readers, p, before, next)
+    }
+}
+
+/// How many stand in a queue.
+pub(crate) fn len_of<A: Allocator + Copy>(queues: &Rows<Queue, A>, object: u64) -> usize
+    ensures { result
+        ≡ unwrap_or (option_map (λ q. q.len) (lookup (nat_eq object) queues.now.entries)) 0 }
+{
+    match queues.get(&object) {
+        Some(queue) => queue.len,
+        None => 0,
+    }
+}
+
+/// Makes a node the tail of a chain of a queue that there is, and returns the tail before.
+pub(crate) fn insert<A: Allocator + Copy>(
+    queues: &mut Rows<Queue, A>,
+    object: u64,
+    writer: bool,
+    p: usize,
+    node: usize,
+) -> Option<usize>
+    requires index { p < most_priority }
+    requires there { IsSome (lookup (nat_eq object) queues.old.entries) }
+    requires room { IfSome (lookup (nat_eq object) queues.old.entries) (λ q.
+        slice_index (side_of writer q).counts p + 1 < 2 ^ 32) }
+    requires len { IfSome (lookup (nat_eq object) queues.old.entries) (λ q. q.len + 1 < 2 ^ 64) }
+    ensures numbers { numbers queues.new.entries ≡ numbers queues.old.entries }
+    ensures others { (x : ℕ)
+        → (object == x) ≡ false
+        → lookup (nat_eq x) queues.new.entries ≡ lookup (nat_eq x) queues.old.entries }
+    ensures queue { (old new : Queue)
+        → lookup (nat_eq object) queues.old.entries ≡ Some old
+        → lookup (nat_eq object) queues.new.entries ≡ Some new
+        → IsPut writer p node result old new }
+{
+    put_in(queues.get_mut(&object).unwrap(), writer, p, node)
+}
+
+/// Takes a node out of a chain of a queue that there is, where it stood between these two.
+pub(crate) fn remove<A: Allocator + Copy>(
+    queues: &mut Rows<Queue, A>,
+    object: u64,
+    writer: bool,
+    p: usize,
+    before: Option<usize>,
+    next: Option<usize>,
+)
+    requires index { p < most_priority }
+    requires there { IsSome (lookup (nat_eq object) queues.old.entries) }
+    requires stands { IfSome (lookup (nat_eq object) queues.old.entries) (λ q.
+        1 ≤ slice_index (side_of writer q).counts p) }
+    requires len { IfSome (lookup (nat_eq object) queues.old.entries) (λ q. 1 ≤ q.len) }
+    ensures numbers { numbers queues.new.entries ≡ numbers queues.old.entries }
+    ensures others { (x : ℕ)
+        → (object == x) ≡ false
+        → lookup (nat_eq x) queues.new.entries ≡ lookup (nat_eq x) queues.old.entries }
+    ensures queue { (old new : Queue)
+        → lookup (nat_eq object) queues.old.entries ≡ Some old
+        → lookup (nat_eq object) queues.new.entries ≡ Some new
+        → IsTaken writer p before next old new }
+{
+    take_out(queues.get_mut(&object).unwrap(), writer, p, before, next)
+}
+
+/// Adds an empty queue, and returns whether there was memory.
+pub(crate) fn make<A: Allocator + Copy>(queues: &mut Rows<Queue, A>, object: u64) -> bool
+    requires { lookup (nat_eq object) queues.old.entries ≡ None }
+    ensures numbers { numbers queues.new.entries
+        ≡ (if result
+        then numbers queues.old.entries ++ object ∷ []
+        else numbers queues.old.entries) }
+    ensures others { (x : ℕ)
+        → (object == x) ≡ false
+        → lookup (nat_eq x) queues.new.entries ≡ lookup (nat_eq x) queues.old.entries }
+    ensures queue { (new : Queue)
+        → lookup (nat_eq object) queues.new.entries ≡ Some new
+        → HasNone new }
+{
+    let queue = Queue {
+        writers: no_side(),
+        readers: no_side(),
+        len: 0,
+    };
+    match queues.insert(object, queue) {
+        Ok(_) => true,
+        Err(_) => false,
+    }
+}
+
+/// Takes a queue away.
+pub(crate) fn discard<A: Allocator + Copy>(queues: &mut Rows<Queue, A>, object: u64)
+    ensures { (x : ℕ)
+        → lookup (nat_eq x) queues.new.entries
+        ≡ (if object == x then None else lookup (nat_eq x) queues.old.entries) }
+{
+    queues.swap_remove(&object);
+}
+
+/// The head of the first chain, by priority and then by kind.
+fn first_in(queue: &Queue) -> Option<usize>
+    ensures { IsFirst queue.now result }
+{
+    let writer = highest(&queue.writers.counts);
+    let reader = highest(&queue.readers.counts);
+    match (writer, reader) {
+        (Some(w), Some(r)) if w < r => queue.readers.heads[r],
+        (Some(w), _) => queue.writers.heads[w],
+        (None, Some(r)) => queue.readers.heads[r],
+        (None, None) => None,
+    }
+}
+
+/// The head of the first chain of writers.
+fn first_writer_in(queue: &Queue) -> Option<usize>
+    ensures { IsFirstWriter queue.now result }
+{
+    match highest(&queue.writers.counts) {
+        Some(w) => queue.writers.heads[w],
+        None => None,
+    }
+}
+
+/// Whether there is a writer of the priority with this index or of a higher one.
+fn writer_from_in(queue: &Queue, p: usize) -> bool
+    ensures { IsTrue result ↔ HasWriterFrom queue.now p }
+{
+    any_from(&queue.writers.counts, p)
+}
+
+/// The node of the first of a queue.
+pub(crate) fn first_of<A: Allocator + Copy>(queues: &Rows<Queue, A>, object: u64) -> Option<usize>
+    ensures none { lookup (nat_eq object) queues.now.entries ≡ None → result ≡ None }
+    ensures queue { (queue : Queue)
+        → lookup (nat_eq object) queues.now.entries ≡ Some queue
+        → IsFirst queue result }
+{
+    first_in(queues.get(&object)?)
+}
+
+/// The node of the first of a queue that asks for a write lock.
+pub(crate) fn first_writer_of<A: Allocator + Copy>(
+    queues: &Rows<Queue, A>,
+    object: u64,
+) -> Option<usize>
+    ensures none { lookup (nat_eq object) queues.now.entries ≡ None → result ≡ None }
+    ensures queue { (queue : Queue)
+        → lookup (nat_eq object) queues.now.entries ≡ Some queue
+        → IsFirstWriter queue result }
+{
+    first_writer_in(queues.get(&object)?)
+}
+
+/// Whether a queue has a writer of the priority with this index or a higher one.
+pub(crate) fn has_writer_from<A: Allocator + Copy>(
+    queues: &Rows<Queue, A>,
+    object: u64,
+    p: usize,
+) -> bool
+    ensures none { lookup (nat_eq object) queues.now.entries ≡ None → result ≡ false }
+    ensures queue { (queue : Queue)
+        → lookup (nat_eq object) queues.now.entries ≡ Some queue
+        → IsTrue result ↔ HasWriterFrom queue p }
+{
+    match queues.get(&object) {
+        Some(queue) => writer_from_in(queue, p),
+        None => false,
+    }
+}
