@@ -55,11 +55,14 @@ def main():
         for count, name in enumerate(names, 1):
             print(f"proving {count} of {len(names)}: {name}", file=sys.stderr, flush=True)
             if not prove(name, name == program, log):
-                print(f"{name} could not be proved; see {log.name}", file=sys.stderr)
+                print(f"{name} could not be proved: see {log.name}", file=sys.stderr)
                 return 1
     os.unlink(log.name)
     return 0
 
 
 if __name__ == "__main__":
-    sys.exit(main())
+    try:
+        sys.exit(main())
+    except KeyboardInterrupt:
+        sys.exit(130)

@@ -14,7 +14,7 @@ import textwrap
 
 TOP = pathlib.Path(__file__).resolve().parent.parent
 CRATES = (
-    "pt_core pt_hub pt_script pt_lines pt_io pt_history pt_table pt_waitq pt_timers "
+    "pt_core pt_hub pt_shared pt_script pt_lines pt_io pt_history pt_table pt_waitq pt_timers "
     "pt_mutex pt_rwlock pt_cond pt_barrier"
 ).split()
 HEAD = """# Definitions
@@ -25,7 +25,8 @@ The definitions that public contracts speak of, by file: the contracts of
 *Named by* has the first public item whose contract names the definition; it is empty for a
 definition that only other definitions of these tables use. In *Source*, `XSH` is a page or a
 section of POSIX.1-2017 (of POSIX.1-2024 for the clock calls), and `profile` is a choice of this
-project. Made by `python3 tools/definitions.py` from the comment above each definition.
+project; it is empty for a definition that only puts others together. Made by
+`python3 tools/definitions.py` from the comment above each definition.
 """
 DEFINED = re.compile(r"^\s*(?:abbrev pub|unfoldable pub|pub record|pub data) ([^\s(:]+)")
 BUILDER = re.compile(r"^\s+pub ([^\s(:]+) :")

@@ -4,10 +4,10 @@ ghost use Rattle.pt_types.specs.ObjectTable.{init_verdict};
 use pt_types::{MOST_AT_BARRIER, ObjectKind, Outcome, Verdict};
 use std::marker::Model;
 
-/// What becomes of a `barrier-init` with this count, where its name is free and no object exists:
+/// What becomes of a `barrier-init` with this count, if its name is free and no object exists:
 /// EINVAL for 0, and above 1,024, which is profile.  [XSH pthread_barrier_init]
 ///
-/// A name in use or too many objects are told after a bad count.
+/// A name in use or too many objects are answered after a bad count.
 pub fn verdict_init(count: u64) -> Verdict
     ensures { result ≡ init_verdict (ObjectKind.Barrier count) false 0 }
 {
@@ -17,11 +17,11 @@ pub fn verdict_init(count: u64) -> Verdict
     Verdict::Reply(Outcome::Done)
 }
 
-// calls that stand    one more comes
-// count - 1           all of them are answered, and none stands
-// fewer               it stands with them
+// calls that wait     one more comes
+// count - 1           all of them are answered, and none waits
+// fewer               it waits with them
 
-/// A barrier, which lets the calls that stand at it go on together.  [XSH pthread_barrier_wait]
+/// A barrier, which lets the calls that wait at it go on together.  [XSH pthread_barrier_wait]
 #[derive(Debug, Drop)]
 pub struct BarrierObj {
     count: u32,
@@ -57,7 +57,7 @@ impl BarrierObj {
         self.count
     }
 
-    /// Whether it lets the calls go that stand at it, where they are so many.
+    /// Whether a barrier is full with this many waiting calls.
     /// [XSH pthread_barrier_wait]
     pub fn full(&self, waiting: usize) -> bool
         ensures { result ≡ (waiting == self.now) }

@@ -7,7 +7,7 @@ use std::{env, io};
 /// The exit status of a fault of the command line.  [profile]
 const USAGE: u8 = 2;
 
-/// The exit status of want of memory.  [profile]
+/// The exit status of lack of memory.  [profile]
 const MEMORY: u8 = 5;
 
 /// What a command line asks of the program.
@@ -27,7 +27,7 @@ fn show(rt: &HostRuntime, error: &Error) -> ExitCode {
     ExitCode::SUCCESS
 }
 
-// The task that these words ask for. The error is want of memory.
+// The task that these words ask for. The error is lack of memory.
 fn task_of(rt: &HostRuntime, words: &[String]) -> Result<Task, Error> {
     let matches = match command(rt.alloc())?.try_get_matches_from(words) {
         Ok(matches) => matches,

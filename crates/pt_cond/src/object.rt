@@ -8,9 +8,9 @@ use std::marker::Model;
 
 // bound to     a wait with that mutex    with another    the last call leaves
 // nothing      binds it                  binds it        -
-// a mutex      stands there too          EINVAL          binds nothing
+// a mutex      waits there too           EINVAL          binds nothing
 
-/// A condition variable: the mutex with which calls stand at it.  [XSH pthread_cond_wait]
+/// A condition variable: the mutex with which calls wait at it.  [XSH pthread_cond_wait]
 #[derive(Debug, Drop)]
 pub struct CondObj {
     bound: Option<ObjectId>,
@@ -25,7 +25,7 @@ impl Model for CondObj {
 }
 
 impl CondObj {
-    /// A condition at which nobody stands.  [XSH pthread_cond_init]
+    /// A condition at which nobody waits.  [XSH pthread_cond_init]
     pub fn new() -> CondObj
         ensures { result ≡ record { bound = None } }
     {
@@ -33,10 +33,10 @@ impl CondObj {
     }
 
     /// What becomes of a wait with this mutex, which its caller owns or doesn't, with a deadline
-    /// where it is a `timedwait`. EINVAL by another mutex is profile, and so is EPERM where the
+    /// if it is a `timedwait`. EINVAL by another mutex is profile, and so is EPERM if the
     /// standard leaves it open.  [XSH pthread_cond_timedwait]
     ///
-    /// Both EINVALs are told before EPERM. Whether the deadline is due is not asked here.
+    /// Both EINVALs come before EPERM. Whether the deadline is due is not asked here.
     pub fn verdict_wait(&self, mutex: ObjectId, owns: bool, deadline: Option<Deadline>) -> Verdict
         ensures { result ≡ wait_verdict self.now mutex owns deadline }
     {
@@ -52,14 +52,14 @@ impl CondObj {
         Verdict::Stands
     }
 
-    /// Whether calls stand at it with another mutex.  [XSH pthread_cond_wait]
-    pub fn is_elsewhere(&self, mutex: ObjectId) -> bool
+    // Whether calls wait at it with another mutex.  [XSH pthread_cond_wait]
+    fn is_elsewhere(&self, mutex: ObjectId) -> bool
         ensures { result ≡ is_elsewhere self.now.bound mutex }
     {
         self.bound.is_some_and(|bound| bound != mutex)
     }
 
-    /// A call begins to stand at it with this mutex.  [XSH pthread_cond_wait]
+    /// A call begins to wait at it with this mutex.  [XSH pthread_cond_wait]
     pub fn bind(&mut self, mutex: ObjectId)
         requires { is_elsewhere self.old.bound mutex ≡ false }
         ensures { self.new ≡ record { bound = Some mutex } }
@@ -67,21 +67,21 @@ impl CondObj {
         self.bound = Some(mutex);
     }
 
-    /// The last call that stood at it is gone.  [XSH pthread_cond_wait]
+    /// The last call that waited at it is gone.  [XSH pthread_cond_wait]
     pub fn unbind(&mut self)
         ensures { self.new ≡ record { bound = None } }
     {
         self.bound = None;
     }
 
-    /// The mutex with which calls stand at it.  [XSH pthread_cond_wait]
+    /// The mutex with which calls wait at it.  [XSH pthread_cond_wait]
     pub fn bound(&self) -> Option<ObjectId>
         ensures { result ≡ self.now.bound }
     {
         self.bound
     }
 
-    /// The call that a signal wakes: the first of the condition's queue, if calls stand there.
+    /// The call that a signal wakes: the first of the condition's queue, if calls wait there.
     /// [XSH pthread_cond_signal, 2.8.4]
     pub fn least<W: WaitList>(&self, list: &W, queue: ObjectId) -> Option<Waiter>
         ensures { result ≡ head_of (W.queue list.now queue) }

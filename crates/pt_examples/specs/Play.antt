@@ -12,21 +12,21 @@ use Rattle.pt_model.specs.Answers.{replies_from}
 use Rattle.pt_model.specs.Forced.{forced}
 use Rattle.pt_model.specs.Room.{need, entry_for, refusal_within}
 
--- a deadline as a line has it  [profile]
+-- a deadline as a line has it
 abbrev pub at : ℕ → ℕ → Timespec
 at s n = record { sec = s; nsec = n }
 
--- this entry, and what must follow it, at most so many entries more  [profile]
+-- this entry, and what must follow it, at most so many entries more
 abbrev pub settled_by : ℕ → History → Option Entry → List Entry
 settled_by zero h next = []
 settled_by (suc n) h None = []
 settled_by (suc n) h (Some e) = e ∷ settled_by n (h ▷ e) (forced (h ▷ e))
 
--- an accepted event's entries  [profile]
+-- an accepted event's entries
 abbrev pub entered_by : History → Entry → List Entry
 entered_by h e = settled_by 20 h (Some e)
 
--- what an accepted event or a refused one gives, and what all later events give  [profile]
+-- what an accepted event or a refused one gives, and what all later events give
 abbrev pub played_by :
     History → Event → (History → List (Result (List Entry) Refusal)) → Option Refusal
     → List (Result (List Entry) Refusal)
@@ -34,40 +34,40 @@ played_by h v rest (Some r) = Err r ∷ rest h
 played_by h v rest None =
     Ok (entered_by h (entry_for h v)) ∷ rest (onto h (entered_by h (entry_for h v)))
 
--- the entries of each event, or its refusal, with so many entries at most  [profile]
+-- the entries of each event, or its refusal, with so many entries at most
 abbrev pub play_within : ℕ → History → List Event → List (Result (List Entry) Refusal)
 play_within limit h [] = []
 play_within limit h (v ∷ vs) =
     played_by h v (λ g. play_within limit g vs) (refusal_within limit h v)
 
--- the same, within the limit of every history  [profile]
+-- the same, within the limit of every history
 abbrev pub play : History → List Event → List (Result (List Entry) Refusal)
 play h vs = play_within most_entries h vs
 
--- an answer without its place  [profile]
+-- an answer without its place
 abbrev pub said : Told → ℕ × Outcome
 said t = (t.client, t.outcome)
 
--- who is told what by each accepted event  [profile]
+-- which answers each accepted event gives, and to whom
 abbrev pub told_in : History → List (Result (List Entry) Refusal) → List (List (ℕ × Outcome))
 told_in h [] = []
 told_in h (Err r ∷ gs) = told_in h gs
 told_in h (Ok es ∷ gs) = map said (replies_from h es) ∷ told_in (onto h es) gs
 
--- all entries of these events  [profile]
+-- all entries of these events
 abbrev pub entries_in : List (Result (List Entry) Refusal) → List Entry
 entries_in [] = []
 entries_in (Err r ∷ gs) = entries_in gs
 entries_in (Ok es ∷ gs) = es ++ entries_in gs
 
--- the accepted ones of these events  [profile]
+-- the accepted ones of these events
 abbrev pub accepted_of : List Event → List (Result (List Entry) Refusal) → List Event
 accepted_of [] gs = []
 accepted_of (v ∷ vs) [] = []
 accepted_of (v ∷ vs) (Err r ∷ gs) = accepted_of vs gs
 accepted_of (v ∷ vs) (Ok es ∷ gs) = v ∷ accepted_of vs gs
 
--- the length and the need behind an accepted event or a refused one  [profile]
+-- the length and the need after an accepted event or a refused one
 abbrev pub measured_by :
     History → Event → (History → List (Result (ℕ × ℕ) Refusal)) → Option Refusal
     → List (Result (ℕ × ℕ) Refusal)
@@ -75,7 +75,7 @@ measured_by h v rest (Some r) = Err r ∷ rest h
 measured_by h v rest None =
     let g = onto h (entered_by h (entry_for h v)) in Ok (place g, need g) ∷ rest g
 
--- the length and the need behind each event, or its refusal, within a limit  [profile]
+-- the length and the need after each event, or its refusal, within a limit
 abbrev pub lengths : ℕ → History → List Event → List (Result (ℕ × ℕ) Refusal)
 lengths limit h [] = []
 lengths limit h (v ∷ vs) =

@@ -45,7 +45,7 @@ entered =
     ∷ Ok (Moment Real (nanos 5 0) ∷ Expire 6 ∷ Grant 7 Done ∷ [])
     ∷ []
 
--- who is told what by each accepted event
+-- which answers each accepted event gives, and to whom
 abbrev pub told : List (List (ℕ × Outcome))
 told =
     []

@@ -49,7 +49,7 @@ entered =
     ∷ Ok (Death 1 ∷ Yield 2 ∷ Grant 6 Eownerdead ∷ [])
     ∷ []
 
--- who is told what by each accepted event
+-- which answers each accepted event gives, and to whom
 abbrev pub told : List (List (ℕ × Outcome))
 told =
     []

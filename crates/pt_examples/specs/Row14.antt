@@ -61,7 +61,7 @@ entered =
     ∷ Ok (Call 0 (call.BarrierInit named_x 1024) (Some Done) ∷ [])
     ∷ []
 
--- who is told what by each accepted event
+-- which answers each accepted event gives, and to whom
 abbrev pub told : List (List (ℕ × Outcome))
 told =
     []

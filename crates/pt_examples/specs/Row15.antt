@@ -45,7 +45,7 @@ entered =
     ∷ Ok (Call 0 (call.Unlock named_m) (Some Done) ∷ [])
     ∷ []
 
--- who is told what by each accepted event
+-- which answers each accepted event gives, and to whom
 abbrev pub told : List (List (ℕ × Outcome))
 told =
     []

@@ -53,7 +53,7 @@ entered =
     ∷ Ok (Call 1 (call.MutexInit named_m Normal false) (Some Done) ∷ [])
     ∷ []
 
--- who is told what by each accepted event
+-- which answers each accepted event gives, and to whom
 abbrev pub told : List (List (ℕ × Outcome))
 told =
     []

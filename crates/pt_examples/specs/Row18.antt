@@ -1,4 +1,4 @@
--- Row18: woken waits queue behind those who came before the broadcast.
+-- Row18: woken waits queue after those who came before the broadcast.
 use Rattle.std.specs.Prelude.{◌≡◌, List, [], ◌∷◌, ℕ, false, Some, None, Result, Ok, codes}
 use Rattle.pt_types.specs.declared.call.Call.TheVariants as call
 use Rattle.pt_types.specs.declared.call.MutexKind.TheVariants.{Normal}
@@ -69,7 +69,7 @@ entered =
     ∷ Ok (Call 0 (call.Unlock named_m) (Some Done) ∷ Grant 12 Done ∷ [])
     ∷ []
 
--- who is told what by each accepted event
+-- which answers each accepted event gives, and to whom
 abbrev pub told : List (List (ℕ × Outcome))
 told =
     []

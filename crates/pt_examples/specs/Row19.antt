@@ -62,7 +62,7 @@ entered =
     ∷ Ok (Call 1 (call.CondDestroy named_c) (Some Done) ∷ [])
     ∷ []
 
--- who is told what by each accepted event
+-- which answers each accepted event gives, and to whom
 abbrev pub told : List (List (ℕ × Outcome))
 told =
     []

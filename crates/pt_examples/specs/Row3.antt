@@ -50,7 +50,7 @@ entered =
     ∷ Ok (Call 3 (call.Unlock named_m) (Some Done) ∷ Grant 7 Done ∷ [])
     ∷ []
 
--- who is told what by each accepted event
+-- which answers each accepted event gives, and to whom
 abbrev pub told : List (List (ℕ × Outcome))
 told =
     []

@@ -51,7 +51,7 @@ entered =
     ∷ Ok (Call 2 (call.Signal named_c) (Some Done) ∷ Grant 12 Enotrecoverable ∷ [])
     ∷ []
 
--- who is told what by each accepted event
+-- which answers each accepted event gives, and to whom
 abbrev pub told : List (List (ℕ × Outcome))
 told =
     []

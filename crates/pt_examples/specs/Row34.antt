@@ -57,7 +57,7 @@ entered =
     ∷ Ok (Call 2 (call.Signal named_c) (Some Done) ∷ Grant 10 Done ∷ [])
     ∷ []
 
--- who is told what by each accepted event
+-- which answers each accepted event gives, and to whom
 abbrev pub told : List (List (ℕ × Outcome))
 told =
     []

@@ -1,4 +1,4 @@
--- Row39: what a dead client held is held, and is told of, behind a seal.
+-- Row39: what a dead client held stays held, and the death is reported, after a seal.
 use Rattle.std.specs.Prelude.{◌≡◌, List, [], ◌∷◌, ℕ, true, false, Some, None, Result, Ok, codes}
 use Rattle.pt_types.specs.declared.call.Call.TheVariants as call
 use Rattle.pt_types.specs.declared.call.MutexKind.TheVariants.{Normal}
@@ -59,7 +59,7 @@ entered =
     ∷ Ok (Death 0 ∷ Yield 2 ∷ [])
     ∷ []
 
--- who is told what by each accepted event
+-- which answers each accepted event gives, and to whom
 abbrev pub told : List (List (ℕ × Outcome))
 told =
     []
@@ -75,7 +75,7 @@ told =
     ∷ []
     ∷ []
 
--- what happens behind it
+-- what happens after it
 abbrev pub later_events : List Event
 later_events =
     event.Call 1 (call.Trylock named_k)
@@ -93,7 +93,7 @@ later_entered =
     ∷ Ok (Call 1 (call.Lock named_m) None ∷ Grant 19 Eownerdead ∷ [])
     ∷ []
 
--- who is told what by each of them
+-- which answers each of them gives, and to whom
 abbrev pub later_told : List (List (ℕ × Outcome))
 later_told =
     ((1, Ebusy) ∷ [])
@@ -121,10 +121,10 @@ orphaned =
     ∷ Death 0
     ∷ []
 
--- what must follow behind h
+-- what must follow after h
 abbrev pub following : History → List Entry
 following h = settled_by 20 h (forced h)
 
--- behind a seal there it is written, and the other client is told
+-- after a seal there it is written, and the other client learns of the death
 abbrev pub IsTold39 : Type 0
 IsTold39 = following (behind_seal (history orphaned)) ≡ Yield 2 ∷ Grant 5 Eownerdead ∷ []

@@ -1,4 +1,4 @@
--- Row40: when and why a wait was moved is known behind a seal.
+-- Row40: when and why a wait was moved is known after a seal.
 use Rattle.std.specs.Prelude.{◌≡◌, List, [], ◌∷◌, ℕ, false, Option, Some, None, Result, Ok, codes}
 use Rattle.pt_types.specs.Times.{nanos}
 use Rattle.pt_types.specs.declared.time.Clock.TheVariants.{Real}
@@ -62,7 +62,7 @@ entered =
     ∷ Ok (Call 2 (call.Signal named_c) (Some Done) ∷ [])
     ∷ []
 
--- who is told what by each accepted event
+-- which answers each accepted event gives, and to whom
 abbrev pub told : List (List (ℕ × Outcome))
 told =
     []
@@ -81,7 +81,7 @@ told =
     ∷ ((2, Done) ∷ [])
     ∷ []
 
--- what happens behind it
+-- what happens after it
 abbrev pub later_events : List Event
 later_events =
     event.Call 2 (call.Unlock named_m)
@@ -97,7 +97,7 @@ later_entered =
     ∷ Ok (Call 3 (call.Unlock named_m) (Some Done) ∷ Grant 8 Done ∷ [])
     ∷ []
 
--- who is told what by each of them
+-- which answers each of them gives, and to whom
 abbrev pub later_told : List (List (ℕ × Outcome))
 later_told =
     ((2, Done) ∷ (1, Etimedout) ∷ [])
@@ -112,11 +112,11 @@ IsPlayed40 =
     × Plays (behind_seal (history (entries_in entered))) later_events later_entered later_told
     × Plays (history (entries_in entered)) later_events later_entered later_told
 
--- an answer that was told before the seal
+-- an answer that was given before the seal
 abbrev pub answered : Option Told
 answered = Some (record { client = 2; place = 17; outcome = Done })
 
--- behind the seal the latest calls have the answers that they had, or none still
+-- after the seal the latest calls have the answers that they had, or none still
 abbrev pub IsAnswered40 : Type 0
 IsAnswered40 =
     let h = behind_seal (history (entries_in entered)) in

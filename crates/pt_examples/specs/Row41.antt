@@ -1,4 +1,4 @@
--- Row41: both clocks count on behind a seal.
+-- Row41: both clocks count on after a seal.
 use Rattle.std.specs.Prelude.{List, [], ◌∷◌, ℕ, false, Some, None, Result, Ok, codes}
 use Rattle.pt_types.specs.Times.{nanos}
 use Rattle.pt_types.specs.declared.time.Clock.TheVariants.{Real, Mono}
@@ -45,7 +45,7 @@ entered =
     ∷ Ok (Call 2 (call.Clocklock named_m Mono (at 6 0)) None ∷ [])
     ∷ []
 
--- who is told what by each accepted event
+-- which answers each accepted event gives, and to whom
 abbrev pub told : List (List (ℕ × Outcome))
 told =
     []
@@ -58,7 +58,7 @@ told =
     ∷ []
     ∷ []
 
--- what happens behind it
+-- what happens after it
 abbrev pub later_events : List Event
 later_events =
     event.Call 1 (call.Timedlock named_m (at 9 0))
@@ -82,7 +82,7 @@ later_entered =
     ∷ Ok (Moment Mono (nanos 6 0) ∷ Expire 16 ∷ Expire 8 ∷ [])
     ∷ []
 
--- who is told what by each of them
+-- which answers each of them gives, and to whom
 abbrev pub later_told : List (List (ℕ × Outcome))
 later_told =
     ((1, Etimedout) ∷ [])

@@ -48,7 +48,7 @@ entered =
     ∷ Ok (Call 2 (call.Consistent named_m) (Some Einval) ∷ [])
     ∷ []
 
--- who is told what by each accepted event
+-- which answers each accepted event gives, and to whom
 abbrev pub told : List (List (ℕ × Outcome))
 told =
     []

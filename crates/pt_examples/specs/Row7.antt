@@ -44,7 +44,7 @@ entered =
     ∷ Ok (Death 1 ∷ Yield 3 ∷ Grant 7 Eownerdead ∷ [])
     ∷ []
 
--- who is told what by each accepted event
+-- which answers each accepted event gives, and to whom
 abbrev pub told : List (List (ℕ × Outcome))
 told =
     []

@@ -1,4 +1,4 @@
--- Row8: readers behind a writer of their priority wait, and a holder reads on.
+-- Row8: readers after a writer of their priority wait, and a holder reads on.
 use Rattle.std.specs.Prelude.{◌≡◌, List, [], ◌∷◌, ℕ, Some, None, Result, Ok, codes}
 use Rattle.pt_types.specs.declared.call.Call.TheVariants as call
 use Rattle.pt_types.specs.declared.outcome.Outcome.{Outcome}
@@ -53,7 +53,7 @@ entered =
     ∷ Ok (Call 1 (call.Rwunlock named_r) (Some Done) ∷ Grant 8 Done ∷ [])
     ∷ []
 
--- who is told what by each accepted event
+-- which answers each accepted event gives, and to whom
 abbrev pub told : List (List (ℕ × Outcome))
 told =
     []

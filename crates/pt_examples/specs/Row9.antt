@@ -43,7 +43,7 @@ entered =
     ∷ Ok (Call 1 (call.Rwunlock named_r) (Some Done) ∷ Grant 6 Done ∷ [])
     ∷ []
 
--- who is told what by each accepted event
+-- which answers each accepted event gives, and to whom
 abbrev pub told : List (List (ℕ × Outcome))
 told =
     []

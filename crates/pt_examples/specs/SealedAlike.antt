@@ -1,4 +1,4 @@
--- SealedAlike: rows that are the same where the history is sealed between their events.
+-- SealedAlike: rows that are the same if the history is sealed between their events.
 use Rattle.std.specs.Prelude.{◌≡◌, ℕ, List, [], ◌∷◌, map, Result}
 use Rattle.pt_types.specs.declared.outcome.Outcome.{Outcome}
 use Rattle.pt_types.specs.declared.outcome.Refusal.{Refusal}
@@ -25,8 +25,8 @@ use Rattle.pt_examples.specs.Row18 as row_18
 use Rattle.pt_examples.specs.Row19 as row_19
 use Rattle.pt_examples.specs.Row20 as row_20
 
--- with so many entries at most behind each seal, the history is sealed at these places, and the
--- entries, their places and what is told are those of a history without seals  [profile]
+-- with so many entries at most after each seal, the history is sealed at these places, and the
+-- entries, their places and the answers are those of a history without seals
 abbrev pub IsAlike :
     (limit : ℕ) (seals : List ℕ) (events : List Event)
     (entered : List (Result (List Entry) Refusal)) (told : List (List (ℕ × Outcome)))

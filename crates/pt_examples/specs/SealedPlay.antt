@@ -1,4 +1,4 @@
--- SealedPlay: events played out by the definitions alone, where a history is sealed between them.
+-- SealedPlay: events played by the definitions alone, with a history that is sealed between them.
 use Rattle.std.specs.Prelude.{◌≡◌, ℕ, List, [], ◌∷◌, ◌++◌, map, Option, Some, None, Result, Ok, Err, if◌then◌else◌}
 use Rattle.std.specs.Option.{option_to_list}
 use Rattle.pt_types.specs.declared.outcome.Outcome.{Outcome}
@@ -12,49 +12,48 @@ use Rattle.pt_model.specs.Room.{entry_for, needs_seal, refusal_with_seals}
 use Rattle.pt_model.specs.Seals.{seal}
 use Rattle.pt_examples.specs.Play.{play, said, told_in, entered_by}
 
--- these events write these entries behind h, and tell this  [profile]
+-- these events write these entries after h, and give these answers
 abbrev pub Plays :
     (h : History) (events : List Event) (entered : List (Result (List Entry) Refusal))
     (told : List (List (ℕ × Outcome)))
     → Type 0
 Plays h events entered told = (play h events ≡ entered) × (told_in h entered ≡ told)
 
--- a history goes on from its seal  [profile]
+-- a history goes on from its seal
 abbrev pub behind_seal : History → History
 behind_seal h = Begin (seal h)
 
--- the history in which an event's entries are written: sealed, where they need it  [profile]
+-- the history in which an event's entries are written: sealed, if they need it
 abbrev pub opened : ℕ → History → Event → History
 opened limit h v = if needs_seal limit h v then behind_seal h else h
 
--- where the history is sealed for an event, if it is  [profile]
+-- where the history is sealed for an event, if it is
 abbrev pub sealed_at : ℕ → History → Event → Option ℕ
 sealed_at limit h v = if needs_seal limit h v then Some (place h) else None
 
 -- an accepted event as it was played: where the history was sealed for it, that in which it was
--- written, and its entries  [profile]
+-- written, and its entries
 pub record Played : Type 0 where
   pub sealed : Option ℕ
   pub past : History
   pub entries : List Entry
 
--- an event's entries in the history in which they are written  [profile]
+-- an event's entries in the history in which they are written
 abbrev pub written : Option ℕ → History → Event → Played
 written at h v = record { sealed = at; past = h; entries = entered_by h (entry_for h v) }
 
--- the history behind it  [profile]
+-- the history after it
 abbrev pub behind_event : Played → History
 behind_event p = onto p.past p.entries
 
--- what an accepted event or a refused one gives, and what all later events give  [profile]
+-- what an accepted event or a refused one gives, and what all later events give
 abbrev pub sealing_by :
     Played → (History → List (Result Played Refusal)) → History → Option Refusal
     → List (Result Played Refusal)
 sealing_by p rest h (Some r) = Err r ∷ rest h
 sealing_by p rest h None = Ok p ∷ rest (behind_event p)
 
--- each event as it was played, or its refusal, with so many entries at most behind each seal
--- [profile]
+-- each event as it was played, or its refusal, with so many entries at most after each seal
 abbrev pub play_sealing : ℕ → History → List Event → List (Result Played Refusal)
 play_sealing limit h [] = []
 play_sealing limit h (v ∷ vs) =
@@ -64,33 +63,33 @@ play_sealing limit h (v ∷ vs) =
     h
     (refusal_with_seals limit h v)
 
--- the history behind the last of these events  [profile]
+-- the history after the last of these events
 abbrev pub last_of : History → List (Result Played Refusal) → History
 last_of h [] = h
 last_of h (Err r ∷ ps) = last_of h ps
 last_of h (Ok p ∷ ps) = last_of (behind_event p) ps
 
--- the next place behind each event and the entries held, or its refusal  [profile]
+-- the next place after each event and the entries held, or its refusal
 abbrev pub measured : Result Played Refusal → Result (ℕ × ℕ) Refusal
 measured (Err r) = Err r
 measured (Ok p) = Ok (place (behind_event p), held (behind_event p))
 
--- the same of each event, with so many entries at most behind each seal  [profile]
+-- the same of each event, with so many entries at most after each seal
 abbrev pub lengths_sealing : ℕ → List Event → List (Result (ℕ × ℕ) Refusal)
 lengths_sealing limit events = map measured (play_sealing limit (Begin nothing) events)
 
--- the entries of an event, or its refusal  [profile]
+-- the entries of an event, or its refusal
 abbrev pub entries_of : Result Played Refusal → Result (List Entry) Refusal
 entries_of (Err r) = Err r
 entries_of (Ok p) = Ok p.entries
 
--- who is told what by each accepted event  [profile]
+-- which answers each accepted event gives, and to whom
 abbrev pub told_by : List (Result Played Refusal) → List (List (ℕ × Outcome))
 told_by [] = []
 told_by (Err r ∷ ps) = told_by ps
 told_by (Ok p ∷ ps) = map said (replies_from p.past p.entries) ∷ told_by ps
 
--- where the history was sealed for these events  [profile]
+-- where the history was sealed for these events
 abbrev pub seals_of : List (Result Played Refusal) → List ℕ
 seals_of [] = []
 seals_of (Err r ∷ ps) = seals_of ps

@@ -1,4 +1,4 @@
--- SealedRows: the room in short histories that are sealed where they need it.
+-- SealedRows: the room in short histories that are sealed if they need it.
 use Rattle.std.specs.Prelude.{◌≡◌, ℕ, true, List, [], ◌∷◌, ◌++◌, Ok, Err, codes}
 use Rattle.pt_types.specs.Times.{nanos}
 use Rattle.pt_types.specs.declared.time.Clock.TheVariants.{Real}
@@ -36,48 +36,46 @@ second =
 abbrev pub strangers : List Event
 strangers = event.Death 0 ∷ event.Death 11 ∷ []
 
--- with seven entries at most behind each seal, the second lock comes behind one  [profile]
+-- with seven entries at most after each seal, the second lock comes after one
 abbrev pub IsSealedAtSeven : Type 0
 IsSealedAtSeven =
     lengths_sealing 7 (first ++ second ++ strangers)
     ≡ Ok (1, 1) ∷ Ok (2, 2) ∷ Ok (4, 4) ∷ Ok (5, 5) ∷ Ok (7, 2) ∷ Ok (8, 3) ∷ Ok (9, 4)
     ∷ Ok (11, 6) ∷ Err Dead ∷ Err Nohello ∷ []
 
--- the history behind these events  [profile]
+-- the history after these events
 abbrev pub at_last : History
 at_last = last_of (Begin nothing) (play_sealing 7 (Begin nothing) (first ++ second))
 
 -- a seal goes on with the next place, and so does a seal of that; the outer entries of all
--- histories are counted  [profile]
+-- histories are counted
 abbrev pub IsTwiceSealed : Type 0
 IsTwiceSealed =
     ((seal at_last).at ≡ 11)
     × ((seal (behind_seal at_last)).at ≡ 11)
     × ((seal (behind_seal at_last)).outer ≡ 8)
 
--- the same limit, where a Yield must still be written: the second moment comes behind a seal
--- [profile]
+-- the same limit, if a Yield must still be written: the second moment comes after a seal
 abbrev pub IsSealedBeforeYield : Type 0
 IsSealedBeforeYield =
     lengths_sealing 7 (first ++ moments ++ event.Death 0 ∷ [])
     ≡ Ok (1, 1) ∷ Ok (2, 2) ∷ Ok (4, 4) ∷ Ok (5, 5) ∷ Ok (6, 1) ∷ Ok (8, 3) ∷ []
 
--- with six entries at most the first lock comes behind a seal  [profile]
+-- with six entries at most the first lock comes after a seal
 abbrev pub IsSealedAtSix : Type 0
 IsSealedAtSix = lengths_sealing 6 first ≡ Ok (1, 1) ∷ Ok (2, 2) ∷ Ok (4, 2) ∷ []
 
--- with four a seal makes no room for it, and none comes; the second moment comes behind one
--- [profile]
+-- with four a seal makes no room for it, and none comes; the second moment comes after one
 abbrev pub IsSealedAtFour : Type 0
 IsSealedAtFour =
     lengths_sealing 4 (first ++ moments)
     ≡ Ok (1, 1) ∷ Ok (2, 2) ∷ Err Full ∷ Ok (3, 3) ∷ Ok (4, 1) ∷ []
 
--- with one nobody can join, and each moment but the first comes behind a seal  [profile]
+-- with one nobody can join, and each moment but the first comes after a seal
 abbrev pub IsSealedAtOne : Type 0
 IsSealedAtOne =
     lengths_sealing 1 (event.Join 10 ∷ moments) ≡ Err Full ∷ Ok (1, 1) ∷ Ok (2, 1) ∷ []
 
--- with none a seal makes no room for anything  [profile]
+-- with none a seal makes no room for anything
 abbrev pub IsSealedAtNone : Type 0
 IsSealedAtNone = lengths_sealing 0 moments ≡ Err Full ∷ Err Full ∷ []

@@ -10,7 +10,7 @@ use Rattle.pt_types.specs.MutexTable.{MutexView, lock_verdict}
 use Rattle.pt_types.specs.RwlockTable.{RwlockView, read_verdict}
 use Rattle.pt_types.specs.ObjectTable.{init_verdict}
 
--- a RECURSIVE mutex that client 0 has locked so often  [profile]
+-- a RECURSIVE mutex that client 0 has locked so often
 abbrev pub locked : ℕ → MutexView
 locked n =
     record {
@@ -21,7 +21,7 @@ locked n =
       count = n;
     }
 
--- a read-write lock that the caller has locked for reading so often  [profile]
+-- a read-write lock that the caller has locked for reading so often
 abbrev pub read : ℕ → RwlockView
 read n = record { writes = false; reads = n; is_written = false; is_read = true }
 
@@ -37,14 +37,14 @@ HasMostReads =
     (read_verdict (read 254) true Plain ≡ Stands)
     × (read_verdict (read 255) false Try ≡ Reply Eagain)
 
--- 4,096 objects; a name in use is told before the limit  [profile]
+-- 4,096 objects; a name in use is answered before the limit
 abbrev pub HasMostObjects : Type 0
 HasMostObjects =
     (init_verdict Cond false 4095 ≡ Reply Done)
     × (init_verdict Cond false 4096 ≡ Reply Eagain)
     × (init_verdict Cond true 4096 ≡ Reply Ebusy)
 
--- 1,024 calls at a barrier; a bad count is told before the name  [profile]
+-- 1,024 calls at a barrier; a bad count is answered before the name
 abbrev pub HasMostAtBarrier : Type 0
 HasMostAtBarrier =
     (init_verdict (Barrier 1024) false 0 ≡ Reply Done)

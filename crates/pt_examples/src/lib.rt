@@ -1,6 +1,6 @@
-//! The worked rows, played by the definitions alone: what each event writes, who is told what, and
+//! The worked rows, played by the definitions alone: what each event writes and answers, and
 //! which histories are legal. Each function's contract is one row, proved by computation.
-//! `docs/ROWS.md` tells each row in words. There is no code here that runs.
+//! `docs/ROWS.md` has each row in words. There is no code here that runs.
 #![tactic(auto)]
 
 ghost use Rattle.pt_examples.specs.Row2.{IsPlayed2, IsLegal2};
@@ -60,7 +60,7 @@ pub fn row_7()
     ensures { IsPlayed7 }
 {}
 
-/// Row 8: readers behind a writer of their priority wait, and a holder reads on.
+/// Row 8: readers after a writer of their priority wait, and a holder reads on.
 pub fn row_8()
     ensures { IsPlayed8 }
 {}
@@ -106,7 +106,7 @@ pub fn row_16()
     ensures { IsPlayed16 }
 {}
 
-/// Row 18: woken waits queue behind those who came before the broadcast.
+/// Row 18: woken waits queue after those who came before the broadcast.
 pub fn row_18()
     ensures { IsPlayed18 }
 {}
@@ -155,7 +155,7 @@ pub fn row_23()
     ensures none { IsFullAtNone }
 {}
 
-/// Row 38: the room in short histories that are sealed where they need it.
+/// Row 38: the room in short histories that are sealed if they need it.
 pub fn row_38()
     ensures seven { IsSealedAtSeven }
     ensures twice { IsTwiceSealed }
@@ -166,24 +166,24 @@ pub fn row_38()
     ensures none { IsSealedAtNone }
 {}
 
-/// Row 39: what a dead client held is held, and is told of, behind a seal.
+/// Row 39: what a dead client held stays held, and the death is reported, after a seal.
 pub fn row_39()
     ensures played { IsPlayed39 }
     ensures told { IsTold39 }
 {}
 
-/// Row 40: when and why a wait was moved is known behind a seal.
+/// Row 40: when and why a wait was moved is known after a seal.
 pub fn row_40()
     ensures played { IsPlayed40 }
     ensures answered { IsAnswered40 }
 {}
 
-/// Row 41: both clocks count on behind a seal.
+/// Row 41: both clocks count on after a seal.
 pub fn row_41()
     ensures { IsPlayed41 }
 {}
 
-/// Rows 2 to 20 with 30 entries at most behind each seal, and with as few as they need: they are
+/// Rows 2 to 20 with 30 entries at most after each seal, and with as few as they need: they are
 /// the same.
 pub fn rows_behind_seals()
     ensures row_2 { IsAlike2 }

@@ -54,7 +54,7 @@ impl<B> Refusing<B> {
         }
     }
 
-    /// Whether that growth has come.
+    /// Whether the growth that is to be refused has come.
     pub fn has_refused(&self) -> bool
         ensures { IsTrue result → 0 < self.now.turns.refused }
     {
@@ -80,8 +80,8 @@ unsafe impl<B: Allocator> Allocator for Refusing<B> {
 /// Runs `run` over an allocator that refuses its first growth, then over one that refuses its
 /// second, and so on, until a run comes to its end with no growth refused.
 ///
-/// `run` answers whether it met want of memory. The answer is the number of growths refused, or
-/// None where `most` runs were too few, or the last run met want of memory though none was refused.
+/// `run` answers whether it met lack of memory. The answer is the number of growths refused, or
+/// None if `most` runs were too few, or the last run met lack of memory though none was refused.
 ///
 /// # Errors
 ///

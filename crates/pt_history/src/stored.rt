@@ -1,11 +1,13 @@
-use pt_model::Entry;
+use pt_model::{Entry, Start};
 use pt_types::Refusal;
 use std::alloc::{Allocator, Global};
 use std::marker::Model;
 
-/// Entries in the order in which they came. An entry's place is its number, from 0.  [profile]
+/// What a history begins with, and the entries since in the order in which they came. Places go on
+/// from the Start's.
 #[derive(Drop)]
 pub struct History<A: Allocator + Copy = Global> {
+    start: Start<A>,
     entries: Vec<Entry, A>,
     limit: u32,
     room: u64,
@@ -14,32 +16,42 @@ pub struct History<A: Allocator + Copy = Global> {
 impl<A: Allocator + Copy> Model for History<A> {
     ghost use Rattle.pt_history.specs.Stored.{Stored, IsWithin};
     ghost use Rattle.std.specs.Prelude.{◌+◌, ◌≤◌, vec_len, vec_capacity};
+    ghost use Rattle.pt_model.specs.StartRows.{rows_of};
 
     ghost Value = { Stored };
 
-    ghost view = { λ h. record { entries = h.entries.items; limit = h.limit; room = h.room } };
+    ghost view = { λ h. record {
+      start = rows_of h.start;
+      entries = h.entries.items;
+      limit = h.limit;
+      room = h.room;
+    } };
 
-    ghost invariant = { λ h. IsWithin (vec_len h.entries) h.room h.limit (vec_capacity h.entries) };
+    ghost invariant = { λ h.
+        IsWithin h.start.at (vec_len h.entries) h.room h.limit (vec_capacity h.entries) };
 }
 
 impl<A: Allocator + Copy> History<A> {
-    ghost use Rattle.std.specs.Prelude.{◌≡◌, ◌↔◌, ◌+◌, ◌-◌, ◌<◌, ◌≤◌, [], ◌∷◌, ◌++◌, length, slice_get, option_copied, IsOk, OnOk, OnErr, IfErr, ◌≢◌};
-    ghost use Rattle.pt_history.specs.Stored.{Stored};
+    ghost use Rattle.std.specs.Prelude.{◌≡◌, ◌↔◌, ◌+◌, ◌-◌, ◌<◌, ◌≤◌, [], ◌∷◌, ◌++◌, length, slice_get, option_copied, None, IsOk, OnOk, OnErr, IfErr, ◌≢◌};
+    ghost use Rattle.pt_types.specs.Limits.{most_places};
+    ghost use Rattle.pt_model.specs.StartRows.{no_rows, rows_of};
+    ghost use Rattle.pt_history.specs.Stored.{Stored, begun};
 
     /// An empty history of at most so many entries. It takes no memory.
     pub fn with_limit(alloc: A, limit: u32) -> History<A>
-        ensures { result ≡ record { entries = []; limit = limit; room = 0 } }
+        ensures { result ≡ begun limit }
     {
         History {
+            start: Start::new(alloc),
             entries: Vec::new(alloc),
             limit,
             room: 0,
         }
     }
 
-    /// Makes room for so many entries more. FULL exactly where the history would pass its limit
-    /// with them; else ENOMEM where the growth is refused. A refusal changes nothing. Room that is
-    /// there already is never refused.  [profile]
+    /// Makes room for so many entries more. FULL exactly if the history would pass its limit
+    /// with them; else ENOMEM if the growth is refused. A refusal changes nothing. Room that is
+    /// there already is never refused.
     pub fn reserve_for(&mut self, room: u64) -> Result<(), Refusal>
         ensures ok { OnOk result (self.new ≡ record self.old { room = room }) }
         ensures full { (result ≡ Err Refusal.Full)
@@ -71,35 +83,64 @@ impl<A: Allocator + Copy> History<A> {
         self.room -= 1;
     }
 
-    /// The number of entries, which is the place of the next one.
-    pub fn len(&self) -> u64
+    /// Forgets the entries and begins anew with this Start. The room stays, and so does the memory.
+    /// It takes no memory.
+    pub fn seal(&mut self, start: Start<A>)
+        requires { start.at ≤ most_places }
+        ensures { self.new ≡ record self.old { start = rows_of start; entries = [] } }
+    {
+        self.start = start;
+        self.entries.clear();
+    }
+
+    /// What the history begins with.
+    pub fn start(&self) -> &Start<A>
+        ensures { rows_of result.now ≡ self.now.start }
+    {
+        &self.start
+    }
+
+    /// The number of entries since the Start.
+    pub fn held(&self) -> u64
         ensures { result ≡ length self.now.entries }
     {
         self.entries.len() as u64
     }
 
-    /// The entry at a place, where there is one.
-    pub fn entry(&self, place: u64) -> Option<&Entry>
-        ensures { option_copied result ≡ slice_get self.now.entries place }
+    /// The place of the next entry.
+    pub fn len(&self) -> u64
+        ensures { result ≡ self.now.start.at + length self.now.entries }
     {
-        self.entries.get(place as usize)
+        self.start.at + self.entries.len() as u64
     }
 
-    /// All entries, in order.
+    /// The entry at a place, if there is one; places before the Start have none.
+    pub fn entry(&self, place: u64) -> Option<&Entry>
+        ensures before { place < self.now.start.at → result ≡ None }
+        ensures since { self.now.start.at ≤ place
+            → option_copied result ≡ slice_get self.now.entries (place - self.now.start.at) }
+    {
+        if place < self.start.at {
+            return None;
+        }
+        self.entries.get((place - self.start.at) as usize)
+    }
+
+    /// All entries since the Start, in order.
     pub fn entries(&self) -> &[Entry]
         ensures { result.now ≡ self.now.entries }
     {
         self.entries.as_slice()
     }
 
-    /// The greatest number of entries.
+    /// The greatest number of entries since the Start.
     pub fn limit(&self) -> u32
         ensures { result ≡ self.now.limit }
     {
         self.limit
     }
 
-    /// For how many entries more room is kept.
+    /// How many more entries have room.
     pub fn room(&self) -> u64
         ensures room { result ≡ self.now.room }
         ensures within { length self.now.entries + self.now.room ≤ self.now.limit }

@@ -4,3 +4,7 @@ pub mod ReadingLemmas
 pub mod SeenLemmas
 pub mod DeskLemmas
 pub mod HubLemmas
+pub mod FindLemmas
+pub mod ClaimLemmas
+pub mod AnswerLemmas
+pub mod ForkLemmas

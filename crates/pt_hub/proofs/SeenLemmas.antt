@@ -18,7 +18,7 @@ use Rattle.pt_hub.specs.declared.account.Account.{Account}
 use Rattle.pt_hub.specs.Desks.{Desk, kept, is_blocked, next_answer, call_refusal, IsRefusedAs, IsDesk}
 use Rattle.pt_hub.proofs.ReadingLemmas.{awaits_in, blocked-awaits, unrefused, caller-known, next-blocked, next-free, next-open, taker-known, taker-small}
 
--- what refuses an event for which the core has no refusal is want of memory
+-- what refuses an event for which the core has no refusal is lack of memory
 pub wanted : (known : Option Refusal) (r : Refusal) (e : Event)
     → MatchOption known (IsWantOfMemory e r) (λ x. r ≡ x) → IsRefusedAs known r
 wanted None r e w = w.0

@@ -18,59 +18,59 @@ use Rattle.pt_told.specs.Tallies.{told_count, open_count}
 use Rattle.pt_core.specs.Cores.{Kept, past, Seen, shown}
 use Rattle.pt_hub.specs.declared.account.Account.{Account}
 
--- what is seen of the core, and the account of each living client  [profile]
+-- what is seen of the core, and the account of each living client
 pub record Desk : Type 0 where
   pub core : Seen
   pub accounts : List (ℕ × Account)
 
--- what the history begins with, the entries since, and their limit  [profile]
+-- what the history begins with, the entries since, and their limit
 abbrev pub kept : Desk → Kept
 kept d = shown d.core
 
--- the account of a client  [profile]
+-- the account of a client
 abbrev pub account_of : Desk → ℕ → Option Account
 account_of d c = lookup (nat_eq c) d.accounts
 
--- how many answers a client got since the history was sealed  [profile]
+-- how many answers a client got since the history was sealed
 abbrev pub got : Kept → ℕ → ℕ
 got k c = told_count k.start k.entries c
 
--- the answers that were owed when the history was sealed; none if there is no account  [profile]
+-- the answers that were owed when the history was sealed; none if there is no account
 abbrev pub owed_in : Option Account → ℕ
 owed_in None = 0
 owed_in (Some a) = a.owed
 
--- how many answers an account took since then  [profile]
+-- how many answers an account took since then
 abbrev pub taken_in : Option Account → ℕ
 taken_in None = 0
 taken_in (Some a) = a.taken
 
--- the account once a call is made, whose answer is awaited  [profile]
+-- the account once a call is made, whose answer is awaited
 abbrev pub awaiting : Option Account → Option Account
 awaiting o = Some (record { owed = owed_in o; taken = taken_in o; awaits = true })
 
--- the account once one answer more is taken  [profile]
+-- the account once one answer more is taken
 abbrev pub after_taking : Option Account → Option Account
 after_taking o = Some (record { owed = owed_in o; taken = taken_in o + 1; awaits = false })
 
--- whether a client with this account has an answer that it hasn't taken  [profile]
+-- whether a client with this account has an answer that it hasn't taken
 abbrev pub is_untaken_in : Kept → ℕ → Option Account → Bool
 is_untaken_in k c None = false
 is_untaken_in k c (Some a) = nat_lt a.taken (a.owed + got k c)
 
--- whether a client has an answer that it hasn't taken  [profile]
+-- whether a client has an answer that it hasn't taken
 abbrev pub is_untaken : Desk → ℕ → Bool
 is_untaken d c = is_untaken_in (kept d) c (account_of d c)
 
--- whether its last call is open, or its answer isn't taken  [profile]
+-- whether its last call is open, or its answer isn't taken
 abbrev pub is_blocked : Desk → ℕ → Bool
 is_blocked d c = is_some (open_place (past (kept d)) c) || is_untaken d c
 
--- the answer that a client hasn't taken  [profile]
+-- the answer that a client hasn't taken
 abbrev pub next_answer : Desk → ℕ → Option Told
 next_answer d c = if is_untaken d c then answer_of (past (kept d)) c else None
 
--- of the answers owed and got since, all were taken, or all but one  [profile]
+-- of the answers owed and got since, all were taken, or all but one
 abbrev pub IsTakenButOne : Desk → ℕ → Type 0
 IsTakenButOne d c =
     (owed_in (account_of d c) + got (kept d) c ≡ taken_in (account_of d c))
@@ -80,7 +80,7 @@ IsTakenButOne d c =
 abbrev pub one_if : Bool → ℕ
 one_if b = if b then 1 else 0
 
--- the account is that of a living client: of its answers it took all but one at most  [profile]
+-- the account is that of a living client: of its answers it took all but one at most
 pub record IsServed (k : Kept) (c : ℕ) (a : Account) : Type 0 where
   pub alive : is_alive (past k) c ≡ true
   pub whole : a.owed + got k c + open_count (past k) c ≡ a.taken + one_if a.awaits
@@ -88,12 +88,12 @@ pub record IsServed (k : Kept) (c : ℕ) (a : Account) : Type 0 where
   pub asked : a.awaits ≡ true → is_some (latest (past k) c) ≡ true
   pub small : a.taken + one_if a.awaits ≤ place (past k)
 
--- a client has an account exactly while it lives  [profile]
+-- a client has an account exactly while it lives
 abbrev pub IsAccount : Kept → ℕ → Option Account → Type 0
 IsAccount k c None = is_alive (past k) c ≡ false
 IsAccount k c (Some a) = IsServed k c a
 
--- a legal history within its limits, and the accounts of its living clients  [profile]
+-- a legal history within its limits, and the accounts of its living clients
 pub record IsDesk (d : Desk) : Type 0 where
   pub starts : IsStart (kept d).start
   pub legal : LegalBehind (kept d).start (kept d).entries (events_of (kept d).entries)
@@ -103,16 +103,16 @@ pub record IsDesk (d : Desk) : Type 0 where
   pub within : place (past (kept d)) ≤ most_places + most_entries
   pub few : outer (past (kept d)) ≤ place (past (kept d))
 
--- why a call is refused, for another reason than want of memory  [profile]
+-- why a call is refused, for another reason than lack of memory  [profile]
 abbrev pub call_refusal : Desk → ℕ → Asked → Option Refusal
 call_refusal d c call =
     if is_blocked d c then Some Blocked
     else refusal_within (kept d).limit (past (kept d)) (event.Call c call)
 
--- the refusal that applies, or want of memory if none does  [profile]
+-- the refusal that applies, or lack of memory if none does  [profile]
 abbrev pub IsRefusedAs : Option Refusal → Refusal → Type 0
 IsRefusedAs known r = MatchOption known (r ≡ Enomem) (λ x. r ≡ x)
 
--- a client's account is this one now, or it has none, and the others are as before  [profile]
+-- a client's account is this one now, or it has none, and the others are as before
 abbrev pub Wrote : List (ℕ × Account) → List (ℕ × Account) → ℕ → Option Account → Type 0
 Wrote old new c o = (d : ℕ) → lookup (nat_eq d) new ≡ if c == d then o else lookup (nat_eq d) old

@@ -20,36 +20,35 @@ use Rattle.pt_hub.specs.Desks.{Desk, kept, IsTakenButOne, Wrote, account_of, awa
 use Rattle.pt_hub.specs.Passes.{PassView}
 
 -- the history with the accounts; the open sessions with their marks; how many were opened; and
--- the book of the ledger  [profile]
+-- the book of the ledger
 pub record HubView : Type 0 where
   pub desk : Desk
   pub marks : List (ℕ × Bool)
   pub opened : ℕ
   pub booked : ℕ
 
--- the place of the next entry  [profile]
+-- the place of the next entry
 abbrev pub next_place : Desk → ℕ
 next_place d = place (past (kept d))
 
--- how many events the history has, those before its Start included  [profile]
+-- how many events the history has, those before its Start included
 abbrev pub outer_count : Desk → ℕ
 outer_count d = outer (past (kept d))
 
--- how many events were counted, how many parts of the ledger are left, and its book  [profile]
+-- how many events were counted, how many parts of the ledger are left, and its book
 pub record TallyView : Type 0 where
   pub outer : ℕ
   pub parts : ℕ
   pub total : ℕ
 
 -- the ledger has counted each event, and there are parts left for all clients and sessions
--- [profile]
 pub record IsHub (v : HubView) (t : TallyView) : Type 0 where
   pub outer : t.outer ≡ outer_count v.desk
   pub book : v.booked ≡ t.outer
   pub parts : 2 ^ 63 ≤ t.parts + next_place v.desk + v.opened + 1
   pub sessions : v.opened ≤ 2 ^ 32
 
--- what holds whenever the lock is free  [profile]
+-- what holds whenever the lock is free
 pub record Fits (v : HubView) : Type 0 where
   pub starts : IsStart (kept v.desk).start
   pub legal : LegalBehind (kept v.desk).start (kept v.desk).entries
@@ -57,7 +56,7 @@ pub record Fits (v : HubView) : Type 0 where
   pub taken : (c : ℕ) → is_alive (past (kept v.desk)) c ≡ true → IsTakenButOne v.desk c
   pub book : v.booked ≡ outer_count v.desk
 
--- a client joined, and this is its pass  [profile]
+-- a client joined, and this is its pass
 pub record Joins (old : HubView) (priority : ℕ) (new : HubView) (pass : PassView) : Type 0 where
   pub applies : Applies (kept old.desk) (event.Join priority) (kept new.desk)
   pub its_pass : pass ≡ record {
@@ -70,7 +69,7 @@ pub record Joins (old : HubView) (priority : ℕ) (new : HubView) (pass : PassVi
   pub marks : new.marks ≡ old.marks
   pub opened : new.opened ≡ old.opened
 
--- a client's call was sent  [profile]
+-- a client's call was sent
 pub record Sends (old : HubView) (before : PassView) (call : Asked) (new : HubView)
     (after : PassView) (s : Sent) : Type 0 where
   pub applies : Applies (kept old.desk) (event.Call before.client call) (kept new.desk)
@@ -85,7 +84,7 @@ pub record Sends (old : HubView) (before : PassView) (call : Asked) (new : HubVi
   pub marks : new.marks ≡ old.marks
   pub opened : new.opened ≡ old.opened
 
--- the last of these receipts  [profile]
+-- the last of these receipts
 abbrev pub last_receipt : List Receipt → Option Receipt
 last_receipt rs = slice_get rs (length rs - 1)
 
@@ -94,7 +93,7 @@ abbrev pub is_pending_if : Option Receipt → ℕ → Bool
 is_pending_if None j = false
 is_pending_if (Some r) j = (r.place == j) && is_none r.answer
 
--- whether the last of these receipts is of this place, and has no answer  [profile]
+-- whether the last of these receipts is of this place, and has no answer
 abbrev pub is_pending : List Receipt → ℕ → Bool
 is_pending rs j = is_pending_if (last_receipt rs) j
 
@@ -103,7 +102,7 @@ abbrev pub with_last : List Receipt → Option Receipt → Outcome → List Rece
 with_last rs None x = rs
 with_last rs (Some r) x = slice_set rs (length rs - 1) (record r { answer = Some x })
 
--- the last of these receipts gets its answer  [profile]
+-- the last of these receipts gets its answer
 abbrev pub answered : List Receipt → Outcome → List Receipt
 answered rs x = with_last rs (last_receipt rs) x
 
@@ -112,11 +111,11 @@ abbrev pub takeable_if : List Receipt → Option Told → Option Told
 takeable_if rs None = None
 takeable_if rs (Some t) = if is_pending rs t.place then Some t else None
 
--- the answer that a client may take with its pass  [profile]
+-- the answer that a client may take with its pass
 abbrev pub takeable : HubView → PassView → Option Told
 takeable v p = takeable_if p.receipts (next_answer v.desk p.client)
 
--- a client took this answer  [profile]
+-- a client took this answer
 pub record Takes (old : HubView) (before : PassView) (new : HubView) (after : PassView)
     (a : Answer) : Type 0 where
   pub there : takeable old before
@@ -128,30 +127,30 @@ pub record Takes (old : HubView) (before : PassView) (new : HubView) (after : Pa
   pub marks : new.marks ≡ old.marks
   pub opened : new.opened ≡ old.opened
 
--- a moment was handed in  [profile]
+-- a moment was handed in
 pub record Ticks (old : HubView) (k : Clock) (t : ℕ) (new : HubView) : Type 0 where
   pub applies : Applies (kept old.desk) (event.Moment k t) (kept new.desk)
   pub accounts : new.desk.accounts ≡ old.desk.accounts
   pub marks : new.marks ≡ old.marks
   pub opened : new.opened ≡ old.opened
 
--- a living client died  [profile]
+-- a living client died
 pub record Dies (old : HubView) (c : ℕ) (new : HubView) : Type 0 where
   pub applies : Applies (kept old.desk) (event.Death c) (kept new.desk)
   pub account : Wrote old.desk.accounts new.desk.accounts c None
   pub marks : new.marks ≡ old.marks
   pub opened : new.opened ≡ old.opened
 
--- whether the input of a session has ended; it has if the session isn't open  [profile]
+-- whether the input of a session has ended; it has if the session isn't open
 abbrev pub ended_in : Option Bool → Bool
 ended_in None = true
 ended_in (Some b) = b
 
--- the same of a session's number  [profile]
+-- whether the input of the session with this number has ended
 abbrev pub has_ended : HubView → ℕ → Bool
 has_ended v s = ended_in (lookup (nat_eq s) v.marks)
 
--- a session's mark is this one now, or it isn't open, and the others are as before  [profile]
+-- a session's mark is this one now, or it isn't open, and the others are as before
 abbrev pub Marked : List (ℕ × Bool) → List (ℕ × Bool) → ℕ → Option Bool → Type 0
 Marked old new s o = (t : ℕ) → lookup (nat_eq t) new ≡ if s == t then o else lookup (nat_eq t) old
 
@@ -160,6 +159,6 @@ abbrev pub set_in : Option Bool → Option Bool
 set_in None = None
 set_in (Some b) = Some true
 
--- a session's mark is set, if it is open  [profile]
+-- a session's mark is set, if it is open
 abbrev pub IsEndedIf : List (ℕ × Bool) → List (ℕ × Bool) → ℕ → Type 0
 IsEndedIf old new s = Marked old new s (set_in (lookup (nat_eq s) old))

@@ -9,7 +9,6 @@ use std::hash::{BuildHasherDefault, FoldHasher};
 
 /// What the hub keeps of a living client: how many answers it was owed when the history was sealed,
 /// how many it took since, and whether it awaits one, from its call on until it takes the answer.
-/// [profile]
 #[derive(Clone, Copy, Debug, PartialEq, Eq)]
 pub struct Account {
     pub owed: u64,

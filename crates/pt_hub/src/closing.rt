@@ -1,4 +1,4 @@
-//! The end of a hub: are the events of its history those that are handed in?
+//! The end of a hub: the events of its history are counted beside those that are handed in.
 
 ghost use Rattle.std.specs.Prelude.{◌≡◌, ◌<◌, ◌^◌, sum_by};
 ghost use Rattle.pt_hub.specs.Passes.{events_of_left, events_of_clock};
@@ -8,19 +8,28 @@ use crate::pass::{ClockPass, Left};
 use std::alloc::{Allocator, Global};
 use std::sync::ledger::Ledger;
 
-/// How many events and how many entries a history has.  [profile]
+/// How many events and how many entries a history has.
 #[derive(Clone, Copy, Debug, PartialEq, Eq)]
 pub struct Closed {
     pub outer: u64,
     pub entries: u64,
 }
 
-/// What is handed back if a hub doesn't close: it has had `expected` events, and `found` were
-/// handed in.
+/// Why a hub doesn't close, in the order of the checks.
+#[derive(Clone, Copy, Debug, PartialEq, Eq)]
+pub enum CloseFault {
+    /// The history has so many events, and so many were handed in.
+    Missing { expected: u64, found: u128 },
+    /// At this place, and at none before it, the history differs from what a client left.
+    Forked { place: u64 },
+    /// A growth was refused. The checks of this hub take no memory, so it never comes.
+    Memory,
+}
+
+/// What is handed back if a hub doesn't close: all that was handed in, and why.
 #[derive(Drop)]
 pub struct CloseRefused<L: Ledger, A: Allocator + Copy = Global> {
-    pub expected: u64,
-    pub found: u128,
+    pub fault: CloseFault,
     pub hub: Hub<L, A>,
     pub left: Vec<Left<L, A>, A>,
     pub clock: Vec<ClockPass<L, A>, A>,

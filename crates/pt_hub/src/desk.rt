@@ -8,10 +8,12 @@ ghost use Rattle.pt_model.specs.declared.entry.Event.TheVariants as event;
 ghost use Rattle.pt_model.specs.Starts.{nothing};
 ghost use Rattle.pt_model.specs.Histories.{place as place_of, outer};
 ghost use Rattle.pt_model.specs.Clients.{is_alive};
+ghost use Rattle.pt_model.specs.Answers.{outcome};
 ghost use Rattle.pt_model.specs.Queries.{least_deadline as least_deadline_in};
 ghost use Rattle.pt_model.specs.Room.{refusal_within};
 ghost use Rattle.pt_model.specs.Legal.{LegalBehind, events_of};
 ghost use Rattle.pt_model.specs.Steps.{IsStart};
+ghost use Rattle.pt_told.specs.OwnEvents.{own_at, own_event};
 ghost use Rattle.pt_core.specs.Cores.{past};
 ghost use Rattle.pt_core.specs.Applying.{IsApplied};
 ghost use Rattle.pt_core.specs.Replies.{told_of};
@@ -21,9 +23,21 @@ use crate::account::{Account, Accounts, erase, read, write};
 use indexmap::IndexMap;
 use pt_core::{Applied, Core, Reply};
 use pt_model::{Entry, Event};
-use pt_types::{Call, ClientId, Clock, Deadline, Moment, Priority, Refusal};
+use pt_types::{Call, ClientId, Clock, Deadline, Moment, Outcome, Priority, Refusal};
 use std::alloc::Allocator;
 use std::marker::Model;
+
+// The event of an entry, if the client joins, makes a call or dies by it.
+fn own_event(entry: &Entry, client: ClientId) -> Option<Event>
+    ensures { result ≡ own_event client entry.now }
+{
+    match entry {
+        Entry::Join(c, priority) if *c == client => Some(Event::Join(*priority)),
+        Entry::Call(c, call, _) if *c == client => Some(Event::Call(*c, call.copied())),
+        Entry::Death(c) if *c == client => Some(Event::Death(*c)),
+        _ => None,
+    }
+}
 
 /// The core with an account for each living client.
 #[derive(Drop)]
@@ -98,7 +112,7 @@ impl<A: Allocator + Copy> Desk<A> {
         }
     }
 
-    /// Why a client's call would be refused, for another reason than want of memory.
+    /// Why a client's call would be refused, for another reason than lack of memory.
     pub fn call_refusal(&self, c: ClientId, call: &Call) -> Option<Refusal>
         ensures { result ≡ call_refusal self.now c call.now }
     {
@@ -196,7 +210,7 @@ impl<A: Allocator + Copy> Desk<A> {
         self.core.apply(Event::Moment(clock, moment))
     }
 
-    /// Why an event would be refused, for another reason than want of memory.
+    /// Why an event would be refused, for another reason than lack of memory.
     pub fn would_refuse(&self, event: &Event) -> Option<Refusal>
         ensures { result ≡ refusal_within (kept self.now).limit (past (kept self.now)) event.now }
     {
@@ -237,5 +251,30 @@ impl<A: Allocator + Copy> Desk<A> {
             ≡ slice_get (kept self.now).entries (place - (kept self.now).start.at) }
     {
         self.core.entry(place)
+    }
+
+    /// The place of the first entry since the history was sealed.
+    pub fn first(&self) -> u64
+        ensures { result ≡ (kept self.now).start.at }
+    {
+        self.core.first()
+    }
+
+    /// The answer to the call at a place, if it has one.
+    pub fn outcome(&self, place: u64) -> Option<Outcome>
+        ensures { result ≡ outcome (past (kept self.now)) place }
+    {
+        self.core.outcome(place)
+    }
+
+    /// The event of the entry at a place, if the client joins, makes a call or dies by it.
+    pub fn own_event(&self, c: ClientId, place: u64) -> Option<Event>
+        requires { (kept self.now).start.at ≤ place }
+        ensures { result ≡ own_at (kept self.now).start (kept self.now).entries c place }
+    {
+        match self.core.entry(place) {
+            Some(entry) => own_event(entry, c),
+            None => None,
+        }
     }
 }

@@ -5,6 +5,7 @@ ghost use Rattle.std.specs.Map.{lookup};
 ghost use Rattle.pt_types.specs.Limits.{most_entries};
 ghost use Rattle.pt_types.specs.Times.{deadline_nanos};
 ghost use Rattle.pt_model.specs.declared.entry.Event.TheVariants as event;
+ghost use Rattle.pt_model.specs.Searches.{Each};
 ghost use Rattle.pt_model.specs.Starts.{nothing};
 ghost use Rattle.pt_model.specs.Clients.{is_alive};
 ghost use Rattle.pt_model.specs.Queries.{least_deadline as least_deadline_in};
@@ -14,9 +15,11 @@ ghost use Rattle.pt_core.specs.Cores.{past};
 ghost use Rattle.pt_hub.specs.Desks.{IsRefusedAs, kept, call_refusal, one_if};
 ghost use Rattle.pt_hub.specs.Hubs.{Joins, Sends, Ticks, Dies, Takes, takeable, next_place, outer_count, has_ended, Marked, IsEndedIf, Fits};
 ghost use Rattle.pt_hub.specs.Passes.{events_found};
+ghost use Rattle.pt_hub.specs.Closing.{Holds, IsCloseFault};
 
-use crate::closing::{CloseRefused, Closed, clock_events, left_events};
+use crate::closing::{CloseFault, CloseRefused, Closed, clock_events, left_events};
 use crate::desk::Desk;
+use crate::forks::least_fork;
 use crate::marks;
 use crate::marks::Marks;
 use crate::pass::{Answer, ClockPass, Left, Pass, Receipt, Sent, SessionId, Tick};
@@ -306,7 +309,7 @@ impl<L: Ledger, A: Allocator + Copy> Hub<L, A> {
         marks::close(&mut self.marks, session.0);
     }
 
-    /// What holds whenever the lock is free.  [profile]
+    /// What holds whenever the lock is free.
     pub fn law_fits(&self)
         ensures { Fits self.now }
     {
@@ -314,7 +317,25 @@ impl<L: Ledger, A: Allocator + Copy> Hub<L, A> {
         self.desk.law_taken();
     }
 
-    /// Ends the hub, if each event of its history is one of those handed in.
+    /// Why the hub doesn't close on these.
+    fn close_fault(&self, lefts: &[Left<L, A>], clocks: &[ClockPass<L, A>]) -> Option<CloseFault>
+        ensures fault { IfSome result (IsCloseFault self.now.desk lefts.now clocks.now) }
+        ensures none { IfNone result ((outer_count self.now.desk ≡ events_found lefts.now clocks.now)
+            × Each (Holds (kept self.now.desk)) lefts.now) }
+    {
+        let expected = self.tally.outer();
+        let found = left_events(lefts) + clock_events(clocks);
+        if u128::from(expected) != found {
+            return Some(CloseFault::Missing { expected, found });
+        }
+        match least_fork(&self.desk, lefts) {
+            Some(place) => Some(CloseFault::Forked { place }),
+            None => None,
+        }
+    }
+
+    /// Ends the hub, if each event of its history is one of those handed in, and what clients left
+    /// is what the history has of them.
     pub fn close(
         self,
         lefts: Vec<Left<L, A>, A>,
@@ -325,26 +346,22 @@ impl<L: Ledger, A: Allocator + Copy> Hub<L, A> {
             × (c.entries ≡ next_place self.desk)) }
         ensures legal { OnOk result (LegalBehind (kept self.desk).start (kept self.desk).entries
             (events_of (kept self.desk).entries)) }
-        ensures missing { IfErr result (λ e. (e.expected ≡ outer_count self.desk)
-            × (e.found ≡ events_found lefts.items clocks.items) × (e.expected ≢ e.found)) }
+        ensures holds { OnOk result (Each (Holds (kept self.desk)) lefts.items) }
+        ensures fault { IfErr result (λ e.
+            IsCloseFault self.desk lefts.items clocks.items e.fault) }
         ensures handed { IfErr result (λ e. (e.hub ≡ self) × (e.left ≡ lefts)
             × (e.clock ≡ clocks)) }
     {
         let entries = self.desk.len();
-        let expected = self.tally.outer();
-        let found = left_events(lefts.as_slice()) + clock_events(clocks.as_slice());
-        if u128::from(expected) == found {
-            return Ok(Closed {
-                outer: expected,
-                entries,
-            });
+        let outer = self.tally.outer();
+        match self.close_fault(lefts.as_slice(), clocks.as_slice()) {
+            None => Ok(Closed { outer, entries }),
+            Some(fault) => Err(CloseRefused {
+                fault,
+                hub: self,
+                left: lefts,
+                clock: clocks,
+            }),
         }
-        Err(CloseRefused {
-            expected,
-            found,
-            hub: self,
-            left: lefts,
-            clock: clocks,
-        })
     }
 }

@@ -1,4 +1,4 @@
-//! The state behind the lock: the core, what each client took of its answers, and a ledger of
+//! The state that the lock guards: the core, what each client took of its answers, and a ledger of
 //! events.
 //!
 //! Contracts see a hub as its history, the accounts of its living clients, and the sessions that
@@ -6,8 +6,11 @@
 #![tactic(auto)]
 
 mod account;
+mod alike;
+mod claims;
 mod closing;
 mod desk;
+mod forks;
 mod hub;
 mod marks;
 mod pass;
@@ -15,6 +18,6 @@ mod receipts;
 mod tally;
 
 pub use account::Account;
-pub use closing::{CloseRefused, Closed};
+pub use closing::{CloseFault, CloseRefused, Closed};
 pub use hub::Hub;
 pub use pass::{Answer, ClockPass, Left, Pass, Receipt, Sent, SessionId, Tick};

@@ -27,7 +27,7 @@ pub(crate) fn end<A: Allocator + Copy>(marks: &mut Marks<A>, session: u64)
     }
 }
 
-/// Whether it has ended, or the session isn't open.
+/// Whether the input of a session has ended; it has if the session isn't open.
 pub(crate) fn has_ended<A: Allocator + Copy>(marks: &Marks<A>, session: u64) -> bool
     ensures { result ≡ ended_in (lookup (nat_eq session) marks.now.entries) }
 {

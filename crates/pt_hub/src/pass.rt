@@ -5,7 +5,7 @@ use std::alloc::{Allocator, Global};
 use std::marker::Model;
 use std::sync::ledger::{Ledger, Share};
 
-/// A call that a client made: its place, and its answer once it was taken.  [profile]
+/// A call that a client made: its place, and its answer once it was taken.
 #[derive(Debug, PartialEq, Eq, Drop)]
 pub struct Receipt {
     pub place: u64,
@@ -13,28 +13,28 @@ pub struct Receipt {
     pub answer: Option<Outcome>,
 }
 
-/// A call that was sent: its place, and whether it is answered already.  [profile]
+/// A call that was sent: its place, and whether it is answered already.
 #[derive(Clone, Copy, Debug, PartialEq, Eq)]
 pub struct Sent {
     pub place: u64,
     pub ready: bool,
 }
 
-/// The answer to the call at a place.  [profile]
+/// The answer to the call at a place.
 #[derive(Clone, Copy, Debug, PartialEq, Eq)]
 pub struct Answer {
     pub place: u64,
     pub outcome: Outcome,
 }
 
-/// A reading of a clock.  [profile]
+/// A reading of a clock.
 #[derive(Clone, Copy, Debug, PartialEq, Eq)]
 pub struct Tick {
     pub clock: Clock,
     pub moment: Moment,
 }
 
-/// The number of a session: how many were opened before it.  [profile]
+/// The number of a session: how many were opened before it.
 #[derive(Clone, Copy, Debug, PartialEq, Eq)]
 pub struct SessionId(pub u64);
 
@@ -116,14 +116,14 @@ impl<L: Ledger, A: Allocator + Copy> Pass<L, A> {
         self.client
     }
 
-    /// Its priority.
+    /// The client's priority.
     pub fn priority(&self) -> Priority
         ensures { result ≡ self.now.priority }
     {
         self.priority
     }
 
-    /// Its receipts, in order.
+    /// The client's receipts, in order.
     pub fn receipts(&self) -> &[Receipt]
         ensures { result.now ≡ self.now.receipts }
     {
@@ -141,14 +141,14 @@ impl<L: Ledger, A: Allocator + Copy> Left<L, A> {
         self.client
     }
 
-    /// Its priority.
+    /// The client's priority.
     pub fn priority(&self) -> Priority
         ensures { result ≡ self.now.priority }
     {
         self.priority
     }
 
-    /// Its receipts, in order.
+    /// The client's receipts, in order.
     pub fn receipts(&self) -> &[Receipt]
         ensures { result.now ≡ self.now.receipts }
     {

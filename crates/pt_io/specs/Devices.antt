@@ -5,7 +5,7 @@ use Rattle.std.proofs.Common.{lit≤}
 use Rattle.std.proofs.lemmas.List.{take-append-drop}
 use mathlib.Core.List.{IsPrefix}
 
--- the failures of a device that fails at most once  [profile]
+-- the failures of a device that fails at most once
 abbrev pub count_of : Bool → ℕ
 count_of true = 1
 count_of false = 0
@@ -14,11 +14,11 @@ pub count_of_once : (b : Bool) → count_of b ≤ 1
 count_of_once true = lit≤ tt
 count_of_once false = lit≤ tt
 
--- the bytes of a log that pairs each byte with nothing  [profile]
+-- the bytes of a log that pairs each byte with nothing
 abbrev pub bytes_of : List (ℕ × Unit {0}) → List ℕ
 bytes_of ps = map (λ p. p.0) ps
 
--- all of these bytes but the last n  [profile]
+-- all of these bytes but the last n
 abbrev pub all_but : ℕ → List ℕ → List ℕ
 all_but n bytes = take (length bytes - n) bytes
 
@@ -43,7 +43,7 @@ rejections_in (Err e) buf = 0
 
 -- a device of std, and the bytes that it gave or took so far; how many of them its latest read
 -- gave, or it took since its latest flush; how many reads and rejections there were; and whether it
--- failed or reported its end  [profile]
+-- failed or reported its end
 pub record Tally (D : Type 0) : Type 0 where
   pub device : D
   pub bytes : List ℕ
@@ -56,7 +56,7 @@ pub record Tally (D : Type 0) : Type 0 where
 -- a device in memory: the bytes that it gave, those that reads will give, and those that it took;
 -- how many its latest read gave, how many it took since its latest flush, and how many reads there
 -- were; how many bytes a call moves at most, which call from here on fails (0 for none), and
--- whether it failed or reported its end  [profile]
+-- whether it failed or reported its end
 pub record Memory : Type 0 where
   pub given : List ℕ
   pub left : List ℕ

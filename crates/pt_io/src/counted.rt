@@ -71,7 +71,7 @@ impl<D> Counted<D> {
         }
     }
 
-    /// The device behind it.
+    /// The device whose bytes are counted.
     pub fn device(&self) -> &D
         ensures { result.now ≡ self.now.device }
     {

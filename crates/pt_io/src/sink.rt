@@ -7,7 +7,7 @@ use std::io;
 
 /// Where bytes go.  [XSH write]
 ///
-/// It fails at most once, since after that nobody may ask it again.  [profile]
+/// It fails at most once, since after that nobody may ask it again.
 pub trait Sink {
     // The bytes that it took so far.
     ghost taken: { Self → List ℕ };
@@ -36,7 +36,7 @@ pub trait Sink {
             (λ _. failures self.new ≡ 1) }
         ensures none { rejections self.new ≡ rejections self.old + rejections_in result buf.now };
 
-    /// Passes on all bytes that were taken and are still in a buffer.  [profile]
+    /// Passes on all bytes that were taken and are still in a buffer.
     ///
     /// An error is the last answer.
     fn flush(&mut self) -> io::Result<()>

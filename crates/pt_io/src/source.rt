@@ -7,7 +7,7 @@ use std::io;
 
 /// Where bytes come from.  [XSH read]
 ///
-/// It fails at most once, since after that nobody may ask it again.  [profile]
+/// It fails at most once, since after that nobody may ask it again.
 pub trait Source {
     // The bytes that it gave so far.
     ghost given: { Self → List ℕ };

@@ -14,7 +14,7 @@ any-mask_cons : (b : Bool) (n : ℕ) (r : Bool) → not (nat_eq n 0) ≡ r
 any-mask_cons true n r h = grind arith
 any-mask_cons false n r h = grind arith
 
--- the mask of a test is 0 only where no lane passes
+-- the mask of a test is 0 only if no lane passes
 pub any-mask_l : {X : Type 0} (p : X → Bool) (xs : List X)
     → not (nat_eq (mask_l (map p xs)) 0) ≡ list_any p xs
 any-mask_l p [] = refl

@@ -1,23 +1,23 @@
--- Counts: what is asked of a slice of counts. The count of priority p stands at index p - 1.
+-- Counts: what is asked of a slice of counts. The count of priority p is at index p - 1.
 use Rattle.std.specs.Prelude.{◌≡◌, ◌≢◌, ◌<◌, ◌≤◌, ◌==◌, ℕ, Bool, not, List, length, Option, slice_index, MatchOption}
 
--- whether a count isn't zero  [profile]
+-- whether a count isn't zero
 abbrev pub is_set : ℕ → Bool
 is_set n = not (n == 0)
 
--- the count at an index isn't zero  [profile]
+-- the count at an index isn't zero
 abbrev pub IsSetAt : List ℕ → ℕ → Type 0
 IsSetAt counts i = (i < length counts) × (slice_index counts i ≢ 0)
 
--- some count at index p or above isn't zero  [profile]
+-- some count at index p or above isn't zero
 abbrev pub AnyFrom : List ℕ → ℕ → Type 0
 AnyFrom counts p = (i : ℕ) × (p ≤ i) × IsSetAt counts i
 
--- each count is zero  [profile]
+-- each count is zero
 abbrev pub AllZero : List ℕ → Type 0
 AllZero counts = (i : ℕ) → i < length counts → slice_index counts i ≡ 0
 
--- the greatest index whose count isn't zero, or none where each is zero  [profile]
+-- the greatest index whose count isn't zero, or none if each is zero
 abbrev pub IsHighest : List ℕ → Option ℕ → Type 0
 IsHighest counts found =
     MatchOption found

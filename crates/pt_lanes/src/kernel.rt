@@ -28,7 +28,7 @@ fn has_any(counts: &[u32]) -> bool
     plain::has_any(rest)
 }
 
-/// Whether a count at index `p` or above isn't zero.  [profile]
+/// Whether a count at index `p` or above isn't zero.
 pub fn any_from(counts: &[u32], p: usize) -> bool
     ensures { IsTrue result ↔ AnyFrom counts.now p }
 {
@@ -41,7 +41,7 @@ pub fn any_from(counts: &[u32], p: usize) -> bool
     plain::has_any(front) || has_any(back)
 }
 
-/// The greatest index whose count isn't zero; None where each is zero.  [profile]
+/// The greatest index whose count isn't zero; None if each is zero.
 pub fn highest(counts: &[u32]) -> Option<usize>
     ensures { IsHighest counts.now result }
 {
@@ -59,7 +59,7 @@ pub fn highest(counts: &[u32]) -> Option<usize>
     None
 }
 
-/// Whether each count is zero.  [profile]
+/// Whether each count is zero.
 pub fn all_zero(counts: &[u32]) -> bool
     ensures { IsTrue result ↔ AllZero counts.now }
 {

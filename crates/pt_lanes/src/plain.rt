@@ -11,14 +11,14 @@ pub(crate) fn has_any(counts: &[u32]) -> bool
     counts.iter().any(|count| *count != 0)
 }
 
-/// Whether a count at index `p` or above isn't zero.  [profile]
+/// Whether a count at index `p` or above isn't zero.
 pub fn any_from(counts: &[u32], p: usize) -> bool
     ensures { IsTrue result ↔ AnyFrom counts.now p }
 {
     p < counts.len() && has_any(&counts[p..])
 }
 
-/// The greatest index whose count isn't zero; None where each is zero.  [profile]
+/// The greatest index whose count isn't zero; None if each is zero.
 pub fn highest(counts: &[u32]) -> Option<usize>
     ensures { IsHighest counts.now result }
 {
@@ -30,7 +30,7 @@ pub fn highest(counts: &[u32]) -> Option<usize>
     None
 }
 
-/// Whether each count is zero.  [profile]
+/// Whether each count is zero.
 pub fn all_zero(counts: &[u32]) -> bool
     ensures { IsTrue result ↔ AllZero counts.now }
 {

@@ -1,4 +1,4 @@
--- ClientLemmas: a line's client, and what is behind it.
+-- ClientLemmas: a line's client, and what is after it.
 use Rattle.std.proofs.Common.{◌≡◌, ◌≢◌, ◌<◌, ◌+◌, ◌∙◌, ◌==◌, ◌&&◌, not, ℕ, zero, suc, Bool, true, false, cond, List, [], ◌∷◌, ◌++◌, length, take, drop, get_or, nat_le, refl, ap, sym, subst, arith, None, Some, add-one, codes}
 use Rattle.std.proofs.lemmas.Bool.{eq-eqb, eqb-true}
 use Rattle.std.specs.List.{list_all}

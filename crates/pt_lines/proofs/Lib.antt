@@ -16,7 +16,7 @@ pub mod SpelledLemmas
 pub mod CallLemmas
 -- GrammarLemmas: a text is read as just the line that it spells
 pub mod GrammarLemmas
--- ClientLemmas: a line's client, and what is behind it
+-- ClientLemmas: a line's client, and what is after it
 pub mod ClientLemmas
 -- ScriptLemmas: a line of a script is read as just what it spells
 pub mod ScriptLemmas

@@ -61,7 +61,7 @@ call_why text short =
     none None = refl
     none (Some read) = tt
 
--- what is read behind a client is spelled there
+-- what is read after a client is spelled there
 body_found :
     (name rest : List ℕ) (who : Who) → IsNamed name who
     → IfOk (body_read who rest) (SpellsBody who rest)
@@ -139,7 +139,7 @@ called_again text rest read s =
     ap (λ b. cond b (Ok Die) (body_from (Named text) (call_read rest))) (not_die rest read s)
     ∙ ap (body_from (Named text)) (call_read-spelled rest read s)
 
--- what is spelled behind a client is read there
+-- what is spelled after a client is read there
 body_again :
     (who : Who) (rest : List ℕ) (body : ScriptBody) → SpellsBody who rest body
     → body_read who rest ≡ Ok body

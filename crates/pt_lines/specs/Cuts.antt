@@ -3,7 +3,7 @@ use Rattle.std.specs.Prelude.{ℕ, List, Bool, true, false, length, nat_le, if�
 use Rattle.pt_lines.specs.declared.cutter.Cut.{Cut}
 use Rattle.pt_lines.specs.declared.cutter.Cut.TheVariants.{Line, Long}
 
--- whether the line was too long  [profile]
+-- whether the line was too long
 abbrev pub is_long : Cut → Bool
 is_long (Line text) = false
 is_long Long = true

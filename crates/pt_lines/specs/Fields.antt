@@ -2,27 +2,26 @@
 use Rattle.std.specs.Prelude.{ℕ, ◌==◌, ◌++◌, List, [], ◌∷◌, Option, None, Some, if◌then◌else◌}
 use Rattle.std.specs.Borrow.{Bor}
 
--- words, each behind a space  [profile]
+-- words, each after a space
 abbrev pub behind_spaces : List (List ℕ) → List ℕ
 behind_spaces [] = []
 behind_spaces (word ∷ words) = 32 ∷ word ++ behind_spaces words
 
--- a word, and more words, parted by exactly one space each, with none at either end  [profile]
+-- a word, and more words, parted by exactly one space each, with none at either end
 abbrev pub spaced : List ℕ → List (List ℕ) → List ℕ
 spaced word words = word ++ behind_spaces words
 
--- a byte before the first of these fields  [profile]
+-- a byte before the first of these fields
 abbrev pub push_first : ℕ → List (List ℕ) → List (List ℕ)
 push_first b [] = (b ∷ []) ∷ []
 push_first b (field ∷ fields) = (b ∷ field) ∷ fields
 
 -- the parts of a text between its spaces; two spaces, or one at an end, have an empty part
--- [profile]
 abbrev pub fields : List ℕ → List (List ℕ)
 fields [] = [] ∷ []
 fields (b ∷ bytes) = if b == 32 then [] ∷ fields bytes else push_first b (fields bytes)
 
--- the fields of what is left of a text, if anything is  [profile]
+-- the fields of what is left of a text, if anything is
 abbrev pub fields_left : Option (Bor (List ℕ)) → List (List ℕ)
 fields_left None = []
 fields_left (Some rest) = fields rest.now

@@ -3,7 +3,7 @@ use Rattle.std.specs.Prelude.{◌≡◌, ◌≢◌, ℕ, ◌<◌, ◌≤◌, ◌
 use Rattle.pt_lines.specs.declared.cutter.Cut.{Cut}
 use Rattle.pt_lines.specs.Cuts.{cut_of}
 
--- the lines of the bytes, where a line has begun with this text: a newline ends a line, and a
+-- the lines of the bytes, if a line has begun with this text: a newline ends a line, and a
 -- last line without one is a line unless it is empty  [profile]
 abbrev pub lines_after : List ℕ → List ℕ → List Cut
 lines_after [] [] = []
@@ -12,53 +12,52 @@ lines_after begun (b ∷ bytes) =
     if b == 10 then cut_of begun ∷ lines_after [] bytes
     else lines_after (begun ++ b ∷ []) bytes
 
--- the lines of the bytes  [profile]
+-- the lines of the bytes
 abbrev pub lines : List ℕ → List Cut
 lines bytes = lines_after [] bytes
 
--- the lines of the bytes after the first newline  [profile]
+-- the lines of the bytes after the first newline
 abbrev pub lines_past_newline : List ℕ → List Cut
 lines_past_newline [] = []
 lines_past_newline (b ∷ bytes) = if b == 10 then lines bytes else lines_past_newline bytes
 
 -- what a cutter holds: the bytes that it has not given, and whether they go on a line that was
--- given as too long  [profile]
+-- given as too long
 pub record Held : Type 0 where
   pub rest : List ℕ
   pub dropping : Bool
 
--- what is still to be given, where these bytes follow and then the end  [profile]
+-- what is still to be given, if these bytes follow and then the end
 abbrev pub to_come : Held → List ℕ → List Cut
 to_come held more =
     if held.dropping then lines_past_newline (held.rest ++ more) else lines (held.rest ++ more)
 
--- the bytes end no line  [profile]
+-- the bytes end no line
 abbrev pub NoNewline : List ℕ → Type 0
 NoNewline bytes = (i : ℕ) → i < length bytes → slice_index bytes i ≢ 10
 
 -- no line is whole, nor too long already, and nothing is held of one that was given as too long
--- [profile]
 pub record IsBegun (held : Held) : Type 0 where
   pub no_newline : NoNewline held.rest
   pub short : length held.rest ≤ 128
   pub dropped : held.dropping ≡ true → held.rest ≡ []
 
--- texts, each ended by a newline, and a rest  [profile]
+-- texts, each ended by a newline, and a rest
 abbrev pub joined : List (List ℕ) → List ℕ → List ℕ
 joined [] rest = rest
 joined (text ∷ texts) rest = text ++ 10 ∷ joined texts rest
 
--- no text has a newline  [profile]
+-- no text has a newline
 abbrev pub AllTexts : List (List ℕ) → Type 0
 AllTexts [] = Unit {0}
 AllTexts (text ∷ texts) = NoNewline text × AllTexts texts
 
--- what a last line without a newline is given as  [profile]
+-- what a last line without a newline is given as
 abbrev pub last_of : List ℕ → List Cut
 last_of [] = []
 last_of (b ∷ rest) = cut_of (b ∷ rest) ∷ []
 
--- the lines of texts that newlines end, and of a rest, are these texts and the rest  [profile]
+-- the lines of texts that newlines end, and of a rest, are these texts and the rest
 abbrev pub LinesOfTexts : Type 0
 LinesOfTexts =
     (texts : List (List ℕ)) (rest : List ℕ) → AllTexts texts → NoNewline rest

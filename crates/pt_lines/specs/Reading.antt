@@ -16,7 +16,7 @@ use Rattle.pt_lines.specs.Grammar.{Spells}
 use Rattle.pt_lines.specs.Numbers.{number_of}
 use Rattle.pt_lines.specs.Arguments.{name_of, kind_of, robust_of, alone, first_then, priority_of, moment_of, two_numbers, name_and_deadline, name_clock_and_deadline}
 
--- the line of a verb and the fields after it  [profile]
+-- the line of a verb and the fields after it
 abbrev pub line_of : Verb → List (List ℕ) → Option CallLine
 line_of Hello args =
     option_map line.Hello (option_and_then priority_of (alone number_of args))
@@ -42,16 +42,16 @@ line_of (Timed verb) args =
 line_of (Clocked verb) args =
     option_map (λ a. line.Ask (call_by_clock verb a.0 a.1.0 a.1.1)) (name_clock_and_deadline args)
 
--- the line of these fields  [profile]
+-- the line of these fields
 abbrev pub line_of_fields : List (List ℕ) → Option CallLine
 line_of_fields [] = None
 line_of_fields (word ∷ args) = option_and_then (λ verb. line_of verb args) (verb_of word)
 
--- the line that a text is read as  [profile]
+-- the line that a text is read as
 abbrev pub line_read : List ℕ → Option CallLine
 line_read text = line_of_fields (fields text)
 
--- what a line of a connection is read as, or why it is not read  [profile]
+-- what a line of a connection is read as, or why it is not read
 abbrev pub call_read : List ℕ → Result CallLine Refusal
 call_read text = if nat_lt 128 (length text) then Err Long else ok_or (line_read text) Syntax
 
@@ -62,12 +62,12 @@ pub record IsCallReadAs (text : List ℕ) (read : Result CallLine Refusal) : Typ
   pub exact : (asked : CallLine) → Spells text asked → read ≡ Ok asked
   pub err : IfErr read (λ why. why ≡ (if nat_lt 128 (length text) then Long else Syntax))
 
--- the same of what a cutter gives: a line that is too long is LONG  [profile]
+-- how what a cutter gives is read as a line of a connection; LONG if it was too long  [profile]
 abbrev pub IsCallReadOf : Cut → Result CallLine Refusal → Type 0
 IsCallReadOf (cut.Line text) read = IsCallReadAs text.items read
 IsCallReadOf cut.Long read = read ≡ Err Long
 
--- what is read of what a cutter gives  [profile]
+-- what is read of what a cutter gives
 abbrev pub call_of : Cut → Result CallLine Refusal
 call_of (cut.Line text) = call_read text.items
 call_of cut.Long = Err Long

@@ -6,16 +6,16 @@ use Rattle.pt_lines.specs.declared.reply.Word.{Word}
 use Rattle.pt_lines.specs.declared.reply.Word.TheVariants.{Outcome, Refusal}
 use Rattle.pt_lines.specs.Clients.{who_text}
 
--- the word of an answer  [profile]
+-- the word of an answer
 abbrev pub answer_word : Word → List ℕ
 answer_word (Outcome outcome) = outcome_word outcome
 answer_word (Refusal refusal) = refusal_word refusal
 
--- what stands before the number of the line: in a script the client and a space  [profile]
+-- what is before the number of the line: in a script the client and a space
 abbrev pub sender : Option Who → List ℕ
 sender None = []
 sender (Some who) = who_text who ++ 32 ∷ []
 
--- an answer line: the client, the number of the client's line, the word, and a newline  [profile]
+-- an answer line: the client, the number of the client's line, the word, and a newline
 abbrev pub reply_line : Option Who → ℕ → Word → List ℕ
 reply_line who n word = sender who ++ decimal n ++ 32 ∷ answer_word word ++ 10 ∷ []

@@ -25,7 +25,7 @@ SpellsBody (Named name) rest Die = IsClientName name × (rest ≡ codes "die")
 SpellsBody Star rest (Tick clock t) = Spells rest (line.Tick clock t)
 SpellsBody who rest body = ⊥
 
--- the text of a line of a script: the client, one space, and what it says  [profile]
+-- the text of a line of a script: the client, one space, and what it says
 pub record SpellsScript (text : List ℕ) (who : Who) (body : ScriptBody) : Type 0 where
   pub rest : List ℕ
   pub says : SpellsBody who rest body
@@ -47,24 +47,24 @@ pub record IsReadAs (text : List ℕ) (read : ScriptLine) : Type 0 where
       IfErr read.body
       (λ why. why ≡ (if nat_lt 128 (length text) then refusal.Long else refusal.Syntax))
 
--- the same of what a cutter gives  [profile]
+-- how what a cutter gives is read as a line of a script
 abbrev pub IsReadOf : Cut → ScriptLine → Type 0
 IsReadOf (Line text) read = IsReadAs text.items read
 IsReadOf Long read = read ≡ long_line
 
--- what a client's line is, by what it would be on a connection  [profile]
+-- what a client's line is, by what it would be on a connection
 abbrev pub body_of : Who → CallLine → Result ScriptBody Refusal
 body_of (Named name) (line.Hello p) = Ok (Hello p)
 body_of (Named name) (line.Ask asked) = Ok (Ask asked)
 body_of Star (line.Tick clock t) = Ok (Tick clock t)
 body_of who read = Err refusal.Syntax
 
--- the same, where it may not be read  [profile]
+-- what a line says, if it could be read
 abbrev pub body_from : Who → Result CallLine Refusal → Result ScriptBody Refusal
 body_from who (Ok read) = body_of who read
 body_from who (Err why) = Err why
 
--- what is read behind a client and a space  [profile]
+-- what is read after a client and a space
 abbrev pub body_read : Who → List ℕ → Result ScriptBody Refusal
 body_read (Named name) rest =
     if bytes_eq rest (codes "die") then Ok Die
@@ -72,23 +72,23 @@ body_read (Named name) rest =
 body_read Star rest = body_from Star (call_read rest)
 body_read Unknown rest = Err refusal.Syntax
 
--- the same, where there may be no space  [profile]
+-- what is read after a client, if a space follows
 abbrev pub body_behind : Who → Option (List ℕ) → Result ScriptBody Refusal
 body_behind who None = Err refusal.Syntax
 body_behind who (Some rest) = body_read who rest
 
--- what a text that is not too long is read as  [profile]
+-- what a text that is not too long is read as
 abbrev pub short_read : List ℕ → ScriptLine
 short_read text = record {
   who = who_named (before_space text);
   body = body_behind (who_named (before_space text)) (behind_space text);
 }
 
--- what a text is read as  [profile]
+-- what a text is read as
 abbrev pub script_read : List ℕ → ScriptLine
 script_read text = if nat_lt 128 (length text) then long_line else short_read text
 
--- what is read of what a cutter gives  [profile]
+-- what is read of what a cutter gives
 abbrev pub script_of : Cut → ScriptLine
 script_of (Line text) = script_read text.items
 script_of Long = long_line

@@ -37,24 +37,24 @@ named_word Broadcast = codes "broadcast"
 named_word Bwait = codes "bwait"
 named_word BarrierDestroy = codes "barrier-destroy"
 
--- the word of a call that a name and a deadline follow  [profile]
+-- the word of a call that a name and a deadline follow
 abbrev pub timed_word : TimedVerb → List ℕ
 timed_word Timedlock = codes "timedlock"
 timed_word Timedrdlock = codes "timedrdlock"
 timed_word Timedwrlock = codes "timedwrlock"
 
--- the word of a call that a name, a clock and a deadline follow  [profile]
+-- the word of a call that a name, a clock and a deadline follow
 abbrev pub clocked_word : ClockedVerb → List ℕ
 clocked_word Clocklock = codes "clocklock"
 clocked_word Clockrdlock = codes "clockrdlock"
 clocked_word Clockwrlock = codes "clockwrlock"
 
--- the word of a moment of a clock  [profile]
+-- the word of a moment of a clock
 abbrev pub moment_word : Clock → List ℕ
 moment_word Real = codes "moment"
 moment_word Mono = codes "mono-moment"
 
--- the word that a line begins with  [profile]
+-- the word that a line begins with
 abbrev pub word_of : Verb → List ℕ
 word_of Hello = codes "hello"
 word_of (Moment clock) = moment_word clock
@@ -67,11 +67,11 @@ word_of (Named verb) = named_word verb
 word_of (Timed verb) = timed_word verb
 word_of (Clocked verb) = clocked_word verb
 
--- the verb with this word  [profile]
+-- the verb with this word
 abbrev pub verb_of : List ℕ → Option Verb
 verb_of text = find (λ verb. bytes_eq (word_of verb) text) VERBS
 
--- the call of a word on one name  [profile]
+-- the call of a word on one name
 abbrev pub call_on : NamedVerb → List ℕ → Call
 call_on Lock name = call.Lock name
 call_on Trylock name = call.Trylock name
@@ -92,13 +92,13 @@ call_on Broadcast name = call.Broadcast name
 call_on Bwait name = call.Bwait name
 call_on BarrierDestroy name = call.BarrierDestroy name
 
--- the call of a word on one name with a deadline  [profile]
+-- the call of a word on one name with a deadline
 abbrev pub call_until : TimedVerb → List ℕ → Timespec → Call
 call_until Timedlock name deadline = call.Timedlock name deadline
 call_until Timedrdlock name deadline = call.Timedrdlock name deadline
 call_until Timedwrlock name deadline = call.Timedwrlock name deadline
 
--- the call of a word on one name with a deadline of a clock  [profile]
+-- the call of a word on one name with a deadline of a clock
 abbrev pub call_by_clock : ClockedVerb → List ℕ → Clock → Timespec → Call
 call_by_clock Clocklock name clock deadline = call.Clocklock name clock deadline
 call_by_clock Clockrdlock name clock deadline = call.Clockrdlock name clock deadline

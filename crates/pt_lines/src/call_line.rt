@@ -68,7 +68,7 @@ fn read_text(text: &[u8]) -> Option<CallLine>
     read_arguments(verb, fields)
 }
 
-/// Reads a line of a connection: LONG past 128 bytes, else SYNTAX where the text spells no line.
+/// Reads a line of a connection: LONG past 128 bytes, else SYNTAX if the text spells no line.
 /// It takes no memory.  [profile]
 pub fn read_call(text: &[u8]) -> Result<CallLine, Refusal>
     ensures value { result ≡ call_read text.now }

@@ -5,7 +5,7 @@ ghost use Rattle.pt_lines.specs.ClientNames.{is_client_byte};
 use arrayvec::ArrayVec;
 use std::marker::Model;
 
-/// The name of a client in a script: 1 to 8 ASCII letters or digits.  [profile]
+/// The name of a client in a script: 1 to 8 ASCII letters or digits.
 ///
 /// Contracts see it as its bytes.
 #[derive(Clone, Debug, PartialEq, Eq, Hash, Drop)]
@@ -36,7 +36,7 @@ impl ClientName {
     ghost use Rattle.std.specs.Prelude.{◌↔◌, IsSome, IfSome};
     ghost use Rattle.pt_lines.specs.ClientNames.{IsClientName};
 
-    /// The name of these bytes; None where they are no name.  [profile]
+    /// The name of these bytes; None if they are no name.
     pub fn new(bytes: &[u8]) -> Option<ClientName>
         ensures valid { IsSome result ↔ IsClientName bytes.now }
         ensures value { IfSome result (λ name. name ≡ bytes.now) }
@@ -64,7 +64,7 @@ impl ClientName {
     }
 }
 
-/// Whose a line of a script is.  [profile]
+/// Whose a line of a script is.
 #[derive(Clone, Debug, PartialEq, Eq, Hash, Drop)]
 pub enum Who {
     /// A client's.
@@ -104,7 +104,7 @@ impl Who {
         }
     }
 
-    /// The same client again. It takes no memory.
+    /// A copy of the client. It takes no memory.
     pub fn copied(&self) -> Who
         ensures { result ≡ self.now }
     {

@@ -46,7 +46,7 @@ fn line_of(text: &[u8]) -> ArrayVec<u8, MOST_IN_LINE>
     ArrayVec::try_from(text).unwrap()
 }
 
-// Drops the bytes up to and with the first newline, or all where there is none.
+// Drops the bytes up to and with the first newline, or all if there is none.
 fn drop_line<A: Allocator + Copy>(held: &mut BytesMut<A>) -> bool
     ensures found { OnTrue result ((more : List ℕ) →
         lines_past_newline (held.old.items ++ more) ≡ lines (held.new.items ++ more)) }
@@ -103,7 +103,7 @@ impl<A: Allocator + Copy> Cutter<A> {
         }
     }
 
-    /// Takes the next piece. ENOMEM where a growth was refused: nothing of the piece is taken.
+    /// Takes the next piece. ENOMEM if a growth was refused: nothing of the piece is taken.
     pub fn feed(&mut self, piece: &[u8]) -> Result<(), Refusal>
         ensures ok { OnOk result
             (self.new ≡ record self.old { rest = self.old.rest ++ piece.now }) }
@@ -135,7 +135,7 @@ impl<A: Allocator + Copy> Cutter<A> {
         Some(cut)
     }
 
-    /// The last line, which no newline ended; None where nothing is left of the input, or a line
+    /// The last line, which no newline ended; None if nothing is left of the input, or a line
     /// that was given as too long. It takes no memory.
     pub fn finish(self) -> Option<Cut>
         requires { IsBegun self }
@@ -154,7 +154,7 @@ pub fn lines_of_texts()
     ensures { LinesOfTexts }
 {}
 
-/// All lines of a stream that comes in these pieces, and then ends. ENOMEM where a growth was
+/// All lines of a stream that comes in these pieces, and then ends. ENOMEM if a growth was
 /// refused.
 pub fn cut_all<A: Allocator + Copy>(alloc: A, pieces: &[&[u8]]) -> Result<Vec<Cut, A>, Refusal>
     ensures ok { IfOk result

@@ -1,9 +1,9 @@
 //! Bytes to lines, lines to calls, and answers to bytes.
 //!
 //! Contracts see a cutter as the bytes that it has not given yet, a line as the bytes between two
-//! newlines, and a call as the text that spells it (two texts, where `default` means `normal`).
+//! newlines, and a call as the text that spells it (two texts, as `default` means `normal`).
 //! Once it has no line to give, a cutter holds at most 128 bytes, and none of a line that was too
-//! long. Only tests show that its buffer stays small too, and that a call succeeds where memory
+//! long. Only tests show that its buffer stays small too, and that a call succeeds if memory
 //! is left.
 #![tactic(auto)]
 

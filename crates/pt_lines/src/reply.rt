@@ -8,7 +8,7 @@ use itoa::Buffer;
 use pt_types::{Outcome, Refusal};
 use std::alloc::Allocator;
 
-/// What a line is answered: the outcome of an accepted call, or why it is not accepted.  [profile]
+/// What a line is answered: the outcome of an accepted call, or why it is not accepted.
 #[derive(Clone, Copy, Debug, PartialEq, Eq)]
 pub enum Word {
     Outcome(Outcome),
@@ -30,8 +30,8 @@ impl Word {
     }
 }
 
-/// Appends the answer to the client's line of this number, `who` where it stands in a script.
-/// ENOMEM where a growth was refused: nothing is appended. A line for which there is room is never
+/// Appends the answer to the client's line of this number, `who` if it is in a script.
+/// ENOMEM if a growth was refused: nothing is appended. A line for which there is room is never
 /// refused.  [profile]
 pub fn write_reply<A: Allocator + Copy>(
     out: &mut Vec<u8, A>,

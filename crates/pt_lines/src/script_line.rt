@@ -9,7 +9,7 @@ use crate::cutter::Cut;
 use memchr::memchr;
 use pt_types::{Call, Clock, MOST_IN_LINE, Moment, Priority, Refusal};
 
-/// What a line of a script says.  [profile]
+/// What a line of a script says.
 #[derive(Debug, PartialEq, Eq, Drop)]
 pub enum ScriptBody {
     Hello(Priority),
@@ -26,7 +26,7 @@ pub struct ScriptLine {
     pub body: Result<ScriptBody, Refusal>,
 }
 
-// What is before the first space, and what is behind it.
+// What is before the first space, and what is after it.
 fn split_at_space(text: &[u8]) -> (&[u8], Option<&[u8]>)
     ensures before { result.0.now ≡ before_space text.now }
     ensures behind { option_copied result.1 ≡ behind_space text.now }
@@ -37,7 +37,7 @@ fn split_at_space(text: &[u8]) -> (&[u8], Option<&[u8]>)
     }
 }
 
-// What a client may say of what could stand on a connection.
+// A connection's line as a line of a script, if this client may send it there.
 fn body_of(who: &Who, line: CallLine) -> Result<ScriptBody, Refusal>
     ensures { result ≡ body_of who.now line }
 {
@@ -49,7 +49,7 @@ fn body_of(who: &Who, line: CallLine) -> Result<ScriptBody, Refusal>
     }
 }
 
-// What is said behind a client and a space.
+// What is said after a client and a space.
 fn read_body(who: &Who, rest: &[u8]) -> Result<ScriptBody, Refusal>
     ensures { result ≡ body_read who.now rest.now }
 {
@@ -75,7 +75,7 @@ fn read_short(text: &[u8]) -> ScriptLine
     ScriptLine { who, body }
 }
 
-/// Reads a line of a script. It takes no memory.  [profile]
+/// Reads a line of a script. It takes no memory.
 pub fn read_script_line(text: &[u8]) -> ScriptLine
     ensures value { result ≡ script_read text.now }
     ensures read { IsReadAs text.now result }

@@ -64,7 +64,7 @@ module _ (h : History) (f : Follows h) (c : ℕ) (call : Asked) (n : forced h �
     (a : is_alive h c ≡ true) (o : open_place h c ≡ None) (w : WaitingCall)
     (e : effect h c call (reply (verdict h c call)) ≡ Waits w)
     (l : is_for_lock w.role ≡ true) where
-  -- behind the call
+  -- after the call
   abbrev g : History
   g = h ▷ Call c call (reply (verdict h c call))
 
@@ -214,7 +214,7 @@ module _ (h : History) (f : Follows h) (c : ℕ) (call : Asked) (n : forced h �
       and_from (not v.is_written) true p.0 refl
   unheld_back v false false up t = t
 
-  -- whoever may go on behind the call could before it
+  -- whoever may go on after the call could before it
   may_before : (v : WaitingCall) (role : Role) → may_by g v role ≡ true → may_by h v role ≡ true
   may_before v ForMutex t = sym (lock_after v.object) ∙ t
   may_before v (ForCond m) t =

@@ -10,7 +10,7 @@ use Rattle.pt_model.specs.declared.entry.Entry.TheVariants.{Call}
 use Rattle.pt_model.specs.declared.entry.Cause.{Cause}
 use Rattle.pt_model.specs.declared.entry.Cause.TheVariants.{Broadcasted}
 use Rattle.pt_model.specs.Searches.{In}
-use Rattle.pt_model.specs.Histories.{History, ◌▷◌, place, history}
+use Rattle.pt_model.specs.Histories.{History, ◌▷◌, place}
 use Rattle.pt_model.specs.Clients.{is_alive}
 use Rattle.pt_model.specs.Objects.{is_class, find, kind_of}
 use Rattle.pt_model.specs.Records.{Role, ForMutex, ForRead, ForWrite, ForBarrier, ForCond, WaitingCall, Move}
@@ -27,11 +27,12 @@ use Rattle.pt_model.proofs.Sound.{Fresh-follows}
 use Rattle.pt_model.proofs.Opens.{open-call}
 use Rattle.pt_model.proofs.Moves.{moved-call, woken-broadcast}
 use Rattle.pt_model.proofs.Named.{known_exists}
-use Rattle.pt_model.proofs.Histories.{history-push}
 use Rattle.pt_model.proofs.Seats.{exists_as, HousedBy, one_class, housed}
 use Rattle.pt_state.specs.declared.state.State.{State}
 use Rattle.pt_state.specs.Adds.{past, IsReadyFor, Adds}
 use Rattle.pt_state.proofs.StepLemmas.{called}
+use Rattle.pt_history.proofs.Places.{past-pushed}
+use Rattle.pt_history.specs.Stored.{past_of}
 
 -- whether a call is a wait that stands at the condition q still
 abbrev pub still_waits : Role → Option Move → ℕ → ℕ → Bool
@@ -53,7 +54,7 @@ pub record Broadcast (h g : History) (q : ℕ) : Type 0 where
   pub kinds : (o : ℕ) → kind_of g o ≡ kind_of h o
   pub alive : (c : ℕ) → is_alive g c ≡ is_alive h c
 
--- a call that is told that it woke all waits at the condition
+-- a call that is answered that it woke all waits at the condition
 pub broadcast-call : (h : History) (c : ℕ) (call : Asked) → Follows h
     → Step h (Call c call (Some Done)) → (n : List ℕ) → operation call ≡ Broadcasts n → (q : ℕ)
     → find h n CondClass ≡ Some q → Broadcast h (h ▷ Call c call (Some Done)) q
@@ -111,8 +112,8 @@ pub broadcasting : {A : Type 0} (s new : State A) (c : ℕ) (call : Asked) (n : 
     → Adds s (Call c call (Some Done)) new → Broadcast (past s) (past new) q
 broadcasting s new c call n found q r d e k a =
     subst (λ (g : History). Broadcast (past s) g q)
-    (sym (ap (λ x. history x.entries) a.stored
-    ∙ history-push s.stored.entries (Call c call (Some Done))))
+    (sym (ap past_of a.stored
+    ∙ past-pushed s.stored (Call c call (Some Done))))
     (broadcast-call (past s) c call r.read.follows r.step n d q (sym e ∙ k))
 
 -- a call that stands at a condition is a wait that stands there still

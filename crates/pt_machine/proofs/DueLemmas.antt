@@ -65,7 +65,7 @@ clocked c (Some n) k m e = (
   ap (λ (o : Option (Clock × ℕ)). Some (unwrap_or o (k, m)).1) e,
 )
 
--- the clocks that are kept are those of the history
+-- the clocks that are stored are those of the history
 pub as-read : {A : Type 0} (h : History) (inside s : State A) → inside ≡ s → AreClocks h s.clocks
     → (k : Clock) → moments inside.clocks.real inside.clocks.mono k ≡ clock h k
 as-read h inside s is all Real = ap (λ (t : State _). t.clocks.real) is ∙ all Real

@@ -31,16 +31,16 @@ pub mod Bindings
 -- Queues after each entry:
 -- QueuedSame: queues that are right still: nothing that they are read off has changed
 pub mod QueuedSame
--- QueuedOut: the queues behind an entry that lets open calls go
+-- QueuedOut: the queues after an entry that lets open calls go
 pub mod QueuedOut
 -- QueuedArrivals: queues before the first entry, as clients join and die, as the clock is read,
 -- and at a Yield
 pub mod QueuedArrivals
 -- QueuedAnswers: pushes of answered calls that change no queue
 pub mod QueuedAnswers
--- QueuedCalls: queues behind a call that is answered at once: no call comes or goes by it
+-- QueuedCalls: queues after a call that is answered at once: no call comes or goes by it
 pub mod QueuedCalls
--- QueuedObjects: pushes that make an object or end one: what the queues are before them and behind
+-- QueuedObjects: pushes that make an object or end one: what the queues are before them and after
 -- them
 pub mod QueuedObjects
 -- QueuedLeft: A call that is left waiting takes its place in a queue
@@ -48,7 +48,7 @@ pub mod QueuedLeft
 -- QueuedMoves: one wait is moved: it leaves its condition's queue, and takes its place in its
 -- mutex's
 pub mod QueuedMoves
--- QueuedWakes: what a signal and a passed deadline move, and the queues behind them
+-- QueuedWakes: what a signal and a passed deadline move, and the queues after them
 pub mod QueuedWakes
 -- Broadcasts: what a broadcast makes of the history: the waits at its condition are moved, and
 -- nothing else
@@ -56,7 +56,7 @@ pub mod Broadcasts
 -- QueuedBroadcast: the queues while a broadcast moves the waits at its condition, one by one in
 -- key order
 pub mod QueuedBroadcast
--- QueuedForced: the queues of a state behind an entry that must follow
+-- QueuedForced: the queues of a state after an entry that must follow
 pub mod QueuedForced
 -- Deadlines:
 -- BadDeadlines: A call whose deadline is no time is answered at once, or is granted by the next
@@ -73,13 +73,13 @@ pub mod DueLemmas
 pub mod TimedSteps
 -- TimedStates: the deadlines that are set beside a state, as entries are pushed
 pub mod TimedStates
--- TimedArrivals: the deadlines that are set behind a Join or a Moment: they are those that were
+-- TimedArrivals: the deadlines that are set after a Join or a Moment: they are those that were
 -- set before
 pub mod TimedArrivals
 -- TimedCalls: how the deadlines that are set change as a call is left waiting, and as a barrier
 -- trips
 pub mod TimedCalls
--- TimedMoves: the deadlines that are set behind a call with its answer: those of the waits that it
+-- TimedMoves: the deadlines that are set after a call with its answer: those of the waits that it
 -- moves are set no more
 pub mod TimedMoves
 -- TimerDrops: deadlines that are dropped, row by row

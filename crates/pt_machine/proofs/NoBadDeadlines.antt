@@ -182,7 +182,7 @@ not_expired : (x : Option Entry) (b k : ℕ) (z : Outcome) → x ≡ Some (Expir
 not_expired x b k z a e =
     let both : ◌≡◌ {A = Option Entry} (Some (Expire b)) (Some (Grant k z)) = sym a ∙ e in cc
 
--- no step but its Grant comes behind such a call
+-- no step but its Grant comes after such a call
 no_other : (h : History) (e : Entry) → Step h e → (w : WaitingCall) → In w (open_calls (h ▷ e))
     → forced h ≡ Some (Grant w.place (grant_outcome h w)) → ⊥
 no_other h _ (joins p n lt) w i t = not_forced (forced h) _ n t

@@ -1,7 +1,9 @@
 -- The open call that came at a place: its client made the call whose entry stands there.
-use Rattle.std.proofs.Common.{◌≡◌, ℕ, zero, suc, ◌+◌, ◌<◌, ◌≤◌, ◌⊎◌, inl, inr, Bool, true, false, cond, ◌==◌, List, [], ◌∷◌, Option, Some, None, IfSome, refl, sym, ap, ◌∙◌, arith}
+use Rattle.std.proofs.Common.{◌≡◌, ℕ, zero, suc, ◌+◌, ◌-◌, ◌<◌, ◌≤◌, ◌⊎◌, inl, inr, Bool, true, false, cond, ◌==◌, List, [], ◌∷◌, ◌++◌, Option, Some, None, IfSome, refl, sym, ap, ◌∙◌, subst, arith}
+use Rattle.std.proofs.lemmas.Bool.{cases_lt}
 use Rattle.std.proofs.lemmas.Bool.Decides.{nat_tests}
 use Rattle.std.specs.Prelude.{option_map, slice_get}
+use Rattle.std.specs.Option.{option_or}
 use Rattle.pt_types.specs.declared.call.Call.{Call as Asked}
 use Rattle.pt_types.specs.declared.outcome.Outcome.{Outcome}
 use Rattle.pt_types.specs.Tables.{reply}
@@ -19,7 +21,9 @@ use Rattle.pt_model.specs.declared.entry.Entry.TheVariants.{Join, Call, Death, M
 use Rattle.pt_model.specs.Searches.{In}
 use Rattle.pt_model.specs.Histories.{History, Begin, ◌▷◌, place, onto}
 use Rattle.pt_model.specs.Records.{WaitingCall}
-use Rattle.pt_model.specs.WaitingCall.{stood, at_place}
+use Rattle.pt_model.specs.WaitingCall.{stood, at_place, calls_below, waiting_there}
+use Rattle.pt_model.specs.declared.start.StartCall.{StartCall}
+use Rattle.pt_model.specs.StartRows.{StartRows, reads_of, call_at, call_row, client_of_call}
 use Rattle.pt_model.specs.Answers.{open_calls}
 use Rattle.pt_model.specs.Queries.{client_at, caller}
 use Rattle.pt_model.specs.Verdicts.{verdict}
@@ -150,11 +154,84 @@ caller_onto (x ∷ xs) h (suc i) j e = caller_onto xs (h ▷ x) i j (omega (arit
 
 -- the client of the call at a place is that of the entry that is stored there
 pub caller-stored : {A : Type 0} (s t : State A) → s ≡ t → (j : ℕ) (found : Option Entry)
-    → found ≡ slice_get s.stored.entries j → caller (past t) j ≡ caller_in found
-caller-stored {A = A} s t view j found e =
+    → t.stored.start.at ≤ j
+    → (s.stored.start.at ≤ j → found ≡ slice_get s.stored.entries (j - s.stored.start.at))
+    → caller (past t) j ≡ caller_in found
+caller-stored {A = A} s t view j found late e =
     ap (λ (u : State A). caller (past u) j) (sym view)
-    ∙ caller_onto s.stored.entries (Begin nothing) j j (omega arith)
-    ∙ ap caller_in (sym e)
+    ∙ (caller_onto s.stored.entries (Begin (reads_of s.stored.start)) (j - s.stored.start.at) j
+    (omega (arith, here))
+    ∙ ap caller_in (sym (e here)))
+  where
+    here : s.stored.start.at ≤ j
+    here = subst (λ (u : State A). u.stored.start.at ≤ j) (sym view) late
+
+-- what is found at a place of two lists
+at_place-both : (j : ℕ) (xs ys : List WaitingCall)
+    → at_place j (xs ++ ys) ≡ option_or (at_place j xs) (at_place j ys)
+at_place-both j [] ys = refl
+at_place-both j (x ∷ xs) ys = go (x.place == j) (at_place-both j xs ys)
+  where
+    go : (b : Bool) → at_place j (xs ++ ys) ≡ option_or (at_place j xs) (at_place j ys)
+        → cond b (Some x) (at_place j (xs ++ ys))
+        ≡ option_or (cond b (Some x) (at_place j xs)) (at_place j ys)
+    go true ih = refl
+    go false ih = ih
+
+-- a call of a Start is found at its place
+client_below : (call : ℕ → Option WaitingCall) (n j : ℕ) → j < n
+    → client_at (at_place j (calls_below call n)) ≡ client_at (call j)
+client_below call zero j lt = absurd (omega (arith, lt))
+client_below call (suc m) j lt =
+    ap client_at (at_place-both j (calls_below call m) (waiting_there m (call m)))
+    ∙ split (λ less. client_below call m j less) (cases_lt j m)
+  where
+    early : (o : Option WaitingCall) → j < m → at_place j (waiting_there m o) ≡ None
+    early None less = refl
+    early (Some w) less = let ne : (m == j) ≡ false = grind (arith, nat_tests) in rw ne refl
+
+    or_none : (o : Option WaitingCall) → option_or o None ≡ o
+    or_none None = refl
+    or_none (Some w) = refl
+
+    here : (o : Option WaitingCall) → j ≡ m
+        → client_at (at_place j (waiting_there m o)) ≡ client_at o
+    here None e = refl
+    here (Some w) e = let eq : (m == j) ≡ true = grind (arith, nat_tests) in rw eq refl
+
+    none : m ≤ j → at_place j (calls_below call m) ≡ None
+    none le =
+        at_place-below j (calls_below call m)
+        (Each-weaker (λ w. w.place < m) (λ w. w.place < j) (λ w less. omega (arith, less, le))
+        (calls_below call m) (stood-below (Begin (record nothing { call = call; at = m }))))
+
+    split : (j < m → client_at (at_place j (calls_below call m)) ≡ client_at (call j))
+        → (j < m) ⊎ (m ≤ j)
+        → client_at (option_or (at_place j (calls_below call m))
+        (at_place j (waiting_there m (call m)))) ≡ client_at (call j)
+    split ih (inl less) =
+        ap (λ o. client_at (option_or (at_place j (calls_below call m)) o)) (early (call m) less)
+        ∙ (ap client_at (or_none (at_place j (calls_below call m))) ∙ ih less)
+    split ih (inr le) =
+        let same : j ≡ m = omega (arith, lt, le) in
+        ap (λ o. client_at (option_or o (at_place j (waiting_there m (call m))))) (none le)
+        ∙ (here (call m) same ∙ ap (λ k. client_at (call k)) (sym same))
+
+-- the client of an open call of the Start is that in its row
+pub caller-begun : {A : Type 0} (s t : State A) → s ≡ t → (rows : StartRows)
+    → rows ≡ s.stored.start → (j : ℕ) → j < rows.at
+    → client_of_call rows.calls j ≡ caller (past t) j
+caller-begun {A = A} s t view rows same j lt =
+    sym (ap (λ (u : State A). caller (past u) j) (sym view)
+    ∙ (caller_before s.stored.entries (Begin (reads_of s.stored.start)) j
+    (omega (arith, lt, ap (λ (r : StartRows). r.at) same))
+    ∙ (ap (λ (r : StartRows). caller (Begin (reads_of r)) j) (sym same)
+    ∙ (client_below (call_at rows.calls) rows.at j lt ∙ found (call_row rows.calls j)))))
+  where
+    found : (o : Option StartCall)
+        → client_at (option_map (λ r. shown r.call) o) ≡ option_map (λ r. r.call.client) o
+    found None = refl
+    found (Some r) = refl
 
 -- an entry that is no call has none
 pub no-caller : (e : Entry)
@@ -226,7 +303,7 @@ client-in rows c o e = go (client_value rows c) refl e
         let r = look-row rows c v q in
         row-open rows r.0 o r.1.0 (ap (λ (u : Caller). u.open) r.1.2 ∙ s)
 
--- so is one that is kept
+-- so is one that is stored
 pub kept-in : (rows : List (ClientRow Caller)) (c p : ℕ) (found : Option Open)
     → found ≡ keep (λ o. o.call.place == p) (open_in (client_value rows c))
     → IfSome found (λ o. In o (opens_of rows))

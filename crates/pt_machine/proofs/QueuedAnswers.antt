@@ -15,7 +15,7 @@ use Rattle.pt_machine.proofs.QueuedCalls.{queued-told, queued-plain}
 
 module _ {A : Type 0} (s : State A) (c : ℕ) (call : Asked) (queue : ℕ → List Waiter)
     (admitted made : ℕ → Bool) (k : IsQueued (past s) queue admitted made) (new : State A) where
-  -- a call that is told anything but 0
+  -- a call that is answered anything but 0
   pub told-queued : (x : Outcome) → IsReadyFor s (Call c call (Some x)) → is_done x ≡ false
       → Adds s (Call c call (Some x)) new → IsQueued (past new) queue admitted made
   told-queued x g other a =
@@ -23,7 +23,7 @@ module _ {A : Type 0} (s : State A) (c : ℕ) (call : Asked) (queue : ℕ → Li
       (queued-told (past s) c call x g.read.follows g.step queue queue admitted admitted made made
       (λ q. refl) (λ d. refl) (λ o. refl) other k)
 
-  -- a call that is told 0, makes no object, ends none and wakes no wait
+  -- a call that is answered 0, makes no object, ends none and wakes no wait
   pub plain-queued : IsReadyFor s (Call c call (Some Done)) → is_plain (operation call) ≡ true
       → Adds s (Call c call (Some Done)) new → IsQueued (past new) queue admitted made
   plain-queued g plain a =

@@ -70,7 +70,7 @@ without-shorter (u ∷ us) v e =
     let less : length (without v.client us) < suc (length us) = omega (arith, both) in
     rw its less
 
--- of two that were moved by one entry, of the same priority, the one that came later is behind
+-- of two that were moved by one entry, of the same priority, the one that came later is after
 later-behind : (pu px ru rx mu mx iu ix nu nx : ℕ) → mu ≡ iu → mx ≡ ix → nu ≡ nx
     → (nat_lt px pu || ((pu == px) && (nat_lt ru rx || ((ru == rx)
     && (nat_lt mu mx || ((mu == mx) && nat_lt iu ix)))))) ≡ false

@@ -1,4 +1,4 @@
--- Queues behind a call that is answered at once: no call comes or goes by it.
+-- Queues after a call that is answered at once: no call comes or goes by it.
 use Rattle.std.proofs.Common.{◌≡◌, ℕ, ◌==◌, Bool, true, false, not, cond, ◌&&◌, ◌||◌, List, [], ◌∷◌, ◌++◌, append-nil, Option, Some, None, is_some, inl, refl, sym, ap, ◌∙◌, subst, eq-eqb, arith}
 use Rattle.std.proofs.lemmas.Bool.{false≢true}
 use Rattle.std.proofs.lemmas.Bool.Decides.{nat_tests}
@@ -31,7 +31,7 @@ use Rattle.pt_state.proofs.StepLemmas.{called}
 use Rattle.pt_machine.specs.Queued.{IsQueued}
 use Rattle.pt_machine.proofs.QueuedSame.{members-carry}
 
--- a call that is told anything but 0 moves no wait
+-- a call that is answered anything but 0 moves no wait
 told-cause : (h : History) (moves : ℕ → Option Move) (c : ℕ) (call : Asked) (x : Outcome) (j : ℕ)
     → is_done x ≡ false → cause_by h moves (Call c call (Some x)) j ≡ None
 told-cause h moves c call Done j e = absurd cc
@@ -117,7 +117,7 @@ module _ (h : History) (c : ℕ) (call : Asked) (x : Outcome) (f : Follows h)
         makes = there;
       }
 
-  -- a call that is told anything but 0
+  -- a call that is answered anything but 0
   pub queued-told : (queue queue' : ℕ → List Waiter) (admitted admitted' made made' : ℕ → Bool)
       → ((q : ℕ) → queue' q ≡ queue q) → ((d : ℕ) → admitted' d ≡ admitted d)
       → ((o : ℕ) → made' o ≡ made o) → is_done x ≡ false

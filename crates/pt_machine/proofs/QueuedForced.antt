@@ -1,4 +1,4 @@
--- The queues of a state behind an entry that must follow.
+-- The queues of a state after an entry that must follow.
 use Rattle.std.proofs.Common.{◌≡◌, ℕ, Bool, true, false, cond, ◌==◌, List, [], ap, subst}
 use Rattle.pt_waitq.specs.declared.waiter.Waiter.{Waiter}
 use Rattle.pt_waitq.specs.Queues.{without}

@@ -69,7 +69,7 @@ came h f c call s =
 module _ (h : History) (f : Follows h) (c : ℕ) (call : Asked) (s : Step h (Call c call None))
     (queue : ℕ → List Waiter) (admitted made : ℕ → Bool) (k : IsQueued h queue admitted made)
   where
-    -- behind the call
+    -- after the call
     abbrev after : History
     after = h ▷ Call c call None
 

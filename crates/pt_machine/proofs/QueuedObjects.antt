@@ -1,5 +1,5 @@
--- Pushes that make an object or end one: what the queues are before them and behind them.
-use Rattle.std.proofs.Common.{◌≡◌, ℕ, ◌==◌, Bool, true, false, not, ◌&&◌, ◌||◌, List, [], length, Some, sym, ap, ◌∙◌}
+-- Pushes that make an object or end one: what the queues are before them and after them.
+use Rattle.std.proofs.Common.{◌≡◌, ℕ, ◌+◌, ◌==◌, Bool, true, false, not, ◌&&◌, ◌||◌, List, [], length, Some, sym, ap, ◌∙◌}
 use Rattle.pt_types.specs.declared.call.Call.{Call as Asked}
 use Rattle.pt_types.specs.declared.call.ObjectKind.{ObjectKind}
 use Rattle.pt_types.specs.declared.outcome.Outcome.TheVariants.{Done}
@@ -8,33 +8,34 @@ use Rattle.pt_waitq.specs.declared.waiter.Waiter.{Waiter}
 use Rattle.pt_waitq.specs.Queues.{stands_in}
 use Rattle.pt_model.specs.declared.entry.Entry.TheVariants.{Call}
 use Rattle.pt_model.specs.Objects.{find}
-use Rattle.pt_model.proofs.Histories.{place-history}
 use Rattle.pt_state.specs.declared.state.State.{State}
 use Rattle.pt_state.specs.Adds.{past, IsReadyFor, Adds, Stays}
 use Rattle.pt_machine.specs.Queued.{IsQueued}
 use Rattle.pt_machine.proofs.QueuedSame.{queued-kept, queued-adds, queued-stays}
 use Rattle.pt_machine.proofs.QueuedCalls.{queued-made, queued-ended, end-unawaited, unmade-next, made-found, unawaited-empty, unmade-empty, made-back}
+use Rattle.pt_history.proofs.Places.{place_of_next}
 
 module _ {A : Type 0} (s : State A) (c : ℕ) (call : Asked)
     (g : IsReadyFor s (Call c call (Some Done))) (queue : ℕ → List Waiter)
     (admitted made : ℕ → Bool) (k : IsQueued (past s) queue admitted made) where
   -- the number of a new object has no queue
-  pub make-unmade : (o : ℕ) → o ≡ length s.stored.entries → made o ≡ false
+  pub make-unmade : (o : ℕ) → o ≡ s.stored.start.at + length s.stored.entries → made o ≡ false
   make-unmade o e =
-      ap made (e ∙ sym (place-history s.stored.entries))
+      ap made (e ∙ sym (place_of_next s.stored))
       ∙ unmade-next (past s) queue admitted made g.read.follows k
 
   -- so none stands in it, where it is made
   pub make-empty : (queue' : ℕ → List Waiter)
       → ((d q : ℕ) → stands_in d (queue q) ≡ true → made q ≡ true) → (o : ℕ)
-      → o ≡ length s.stored.entries → ((q : ℕ) → queue' q ≡ queue q) → queue' o ≡ []
+      → o ≡ s.stored.start.at + length s.stored.entries
+      → ((q : ℕ) → queue' q ≡ queue q) → queue' o ≡ []
   make-empty queue' law o e queues =
       queues o ∙ unmade-empty queue made law o (make-unmade o e)
 
   -- an object was made, with its queue
   pub make-queued : (n : List ℕ) (kind : ObjectKind) → operation call ≡ Makes n kind
       → (new : State A) (queue' : ℕ → List Waiter) (admitted' made' : ℕ → Bool) (o : ℕ)
-      → o ≡ length s.stored.entries
+      → o ≡ s.stored.start.at + length s.stored.entries
       → ((q : ℕ) → queue' q ≡ queue q) → ((d : ℕ) → admitted' d ≡ admitted d)
       → ((q : ℕ) → made' q ≡ ((o == q) || made q)) → Adds s (Call c call (Some Done)) new
       → IsQueued (past new) queue' admitted' made'
@@ -42,11 +43,11 @@ module _ {A : Type 0} (s : State A) (c : ℕ) (call : Asked)
       queued-adds s new (Call c call (Some Done)) queue' admitted' made' a
       (queued-made (past s) c call g.read.follows g.step n kind d queue queue' admitted admitted'
       made made' queues rooms
-      (λ q. there q ∙ ap (λ p. (p == q) || made q) (e ∙ sym (place-history s.stored.entries))) k)
+      (λ q. there q ∙ ap (λ p. (p == q) || made q) (e ∙ sym (place_of_next s.stored))) k)
 
   -- it was not, and the queue that was made for it is taken away again
   pub make-undone : (new : State A) (queue' : ℕ → List Waiter) (admitted' made' made'' : ℕ → Bool)
-      (o : ℕ) → o ≡ length s.stored.entries
+      (o : ℕ) → o ≡ s.stored.start.at + length s.stored.entries
       → ((q : ℕ) → queue' q ≡ queue q) → ((d : ℕ) → admitted' d ≡ admitted d)
       → ((q : ℕ) → made' q ≡ ((o == q) || made q))
       → ((q : ℕ) → made'' q ≡ (not (o == q) && made' q)) → Stays s new

@@ -1,4 +1,4 @@
--- The queues behind an entry that lets open calls go.
+-- The queues after an entry that lets open calls go.
 use Rattle.std.proofs.Common.{◌≡◌, ℕ, Bool, true, false, cond, not, ◌&&◌, ◌||◌, ◌==◌, List, [], Option, None, Some, refl, sym, ap, ◌∙◌, subst, arith, filter}
 use Rattle.std.proofs.lemmas.Bool.Decides.{nat_tests}
 use Rattle.std.specs.Prelude.{is_some}
@@ -29,7 +29,7 @@ use Rattle.pt_model.proofs.Seats.{exists_as, seat, HousedBy, housed, one_class}
 use Rattle.pt_machine.specs.Queued.{waiter, IsQueued}
 use Rattle.pt_machine.proofs.QueuedSame.{stands-same}
 
--- one history behind another, where no open call is moved, and the same clients live and the same
+-- one history after another, where no open call is moved, and the same clients live and the same
 -- objects exist: the queues are right once they have its open calls
 pub queued-still : (h g : History) (queue queue' : ℕ → List Waiter)
     (admitted admitted' made made' : ℕ → Bool) → ((j : ℕ) → moved g j ≡ moved h j)

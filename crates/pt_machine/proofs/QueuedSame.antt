@@ -6,17 +6,17 @@ use Rattle.pt_waitq.specs.Members.{Members}
 use Rattle.pt_waitq.proofs.MemberLemmas.{members-agree}
 use Rattle.pt_model.specs.declared.entry.Entry.{Entry}
 use Rattle.pt_model.specs.Searches.{In}
-use Rattle.pt_model.specs.Histories.{History, ◌▷◌, history}
+use Rattle.pt_model.specs.Histories.{History, ◌▷◌}
 use Rattle.pt_model.specs.Clients.{is_alive}
 use Rattle.pt_model.specs.Objects.{kind_of}
 use Rattle.pt_model.specs.Records.{WaitingCall, Move}
 use Rattle.pt_model.specs.Answers.{open_calls}
 use Rattle.pt_model.specs.Moves.{moved, object_by, at_object}
-use Rattle.pt_model.proofs.Histories.{history-push}
-use Rattle.pt_history.specs.Stored.{Stored}
+use Rattle.pt_history.specs.Stored.{past_of}
 use Rattle.pt_state.specs.declared.state.State.{State}
 use Rattle.pt_state.specs.Adds.{Adds, Stays, past}
 use Rattle.pt_machine.specs.Queued.{waiter_by, waiter, IsQueued}
+use Rattle.pt_history.proofs.Places.{past-pushed}
 
 -- the same queues, list by list
 pub members-same : {X : Type 0} (at : X → ℕ) (reading : X → Waiter) (calls : List X)
@@ -85,11 +85,11 @@ module _ {A : Type 0} (old new : State A) where
   -- the history of a state with one entry more
   pub past-adds : (e : Entry) → Adds old e new → past new ≡ past old ▷ e
   past-adds e a =
-      ap (λ (x : Stored). history x.entries) a.stored ∙ history-push old.stored.entries e
+      ap past_of a.stored ∙ past-pushed old.stored e
 
   -- and of one to which none was added
   pub past-stays : Stays old new → past new ≡ past old
-  past-stays s = ap (λ (x : Stored). history x.entries) s.stored
+  past-stays s = ap past_of s.stored
 
   -- queues that are right for the history with its entry are right for the state that has it
   pub queued-adds : (e : Entry) (queue : ℕ → List Waiter) (admitted made : ℕ → Bool)

@@ -1,4 +1,4 @@
--- What a signal and a passed deadline move, and the queues behind them.
+-- What a signal and a passed deadline move, and the queues after them.
 use Rattle.std.proofs.Common.{◌≡◌, ℕ, Bool, true, false, cond, not, ◌||◌, ◌==◌, List, Option, Some, None, is_some, option_map, filter, append-nil, refl, sym, ap, ◌∙◌, subst, arith}
 use Rattle.std.proofs.lemmas.Bool.Decides.{nat_tests}
 use Rattle.pt_types.specs.declared.call.Call.{Call as Asked}

@@ -1,4 +1,4 @@
--- The deadlines that are set behind a Join or a Moment: they are those that were set before.
+-- The deadlines that are set after a Join or a Moment: they are those that were set before.
 use Rattle.std.proofs.Common.{ℕ, List, Result, Ok, Err, OnOk, OnErr, sym, ◌∙◌, subst}
 use Rattle.pt_types.specs.declared.time.Clock.{Clock}
 use Rattle.pt_model.specs.declared.entry.Entry.TheVariants.{Join, Moment}

@@ -146,7 +146,7 @@ sets call = option_map (λ d. (clock_of call, deadline_nanos d)) (good_of (asked
 
 module _ (h : History) (f : Follows h) (c : ℕ) (call : Asked) (s : Step h (Call c call None))
   where
-    -- behind the call
+    -- after the call
     abbrev after : History
     after = h ▷ Call c call None
 

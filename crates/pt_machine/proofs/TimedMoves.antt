@@ -1,6 +1,6 @@
--- The deadlines that are set behind a call with its answer: those of the waits that it moves are
+-- The deadlines that are set after a call with its answer: those of the waits that it moves are
 -- set no more.
-use Rattle.std.proofs.Common.{◌≡◌, ℕ, Bool, true, false, cond, ◌&&◌, ◌==◌, List, Option, Some, None, is_some, length, refl, sym, ap, ◌∙◌, subst, arith}
+use Rattle.std.proofs.Common.{◌+◌, ◌≡◌, ℕ, Bool, true, false, cond, ◌&&◌, ◌==◌, List, Option, Some, None, is_some, length, refl, sym, ap, ◌∙◌, subst, arith}
 use Rattle.std.proofs.lemmas.Bool.Decides.{nat_tests}
 use Rattle.std.proofs.lemmas.Bool.{false≢true}
 use Rattle.std.specs.List.{list_any}
@@ -18,7 +18,6 @@ use Rattle.pt_model.specs.Records.{WaitingCall, Move}
 use Rattle.pt_model.specs.Answers.{open_calls}
 use Rattle.pt_model.specs.Moves.{cause_by, move_or, moved, is_moved}
 use Rattle.pt_model.specs.Steps.{Follows}
-use Rattle.pt_model.proofs.Histories.{place-history}
 use Rattle.pt_records.specs.declared.clients.Open.{Open}
 use Rattle.pt_state.specs.declared.state.State.{State}
 use Rattle.pt_state.specs.Adds.{past, Adds, IsReadyFor}
@@ -30,6 +29,7 @@ use Rattle.pt_machine.proofs.QueuedSame.{past-adds}
 use Rattle.pt_machine.proofs.QueuedCalls.{open-answered}
 use Rattle.pt_machine.proofs.TimedSteps.{set-same, set-moved}
 use Rattle.pt_machine.proofs.TimerDrops.{went, dropped}
+use Rattle.pt_history.proofs.Places.{place_of_next}
 
 -- both tests pass
 both : (a b : Bool) → (a && b) ≡ true → (a ≡ true) × (b ≡ true)
@@ -101,7 +101,8 @@ module _ {A : Type 0} (old new : State A) (timers later : List (ℕ × (Clock ×
       (are-open (past new) new.clients adds.read.follows adds.read.callers)
 
   -- the deadlines that are left are those of the history with the call
-  pub timed-answered : (k : ℕ) → k ≡ length old.stored.entries → AreTimed (past old) timers
+  pub timed-answered : (k : ℕ) → k ≡ old.stored.start.at + length old.stored.entries
+      → AreTimed (past old) timers
       → ((p : ℕ) → deadline_at later p
       ≡ dropped k (opens_of new.clients) (deadline_at timers p) p)
       → AreTimed (past new) later
@@ -110,7 +111,7 @@ module _ {A : Type 0} (old new : State A) (timers later : List (ℕ × (Clock ×
       (sym (past-adds old new (Call c call (Some x)) adds))
       (λ p. drops p
       ∙ (ap (λ j. dropped j (opens_of new.clients) (deadline_at timers p) p)
-      (at ∙ sym (place-history old.stored.entries))
+      (at ∙ sym (place_of_next old.stored))
       ∙ (ap (λ d. dropped (place (past old)) (opens_of new.clients) d p) (timed p)
       ∙ sym (set-dropped (past old) (Call c call (Some x)) ready.read.follows
       (open-answered (past old) c call x ready.read.follows ready.step)

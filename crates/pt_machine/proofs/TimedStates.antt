@@ -1,5 +1,5 @@
 -- The deadlines that are set beside a state, as entries are pushed.
-use Rattle.std.proofs.Common.{◌≡◌, ℕ, Bool, true, false, cond, ◌==◌, List, Option, Some, None, Result, Ok, Err, OnOk, OnErr, length, refl, sym, ap, ◌∙◌, subst, arith}
+use Rattle.std.proofs.Common.{◌+◌, ◌≡◌, ℕ, Bool, true, false, cond, ◌==◌, List, Option, Some, None, Result, Ok, Err, OnOk, OnErr, length, refl, sym, ap, ◌∙◌, subst, arith}
 use Rattle.std.proofs.lemmas.Bool.Decides.{nat_tests}
 use Rattle.std.specs.Prelude.{option_map}
 use Rattle.pt_types.specs.declared.call.Call.{Call as Asked}
@@ -15,7 +15,6 @@ use Rattle.pt_model.specs.WaitingCall.{is_arrival}
 use Rattle.pt_model.specs.Answers.{open_calls, open_place}
 use Rattle.pt_model.specs.Grants.{grant_outcome}
 use Rattle.pt_model.specs.Forced.{service}
-use Rattle.pt_model.proofs.Histories.{place-history}
 use Rattle.pt_records.specs.declared.clients.Open.{Open}
 use Rattle.pt_state.specs.declared.state.State.{State}
 use Rattle.pt_state.specs.Adds.{past, Adds, Stays, IsReadyFor}
@@ -27,6 +26,7 @@ use Rattle.pt_machine.specs.Timed.{asked, set_at, AreTimed, good_of}
 use Rattle.pt_machine.proofs.QueuedSame.{past-adds, past-stays}
 use Rattle.pt_machine.proofs.TimedSteps.{set-new, set-yield, set-grant, set-expire, set-death-free, set-death}
 use Rattle.pt_machine.proofs.TimedCalls.{set-arrival, set-trip, set-left}
+use Rattle.pt_history.proofs.Places.{place_of_next}
 
 -- where nothing is set at a place, nothing changes as that is cancelled
 unset : (set : ℕ → Option (Clock × ℕ)) (j : ℕ) → set j ≡ None → (p : ℕ)
@@ -78,10 +78,10 @@ module _ {A : Type 0} (old : State A) (timers : List (ℕ × (Clock × ℕ))) (c
     (ready : IsReadyFor old (Call c call None)) (timed : AreTimed (past old) timers) where
   -- the place of a call that comes now
   abbrev IsNext : ℕ → Type 0
-  IsNext j = j ≡ length old.stored.entries
+  IsNext j = j ≡ old.stored.start.at + length old.stored.entries
 
   next : (j : ℕ) → IsNext j → j ≡ place (past old)
-  next j at = at ∙ sym (place-history old.stored.entries)
+  next j at = at ∙ sym (place_of_next old.stored)
 
   -- no deadline is set there yet
   pub none-next : (j : ℕ) → IsNext j → deadline_at timers j ≡ None

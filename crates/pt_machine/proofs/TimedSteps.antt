@@ -73,7 +73,7 @@ at-same p test other (w ∷ ws) f =
     go false k ih =
         aside (test w) (filter test ws) k ∙ (ih ∙ sym (aside (other w) (filter other ws) k))
 
--- calls at other places, behind these, change nothing
+-- calls at other places, after these, change nothing
 pub at-before : (p : ℕ) (ws vs : List WaitingCall) → at_place p vs ≡ None
     → at_place p (ws ++ vs) ≡ at_place p ws
 at-before p [] vs e = e

@@ -6,11 +6,11 @@ use Rattle.pt_model.specs.declared.entry.Entry.TheVariants.{Join, Call}
 use Rattle.pt_state.specs.Outer.{makes_object, asks_to_read}
 use Rattle.pt_machine.specs.Timed.{asked, good_of}
 
--- a call that is left waiting: its row in a read-write lock, or its deadline  [profile]
+-- a call that is left waiting: its row in a read-write lock, or its deadline
 abbrev pub needs_memory_to_wait : Operation → Bool
 needs_memory_to_wait o = asks_to_read o || is_some (good_of (asked o))
 
--- an outer entry: the row of a client or of an object, or what a waiting call needs  [profile]
+-- an outer entry: the row of a client or of an object, or what a waiting call needs
 abbrev pub needs_memory : Entry → Bool
 needs_memory (Join c p) = true
 needs_memory (Call c call None) = needs_memory_to_wait (operation call)

@@ -12,7 +12,7 @@ use Rattle.pt_model.specs.WaitingCall.{is_write}
 use Rattle.pt_model.specs.Answers.{open_calls}
 use Rattle.pt_model.specs.Moves.{moved, arrival_by, at_object}
 
--- a call as it waits, where it was moved so  [XSH 2.8.4]
+-- a call as it waits, if it was moved so  [XSH 2.8.4]
 abbrev pub waiter_by : Option Move → WaitingCall → Waiter
 waiter_by move w =
     record {
@@ -27,7 +27,7 @@ waiter_by move w =
 abbrev pub waiter : History → WaitingCall → Waiter
 waiter h w = waiter_by (moved h w.place) w
 
--- the queues have the open calls, each where it stands, and no others; there is room for each
+-- the queues have the open calls, each where it waits, and no others; there is room for each
 -- living client's call, and a queue for each object  [XSH 2.8.4]
 pub record IsQueued (h : History) (queue : ℕ → List Waiter) (admitted made : ℕ → Bool) : Type 0
   where

@@ -23,7 +23,7 @@ asked (Acquires n lock_kind how) = deadline_of how
 asked (Awaits n m deadline) = deadline
 asked _ = None
 
--- what an entry says of the deadline of the call at place j  [profile]
+-- what an entry says of the deadline of the call at place j
 abbrev pub timed_by : History → Entry → Option Timespec → ℕ → Option Timespec
 timed_by h (Call c call reply) before j = if place h == j then asked (operation call) else before
 timed_by h _ before j = before
@@ -33,7 +33,7 @@ abbrev pub written : ℕ → Timespec
 written n = record { sec = n / second; nsec = n % second }
 
 -- the deadline of the call at place j, as it was written; of an open call of the Start, as it may
--- have been  [profile]
+-- have been
 abbrev pub timed : History → ℕ → Option Timespec
 timed (Begin s) j = option_map written (deadline_if (at_place j (calls_below s.call s.at)))
 timed (h ▷ e) j = timed_by h e (timed h j) j
@@ -47,12 +47,12 @@ is_set h w = not (is_moved h w) && not (has_bad_deadline (timed h w.place))
 abbrev pub setting : WaitingCall → Option (Clock × ℕ)
 setting w = option_map (λ n. (w.clock, n)) w.deadline
 
--- the same of a call that was found  [profile]
+-- the setting of the deadline of a call, if one was found
 abbrev pub setting_if : Option WaitingCall → Option (Clock × ℕ)
 setting_if None = None
 setting_if (Some w) = setting w
 
--- the deadline that is set for the open call at place p, with its clock  [profile]
+-- the deadline that is set for the open call at place p, with its clock
 abbrev pub set_at : History → ℕ → Option (Clock × ℕ)
 set_at h p = setting_if (at_place p (filter (is_set h) (open_calls h)))
 

@@ -1,10 +1,12 @@
 //! Answers and entries, as the tables have them.
 
-ghost use Rattle.std.specs.Prelude.{◌+◌, ◌<◌, ◌≡◌, length, map, option_copied, option_map, slice_get};
+ghost use Rattle.std.specs.Prelude.{None, ◌+◌, ◌-◌, ◌<◌, ◌≡◌, ◌≤◌, length, map, option_copied, slice_get};
 ghost use Rattle.pt_model.specs.Answers.{outcome as said};
 ghost use Rattle.pt_state.specs.Adds.{past};
+ghost use Rattle.pt_model.specs.StartRows.{reads_of};
+ghost use Rattle.pt_state.specs.Forcing.{told_to};
 ghost use Rattle.pt_state.specs.Reads.{AreTables};
-ghost use Rattle.pt_model.specs.Queries.{answer_of as answer_in, answers_from as answers_in};
+ghost use Rattle.pt_model.specs.Queries.{answer_of as answer_in, answers_behind as answers_in};
 ghost use Rattle.pt_records.specs.Logs.{logged};
 
 use crate::body::Body;
@@ -15,16 +17,25 @@ use pt_waitq::WaitList;
 use std::alloc::Allocator;
 
 impl<Q: WaitList, A: Allocator + Copy> Body<Q, A> {
-    /// The number of entries, which is the place of the next one.
+    /// The place of the next entry.
     pub fn len(&self) -> u64
-        ensures { result ≡ length self.now.stored.entries }
+        ensures { result ≡ self.now.stored.start.at + length self.now.stored.entries }
     {
         self.state.stored.len()
     }
 
-    /// The entry at a place, where there is one.
+    /// The place of the first entry since the history was sealed.
+    pub fn first(&self) -> u64
+        ensures { result ≡ self.now.stored.start.at }
+    {
+        self.state.stored.start().at
+    }
+
+    /// The entry at a place, if there is one; places before the Start have none.
     pub fn entry(&self, place: u64) -> Option<&Entry>
-        ensures { option_copied result ≡ slice_get self.now.stored.entries place }
+        ensures before { place < self.now.stored.start.at → result ≡ None }
+        ensures since { self.now.stored.start.at ≤ place → option_copied result
+            ≡ slice_get self.now.stored.entries (place - self.now.stored.start.at) }
     {
         self.state.stored.entry(place)
     }
@@ -44,18 +55,19 @@ impl<Q: WaitList, A: Allocator + Copy> Body<Q, A> {
         self.state.outcome(place)
     }
 
-    /// The answer to a living client's latest call.  [profile]
-    pub fn answer_of(&self, c: ClientId) -> Option<Answered>
+    /// The answer to a living client's latest call, with the place of the call.
+    pub fn answer_of(&self, c: ClientId) -> Option<(u64, Outcome)>
         requires { AreTables self.now }
-        ensures { option_map (λ a. (logged a).1) result ≡ answer_in (past self.now) c }
+        ensures { told_to c result ≡ answer_in (past self.now) c }
     {
         self.state.answer_of(c)
     }
 
-    /// The answers that the entries from a place on gave, in order.  [profile]
+    /// The answers that the entries from a place on gave, in order.
     pub fn answers_since(&self, place: u64) -> &[Answered]
         requires { AreTables self.now }
-        ensures { map (λ a. (logged a).1) result.now ≡ answers_in place self.now.stored.entries }
+        ensures { map (λ a. (logged a).1) result.now ≡ answers_in
+            (reads_of self.now.stored.start) place self.now.stored.entries }
     {
         self.state.answers_since(place)
     }

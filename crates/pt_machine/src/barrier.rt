@@ -41,7 +41,7 @@ pub(crate) fn push_tripped<Q: WaitList, A: Allocator + Copy>(
 }
 
 impl<Q: WaitList, A: Allocator + Copy> Body<Q, A> {
-    /// How many calls stand at the barrier.  [XSH pthread_barrier_wait]
+    /// How many calls wait at the barrier.  [XSH pthread_barrier_wait]
     pub(crate) fn arrivals(&self, b: ObjectId) -> usize
         requires read { AreTables self.now }
         requires barrier { option_map class_of (kind_of (past self.now) b) ≡ Some BarrierClass }

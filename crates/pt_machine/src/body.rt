@@ -1,7 +1,7 @@
 //! The tables with their queues and deadlines, and the two ways by which an entry comes in.
 
 ghost use Rattle.pt_state.specs.Adds.{Adds, IsReadyFor, Stays, past};
-ghost use Rattle.std.specs.Prelude.{IfErr, IsOk, OnErr, OnOk, [], ◌+◌, ◌<◌, ◌≡◌, ◌≤◌, false, length, vec_len};
+ghost use Rattle.std.specs.Prelude.{IfErr, IsOk, OnErr, OnOk, ◌+◌, ◌<◌, ◌≡◌, ◌≤◌, false, length, vec_len};
 ghost use Rattle.pt_types.specs.Limits.{most_clients};
 ghost use Rattle.pt_model.specs.Histories.{is_forced};
 ghost use Rattle.pt_machine.specs.Memory.{needs_memory};
@@ -9,13 +9,14 @@ ghost use Rattle.pt_records.specs.Callers.{opens_of};
 ghost use Rattle.pt_state.specs.Serving.{IsFor, entry_of};
 ghost use Rattle.pt_model.specs.Answers.{open_place as open_place_in};
 ghost use Rattle.pt_state.specs.Reads.{AreTables};
+ghost use Rattle.pt_history.specs.Stored.{begun};
 
 use crate::clock;
 use pt_model::Entry;
 use pt_state::{Forced, State};
 use pt_timers::Timers;
 use pt_types::{ClientId, Refusal};
-use pt_waitq::{PlainList, WaitList};
+use pt_waitq::{Chains, WaitList};
 use std::alloc::{Allocator, Global};
 use std::marker::Model;
 
@@ -45,7 +46,7 @@ impl<Q: WaitList, A: Allocator + Copy> Model for Body<Q, A> {
 }
 
 impl<Q: WaitList, A: Allocator + Copy> Body<Q, A> {
-    /// How many rows the table of clients has.  [profile]
+    /// How many rows the table of clients has.
     pub(crate) fn rows(&self) -> usize
         ensures len { result ≡ length self.now.clients }
         ensures within { length self.now.clients ≤ most_clients }
@@ -53,9 +54,8 @@ impl<Q: WaitList, A: Allocator + Copy> Body<Q, A> {
         self.state.clients.len()
     }
 
-    /// Any outer entry. ENOMEM where a growth is refused: then nothing is pushed. An entry that
+    /// Any outer entry. ENOMEM if a growth is refused: then nothing is pushed. An entry that
     /// needs no memory, as a Death and a Moment, is never refused, and no forced entry comes here.
-    /// [profile]
     pub fn push_outer(&mut self, entry: &Entry) -> Result<(), Refusal>
         requires ready { IsReadyFor self.old entry.now }
         requires outer { is_forced entry.now ≡ false }
@@ -77,7 +77,7 @@ impl<Q: WaitList, A: Allocator + Copy> Body<Q, A> {
         clock::push_forced(&mut self.state, &mut self.queues, &mut self.timers, forced)
     }
 
-    /// The place of a client's open call.  [profile]
+    /// The place of a client's open call.
     pub fn open_place(&self, c: ClientId) -> Option<u64>
         requires { AreTables self.now }
         ensures { result ≡ open_place_in (past self.now) c }
@@ -86,16 +86,16 @@ impl<Q: WaitList, A: Allocator + Copy> Body<Q, A> {
     }
 }
 
-impl<A: Allocator + Copy> Body<PlainList<A>, A> {
+impl<A: Allocator + Copy> Body<Chains<A>, A> {
     /// No entry, of at most so many. It takes no memory.
-    pub fn new(alloc: A, limit: u32) -> Body<PlainList<A>, A>
-        ensures stored { result.stored ≡ record { entries = []; limit = limit; room = 0 } }
+    pub fn new(alloc: A, limit: u32) -> Body<Chains<A>, A>
+        ensures stored { result.stored ≡ begun limit }
         ensures answers { vec_len result.answers ≡ 0 }
         ensures read { AreTables result }
     {
         Body {
             state: State::new(alloc, limit),
-            queues: PlainList::new(alloc),
+            queues: Chains::new(alloc),
             timers: Timers::new(alloc),
         }
     }

@@ -22,7 +22,7 @@ use pt_types::{Call, ClientId, How, Name, Outcome, Refusal, Verdict};
 use pt_waitq::WaitList;
 use std::alloc::Allocator;
 
-/// A call that is left waiting takes its place in a queue. ENOMEM where there is no memory for
+/// A call that is left waiting takes its place in a queue. ENOMEM if there is no memory for
 /// its row in a read-write lock; another call needs none.  [XSH, the call's page]
 pub(crate) fn push_left<Q: WaitList, A: Allocator + Copy>(
     state: &mut State<A>,
@@ -49,7 +49,7 @@ pub(crate) fn push_left<Q: WaitList, A: Allocator + Copy>(
     }
 }
 
-// Whether a call makes no object, ends none and wakes no wait.  [profile]
+// Whether a call makes no object, ends none and wakes no wait.
 fn is_plain(call: &Call) -> bool
     ensures { result ≡ is_plain_operation (operation call.now) }
 {
@@ -62,7 +62,7 @@ fn is_plain(call: &Call) -> bool
     }
 }
 
-// A call that is told 0, with what it does. ENOMEM where there is no memory for the object that
+// A call that is answered 0, with what it does. ENOMEM if there is no memory for the object that
 // it makes.
 // [XSH, the call's page]
 fn push_done<Q: WaitList, A: Allocator + Copy>(
@@ -103,7 +103,7 @@ fn push_done<Q: WaitList, A: Allocator + Copy>(
     }
 }
 
-/// A call with its answer. ENOMEM where there is no memory for the object that it makes.
+/// A call with its answer. ENOMEM if there is no memory for the object that it makes.
 /// [XSH, the call's page]
 pub(crate) fn push_answered<Q: WaitList, A: Allocator + Copy>(
     state: &mut State<A>,

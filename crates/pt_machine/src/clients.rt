@@ -11,8 +11,8 @@ use pt_types::{ClientId, Priority, Refusal};
 use pt_waitq::WaitList;
 use std::alloc::Allocator;
 
-/// A client joins: it has its row, and room for one waiting call. ENOMEM where the growth of one
-/// of them is refused.  [profile]
+/// A client joins: it has its row, and room for one waiting call. ENOMEM if the growth of one
+/// of them is refused.
 pub(crate) fn push_join<Q: WaitList, A: Allocator + Copy>(
     state: &mut State<A>,
     queues: &mut Q,
@@ -41,7 +41,7 @@ pub(crate) fn push_join<Q: WaitList, A: Allocator + Copy>(
     }
 }
 
-/// A client's process ends: its row, its open call, and the room for one are gone.  [profile]
+/// A client's process ends: its row, its open call, and the room for one are gone.
 pub(crate) fn push_death<Q: WaitList, A: Allocator + Copy>(
     state: &mut State<A>,
     queues: &mut Q,

@@ -3,7 +3,7 @@
 ghost use Rattle.pt_model.specs.declared.entry.Entry.TheVariants as entry_is;
 ghost use Rattle.pt_state.specs.Adds.{Adds, IsReadyFor, Stays, past};
 ghost use Rattle.pt_machine.specs.Queued.{IsQueued};
-ghost use Rattle.std.specs.Prelude.{IfErr, IfSome, IsOk, None, OnErr, OnOk, Some, ℕ, ◌&&◌, ◌==◌, ◌≡◌, false, filter, if◌then◌else◌, option_map};
+ghost use Rattle.std.specs.Prelude.{IfErr, IfSome, IsOk, None, OnErr, OnOk, Some, ℕ, ◌&&◌, ◌==◌, ◌≡◌, ◌≤◌, false, filter, if◌then◌else◌, option_map};
 ghost use Rattle.pt_types.specs.Operations.{operation};
 ghost use Rattle.pt_machine.specs.Timed.{AreTimed, asked, good_of, was_moved_at};
 ghost use Rattle.std.specs.List.{list_any};
@@ -34,7 +34,7 @@ use pt_types::{Call, ClientId, Clock, Deadline, Moment, Outcome, Refusal};
 use pt_waitq::WaitList;
 use std::alloc::Allocator;
 
-/// A reading of the clock is handed in.  [profile]
+/// A reading of the clock is handed in.
 pub(crate) fn push_moment<Q: WaitList, A: Allocator + Copy>(
     state: &mut State<A>,
     queues: &mut Q,
@@ -51,7 +51,7 @@ pub(crate) fn push_moment<Q: WaitList, A: Allocator + Copy>(
     state.push_moment(clock, moment);
 }
 
-// The deadline of a call, where it has one that is a time.  [XSH pthread_mutex_timedlock, EINVAL]
+// The deadline of a call, if it has one that is a time.  [XSH pthread_mutex_timedlock, EINVAL]
 fn good_deadline(call: &Call) -> Option<Deadline>
     ensures { result ≡ good_of (asked (operation call.now)) }
 {
@@ -95,7 +95,7 @@ fn drop_moved<A: Allocator + Copy>(timers: &mut Timers<A>, state: &State<A>, pla
     }
 }
 
-// A call that is left waiting has its deadline set first, if that is a time. ENOMEM where the
+// A call that is left waiting has its deadline set first, if that is a time. ENOMEM if the
 // growth of a table is refused.  [XSH pthread_mutex_timedlock]
 fn push_timed<Q: WaitList, A: Allocator + Copy>(
     state: &mut State<A>,
@@ -131,7 +131,7 @@ fn push_timed<Q: WaitList, A: Allocator + Copy>(
     }
 }
 
-// A call that is left waiting. ENOMEM where there is no memory for its row or its deadline.
+// A call that is left waiting. ENOMEM if there is no memory for its row or its deadline.
 // [XSH, the call's page]
 pub(crate) fn push_left<Q: WaitList, A: Allocator + Copy>(
     state: &mut State<A>,
@@ -158,7 +158,7 @@ pub(crate) fn push_left<Q: WaitList, A: Allocator + Copy>(
     }
 }
 
-// A call with its answer: no deadline is set any more for those that it moves. ENOMEM where there
+// A call with its answer: no deadline is set any more for those that it moves. ENOMEM if there
 // is no memory for the object that it makes.  [XSH, the call's page]
 pub(crate) fn push_answered<Q: WaitList, A: Allocator + Copy>(
     state: &mut State<A>,
@@ -190,7 +190,7 @@ pub(crate) fn push_answered<Q: WaitList, A: Allocator + Copy>(
     }
 }
 
-// A client's process ends: no deadline is set any more for its open call.  [profile]
+// A client's process ends: no deadline is set any more for its open call.
 pub(crate) fn push_death<Q: WaitList, A: Allocator + Copy>(
     state: &mut State<A>,
     queues: &mut Q,
@@ -213,8 +213,8 @@ pub(crate) fn push_death<Q: WaitList, A: Allocator + Copy>(
     }
 }
 
-/// Any outer entry. ENOMEM where a growth is refused: then nothing is pushed. An entry that needs
-/// no memory is never refused, and no forced entry comes here.  [profile]
+/// Any outer entry. ENOMEM if a growth is refused: then nothing is pushed. An entry that needs
+/// no memory is never refused, and no forced entry comes here.
 pub(crate) fn push_outer<Q: WaitList, A: Allocator + Copy>(
     state: &mut State<A>,
     queues: &mut Q,
@@ -296,8 +296,9 @@ impl<Q: WaitList, A: Allocator + Copy> Body<Q, A> {
         }
     }
 
-    // The client of the call at a place.
-    fn caller_at(&self, place: u64) -> Option<ClientId>
+    // The client of the call at a place, if its entry is stored there.
+    fn caller_since(&self, place: u64) -> Option<ClientId>
+        requires { self.now.stored.start.at ≤ place }
         ensures { result ≡ caller (past self.now) place }
     {
         match self.state.stored.entry(place)? {
@@ -306,7 +307,21 @@ impl<Q: WaitList, A: Allocator + Copy> Body<Q, A> {
         }
     }
 
-    // The open call that came at a place, if there is one.  [profile]
+    // The client of the call at a place; of an open call of the Start, by the Start's rows.
+    fn caller_at(&self, place: u64) -> Option<ClientId>
+        ensures { result ≡ caller (past self.now) place }
+    {
+        let start = self.state.stored.start();
+        if start.at <= place {
+            return self.caller_since(place);
+        }
+        match start.caller_at(place) {
+            Some(client) => Some(ClientId(client)),
+            None => None,
+        }
+    }
+
+    // The open call that came at a place, if there is one.
     fn open_at(&self, place: u64) -> Option<Open>
         requires { AreTables self.now }
         ensures value { option_map called result ≡ at_place place (open_calls (past self.now)) }
@@ -315,7 +330,7 @@ impl<Q: WaitList, A: Allocator + Copy> Body<Q, A> {
         self.open_if_at(self.caller_at(place)?, place)
     }
 
-    /// The call whose deadline ends it first, where no call is to be served.
+    /// The call whose deadline ends it first, if no call is to be served.
     /// [XSH pthread_mutex_timedlock, the order is profile]
     pub(crate) fn first_overdue(&self) -> Option<Open>
         requires read { AreTables self.now }
@@ -330,8 +345,8 @@ impl<Q: WaitList, A: Allocator + Copy> Body<Q, A> {
         self.open_at(place)
     }
 
-    /// The least deadline by a clock of the open calls that aren't moved, as it was written, where
-    /// nothing is forced.  [profile]
+    /// The least deadline by a clock of the open calls that aren't moved, as it was written, if
+    /// nothing is forced.
     pub fn least_deadline(&self, clock: Clock) -> Option<Deadline>
         requires read { AreTables self.now }
         requires quiet { forced (past self.now) ≡ None }

@@ -18,7 +18,6 @@ ghost use Rattle.pt_state.specs.Reads.{AreTables};
 ghost use Rattle.pt_model.specs.Verdicts.{bound_by, cond_view, on, operation_verdict as said_of};
 ghost use Rattle.pt_types.specs.Limits.{most_clients};
 ghost use Rattle.pt_types.specs.declared.outcome.Verdict.TheVariants as reply_of;
-ghost use Rattle.pt_model.specs.Histories.{history};
 ghost use Rattle.pt_state.specs.Needed.{waiting_if};
 ghost use Rattle.pt_records.specs.Counts.{one_if};
 
@@ -33,7 +32,7 @@ use pt_types::{Call, ClientId, Deadline, Name, ObjectId, Outcome, Verdict};
 use pt_waitq::WaitList;
 use std::alloc::Allocator;
 
-// The first wait at a condition is woken, and stands at its mutex.  [XSH pthread_cond_signal]
+// The first wait at a condition is woken, and waits at its mutex.  [XSH pthread_cond_signal]
 fn push_wake<Q: WaitList, A: Allocator + Copy>(
     state: &mut State<A>,
     queues: &mut Q,
@@ -82,7 +81,7 @@ pub(crate) fn push_signal<Q: WaitList, A: Allocator + Copy>(
     }
 }
 
-// All waits at a condition are woken, and stand at its mutex.  [XSH pthread_cond_broadcast]
+// All waits at a condition are woken, and wait at its mutex.  [XSH pthread_cond_broadcast]
 pub(crate) fn push_broadcast<Q: WaitList, A: Allocator + Copy>(
     state: &mut State<A>,
     queues: &mut Q,
@@ -106,7 +105,7 @@ pub(crate) fn push_broadcast<Q: WaitList, A: Allocator + Copy>(
     }
 }
 
-// The deadline of a wait has passed: it stands at its mutex.  [XSH pthread_cond_timedwait]
+// The deadline of a wait has passed: it waits at its mutex.  [XSH pthread_cond_timedwait]
 pub(crate) fn push_late_wait<Q: WaitList, A: Allocator + Copy>(
     state: &mut State<A>,
     queues: &mut Q,
@@ -149,7 +148,7 @@ pub(crate) fn first_waiting<Q: WaitList, A: Allocator + Copy>(
 }
 
 impl<Q: WaitList, A: Allocator + Copy> Body<Q, A> {
-    /// The mutex with which calls wait at the condition, where some do.  [XSH pthread_cond_wait]
+    /// The mutex with which calls wait at the condition, if some do.  [XSH pthread_cond_wait]
     pub(crate) fn bound(&self, q: ObjectId) -> Option<ObjectId>
         requires read { AreTables self.now }
         requires cond { kind_of (past self.now) q ≡ Some kind.Cond }
@@ -161,7 +160,7 @@ impl<Q: WaitList, A: Allocator + Copy> Body<Q, A> {
         }
     }
 
-    /// The condition, bound to the mutex with which calls wait there, where some do.
+    /// The condition, bound to the mutex with which calls wait there, if some do.
     /// [XSH pthread_cond_wait]
     pub(crate) fn condition(&self, q: ObjectId) -> CondObj
         requires read { AreTables self.now }
@@ -175,7 +174,7 @@ impl<Q: WaitList, A: Allocator + Copy> Body<Q, A> {
         found
     }
 
-    /// How many waits stand at the condition and aren't moved.  [XSH pthread_cond_wait]
+    /// How many waits are at the condition and aren't moved.  [XSH pthread_cond_wait]
     pub(crate) fn waiting(&self, q: ObjectId) -> u64
         requires read { AreTables self.now }
         requires cond { kind_of (past self.now) q ≡ Some kind.Cond }
@@ -217,10 +216,10 @@ impl<Q: WaitList, A: Allocator + Copy> Body<Q, A> {
             .known_verdict(n, ObjectClass::Cond, Verdict::Reply(Outcome::Done))
     }
 
-    // How many waits stand at the condition that is found, if one is.  [XSH pthread_cond_wait]
+    // How many waits are at the condition that is found, if one is.  [XSH pthread_cond_wait]
     pub(crate) fn waiting_found(&self, n: &Name) -> u64
         requires { AreTables self.now }
-        ensures value { let h = history self.now.stored.entries in
+        ensures value { let h = past self.now in
             result ≡ waiting_if h (find h n.now CondClass) }
         ensures small { result ≤ 1024 }
     {
@@ -230,10 +229,10 @@ impl<Q: WaitList, A: Allocator + Copy> Body<Q, A> {
         }
     }
 
-    // One where waits stand at the condition that is found.  [XSH pthread_cond_signal]
+    // One if waits are at the condition that is found.  [XSH pthread_cond_signal]
     pub(crate) fn first_found(&self, n: &Name) -> u64
         requires { AreTables self.now }
-        ensures value { let h = history self.now.stored.entries in
+        ensures value { let h = past self.now in
             result ≡ one_if (nat_lt 0 (waiting_if h (find h n.now CondClass))) }
         ensures small { result ≤ 1 }
     {

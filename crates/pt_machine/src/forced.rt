@@ -9,7 +9,6 @@ ghost use Rattle.pt_records.specs.Callers.{opens_of};
 ghost use Rattle.pt_state.specs.Serving.{IsFor, best_of, called, entry_of, goes_first as goes_first_by, open_nth as open_nth_in, served_first as served_first_by};
 ghost use Rattle.pt_machine.specs.Queued.{IsQueued};
 ghost use Rattle.pt_model.specs.declared.entry.Entry.TheVariants as entry;
-ghost use Rattle.pt_model.specs.Histories.{history};
 ghost use Rattle.pt_state.specs.Granting.{may_kept as may_kept_in};
 ghost use Rattle.pt_state.specs.Reads.{AreTables};
 ghost use Rattle.pt_model.specs.Grants.{may as may_in};
@@ -137,7 +136,7 @@ fn goes_first(a: &Open, b: &Open) -> bool
     goes_before(key_with(&a.call, a.moved), key_with(&b.call, b.moved))
 }
 
-// The lower object first, and there the order of its calls.  [profile]
+// The lower object first, and there the order of its calls.
 fn served_first(a: &Open, b: &Open) -> bool
     ensures { result ≡ served_first_by a.now b.now }
 {
@@ -146,7 +145,7 @@ fn served_first(a: &Open, b: &Open) -> bool
     one < other || one == other && goes_first(a, b)
 }
 
-// The one to serve first, of a call and the first behind it.  [profile]
+// The one to serve first, of a call and the first after it.
 fn better_served(one: Option<Open>, best: Option<Open>) -> Option<Open>
     ensures { result ≡ best_of served_first_by one best }
 {
@@ -163,7 +162,7 @@ impl<Q: WaitList, A: Allocator + Copy> Body<Q, A> {
         requires read { AreTables self.now }
         requires known { In kept.now (opens_of self.now.clients) }
         ensures { result
-            ≡ may_kept_in (history self.now.stored.entries) self.now.objects kept.now }
+            ≡ may_kept_in (past self.now) self.now.objects kept.now }
     {
         let o = ObjectId(kept.call.object);
         let c = ClientId(kept.call.client);
@@ -181,7 +180,7 @@ impl<Q: WaitList, A: Allocator + Copy> Body<Q, A> {
     pub fn may(&self, kept: &Open) -> bool
         requires read { AreTables self.now }
         requires known { In kept.now (opens_of self.now.clients) }
-        ensures { result ≡ may_in (history self.now.stored.entries) (called kept.now) }
+        ensures { result ≡ may_in (past self.now) (called kept.now) }
     {
         self.may_kept(kept)
     }
@@ -190,7 +189,7 @@ impl<Q: WaitList, A: Allocator + Copy> Body<Q, A> {
     fn served_nth(&self, i: usize) -> Option<Open>
         requires { AreTables self.now }
         ensures { result
-            ≡ keep (λ o. may_in (history self.now.stored.entries) (called o))
+            ≡ keep (λ o. may_in (past self.now) (called o))
             (open_nth_in self.now.clients i) }
     {
         match self.state.open_nth(i) {
@@ -203,9 +202,9 @@ impl<Q: WaitList, A: Allocator + Copy> Body<Q, A> {
     pub fn first_served(&self) -> Option<Open>
         requires { AreTables self.now }
         ensures value { option_map called result
-            ≡ least (is_served_before_in (history self.now.stored.entries))
-            (filter (is_served_in (history self.now.stored.entries))
-            (open_calls (history self.now.stored.entries))) }
+            ≡ least (is_served_before_in (past self.now))
+            (filter (is_served_in (past self.now))
+            (open_calls (past self.now))) }
         ensures known { IfSome result (λ found. In found (opens_of self.now.clients)) }
     {
         let mut best = None;
@@ -221,8 +220,8 @@ impl<Q: WaitList, A: Allocator + Copy> Body<Q, A> {
     /// [XSH pthread_mutex_unlock, pthread_mutex_lock EOWNERDEAD, pthread_mutex_timedlock]
     pub fn next_forced(&self) -> Option<Forced>
         requires { AreTables self.now }
-        ensures entry { option_map (entry_of (history self.now.stored.entries)) result
-            ≡ forced_in (history self.now.stored.entries) }
+        ensures entry { option_map (entry_of (past self.now)) result
+            ≡ forced_in (past self.now) }
         ensures known { IfSome result (IsFor (opens_of self.now.clients)) }
     {
         if let Some(served) = self.first_served() {

@@ -20,7 +20,7 @@ use pt_types::{Call, ClientId, Name, ObjectId, ObjectKind, Outcome, Refusal, Ver
 use pt_waitq::WaitList;
 use std::alloc::Allocator;
 
-// An object is made, with its queue. ENOMEM where there is no memory for one of them.
+// An object is made, with its queue. ENOMEM if there is no memory for one of them.
 // [XSH pthread_mutex_init]
 pub(crate) fn push_made<Q: WaitList, A: Allocator + Copy>(
     state: &mut State<A>,
@@ -76,7 +76,7 @@ pub(crate) fn push_ended<Q: WaitList, A: Allocator + Copy>(
 }
 
 impl<Q: WaitList, A: Allocator + Copy> Body<Q, A> {
-    /// A call that ends this object.  [XSH pthread_mutex_destroy, that EBUSY is told is profile]
+    /// A call that ends this object.  [XSH pthread_mutex_destroy, EBUSY is profile]
     fn end_verdict(&self, class: ObjectClass, o: ObjectId) -> Verdict
         requires read { AreTables self.now }
         requires class { option_map class_of (kind_of (past self.now) o)

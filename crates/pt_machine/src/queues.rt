@@ -40,7 +40,7 @@ fn waiter_of(open: &Open, prio: Priority) -> Waiter
     }
 }
 
-/// The client's open call takes its place in the queue of the object at which it stands.
+/// The client's open call takes its place in the queue of the object at which an open call waits.
 /// [XSH 2.8.4, pthread_rwlock_unlock]
 pub(crate) fn take_place<Q: WaitList, A: Allocator + Copy>(
     queues: &mut Q,
@@ -79,7 +79,7 @@ pub(crate) fn clear<Q: WaitList>(queues: &mut Q, object: ObjectId)
 }
 
 impl<Q: WaitList, A: Allocator + Copy> Body<Q, A> {
-    /// Whether a call stands at the object.  [XSH pthread_mutex_destroy]
+    /// Whether a call waits at the object.  [XSH pthread_mutex_destroy]
     pub(crate) fn is_awaited(&self, o: ObjectId) -> bool
         requires { AreTables self.now }
         ensures { result ≡ is_awaited_in (past self.now) o }

@@ -5,7 +5,7 @@ ghost use Rattle.pt_model.specs.Room.{entry_for as entry_for_in, is_over as is_o
 ghost use Rattle.pt_state.specs.Adds.{past};
 ghost use Rattle.pt_state.specs.Reads.{AreTables};
 ghost use Rattle.pt_types.specs.Operations.{operation};
-ghost use Rattle.pt_model.specs.Histories.{◌▷◌, history};
+ghost use Rattle.pt_model.specs.Histories.{◌▷◌};
 ghost use Rattle.pt_state.specs.Needed.{Admits, used_by, used_by_operation};
 ghost use Rattle.pt_model.specs.Forced.{forced};
 
@@ -19,7 +19,7 @@ use pt_waitq::WaitList;
 use std::alloc::Allocator;
 
 impl<Q: WaitList, A: Allocator + Copy> Body<Q, A> {
-    /// For how many entries more room is kept.
+    /// How many more entries have room.
     pub fn room(&self) -> u64
         ensures room { result ≡ self.now.stored.room }
         ensures within { length self.now.stored.entries + self.now.stored.room
@@ -28,9 +28,9 @@ impl<Q: WaitList, A: Allocator + Copy> Body<Q, A> {
         self.state.stored.room()
     }
 
-    /// Makes room for so many entries more. FULL exactly where the history would pass its limit
-    /// with them; else ENOMEM where the growth is refused. A refusal changes nothing. Room that is
-    /// there already is never refused.  [profile]
+    /// Makes room for so many entries more. FULL exactly if the history would pass its limit
+    /// with them; else ENOMEM if the growth is refused. A refusal changes nothing. Room that is
+    /// there already is never refused.
     pub fn reserve_for(&mut self, room: u64) -> Result<(), Refusal>
         ensures ok { OnOk result (self.new
             ≡ record self.old { stored = record self.old.stored { room = room } }) }
@@ -43,8 +43,8 @@ impl<Q: WaitList, A: Allocator + Copy> Body<Q, A> {
         self.state.stored.reserve_for(room)
     }
 
-    /// Makes room for so many answers more. ENOMEM where the growth is refused; room that is there
-    /// already is never refused.  [profile]
+    /// Makes room for so many answers more. ENOMEM if the growth is refused; room that is there
+    /// already is never refused.
     pub fn reserve_answers(&mut self, many: u64) -> Result<(), Refusal>
         ensures same { self.new ≡ record self.old { answers = self.new.answers } }
         ensures told { self.new.answers.items ≡ self.old.answers.items }
@@ -66,7 +66,7 @@ impl<Q: WaitList, A: Allocator + Copy> Body<Q, A> {
         self.state.alloc
     }
 
-    /// Why an event is refused for its sender, or at 1,024 living clients; or none.  [profile]
+    /// Why an event is refused for its sender, or at 1,024 living clients; or none.
     pub fn refusal(&self, event: &Event) -> Option<Refusal>
         requires { AreTables self.now }
         ensures { result ≡ refusal_in (past self.now) event.now }
@@ -74,11 +74,11 @@ impl<Q: WaitList, A: Allocator + Copy> Body<Q, A> {
         self.state.refusal(event)
     }
 
-    // The same where a call is answered 0.  [profile]
+    // The same if a call is answered 0.
     fn used_by_call(&self, c: ClientId, call: &Call) -> u64
         requires { AreTables self.now }
         ensures value { result
-            ≡ used_by_operation (history self.now.stored.entries) c (operation call.now) }
+            ≡ used_by_operation (past self.now) c (operation call.now) }
         ensures small { result ≤ 1024 }
     {
         match operation_of(call) {
@@ -89,10 +89,10 @@ impl<Q: WaitList, A: Allocator + Copy> Body<Q, A> {
         }
     }
 
-    // The entries that aren't kept any more from an outer entry on.  [profile]
+    // The entries that are no longer reserved from an outer entry on.
     fn used(&self, entry: &Entry) -> u64
         requires { AreTables self.now }
-        ensures value { result ≡ used_by (history self.now.stored.entries) entry.now }
+        ensures value { result ≡ used_by (past self.now) entry.now }
         ensures small { result ≤ 1024 }
     {
         match entry {
@@ -103,20 +103,19 @@ impl<Q: WaitList, A: Allocator + Copy> Body<Q, A> {
         }
     }
 
-    /// The entries kept behind the entry of an event that isn't refused, where none is forced.
-    /// [profile]
+    /// The entries reserved after the entry of an event that isn't refused, if none is forced.
     pub fn need_after(&self, entry: &Entry) -> u64
         requires read { AreTables self.now }
-        requires forced { forced (history self.now.stored.entries) ≡ None }
-        requires admits { Admits (history self.now.stored.entries) entry.now }
-        ensures value { result ≡ need_in (history self.now.stored.entries ▷ entry.now) }
+        requires forced { forced (past self.now) ≡ None }
+        requires admits { Admits (past self.now) entry.now }
+        ensures value { result ≡ need_in (past self.now ▷ entry.now) }
         ensures small { result ≤ 8195 }
     {
         self.state.need() + added(entry) - self.used(entry)
     }
 
-    /// The outer entry that an accepted event becomes.  [profile]
-    #[tactic(auto, using(pt_state::proofs::Places::place_of_next))]
+    /// The outer entry that an accepted event becomes.
+    #[tactic(auto, using(pt_history::proofs::Places::place_of_next))]
     pub fn entry_for(&self, event: &Event) -> Entry
         requires { AreTables self.now }
         ensures { result ≡ entry_for_in (past self.now) event.now }
@@ -133,7 +132,7 @@ impl<Q: WaitList, A: Allocator + Copy> Body<Q, A> {
     }
 
     /// Whether the history, with one entry more and what must still be written, is longer than it
-    /// may be.  [profile]
+    /// may be.
     fn is_over(&self, entry: &Entry) -> bool
         requires read { AreTables self.now }
         requires quiet { forced (past self.now) ≡ None }
@@ -144,7 +143,7 @@ impl<Q: WaitList, A: Allocator + Copy> Body<Q, A> {
         (self.state.stored.limit() as u64) < place + 1 + self.need_after(entry)
     }
 
-    /// The first refusal that applies, or none, where no entry is forced.  [profile]
+    /// The first refusal that applies, or none, if no entry is forced.
     pub fn refusal_within(&self, event: &Event) -> Option<Refusal>
         requires read { AreTables self.now }
         requires quiet { forced (past self.now) ≡ None }

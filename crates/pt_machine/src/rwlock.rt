@@ -15,7 +15,7 @@ use pt_waitq::WaitList;
 use std::alloc::Allocator;
 
 impl<Q: WaitList, A: Allocator + Copy> Body<Q, A> {
-    /// Whether a writer of the client's priority or a higher one stands at the lock; one that
+    /// Whether a writer of the client's priority or a higher one waits at the lock; one that
     /// doesn't live has priority 0.  [XSH pthread_rwlock_rdlock]
     pub(crate) fn is_blocked(&self, r: ObjectId, c: ClientId) -> bool
         requires { AreTables self.now }

@@ -16,7 +16,7 @@ Ascends n (w ∷ ws) = (n ≤ w.place) × Ascends (suc w.place) ws
 abbrev pub upto : ℕ → List WaitingCall → List WaitingCall
 upto i ws = filter (λ w. ltb w.place i) ws
 
--- those at a place or behind it
+-- those at a place or after it
 abbrev pub from : ℕ → List WaitingCall → List WaitingCall
 from i ws = filter (λ w. leb i w.place) ws
 

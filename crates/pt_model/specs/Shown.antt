@@ -7,7 +7,7 @@ use Rattle.pt_model.specs.declared.waiting_call.Role.{Role as PlainRole}
 use Rattle.pt_model.specs.declared.waiting_call.Role.TheVariants as roles
 use Rattle.pt_model.specs.declared.waiting_call.WaitingCall.{WaitingCall as PlainWaiting}
 
--- what a waiting call is for  [profile]
+-- what a waiting call is for
 abbrev pub shown_role : PlainRole → Role
 shown_role roles.ForMutex = ForMutex
 shown_role roles.ForRead = ForRead
@@ -15,7 +15,7 @@ shown_role roles.ForWrite = ForWrite
 shown_role roles.ForBarrier = ForBarrier
 shown_role (roles.ForCond m) = ForCond m
 
--- a waiting call  [profile]
+-- a waiting call
 abbrev pub shown : PlainWaiting → WaitingCall
 shown w =
     record {
@@ -28,10 +28,10 @@ shown w =
       deadline = w.deadline;
     }
 
--- when a wait was moved, and why  [profile]
+-- when a wait was moved, and why
 abbrev pub shown_move : PlainMove → Move
 shown_move v = record { at = v.at; cause = v.cause }
 
--- by what a call goes before another  [profile]
+-- by what a call goes before another
 abbrev pub shown_key : PlainKey → Key
 shown_key k = record { priority = k.priority; writes = k.writes; arrival = k.arrival }

@@ -10,17 +10,17 @@ use Rattle.pt_model.specs.Histories.{History, Begin, ◌▷◌, place}
 use Rattle.pt_model.specs.Clients.{client}
 use Rattle.pt_model.specs.Objects.{find}
 
--- the role of a call for a lock  [profile]
+-- the role of a call for a lock
 abbrev pub role_needed : LockKind → Role
 role_needed MutexLock = ForMutex
 role_needed ReadLock = ForRead
 role_needed WriteLock = ForWrite
 
--- the object that a name means as the call comes; 0 where it means none  [profile]
+-- the object that a name means as the call comes; 0 if it means none
 abbrev pub meant : History → List ℕ → ObjectClass → ℕ
 meant h n class = unwrap_or (find h n class) 0
 
--- a client's call that is entered now  [profile]
+-- a client's call that is entered now
 abbrev pub entered : History → ℕ → ℕ → Role → Clock → Option Timespec → WaitingCall
 entered h c object role clock deadline =
     record {
@@ -43,28 +43,27 @@ stood_by_operation h c k (Awaits n m deadline) =
 stood_by_operation h c k (Arrives n) = entered h c (meant h n BarrierClass) ForBarrier k None ∷ []
 stood_by_operation h c k _ = []
 
--- what an entry leaves waiting  [profile]
+-- what an entry leaves waiting
 abbrev pub stood_by : History → Entry → List WaitingCall
 stood_by h (Call c call None) = stood_by_operation h c (clock_of call) (operation call)
 stood_by h _ = []
 
--- a call, if there is one, at this place  [profile]
+-- a call, if there is one, at this place
 abbrev pub waiting_there : ℕ → Option WaitingCall → List WaitingCall
 waiting_there n None = []
 waiting_there n (Some w) = record w { place = n } ∷ []
 
--- the calls at the places below n, in order  [profile]
+-- the calls at the places below n, in order
 abbrev pub calls_below : (ℕ → Option WaitingCall) → ℕ → List WaitingCall
 calls_below call zero = []
 calls_below call (suc n) = calls_below call n ++ waiting_there n (call n)
 
 -- the open calls of the Start, and all that came since without a reply, in order of their places
--- [profile]
 abbrev pub stood : History → List WaitingCall
 stood (Begin s) = calls_below s.call s.at
 stood (h ▷ e) = stood h ++ stood_by h e
 
--- that of them which came at place j  [profile]
+-- the call of a list that came at place j
 abbrev pub at_place : ℕ → List WaitingCall → Option WaitingCall
 at_place j [] = None
 at_place j (w ∷ ws) = if w.place == j then Some w else at_place j ws
@@ -74,12 +73,12 @@ abbrev pub is_arrival : Role → Bool
 is_arrival ForBarrier = true
 is_arrival _ = false
 
--- whether it is a wait  [XSH pthread_cond_wait]
+-- whether the role is that of a wait  [XSH pthread_cond_wait]
 abbrev pub is_wait : Role → Bool
 is_wait (ForCond m) = true
 is_wait _ = false
 
--- whether it is for a write lock  [XSH pthread_rwlock_wrlock]
+-- whether the role is that of a call for a write lock  [XSH pthread_rwlock_wrlock]
 abbrev pub is_write : Role → Bool
 is_write ForWrite = true
 is_write _ = false

@@ -23,7 +23,7 @@ pub enum Role {
     ForCond(u64),
 }
 
-/// A call that came without a reply, with what held as it came.  [profile]
+/// A call that came without a reply, with what held as it came.
 #[derive(Clone, Copy, Debug, PartialEq, Eq)]
 pub struct WaitingCall {
     /// The place of its entry.
@@ -57,7 +57,7 @@ pub struct Key {
     pub arrival: (u64, u64),
 }
 
-/// The role of a call for a lock.  [profile]
+/// The role of a call for a lock.
 pub fn role_needed(lock_kind: LockKind) -> Role
     ensures { shown_role result ≡ role_meant (shown_lock_kind lock_kind) }
 {
@@ -75,14 +75,14 @@ pub fn is_arrival(role: Role) -> bool
     matches!(role, Role::ForBarrier)
 }
 
-/// Whether it is a wait.  [XSH pthread_cond_wait]
+/// Whether the role is that of a wait.  [XSH pthread_cond_wait]
 pub fn is_wait(role: Role) -> bool
     ensures { result ≡ is_wait_role (shown_role role) }
 {
     matches!(role, Role::ForCond(_))
 }
 
-/// Whether it is for a write lock.  [XSH pthread_rwlock_wrlock]
+/// Whether the role is that of a call for a write lock.  [XSH pthread_rwlock_wrlock]
 pub fn is_write(role: Role) -> bool
     ensures { result ≡ is_write_role (shown_role role) }
 {

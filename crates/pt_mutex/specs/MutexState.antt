@@ -47,7 +47,7 @@ yielded m = freed m (after_yield m.consistency)
 abbrev pub restored : MutexView → MutexView
 restored m = record m { consistency = after_consistent m.consistency }
 
--- whether it can't be destroyed: a living client owns it, a call stands at it, or a wait is bound
+-- whether it can't be destroyed: a living client owns it, a call waits at it, or a wait is bound
 -- to it  [XSH pthread_mutex_destroy]
 abbrev pub is_busy : MutexState → (owner_lives awaited : Bool) → Bool
 is_busy m owner_lives awaited =

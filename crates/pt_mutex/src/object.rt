@@ -5,15 +5,15 @@ ghost use Rattle.pt_types.specs.MutexTable.{owns, lock_verdict, unlock_verdict, 
 use pt_types::{ClientId, Consistency, Deadline, How, MOST_LOCKS, MutexKind, Outcome, Verdict};
 use std::marker::Model;
 
-// condition        count falls to 0    owner dies        consistent
+// consistency      count falls to 0    owner dies        consistent
 // Consistent       Consistent          Inconsistent      -
 // Inconsistent     NotRecoverable      Inconsistent      Consistent
 // NotRecoverable   -                   -                 -
 
-/// A mutex: what it was made as, its condition, its owner, and the waits that are bound to it.
+/// A mutex: what it was made as, its consistency, its owner, and the waits that are bound to it.
 /// [XSH 2.9.3]
 ///
-/// A wait is bound to its mutex while it stands at its condition.
+/// A wait is bound to its mutex while it waits at its condition.
 #[derive(Debug, Drop)]
 pub struct MutexObj {
     kind: MutexKind,
@@ -104,7 +104,7 @@ impl MutexObj {
         }
     }
 
-    /// What becomes of the client's `unlock`. EPERM is told for every kind; that is profile where
+    /// What becomes of the client's `unlock`. EPERM is for every kind; that is profile if
     /// the standard leaves it open.  [XSH pthread_mutex_unlock]
     pub fn verdict_unlock(&self, caller: ClientId) -> Verdict
         ensures { result ≡ unlock_verdict self.now.seen caller }
@@ -129,12 +129,12 @@ impl MutexObj {
         Verdict::Reply(Outcome::Done)
     }
 
-    /// What becomes of a `mutex-destroy`: EBUSY while a living client owns the mutex, a call stands
+    /// What becomes of a `mutex-destroy`: EBUSY while a living client owns the mutex, a call waits
     /// at it, or a wait is bound to it. What a dead client owns may be destroyed. That EBUSY is
-    /// told is profile.  [XSH pthread_mutex_destroy]
+    /// the answer is profile.  [XSH pthread_mutex_destroy]
     ///
     /// `owner_lives` says of the owner, if there is one, whether it lives, and `awaited` whether a
-    /// call stands at the mutex.
+    /// call waits at the mutex.
     pub fn verdict_destroy(&self, owner_lives: bool, awaited: bool) -> Verdict
         ensures { result ≡ destroy_verdict (is_busy self.now owner_lives awaited) }
     {
@@ -144,20 +144,8 @@ impl MutexObj {
         Verdict::Reply(Outcome::Done)
     }
 
-    /// Whether the client can be given the lock once more: nobody has it, or the client owns a
-    /// RECURSIVE mutex and has fewer than 255 locks.  [XSH pthread_mutex_lock]
-    pub fn can_acquire(&self, client: ClientId) -> bool
-        ensures { result ≡ can_acquire self.now.seen client }
-    {
-        match self.owner {
-            None => true,
-            Some(owner) => {
-                owner == client && self.kind == MutexKind::Recursive && self.count < MOST_LOCKS
-            }
-        }
-    }
-
     /// The client has the lock once more: by a grant, by a relock, or when its wait comes back.
+    /// Nobody had it, or the client owns a RECURSIVE mutex and has fewer than 255 locks.
     /// [XSH pthread_mutex_lock, pthread_cond_wait]
     pub fn acquire(&mut self, client: ClientId)
         requires { IsTrue (can_acquire self.old.seen client) }
@@ -213,7 +201,7 @@ impl MutexObj {
         }
     }
 
-    /// A wait of the owner begins to stand at its condition.  [XSH pthread_cond_wait]
+    /// A wait of the owner begins to wait at its condition.  [XSH pthread_cond_wait]
     pub fn bind(&mut self)
         requires owned { IsSome self.old.seen.owner }
         requires room { self.old.bound_waits < u32.MAX }
@@ -237,7 +225,7 @@ impl MutexObj {
         self.kind
     }
 
-    /// Whether its next owner is told that the last one died.  [XSH pthread_mutexattr_setrobust]
+    /// Whether its next owner learns that the last one died.  [XSH pthread_mutexattr_setrobust]
     pub fn is_robust(&self) -> bool
         ensures { result ≡ self.now.seen.robust }
     {
@@ -265,7 +253,7 @@ impl MutexObj {
         self.owner == Some(client)
     }
 
-    /// How often its owner holds it; 0 exactly where nobody does.  [XSH pthread_mutex_lock]
+    /// How often its owner holds it; 0 exactly if nobody does.  [XSH pthread_mutex_lock]
     pub fn count(&self) -> u8
         ensures value { result ≡ self.now.seen.count }
         ensures none { IsNone self.now.seen.owner ↔ (result ≡ 0) }
@@ -273,7 +261,7 @@ impl MutexObj {
         self.count
     }
 
-    /// The waits that released it and still stand at a condition.  [XSH pthread_cond_wait]
+    /// The waits that released it and still wait at a condition.  [XSH pthread_cond_wait]
     pub fn bound_waits(&self) -> u32
         ensures { result ≡ self.now.bound_waits }
     {

@@ -2,11 +2,3 @@ mod barrier;
 mod cond;
 mod mutex;
 mod rwlock;
-
-// A test plays on a thing that it borrows. Each early end of a function that owns one has to drop
-// it, and each such drop is proved; so this function owns it.
-fn lend<T: Drop, R, F: FnOnce(&mut T) -> R>(mut owned: T, play: F) -> R
-    requires { F.IsAlwaysCallable play }
-{
-    play(&mut owned)
-}

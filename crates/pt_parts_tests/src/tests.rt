@@ -5,6 +5,7 @@ mod refusing;
 mod table;
 mod timers;
 mod types;
+mod wait_lists;
 mod waitq;
 
 // A test plays on a thing that it borrows. Each early end of a function that owns one has to drop

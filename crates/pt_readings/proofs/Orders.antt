@@ -18,7 +18,7 @@ pub record IsOrder (lt : WaitingCall → WaitingCall → Bool) : Type 0 where
   pub across : (a b c : WaitingCall) → lt a c ≡ true → lt a b ≡ false → lt b c ≡ true
   pub total : (a b : WaitingCall) → lt a b ≡ false → lt b a ≡ false → a.place ≡ b.place
 
--- whether one is before a call is told by the least alone
+-- whether one is before a call is answered by the least alone
 pub least-any :
     (lt : WaitingCall → WaitingCall → Bool) → IsOrder lt → (w : WaitingCall) (ws : List WaitingCall)
     → list_any (λ v. lt v w) ws ≡ passes (λ v. lt v w) (least lt ws)

@@ -88,7 +88,7 @@ unlisted None (Some q) e = absurd cc
 unlisted (Some o) None e = absurd cc
 unlisted (Some o) (Some q) e = cc
 
--- the call of the entry behind h
+-- the call of the entry after h
 pub at_place-here :
     (h : History) (e : Entry) (es : List Entry) (o : Option WaitingCall) → listed o ≡ stood_by h e
     → o ≡ at_place (place h) (stood (onto (h ▷ e) es))
@@ -116,7 +116,7 @@ waiting_here es i e o lt same is =
     at_place-here h e rest o is ∙ ap (λ k. at_place k (stood (onto (h ▷ e) rest))) at
     ∙ ap (λ g. at_place i (stood g)) (sym whole)
 
--- there is none behind the last
+-- there is none after the last
 pub waiting_past :
     (es : List Entry) (j : ℕ) → length es ≤ j → at_place j (stood (history es)) ≡ None
 waiting_past es j le =

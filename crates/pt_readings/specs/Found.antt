@@ -5,7 +5,7 @@ use Rattle.pt_model.specs.Clients.{is_alive}
 use Rattle.pt_model.specs.Records.{WaitingCall, Move}
 use Rattle.pt_model.specs.WaitingCall.{is_arrival}
 
--- the place of a call, if it is the client's; else the place that was found  [profile]
+-- the place of a call, if it is the client's; else the place that was found
 abbrev pub place_or : Option WaitingCall → ℕ → Option ℕ → Option ℕ
 place_or None c found = found
 place_or (Some w) c found = if w.client == c then Some w.place else found
@@ -14,6 +14,6 @@ place_or (Some w) c found = if w.client == c then Some w.place else found
 abbrev pub is_alive_at : History → ℕ → WaitingCall → Bool
 is_alive_at h b w = (is_arrival w.role && (w.object == b)) && is_alive h w.client
 
--- the moves where none was moved  [profile]
+-- the moves if none was moved
 abbrev pub unmoved : ℕ → Option Move
 unmoved j = None

@@ -2,6 +2,6 @@
 use Rattle.pt_model.specs.Records.{Object}
 use Rattle.pt_readings.specs.declared.objects.Object.{Object as PlainObject}
 
--- an object  [profile]
+-- an object
 abbrev pub shown_object : PlainObject → Object
 shown_object o = record { number = o.number; kind = o.kind }

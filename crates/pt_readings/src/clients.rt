@@ -6,7 +6,7 @@ ghost use Rattle.pt_model.specs.Clients.{client as client_in, client_by as clien
 use pt_model::Entry;
 use pt_types::{ClientId, Clock, Priority};
 
-/// What an entry does to a client.  [profile]
+/// What an entry does to a client.
 pub fn client_by(entry: &Entry, before: Option<Priority>, c: ClientId) -> Option<Priority>
     ensures { result ≡ client_after entry.now before c }
 {
@@ -29,14 +29,14 @@ pub fn client(entries: &[Entry], c: ClientId) -> Option<Priority>
     found
 }
 
-/// Whether a client lives.  [profile]
+/// Whether a client lives.
 pub fn is_alive(entries: &[Entry], c: ClientId) -> bool
     ensures { result ≡ is_alive_in (history entries.now) c }
 {
     client(entries, c).is_some()
 }
 
-/// What an entry does to the number of living clients.  [profile]
+/// What an entry does to the number of living clients.
 pub fn living_by(entry: &Entry, before: u64) -> u64
     requires { before < 2 ^ 64 - 1 }
     ensures { result ≡ living_after entry.now before }
@@ -48,7 +48,7 @@ pub fn living_by(entry: &Entry, before: u64) -> u64
     }
 }
 
-/// How many clients live.  [profile]
+/// How many clients live.
 #[tactic(auto, using(crate::proofs::Past::history_more))]
 pub fn living(entries: &[Entry]) -> u64
     ensures value { result ≡ living_in (history entries.now) }
@@ -61,7 +61,7 @@ pub fn living(entries: &[Entry]) -> u64
     count
 }
 
-/// Whether two clocks are one.  [profile]
+/// Whether two clocks are one.
 pub fn is_same_clock(one: Clock, other: Clock) -> bool
     ensures { result ≡ same_clock one other }
 {
@@ -72,7 +72,6 @@ pub fn is_same_clock(one: Clock, other: Clock) -> bool
 }
 
 /// The greatest moment of a clock so far, in nanoseconds; before its first there is none.
-/// [profile]
 #[tactic(auto, using(crate::proofs::Past::history_more))]
 pub fn clock(entries: &[Entry], which: Clock) -> Option<u64>
     ensures { result ≡ clock_in (history entries.now) which }

@@ -1,7 +1,7 @@
 //! The plain slow program: what is read off a history, by scans of its entries.
 //!
 //! Each function's contract says that its result is the definition of that name in the model, at
-//! the history of the entries. A function `x_by` is one step: what one entry behind these does to
+//! the history of the entries. A function `x_by` is one step: what one entry after these does to
 //! the reading `x`. Nothing takes memory; an answer to a Trip and a move by a signal ask again of
 //! the entries before. `specs/` says how the records of this crate are those of the model.
 //!
@@ -14,11 +14,11 @@
 //! | `objects` | what a name means, and what an object was made as |
 //! | `waiting` | the calls that came without a reply |
 //! | `answers` | what each entry answers, and which calls are open |
-//! | `moves` | when a wait was moved, where calls stand and in which order |
+//! | `moves` | when a wait was moved, where calls wait and in which order |
 //! | `mutexes` | locks, owners and conditions |
 //! | `rwlocks` | read locks and write locks |
 //!
-//! Only tests show how long it takes: they stand in the crate that plays scripts by it.
+//! Only tests show how long it takes: they are in the crate that plays scripts by it.
 #![tactic(auto)]
 
 pub mod answers;

@@ -60,7 +60,7 @@ pub fn waits_before(entries: &[Entry], n: &Name, w: &WaitingCall, i: u64) -> boo
     is_open(entries, &v) && moved(entries, v.place).is_none()
 }
 
-/// Whether one does.  [XSH 2.8.4]
+/// Whether a wait at this condition goes before this call.  [XSH 2.8.4]
 #[cycle(moves)]
 pub fn is_preceded(entries: &[Entry], n: &Name, w: &WaitingCall) -> bool
     ensures { result
@@ -94,7 +94,7 @@ pub fn is_first_waiting(entries: &[Entry], n: &Name, before: Option<Move>, j: u6
     }
 }
 
-/// Why an entry behind these moves the wait at a place.  [XSH pthread_cond_broadcast]
+/// Why an entry after these moves the wait at a place.  [XSH pthread_cond_broadcast]
 #[cycle(moves)]
 #[tactic(auto, using(crate::proofs::Waits::waiting_is))]
 pub fn cause_by(entries: &[Entry], entry: &Entry, before: Option<Move>, j: u64) -> Option<Cause>
@@ -116,7 +116,7 @@ pub fn cause_by(entries: &[Entry], entry: &Entry, before: Option<Move>, j: u64) 
     }
 }
 
-/// A move at this place where there is a cause, else the one before.  [profile]
+/// A move at this place if there is a cause, else the one before.
 pub fn move_or(at: u64, cause: Option<Cause>, before: Option<Move>) -> Option<Move>
     ensures { option_map shown_move result ≡ move_after at cause (option_map shown_move before) }
 {
@@ -139,14 +139,14 @@ pub fn moved(entries: &[Entry], j: u64) -> Option<Move>
     found
 }
 
-/// Whether a call is a wait that was moved.  [profile]
+/// Whether a call is a wait that was moved.
 pub fn is_moved(entries: &[Entry], w: &WaitingCall) -> bool
     ensures { result ≡ is_moved_in (history entries.now) (shown w.now) }
 {
     moved(entries, w.place).is_some()
 }
 
-/// The object at which a call stands.  [XSH pthread_cond_broadcast]
+/// The object at which a call waits.  [XSH pthread_cond_broadcast]
 pub fn at_object(entries: &[Entry], w: &WaitingCall) -> ObjectId
     ensures { result ≡ at_object_in (history entries.now) (shown w.now) }
 {
@@ -165,7 +165,7 @@ pub fn precedes(entries: &[Entry], v: &WaitingCall, w: &WaitingCall) -> bool
     goes_before(one, other)
 }
 
-/// Whether the open call at a place stands at this object and goes before this call.  [XSH 2.8.4]
+/// Whether the open call at a place waits at this object and goes before this call.  [XSH 2.8.4]
 pub fn is_ahead(entries: &[Entry], o: ObjectId, w: &WaitingCall, i: u64) -> bool
     ensures { result
         ≡ passes
@@ -179,7 +179,7 @@ pub fn is_ahead(entries: &[Entry], o: ObjectId, w: &WaitingCall, i: u64) -> bool
     }
 }
 
-/// Whether no call that stands at the same object goes before it.  [XSH 2.8.4]
+/// Whether no call that waits at the same object goes before it.  [XSH 2.8.4]
 pub fn is_least(entries: &[Entry], w: &WaitingCall) -> bool
     ensures { result ≡ is_least_in (history entries.now) (shown w.now) }
 {

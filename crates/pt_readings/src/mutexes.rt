@@ -23,7 +23,7 @@ pub fn relocks(entries: &[Entry], call: &Call, m: ObjectId) -> bool
     }
 }
 
-/// Whether one that was answered 0 gives a lock back.  [XSH pthread_mutex_unlock]
+/// Whether a call that was answered 0 gives back a lock on the mutex.  [XSH pthread_mutex_unlock]
 pub fn unlocks(entries: &[Entry], call: &Call, m: ObjectId) -> bool
     ensures { result ≡ unlocks_in (history entries.now) (operation call.now) m }
 {
@@ -33,7 +33,7 @@ pub fn unlocks(entries: &[Entry], call: &Call, m: ObjectId) -> bool
     }
 }
 
-/// Whether one that was left waiting does.  [XSH pthread_cond_wait]
+/// Whether a call that was left waiting gives back a lock on the mutex.  [XSH pthread_cond_wait]
 pub fn unlocks_to_wait(entries: &[Entry], call: &Call, m: ObjectId) -> bool
     ensures { result ≡ unlocks_to_wait_in (history entries.now) (operation call.now) m }
 {
@@ -43,7 +43,7 @@ pub fn unlocks_to_wait(entries: &[Entry], call: &Call, m: ObjectId) -> bool
     }
 }
 
-/// Whether one that was answered 0 makes the mutex consistent.  [XSH pthread_mutex_consistent]
+/// Whether a call that was answered 0 makes the mutex consistent.  [XSH pthread_mutex_consistent]
 pub fn restores(entries: &[Entry], call: &Call, m: ObjectId) -> bool
     ensures { result ≡ restores_in (history entries.now) (operation call.now) m }
 {

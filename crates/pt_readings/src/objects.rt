@@ -9,21 +9,21 @@ use pt_model::Entry;
 use pt_types::operations::{ObjectClass, Operation, class_of, is_same, operation_of};
 use pt_types::{MutexKind, Name, ObjectId, ObjectKind, Outcome};
 
-/// An object: its number, which is the place of the call that made it, and its words.  [profile]
+/// An object: its number, which is the place of the call that made it, and its words.
 #[derive(Clone, Copy)]
 pub struct Object {
     pub number: u64,
     pub kind: ObjectKind,
 }
 
-/// Whether two names are the same bytes.  [profile]
+/// Whether two names are the same bytes.
 pub fn is_name(one: &Name, other: &Name) -> bool
     ensures { result ≡ same_name one.now other.now }
 {
     one.as_bytes() == other.as_bytes()
 }
 
-/// What an entry at a place does to a name.  [profile]
+/// What an entry at a place does to a name.
 pub fn named_by(entry: &Entry, at: u64, before: Option<Object>, n: &Name) -> Option<Object>
     ensures { option_map shown_object result
         ≡ named_after entry.now at (option_map shown_object before) n.now }
@@ -38,7 +38,7 @@ pub fn named_by(entry: &Entry, at: u64, before: Option<Object>, n: &Name) -> Opt
     }
 }
 
-/// The object that bears a name.  [profile]
+/// The object that bears a name.
 #[tactic(auto, using(crate::proofs::Past::history_more, crate::proofs::Past::place_below))]
 pub fn object_named(entries: &[Entry], n: &Name) -> Option<Object>
     ensures { option_map shown_object result ≡ object_with (history entries.now) n.now }
@@ -50,7 +50,7 @@ pub fn object_named(entries: &[Entry], n: &Name) -> Option<Object>
     found
 }
 
-/// The number of an object, if it is of this class.  [profile]
+/// The number of an object, if it is of this class.
 pub fn number_of(object: Option<Object>, class: ObjectClass) -> Option<ObjectId>
     ensures { result ≡ number_if (option_map shown_object object) (shown_class class) }
 {
@@ -60,14 +60,14 @@ pub fn number_of(object: Option<Object>, class: ObjectClass) -> Option<ObjectId>
     }
 }
 
-/// The object of this class that bears the name, if one does.  [profile]
+/// The object of this class that bears the name, if one does.
 pub fn find(entries: &[Entry], n: &Name, class: ObjectClass) -> Option<ObjectId>
     ensures { result ≡ find_in (history entries.now) n.now (shown_class class) }
 {
     number_of(object_named(entries, n), class)
 }
 
-/// Whether a name means the object with this number.  [profile]
+/// Whether a name means the object with this number.
 pub fn means(entries: &[Entry], n: &Name, class: ObjectClass, o: ObjectId) -> bool
     ensures { result ≡ means_in (history entries.now) n.now (shown_class class) o }
 {
@@ -77,7 +77,7 @@ pub fn means(entries: &[Entry], n: &Name, class: ObjectClass, o: ObjectId) -> bo
     }
 }
 
-/// What an entry does to an object, behind those before it.  [profile]
+/// What an entry does to an object.
 #[tactic(auto, using(crate::proofs::Past::place_all))]
 pub fn kind_by(
     entries: &[Entry],
@@ -97,7 +97,7 @@ pub fn kind_by(
     }
 }
 
-/// What the object with this number was made as, while it exists.  [profile]
+/// What the object with this number was made as, while it exists.
 #[tactic(auto, using(crate::proofs::Past::history_more))]
 pub fn kind_of(entries: &[Entry], o: ObjectId) -> Option<ObjectKind>
     ensures { result ≡ kind_in (history entries.now) o }
@@ -109,7 +109,7 @@ pub fn kind_of(entries: &[Entry], o: ObjectId) -> Option<ObjectKind>
     found
 }
 
-/// What an entry does to the number of objects.  [profile]
+/// What an entry does to the number of objects.
 pub fn objects_by(entry: &Entry, before: u64) -> u64
     requires { before < 2 ^ 64 - 1 }
     ensures { result ≡ objects_after entry.now before }
@@ -124,7 +124,7 @@ pub fn objects_by(entry: &Entry, before: u64) -> u64
     }
 }
 
-/// How many objects exist.  [profile]
+/// How many objects exist.
 #[tactic(auto, using(crate::proofs::Past::history_more))]
 pub fn objects(entries: &[Entry]) -> u64
     ensures value { result ≡ objects_in (history entries.now) }
@@ -147,7 +147,7 @@ pub fn mutex_kind(kind: Option<ObjectKind>) -> MutexKind
     }
 }
 
-/// Whether it is a robust mutex.  [XSH pthread_mutexattr_setrobust]
+/// Whether a kind of object is a robust mutex.  [XSH pthread_mutexattr_setrobust]
 pub fn is_robust(kind: Option<ObjectKind>) -> bool
     ensures { result ≡ is_robust_kind kind }
 {

@@ -14,7 +14,7 @@ use pt_types::operations::{
 };
 use pt_types::{ClientId, Clock, Deadline, Name};
 
-/// The object that a name means as the call comes; 0 where it means none.  [profile]
+/// The object that a name means as the call comes; 0 if it means none.
 pub fn meant(entries: &[Entry], n: &Name, class: ObjectClass) -> u64
     ensures { result ≡ meant_in (history entries.now) n.now (shown_class class) }
 {
@@ -24,7 +24,7 @@ pub fn meant(entries: &[Entry], n: &Name, class: ObjectClass) -> u64
     }
 }
 
-/// A client's call that is entered now.  [profile]
+/// A client's call that is entered now.
 #[tactic(auto, using(crate::proofs::Past::place_all))]
 pub fn entered(
     entries: &[Entry],
@@ -54,7 +54,7 @@ pub fn entered(
     }
 }
 
-/// What an entry leaves waiting, behind those before it.  [profile]
+/// What an entry leaves waiting.
 pub fn stood_by(entries: &[Entry], entry: &Entry) -> Option<WaitingCall>
     ensures { listed (option_map shown result) ≡ stood_after (history entries.now) entry.now }
 {
@@ -87,7 +87,7 @@ pub fn stood_by(entries: &[Entry], entry: &Entry) -> Option<WaitingCall>
     }
 }
 
-/// The call that came without a reply at a place.  [profile]
+/// The call that came without a reply at a place.
 pub fn waiting_call_at(entries: &[Entry], j: u64) -> Option<WaitingCall>
     ensures { option_map shown result ≡ at_place j (stood (history entries.now)) }
 {

@@ -73,7 +73,7 @@ abbrev pub head_of : List WaitingCall → Option WaitingCall
 head_of [] = None
 head_of (w ∷ ws) = Some w
 
--- in a list in order of places each call behind a place is past it
+-- in a list in order of places each call after a place is past it
 ascends-in : (n : ℕ) (ws : List WaitingCall) (w : WaitingCall) → Ascends n ws → In w ws
     → n ≤ w.place
 ascends-in n [] w a i = absurd i
@@ -104,7 +104,7 @@ first-head n xs (w ∷ ws) a there back = go (first_of xs) refl
     go None e = absurd (least-none came_before xs e w (back w (inl refl)))
     go (Some m) e = ahead m e (there m (least-in came_before xs m e))
 
--- a kept call is one of those in the rows
+-- a stored call is one of those in the rows
 shown-in : (os : List Open) (o : Open) → In o os → In (shown o.call) (map (λ x. shown x.call) os)
 shown-in [] o i = absurd i
 shown-in (x ∷ xs) o (inl e) = inl (ap (λ (y : Open). shown y.call) e)

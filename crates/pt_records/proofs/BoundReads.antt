@@ -49,7 +49,7 @@ pub record ReadsBound (h : History) : Type 0 where
   pub room : (w : WaitingCall) → In w (open_calls h) → w.role ≡ ForRead
       → reads h w.object w.client < most_reads
 
--- a call for a read lock is left waiting only where its client has fewer than 255
+-- a call for a read lock is left waiting only if its client has fewer than 255
 read_allowed : (h : History) (c : ℕ) (how : How) (o : Option ℕ)
     → reply (on o (λ r. lock_kind_verdict h c r ReadLock how)) ≡ None
     → reads h (unwrap_or o 0) c < most_reads
@@ -272,7 +272,7 @@ write-can h w g r =
     (and_parts (is_free (rwlock_view h w.object w.client)) (is_least h w) may).0 in
     (unsome (writer h w.object) free.0, unsome (reader h w.object) free.1)
 
--- rows that keep each client's read locks have one exactly where there is a reader
+-- rows that keep each client's read locks have one exactly if there is a reader
 pub read-by : (h : History) → Follows h → (o : ℕ) (r : RwlockState)
     → ((c : ℕ) → reads_of r c ≡ reads h o c) → is_read r ≡ is_some (reader h o)
 read-by h f o r same = go (is_read r) (reader h o) refl refl
@@ -295,7 +295,7 @@ read-by h f o r same = go (is_read r) (reader h o) refl refl
     go false None eb ex = refl
     go false (Some c) eb ex = sym eb ∙ none c ex
 
--- nobody holds a lock that is kept so where it has neither a writer nor a reader
+-- nobody holds a lock that is stored so where it has neither a writer nor a reader
 pub nobody-holds : (h : History) → Follows h → (o : ℕ) (r : RwlockState) → r.writer ≡ writer h o
     → ((c : ℕ) → reads_of r c ≡ reads h o c) → is_none (writer h o) ≡ true
     → is_none (reader h o) ≡ true → nobody_holds r ≡ true
@@ -326,7 +326,7 @@ writes-by h f o c = go (writes h o c) (writer h o) refl refl
             sym own ∙ (ap (writes h o) same ∙ eb)
         other false ez = refl
 
--- a lock that is kept so is seen by each client as it is read off the history
+-- a lock that is stored so is seen by each client as it is read off the history
 pub view-by : (h : History) → Follows h → (o : ℕ) (r : RwlockState) → r.writer ≡ writer h o
     → ((c : ℕ) → reads_of r c ≡ reads h o c) → (c : ℕ) → seen_by r c ≡ rwlock_view h o c
 view-by h f o r w same c =

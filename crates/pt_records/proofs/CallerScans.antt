@@ -123,7 +123,7 @@ nth-there (row ∷ rows) (suc i) n e none =
     go ih true e = cc
     go ih false e = ih e
 
--- so the number at an index behind the first row is another than the first one's
+-- so the number at an index after the first row is another than the first one's
 nth-apart : (row : ClientRow Caller) (rows : List (ClientRow Caller)) (i n : ℕ)
     → client_at rows row.number ≡ None → nth_number rows i ≡ Some n → nat_eq n row.number ≡ false
 nth-apart row rows i n none e = go (nat_eq n row.number) refl

@@ -15,7 +15,7 @@ number_in row = row.number
 abbrev pub value_in : ClientRow Caller → Caller
 value_in row = row.value
 
--- a number stands in no row exactly where none is found
+-- a number stands in no row exactly if none is found
 none-any : (rows : List (ClientRow Caller)) (n : ℕ)
     → list_any (λ other. other.number == n) rows ≡ false → client_at rows n ≡ None
 none-any [] n e = refl
@@ -42,7 +42,7 @@ any-none (r ∷ rows) n e = go (any-none rows n) (nat_eq n r.number) refl e
         let apart : (r.number == n) ≡ false = grind (arith, nat_tests) in
         ap (λ b. b || list_any (λ other. other.number == n) rows) apart ∙ ih e
 
--- so the rows list no number twice exactly where each row is found by its number
+-- so the rows list no number twice exactly if each row is found by its number
 pub apart-once : (rows : List (ClientRow Caller)) → Once rows → Apart number_in rows
 apart-once [] a = tt
 apart-once (r ∷ rows) a = (none-any rows r.number a.0, apart-once rows a.1)
@@ -51,7 +51,7 @@ pub once-apart : (rows : List (ClientRow Caller)) → Apart number_in rows → O
 once-apart [] a = tt
 once-apart (r ∷ rows) a = (any-none rows r.number a.0, once-apart rows a.1)
 
--- a client of whom something is kept has a row
+-- a client of whom something is stored has a row
 pub client-there : (rows : List (ClientRow Caller)) (c : ℕ) (v : Caller)
     → client_value rows c ≡ Some v → has_client rows c ≡ true
 client-there rows c v e = value-there number_in value_in rows c v e

@@ -79,7 +79,7 @@ writes-number h f r c = bool_same (is_number (writer h r) c) (writes h r c) ther
         let same : (c == c) ≡ true = grind (arith, nat_tests) in
         ap (λ o. is_number o c) (writes-writer h f r c e) ∙ same
 
--- a client holds the lock that is kept where it holds the one of the history
+-- a client holds the lock that is stored where it holds the one of the history
 pub holds-kept : (h : History) (r c : ℕ) (lock : RwlockState) → Follows h → IsRwlock h r lock
     → holds (seen_by lock c) ≡ holds (rwlock_view h r c)
 holds-kept h r c lock f kept =

@@ -1,4 +1,4 @@
--- A read-write lock that is kept, as one client sees it; and the class of what a name finds.
+-- A read-write lock that is stored, as one client sees it; and the class of what a name finds.
 use Rattle.std.proofs.Common.{◌≡◌, ℕ, true, Option, Some, None, List, refl, sym, ap, ◌∙◌}
 use Rattle.std.specs.Prelude.{option_map}
 use Rattle.pt_types.specs.declared.call.ObjectKind.{ObjectKind}
@@ -16,7 +16,7 @@ use Rattle.pt_records.specs.Kept.{rwlock_in}
 use Rattle.pt_records.specs.Objects.{IsRwlock, ObjectsLook}
 use Rattle.pt_records.proofs.BoundReads.{view-by}
 
--- what is kept as a lock is one
+-- what is stored as a lock is one
 pub lock-in : {A : Type 0} (h : History) (look : ℕ → Option (Object A)) → ObjectsLook h look
     → (o k : ℕ) (r : RwlockState) → k ≡ o → rwlock_in (look k) ≡ Some r → IsRwlock h o r
 lock-in {A = A} h look t o k r same e = t.rwlocks o r (ap look (sym same) ∙ go (look k) e)
@@ -81,7 +81,7 @@ cond-found h f n q e = go (kind_of h q) (known_exists h f CondClass q (n, e))
     go (Some kind.Rwlock) e = absurd cc
     go (Some (kind.Barrier n)) e = absurd cc
 
--- a lock that is kept is seen as it is read off the history
+-- a lock that is stored is seen as it is read off the history
 pub view-kept : (h : History) → Follows h → (o : ℕ) (r : RwlockState) → IsRwlock h o r → (c : ℕ)
     → seen_by r c ≡ rwlock_view h o c
 view-kept h f o r k c = view-by h f o r k.writer k.reads c

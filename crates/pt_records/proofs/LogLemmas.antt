@@ -1,5 +1,5 @@
 -- The log of answers: its order, its end from a place on, and what a search of it finds.
-use Rattle.std.proofs.Common.{◌≡◌, ◌≢◌, ◌⊎◌, ℕ, suc, ◌<◌, ◌≤◌, Bool, true, false, cond, eqb, List, [], ◌∷◌, ◌++◌, Option, Some, None, length, take, drop, refl, sym, ap, ◌∙◌, arith, inl, inr, append_assoc, append-nil}
+use Rattle.std.proofs.Common.{◌≡◌, ◌≢◌, ◌⊎◌, ℕ, zero, suc, ◌+◌, ◌-◌, ◌<◌, ◌≤◌, Bool, true, false, cond, eqb, List, [], ◌∷◌, ◌++◌, Option, Some, None, length, take, drop, refl, sym, ap, ◌∙◌, arith, inl, inr, append_assoc, append-nil}
 use Rattle.std.specs.Prelude.{◌==◌, ◌&&◌, nat_le}
 use Rattle.std.specs.Option.{option_or}
 use Rattle.std.proofs.lemmas.Bool.{eq-eqb, ne_eqb, cases_eq, cases_lt, le-leb, lt-leb}
@@ -10,14 +10,14 @@ use Rattle.pt_model.specs.declared.entry.Entry.{Entry}
 use Rattle.pt_model.specs.declared.entry.Entry.TheVariants.{Join, Call, Death, Moment, Grant, Trip, Yield, Expire}
 use Rattle.pt_model.specs.Searches.{Each}
 use Rattle.pt_types.specs.declared.outcome.Outcome.{Outcome}
-use Rattle.pt_model.specs.Starts.{nothing}
-use Rattle.pt_model.specs.Histories.{History, Begin, ◌▷◌, place, onto, history}
+use Rattle.pt_model.specs.Starts.{Start}
+use Rattle.pt_model.specs.Histories.{History, Begin, ◌▷◌, place, onto, behind}
 use Rattle.pt_model.specs.Records.{WaitingCall, Told}
 use Rattle.pt_model.specs.WaitingCall.{stood, at_place, is_arrival, is_wait_if}
 use Rattle.pt_model.specs.Answers.{told, told_by_trip, told_by_expiry, at_barrier, open_calls, outcome_in, outcome, replies_from}
-use Rattle.pt_model.specs.Queries.{answers_from}
+use Rattle.pt_model.specs.Queries.{answers_behind}
 use Rattle.pt_model.specs.Steps.{Follows}
-use Rattle.pt_model.proofs.Histories.{onto-append, place-history}
+use Rattle.pt_model.proofs.Histories.{onto-append, place-behind}
 use Rattle.pt_model.proofs.Lists.{Each-append, Each-weaker}
 use Rattle.pt_model.proofs.Sound.{Fresh-follows}
 use Rattle.pt_model.proofs.Ascending.{Ascends, Ascends-filter}
@@ -65,7 +65,7 @@ log-rises (h ▷ e) =
     (log-before h))
     (omega arith) (rises-told (place h) (told h e))
 
--- none was given since a place that is behind all of them
+-- none was given since a place that is after all of them
 pub since-none : (n k : ℕ) (ps : List (ℕ × Told)) → Before n ps → n ≤ k → since k ps ≡ []
 since-none n k [] b le = refl
 since-none n k (p ∷ ps) b le =
@@ -78,7 +78,7 @@ since-all n k (p ∷ ps) r le =
     rw (le-leb k p.0 (omega (arith, r.0, le)))
     (ap (λ qs. p ∷ qs) (since-all p.0 k ps r.1 (omega (arith, r.0, le))))
 
--- the answers of these entries, behind h
+-- the answers of these entries, after h
 abbrev pub log_onto : History → List Entry → List (ℕ × Told)
 log_onto h [] = []
 log_onto h (e ∷ es) = told_at (place h) (told h e) ++ log_onto (h ▷ e) es
@@ -113,37 +113,47 @@ since-onto k h (e ∷ es) le =
     (since-onto k (h ▷ e) es (omega (arith, le))))
 
 -- the answers from place k on are those that the log has since then
-pub log-from : (es : List Entry) (k : ℕ)
-    → answers_from k es ≡ answers_in (since k (log (history es)))
-log-from es k = sym (ap answers_in (whole ∙ split (cases_lt (length es) k))
-    ∙ answers_in-onto past (drop k es))
+pub log-from : (s : Start) (es : List Entry) (k : ℕ)
+    → answers_behind s k es ≡ answers_in (since k (log (behind s es)))
+log-from s es k = sym (ap answers_in (whole ∙ split (cases_lt (length es) n))
+    ∙ answers_in-onto past (drop n es))
   where
+    n : ℕ
+    n = k - s.at
+
     past : History
-    past = history (take k es)
+    past = behind s (take n es)
 
     rest : List (ℕ × Told)
-    rest = log_onto past (drop k es)
+    rest = log_onto past (drop n es)
 
-    parts : log (history es) ≡ log past ++ rest
-    parts = ap (λ xs. log (history xs)) (sym (take-append-drop k es))
-        ∙ (ap log (onto-append (Begin nothing) (take k es) (drop k es)) ∙ log-onto past (drop k es))
+    parts : log (behind s es) ≡ log past ++ rest
+    parts = ap (λ xs. log (behind s xs)) (sym (take-append-drop n es))
+        ∙ (ap log (onto-append (Begin s) (take n es) (drop n es)) ∙ log-onto past (drop n es))
 
-    early : place past ≤ k
-    early = omega (arith, place-history (take k es), length-take k es)
+    at : place past ≡ s.at + length (take n es)
+    at = place-behind s (take n es)
 
-    whole : since k (log (history es)) ≡ since k rest
+    early : (k < s.at) ⊎ (s.at ≤ k) → since k (log past) ≡ []
+    early (inl lt) = go n (omega (arith, lt))
+      where
+        go : (m : ℕ) → m ≡ 0 → since k (log (behind s (take m es))) ≡ []
+        go zero e = refl
+        go (suc m) e = absurd cc
+    early (inr le) = since-none (place past) k (log past) (log-before past)
+        (omega (arith, at, length-take n es, le))
+
+    whole : since k (log (behind s es)) ≡ since k rest
     whole = ap (since k) parts
         ∙ (filter-append (λ p. nat_le k p.0) (log past) rest
-        ∙ ap (λ ps. ps ++ since k rest) (since-none (place past) k (log past) (log-before past)
-        early))
+        ∙ ap (λ ps. ps ++ since k rest) (early (cases_lt k s.at)))
 
-    split : (length es < k) ⊎ (k ≤ length es) → since k rest ≡ rest
+    split : (length es < n) ⊎ (n ≤ length es) → since k rest ≡ rest
     split (inl lt) = none (drop_of_length-le es (omega (arith, lt)))
       where
-        none : drop k es ≡ [] → since k rest ≡ rest
+        none : drop n es ≡ [] → since k rest ≡ rest
         none e = rw e refl
-    split (inr le) = since-onto k past (drop k es)
-        (omega (arith, place-history (take k es), length-take-le k es le))
+    split (inr le) = since-onto k past (drop n es) (omega (arith, at, length-take-le n es le))
 
 -- each place is greater than those before it, and at least n
 abbrev Climbs : ℕ → List Told → Type 0

@@ -1,4 +1,4 @@
--- Parts of the kept answers: what a loop from their end has seen.
+-- Parts of the logged answers: what a loop from their end has seen.
 use Rattle.std.proofs.Common.{◌≡◌, ℕ, zero, suc, ◌-◌, ◌<◌, ◌≤◌, List, [], ◌∷◌, ◌++◌, Some, None, map, length, take, drop, get_or, refl, sym, ap, ◌∙◌, subst, arith, drop-cons}
 use Rattle.std.specs.Prelude.{nat_le}
 use Rattle.std.specs.Option.{option_or}
@@ -36,7 +36,7 @@ parts k i xs =
     ∙ (ap (since k) (map-append logged (take i xs) (drop i xs))
     ∙ filter-append (λ p. nat_le k p.0) (map logged (take i xs)) (map logged (drop i xs)))
 
--- behind the last one that was given before place k stand those since then
+-- after the last one that was given before place k stand those since then
 pub since-found : (k i : ℕ) (xs : List Answered) (d : Answered) → Rises 0 (map logged xs) → 0 < i
     → i ≤ length xs → (get_or xs (i - 1) d).at < k → AllSince k (drop i xs)
     → map logged (drop i xs) ≡ since k (map logged xs)
@@ -53,7 +53,7 @@ since-found k i xs d r pos le at rest =
 abbrev pub NoneTo : ℕ → List Answered → Type 0
 NoneTo j xs = last_to (map logged xs) j ≡ None
 
--- the last one to a call, with none to it behind
+-- the last one to a call, with none to it after
 pub last-found : (j i : ℕ) (xs : List Answered) (d : Answered) → 0 < i → i ≤ length xs
     → (get_or xs (i - 1) d).place ≡ j → NoneTo j (drop i xs)
     → Some (logged (get_or xs (i - 1) d)).1 ≡ last_to (map logged xs) j

@@ -140,7 +140,7 @@ found-open h rows f a w i =
     let kept_open : row.0.value.open ≡ Some o = ap (λ (u : Caller). u.open) row.1.2 ∙ kept.1.1.1 in
     (o, (row-open rows row.0 o row.1.0 kept_open, kept.1.1.2))
 
--- what is kept of an open call in the rows: its client's call, and its move
+-- what is stored of an open call in the rows: its client's call, and its move
 pub open-kept : (h : History) (rows : List (ClientRow Caller)) → AreCallers h rows
     → (row : ClientRow Caller) (o : Open) → In row rows → row.value.open ≡ Some o
     → (call_of (open_calls h) row.number ≡ Some (shown o.call))
@@ -153,7 +153,7 @@ open-kept h rows a row o i e =
     rw (look, e) refl in
     (first, sym move ∙ a.look.moves row.number (shown o.call) first)
 
--- each open call in the rows is open, and is kept with its move
+-- each open call in the rows is open, and is stored with its move
 pub open-found : (h : History) (rows : List (ClientRow Caller)) → AreCallers h rows → (o : Open)
     → In o (opens_of rows)
     → In (shown o.call) (open_calls h) × (option_map shown_move o.moved ≡ moved h o.call.place)

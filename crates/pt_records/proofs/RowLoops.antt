@@ -9,7 +9,7 @@ use Rattle.pt_records.specs.declared.clients.Caller.{Caller}
 use Rattle.pt_records.specs.declared.clients.Open.{Open}
 use Rattle.pt_records.specs.Callers.{open_in, opens_of}
 
--- a test of the first of some calls, or of those behind it
+-- a test of the first of some calls, or of those after it
 any-first : (q : Open → Bool) (first : Option Open) (os : List Open)
     → list_any q (cons_option first os) ≡ (passes q first || list_any q os)
 any-first q None os = refl

@@ -3,13 +3,11 @@ use Rattle.std.proofs.Common.{◌≡◌, ◌⊎◌, ℕ, suc, ◌+◌, ◌<◌, 
 use Rattle.std.specs.Prelude.{◌==◌, ◌&&◌}
 use Rattle.std.proofs.lemmas.Bool.{cases_lt, le-leb, lt-leb, leb-true}
 use Rattle.pt_types.specs.declared.outcome.Outcome.{Outcome}
-use Rattle.pt_model.specs.declared.entry.Entry.{Entry}
 use Rattle.pt_model.specs.Searches.{In}
-use Rattle.pt_model.specs.Histories.{place, history}
+use Rattle.pt_model.specs.Histories.{History, place}
 use Rattle.pt_model.specs.Records.{WaitingCall, Told}
 use Rattle.pt_model.specs.WaitingCall.{is_arrival}
 use Rattle.pt_model.specs.Answers.{at_barrier, open_calls, told_by_trip, trip_outcome}
-use Rattle.pt_model.proofs.Histories.{place-history}
 use Rattle.pt_model.proofs.Lists.{Each-in, In-filter}
 use Rattle.pt_model.proofs.Ascending.{Ascends, from, from-before}
 use Rattle.pt_model.proofs.OpenOrder.{open-below}
@@ -36,7 +34,7 @@ head-late k ws w e =
     leb-true k w.place
     (In-filter (λ (v : WaitingCall). leb k v.place) ws w (head-in (from k ws) w e)).1
 
--- the calls from the first one at place k or behind it are those from place k on
+-- the calls from the first one at place k or after it are those from place k on
 pub head-rest : (n k : ℕ) (ws : List WaitingCall) → Ascends n ws
     → rest_of (head_of (from k ws)) ws ≡ from k ws
 head-rest n k [] a = refl
@@ -57,7 +55,7 @@ head-rest n k (v ∷ vs) a = split (cases_lt v.place k) (head-rest (suc v.place)
         (from-before v.place (suc v.place) vs a.1 (omega arith)
         ∙ sym (from-before k (suc v.place) vs a.1 (omega (arith, le)))))
 
--- the first of them, and those behind its place
+-- the first of them, and those after its place
 head-split : (n k : ℕ) (ws : List WaitingCall) (w : WaitingCall) → Ascends n ws
     → head_of (from k ws) ≡ Some w → from k ws ≡ w ∷ from (suc w.place) ws
 head-split n k [] w a e = absurd cc
@@ -185,19 +183,13 @@ trip-fewer ws now w next k a is s ek e =
           ∙ head-rest 0 (suc w.place) ws a),
     )
 
--- who is told next came before the Trip
-pub trip-below : (es : List Entry) (b : ℕ) (w : WaitingCall)
-    → Some w ≡ head_of (rest_of (Some w) (at_barrier b (open_calls (history es))))
-    → w.place < length es
-trip-below es b w e =
+-- who is answered next came before the Trip
+pub trip-below : (h : History) (b : ℕ) (w : WaitingCall)
+    → Some w ≡ head_of (rest_of (Some w) (at_barrier b (open_calls h))) → w.place < place h
+trip-below h b w e =
     let late = In-filter (λ (v : WaitingCall). leb w.place v.place)
-    (at_barrier b (open_calls (history es))) w
-    (head-in (from w.place (at_barrier b (open_calls (history es)))) w (sym e)) in
+    (at_barrier b (open_calls h)) w (head-in (from w.place (at_barrier b (open_calls h))) w (sym e))
+    in
     let part = In-filter (λ (v : WaitingCall). is_arrival v.role && (v.object == b))
-    (open_calls (history es)) w late.0 in
-    omega (
-      arith,
-      Each-in (λ (v : WaitingCall). v.place < place (history es)) (open_calls (history es)) w
-          (open-below (history es)) part.0,
-      place-history es,
-    )
+    (open_calls h) w late.0 in
+    Each-in (λ (v : WaitingCall). v.place < place h) (open_calls h) w (open-below h) part.0

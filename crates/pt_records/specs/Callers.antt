@@ -16,28 +16,28 @@ use Rattle.pt_model.specs.Shown.{shown, shown_move}
 use Rattle.pt_records.specs.declared.clients.Caller.{Caller}
 use Rattle.pt_records.specs.declared.clients.Open.{Open}
 
--- the first of these calls that is the client's  [profile]
+-- the first of these calls that is the client's
 abbrev pub call_of : List WaitingCall → ℕ → Option WaitingCall
 call_of [] c = None
 call_of (w ∷ ws) c = if w.client == c then Some w else call_of ws c
 
--- the open call in a client's row  [profile]
+-- the open call in a client's row
 abbrev pub open_in : Option Caller → Option Open
 open_in kept = option_and_then (λ v. v.open) kept
 
--- the same as the definitions know it  [profile]
+-- the open call in a client's row, as the definitions know it
 abbrev pub call_in : Option Caller → Option WaitingCall
 call_in kept = option_map (λ o. shown o.call) (open_in kept)
 
--- its move, where it was moved  [XSH pthread_cond_broadcast]
+-- the move of the open call in a client's row, if it was moved  [XSH pthread_cond_broadcast]
 abbrev pub move_in : Option Caller → Option Move
 move_in kept = option_and_then (λ o. option_map shown_move o.moved) (open_in kept)
 
--- the open calls in all rows, in order of the rows  [profile]
+-- the open calls in all rows, in order of the rows
 abbrev pub opens_of : List (ClientRow Caller) → List Open
 opens_of rows = filter_map (λ row. row.value.open) rows
 
--- the row of a client that has just joined  [profile]
+-- the row of a client that has just joined
 abbrev pub joined : ℕ → Caller
 joined p = record { priority = p; «open» = None; latest = None }
 
@@ -49,24 +49,24 @@ open_moved_at k cause o = record o { moved = Some (record { at = k; cause = caus
 abbrev pub moved_at : ℕ → Cause → Caller → Caller
 moved_at k cause v = record v { «open» = option_map (open_moved_at k cause) v.open }
 
--- a row whose client has no open call any more  [profile]
+-- a row whose client has no open call any more
 abbrev pub closed : Caller → Caller
 closed v = record v { «open» = None }
 
--- whether a row has an open call that passes  [profile]
+-- whether a row has an open call that passes
 abbrev pub has_open : (Open → Bool) → Caller → Bool
 has_open test v = passes test v.open
 
--- a row whose client's latest call came at place k  [profile]
+-- a row whose client's latest call came at place k
 abbrev pub called_at : ℕ → Caller → Caller
 called_at k v = record v { latest = Some k }
 
--- no number stands in two rows  [profile]
+-- no two rows have one number
 abbrev pub Once : List (ClientRow Caller) → Type 0
 Once [] = Unit {0}
 Once (row ∷ rows) = (list_any (λ other. other.number == row.number) rows ≡ false) × Once rows
 
--- what is found of each client is what is read off the history  [profile]
+-- what is found of each client is what is read off the history
 pub record CallersLook (h : History) (look : ℕ → Option Caller) : Type 0 where
   pub living : (c : ℕ) → option_map (λ v. v.priority) (look c) ≡ client h c
   pub calls : (c : ℕ) → call_in (look c) ≡ call_of (open_calls h) c
@@ -74,7 +74,7 @@ pub record CallersLook (h : History) (look : ℕ → Option Caller) : Type 0 whe
       → move_in (look c) ≡ moved h w.place
   pub latest : (c : ℕ) (v : Caller) → look c ≡ Some v → v.latest ≡ latest h c
 
--- the rows are those of the living clients  [profile]
+-- the rows are those of the living clients
 pub record AreCallers (h : History) (rows : List (ClientRow Caller)) : Type 0 where
   pub look : CallersLook h (client_value rows)
   pub many : length rows ≡ living h

@@ -5,20 +5,20 @@ use Rattle.pt_records.specs.declared.clients.Open.{Open}
 use Rattle.pt_records.specs.declared.objects.Object.{Object}
 use Rattle.pt_records.specs.declared.objects.Object.TheVariants.{Mutex}
 
--- what a value counts for, if there is one  [profile]
+-- what a value counts for, if there is one
 abbrev pub counted : {A : Type 0} → (A → ℕ) → Option A → ℕ
 counted f None = 0
 counted f (Some x) = f x
 
--- what passes a test counts for one  [profile]
+-- what passes a test counts for one
 abbrev pub one_if : Bool → ℕ
 one_if passed = if passed then 1 else 0
 
--- the entries kept for it: three, of which a moved wait has used one  [profile]
+-- the entries reserved for it: three, of which a moved wait has used one
 abbrev pub kept_open : Open → ℕ
 kept_open o = if is_some o.moved then 2 else 3
 
--- whether an object is a robust mutex with an owner, for whose Yield one is kept  [profile]
+-- whether an object is a robust mutex with an owner, for whose Yield one is reserved
 abbrev pub is_robust_held : {A : Type 0} → Object A → Bool
 is_robust_held (Mutex m) = m.seen.robust && is_some m.seen.owner
 is_robust_held _ = false

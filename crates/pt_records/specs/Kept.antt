@@ -1,4 +1,4 @@
--- Kept: what is kept of an object, as what it is.
+-- Kept: a row of an object, as the mutex or the lock that it is.
 use Rattle.std.specs.Prelude.{Option, Some, None}
 use Rattle.pt_mutex.specs.MutexState.{MutexState}
 use Rattle.pt_rwlock.specs.RwlockState.{RwlockState}
@@ -6,12 +6,12 @@ use Rattle.pt_records.specs.declared.objects.Object.{Object}
 use Rattle.pt_records.specs.declared.objects.Object.TheVariants.{Mutex, Rwlock}
 
 module _ {A : Type 0} where
-  -- the mutex that is kept, if it is one  [XSH 2.9.3]
+  -- the mutex in a row, if it is one  [XSH 2.9.3]
   abbrev pub mutex_in : Option (Object A) → Option MutexState
   mutex_in (Some (Mutex m)) = Some m
   mutex_in _ = None
 
-  -- the read-write lock that is kept, if it is one  [XSH 2.9]
+  -- the read-write lock in a row, if it is one  [XSH 2.9]
   abbrev pub rwlock_in : Option (Object A) → Option RwlockState
   rwlock_in (Some (Rwlock r)) = Some r
   rwlock_in _ = None

@@ -8,47 +8,47 @@ use Rattle.pt_model.specs.Records.{Told}
 use Rattle.pt_model.specs.Answers.{told}
 use Rattle.pt_records.specs.declared.answers.Answered.{Answered}
 
--- an answer, with the place of the entry that gave it  [profile]
+-- an answer, with the place of the entry that gave it
 abbrev pub logged : Answered → ℕ × Told
 logged a = (a.at, record { client = a.client; place = a.place; outcome = a.outcome })
 
--- the answers that an entry gives, with its place  [profile]
+-- the answers that an entry gives, with its place
 abbrev pub told_at : ℕ → List Told → List (ℕ × Told)
 told_at k ts = map (λ t. (k, t)) ts
 
--- all answers since the Start, in order of the entries that gave them  [profile]
+-- all answers since the Start, in order of the entries that gave them
 abbrev pub log : History → List (ℕ × Told)
 log (Begin s) = []
 log (h ▷ e) = log h ++ told_at (place h) (told h e)
 
--- the answer to the call at place j that came before the Start  [profile]
+-- the answer to the call at place j that came before the Start
 abbrev pub outcome_before : History → ℕ → Option Outcome
 outcome_before (Begin s) j = s.outcome j
 outcome_before (h ▷ e) j = outcome_before h j
 
--- the answers of a log, without the places of the entries that gave them  [profile]
+-- the answers of a log, without the places of the entries that gave them
 abbrev pub answers_in : List (ℕ × Told) → List Told
 answers_in ps = map (λ p. p.1) ps
 
--- those that the entries from place k on gave  [profile]
+-- those that the entries from place k on gave
 abbrev pub since : ℕ → List (ℕ × Told) → List (ℕ × Told)
 since k ps = filter (λ p. nat_le k p.0) ps
 
--- the places of the entries that gave them never fall, from n on  [profile]
+-- the places of the entries that gave them never fall, from n on
 abbrev pub Rises : ℕ → List (ℕ × Told) → Type 0
 Rises n [] = Unit {0}
 Rises n (p ∷ ps) = (n ≤ p.0) × Rises p.0 ps
 
--- the last of these answers that is to the call at place j  [profile]
+-- the last of these answers that is to the call at place j
 abbrev pub last_to : List (ℕ × Told) → ℕ → Option Told
 last_to [] j = None
 last_to (p ∷ ps) j = option_or (last_to ps j) (if p.1.place == j then Some p.1 else None)
 
--- what a told answer says  [profile]
+-- what a logged answer says
 abbrev pub said_by : Option Told → Option Outcome
 said_by None = None
 said_by (Some t) = Some t.outcome
 
--- what these answers say to the call at place j: the last one that is to it  [profile]
+-- what these answers say to the call at place j: the last one that is to it
 abbrev pub outcome_in_log : List (ℕ × Told) → ℕ → Option Outcome
 outcome_in_log ps j = said_by (last_to ps j)

@@ -17,11 +17,11 @@ use Rattle.pt_model.specs.Rwlocks.{writer, reads}
 use Rattle.pt_records.specs.declared.objects.Object.{Object}
 use Rattle.pt_records.specs.declared.objects.Object.TheVariants.{Mutex, Rwlock, Cond, Barrier}
 
--- a mutex is kept as it is read off the history  [XSH 2.9.3]
+-- a mutex's row is as read off the history  [XSH 2.9.3]
 abbrev pub IsMutex : History → ℕ → MutexState → Type 0
 IsMutex h o m = (m.seen ≡ mutex_view h o) × (m.bound_waits ≡ 0)
 
--- a read-write lock is kept so, and who reads there has a row  [XSH 2.9]
+-- a lock's row is so too, and each client that reads there has a row in it  [XSH 2.9]
 pub record IsRwlock (h : History) (o : ℕ) (r : RwlockState) : Type 0 where
   pub writer : r.writer ≡ writer h o
   pub reads : (c : ℕ) → reads_of r c ≡ reads h o c
@@ -44,19 +44,19 @@ module _ {A : Type 0} where
   IsNew (Barrier count) (kind.Barrier n) = count ≡ n
   IsNew _ _ = ⊥
 
-  -- each row's number is below those of the rows behind it, and below n  [profile]
+  -- each row's number is below those of the rows after it, and below n
   abbrev pub Rising : List (ObjectRow (Object A)) → ℕ → Type 0
   Rising [] n = Unit {0}
   Rising (row ∷ rows) n =
       (row.number < n) × Each (λ other. row.number < other.number) rows × Rising rows n
 
-  -- what is found of each object is what is read off the history  [profile]
+  -- what is found of each object is what is read off the history
   pub record ObjectsLook (h : History) (look : ℕ → Option (Object A)) : Type 0 where
     pub kinds : (o : ℕ) → option_map kind_kept (look o) ≡ kind_of h o
     pub mutexes : (o : ℕ) (m : MutexState) → look o ≡ Some (Mutex m) → IsMutex h o m
     pub rwlocks : (o : ℕ) (r : RwlockState) → look o ≡ Some (Rwlock r) → IsRwlock h o r
 
-  -- the rows are those of the objects that exist  [profile]
+  -- the rows are those of the objects that exist
   pub record AreObjects (h : History) (rows : List (ObjectRow (Object A))) : Type 0 where
     pub look : ObjectsLook h (object_value rows)
     pub names : (n : List ℕ) → number_of rows n ≡ option_map (λ x. x.number) (object_named h n)

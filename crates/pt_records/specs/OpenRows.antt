@@ -1,4 +1,4 @@
--- OpenRows: tests of an open call as it is kept.
+-- OpenRows: tests of a stored open call.
 use Rattle.std.specs.Prelude.{ℕ, Bool, not, ◌&&◌, is_some, option_map}
 use Rattle.pt_types.specs.MutexTable.{is_number}
 use Rattle.pt_model.specs.Moves.{object_by}
@@ -6,7 +6,7 @@ use Rattle.pt_model.specs.Verdicts.{mutex_awaited}
 use Rattle.pt_model.specs.Shown.{shown_move, shown_role}
 use Rattle.pt_records.specs.declared.clients.Open.{Open}
 
--- the object at which it stands  [XSH pthread_cond_broadcast]
+-- the object at which an open call waits  [XSH pthread_cond_broadcast]
 abbrev pub object_of : Open → ℕ
 object_of o = object_by (shown_role o.call.role) (option_map shown_move o.moved) o.call.object
 

@@ -20,41 +20,41 @@ use Rattle.pt_records.specs.declared.objects.Object.TheVariants.{Mutex, Rwlock, 
 use Rattle.pt_records.specs.Callers.{Once, has_open, closed, moved_at}
 use Rattle.pt_records.specs.Objects.{Rising}
 
--- one row is written, and the others stay  [profile]
+-- one row is written, and the others stay
 pub record WritesCaller (old new : List (ClientRow Caller)) (c : ℕ) (v : Caller) : Type 0 where
   pub look : (d : ℕ) → client_value new d ≡ if c == d then Some v else client_value old d
   pub many : length new ≡ length old
   pub once : Once old → Once new
 
--- a client gets its row, and the others stay  [profile]
+-- a client gets its row, and the others stay
 pub record AddsCaller (old new : List (ClientRow Caller)) (c : ℕ) (v : Caller) : Type 0 where
   pub look : (d : ℕ) → client_value new d ≡ if c == d then Some v else client_value old d
   pub many : length new ≡ length old + 1
   pub once : Once old → Once new
 
--- a client has no row any more, and the others stay  [profile]
+-- a client has no row any more, and the others stay
 pub record RemovesCaller (old new : List (ClientRow Caller)) (c : ℕ) : Type 0 where
   pub look : (d : ℕ) → client_value new d ≡ if c == d then None else client_value old d
   pub many : Once old → length new + 1 ≡ length old
   pub once : Once old → Once new
 
--- in each row stands what g gives of what stood there  [profile]
+-- each row has what g gives of what it had
 pub record RewritesCallers (old new : List (ClientRow Caller)) (g : Caller → Caller) : Type 0 where
   pub look : (d : ℕ) → client_value new d ≡ option_map g (client_value old d)
   pub many : length new ≡ length old
   pub once : Once old → Once new
 
--- the rows, where g changes what stands in the one at an index  [profile]
+-- the rows, with the one at an index changed by g
 abbrev pub rewritten_nth : (Caller → Caller) → List (ClientRow Caller) → ℕ → List (ClientRow Caller)
 rewritten_nth g [] i = []
 rewritten_nth g (row ∷ rows) zero = record row { value = g row.value } ∷ rows
 rewritten_nth g (row ∷ rows) (suc i) = row ∷ rewritten_nth g rows i
 
--- whether an open call stands at the barrier  [XSH pthread_barrier_wait]
+-- whether an open call waits at the barrier  [XSH pthread_barrier_wait]
 abbrev pub arrived_at : ℕ → Open → Bool
 arrived_at b o = is_arrival (shown o.call).role && ((shown o.call).object == b)
 
--- whether it stands at the condition, and isn't moved  [XSH pthread_cond_wait]
+-- whether an open call waits at the condition, and isn't moved  [XSH pthread_cond_wait]
 abbrev pub still_waits_at : ℕ → Open → Bool
 still_waits_at q o =
     is_wait (shown o.call).role && (is_none o.moved && (q == o.call.object))
@@ -68,12 +68,12 @@ abbrev pub woken_at : ℕ → ℕ → Cause → Caller → Caller
 woken_at q k cause v = if has_open (still_waits_at q) v then moved_at k cause v else v
 
 module _ {A : Type 0} where
-  -- no name stands in two rows  [profile]
+  -- no two rows have one name
   abbrev pub NamesOnce : List (ObjectRow (Object A)) → Type 0
   NamesOnce [] = Unit {0}
   NamesOnce (row ∷ rows) = (object_named rows row.name ≡ None) × NamesOnce rows
 
-  -- one object is written, and the others stay  [profile]
+  -- one object is written, and the others stay
   pub record WritesObject (old new : List (ObjectRow (Object A))) (o : ℕ) (x : Object A) :
       Type 0 where
     pub look : (p : ℕ) → object_value new p ≡ if o == p then Some x else object_value old p
@@ -82,7 +82,7 @@ module _ {A : Type 0} where
     pub many : length new ≡ length old
     pub once : NamesOnce old → NamesOnce new
 
-  -- an object gets its row, and the others stay  [profile]
+  -- an object gets its row, and the others stay
   pub record AddsObject (old new : List (ObjectRow (Object A))) (o : ℕ) (name : List ℕ)
       (x : Object A) : Type 0 where
     pub look : (p : ℕ) → object_value new p ≡ if o == p then Some x else object_value old p
@@ -92,7 +92,7 @@ module _ {A : Type 0} where
     pub many : length new ≡ length old + 1
     pub once : NamesOnce old → NamesOnce new
 
-  -- an object has no row any more, and the others stay  [profile]
+  -- an object has no row any more, and the others stay
   pub record RemovesObject (old new : List (ObjectRow (Object A))) (o : ℕ) : Type 0 where
     pub look : (p : ℕ) → object_value new p ≡ if o == p then None else object_value old p
     pub names : NamesOnce old → (n : List ℕ)

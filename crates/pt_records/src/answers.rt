@@ -6,7 +6,7 @@ ghost use Rattle.pt_records.specs.Logs.{Rises, last_to, logged, outcome_in_log, 
 use pt_types::{ClientId, Outcome};
 use std::alloc::Allocator;
 
-/// An answer, with the place of the entry that gave it.  [profile]
+/// An answer, with the place of the entry that gave it.
 #[derive(Clone, Copy, Debug, PartialEq, Eq)]
 pub struct Answered {
     /// The place of the entry that gave it.
@@ -17,7 +17,7 @@ pub struct Answered {
     pub outcome: Outcome,
 }
 
-/// Where the answers begin that the entries from a place on gave.  [profile]
+/// Where the answers begin that the entries from a place on gave.
 pub fn answered_since(answers: &[Answered], place: u64) -> usize
     requires { Rises 0 (map logged answers.now) }
     ensures within { result ≤ length answers.now }
@@ -33,7 +33,7 @@ pub fn answered_since(answers: &[Answered], place: u64) -> usize
     i
 }
 
-/// The last of these answers that is to the call at a place.  [profile]
+/// The last of these answers that is to the call at a place.
 pub fn last_answer(answers: &[Answered], place: u64) -> Option<Answered>
     ensures { option_map (λ a. (logged a).1) result ≡ last_to (map logged answers.now) place }
 {
@@ -48,7 +48,7 @@ pub fn last_answer(answers: &[Answered], place: u64) -> Option<Answered>
     None
 }
 
-/// The answer to the call at a place, of those since that place.  [profile]
+/// The answer to the call at a place, of those since that place.
 pub fn answer_since(answers: &[Answered], place: u64) -> Option<Answered>
     requires { Rises 0 (map logged answers.now) }
     ensures { option_map (λ a. (logged a).1) result
@@ -69,7 +69,7 @@ pub fn outcome_since(answers: &[Answered], place: u64) -> Option<Outcome>
     }
 }
 
-/// Adds an answer, in room that was made for it.  [profile]
+/// Adds an answer, in room that was made for it.
 pub fn tell<A: Allocator + Copy>(answers: &mut Vec<Answered, A>, answer: Answered)
     requires { vec_len answers.old < vec_capacity answers.old }
     ensures told { map logged answers.new.items

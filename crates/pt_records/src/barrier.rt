@@ -3,7 +3,7 @@
 ghost use Rattle.std.specs.Prelude.{None, Some, ◌++◌, ◌+◌, ◌<◌, ◌≡◌, ◌≤◌, false, length, map, option_map, vec_capacity, vec_len};
 ghost use Rattle.pt_records.specs.Callers.{AreCallers, Once, has_open, open_in};
 ghost use Rattle.pt_records.specs.Writes.{RewritesCallers, arrived_at, closed_at, rewritten_nth};
-ghost use Rattle.pt_model.specs.Histories.{history, place};
+ghost use Rattle.pt_model.specs.Histories.{place};
 ghost use Rattle.pt_model.specs.Found.{keep};
 ghost use Rattle.pt_model.specs.Shown.{shown};
 ghost use Rattle.pt_records.specs.Arrivals.{arrives_from, first_with, next_of, outcome_before};
@@ -12,10 +12,11 @@ ghost use Rattle.pt_records.specs.Logs.{logged, told_at};
 ghost use Rattle.pt_model.specs.declared.entry.Entry.{Entry as AnyEntry};
 ghost use Rattle.pt_model.specs.Answers.{at_barrier, open_calls, told};
 ghost use Rattle.pt_model.specs.Steps.{Follows};
+ghost use Rattle.pt_history.specs.Stored.{past_of};
 
 use crate::answers::{Answered, tell};
 use crate::clients::{Caller, Open};
-use pt_model::Entry;
+use pt_history::History;
 use pt_model::waiting_call::{WaitingCall, is_arrival};
 use pt_table::Clients;
 use pt_types::{ClientId, ObjectId, Outcome};
@@ -47,7 +48,7 @@ fn close_nth<A: Allocator + Copy>(clients: &mut Clients<Caller, A>, index: usize
     }
 }
 
-/// The calls at the barrier are open no more.  [profile]
+/// The calls at the barrier are open no more.
 pub fn close_arrivals<A: Allocator + Copy>(clients: &mut Clients<Caller, A>, b: ObjectId)
     requires { Once clients.old }
     ensures { RewritesCallers clients.old clients.new (closed_at b) }
@@ -57,7 +58,7 @@ pub fn close_arrivals<A: Allocator + Copy>(clients: &mut Clients<Caller, A>, b: 
     }
 }
 
-// The open call, if it stands at the barrier and came at this place or behind it.
+// The open call, if it waits at the barrier and came at this place or after it.
 fn arrival(kept: Option<Open>, b: ObjectId, from: u64) -> Option<WaitingCall>
     ensures { option_map shown result
         ≡ keep (arrives_from b from) (option_map (λ o. shown o.call) kept) }
@@ -103,7 +104,7 @@ fn sooner(call: Option<WaitingCall>, best: Option<WaitingCall>) -> Option<Waitin
     }
 }
 
-// The first open arrival at the barrier that came at this place or behind it.
+// The first open arrival at the barrier that came at this place or after it.
 fn next_arrival<A: Allocator + Copy>(
     clients: &Clients<Caller, A>,
     b: ObjectId,
@@ -120,7 +121,7 @@ fn next_arrival<A: Allocator + Copy>(
     best
 }
 
-// What an arrival is told, where this one follows it.  [XSH pthread_barrier_wait]
+// What an arrival is answered, if this one follows it.  [XSH pthread_barrier_wait]
 fn told_in_trip(at: u64, call: &WaitingCall, next: &Option<WaitingCall>) -> Answered
     ensures { logged result
         ≡ (
@@ -143,26 +144,26 @@ fn told_in_trip(at: u64, call: &WaitingCall, next: &Option<WaitingCall>) -> Answ
     }
 }
 
-/// Adds what the barrier's Trip behind these entries answers, in room that was made for it.
-/// [profile]
+/// Adds what the barrier's Trip after this history answers, in room that was made for it.
 pub fn tell_trip<A: Allocator + Copy>(
-    entries: &[Entry],
+    history: &History<A>,
     clients: &Clients<Caller, A>,
     answers: &mut Vec<Answered, A>,
     b: ObjectId,
 )
-    requires follows { Follows (history entries.now) }
-    requires callers { AreCallers (history entries.now) clients.now }
-    requires room { vec_len answers.old + length (at_barrier b (open_calls (history entries.now)))
+    requires follows { Follows (past_of history.now) }
+    requires callers { AreCallers (past_of history.now) clients.now }
+    requires room { vec_len answers.old + length (at_barrier b (open_calls (past_of history.now)))
         ≤ vec_capacity answers.old }
-    ensures told { map logged answers.new.items
-        ≡ map logged answers.old.items
-        ++ told_at (length entries.now) (told (history entries.now) (AnyEntry.Trip b)) }
+    ensures told { let past = past_of history.now in
+        map logged answers.new.items
+        ≡ map logged answers.old.items ++ told_at (place past) (told past (AnyEntry.Trip b)) }
     ensures capacity { vec_capacity answers.new ≡ vec_capacity answers.old }
 {
+    let at = history.len();
     let mut next = next_arrival(clients, b, 0);
     while let Some(call) = next {
         next = next_arrival(clients, b, call.place + 1);
-        tell(answers, told_in_trip(entries.len() as u64, &call, &next));
+        tell(answers, told_in_trip(at, &call, &next));
     }
 }

@@ -13,7 +13,7 @@ use pt_table::Clients;
 use pt_types::ObjectId;
 use std::alloc::Allocator;
 
-/// The client's latest call came at this place, and is open.  [profile]
+/// The client's latest call came at this place, and is open.
 pub fn stand<A: Allocator + Copy>(clients: &mut Clients<Caller, A>, c: u64, open: Open, place: u64)
     requires { has_client clients.old c ≡ true }
     ensures { (v : Caller) → client_value clients.old c ≡ Some v
@@ -26,7 +26,7 @@ pub fn stand<A: Allocator + Copy>(clients: &mut Clients<Caller, A>, c: u64, open
     }
 }
 
-/// The client has no open call any more.  [profile]
+/// The client has no open call any more.
 pub fn close<A: Allocator + Copy>(clients: &mut Clients<Caller, A>, c: u64)
     requires { has_client clients.old c ≡ true }
     ensures { (v : Caller) → client_value clients.old c ≡ Some v
@@ -37,7 +37,7 @@ pub fn close<A: Allocator + Copy>(clients: &mut Clients<Caller, A>, c: u64)
     }
 }
 
-/// The entries kept for an open call.  [profile]
+/// The entries reserved for an open call.
 pub fn kept_by(kept: Option<Open>) -> u64
     ensures value { result ≡ counted kept_open kept }
     ensures small { result ≤ 3 }
@@ -51,7 +51,7 @@ pub fn kept_by(kept: Option<Open>) -> u64
     }
 }
 
-/// The open call in the row at an index.  [profile]
+/// The open call in the row at an index.
 pub fn open_at<A: Allocator + Copy>(clients: &Clients<Caller, A>, i: usize) -> Option<Open>
     ensures { result ≡ open_in (nth_value clients.now i) }
 {
@@ -68,7 +68,7 @@ pub fn is_moved(kept: &Open) -> bool
     kept.moved.is_some()
 }
 
-/// The object at which an open call stands.  [XSH pthread_cond_broadcast]
+/// The object at which an open call waits.  [XSH pthread_cond_broadcast]
 pub fn at_object(kept: &Open) -> ObjectId
     ensures { result ≡ object_of kept.now }
 {

@@ -11,7 +11,7 @@ use pt_table::Clients;
 use pt_types::{Priority, Refusal};
 use std::alloc::Allocator;
 
-/// The client's latest call came at this place.  [profile]
+/// The client's latest call came at this place.
 pub fn note_call<A: Allocator + Copy>(clients: &mut Clients<Caller, A>, c: u64, place: u64)
     requires { has_client clients.old c ≡ true }
     ensures { (v : Caller) → client_value clients.old c ≡ Some v
@@ -22,7 +22,7 @@ pub fn note_call<A: Allocator + Copy>(clients: &mut Clients<Caller, A>, c: u64, 
     }
 }
 
-/// A new client gets its row. ENOMEM where there is no memory for it.  [profile]
+/// A new client gets its row. ENOMEM if there is no memory for it.
 pub fn admit<A: Allocator + Copy>(
     clients: &mut Clients<Caller, A>,
     c: u64,
@@ -40,7 +40,7 @@ pub fn admit<A: Allocator + Copy>(
     }
 }
 
-/// The client's row is taken out.  [profile]
+/// The client's row is taken out.
 pub fn dismiss<A: Allocator + Copy>(clients: &mut Clients<Caller, A>, c: u64)
     requires { has_client clients.old c ≡ true }
     ensures { RemovesCaller clients.old clients.new c }
@@ -48,14 +48,14 @@ pub fn dismiss<A: Allocator + Copy>(clients: &mut Clients<Caller, A>, c: u64)
     let _ = clients.remove(c);
 }
 
-/// A client's open call, with its move where it is a wait that was moved.  [profile]
+/// A client's open call, with its move if it is a wait that was moved.
 #[derive(Clone, Copy, Debug, PartialEq, Eq)]
 pub struct Open {
     pub call: WaitingCall,
     pub moved: Option<Move>,
 }
 
-/// What is kept of a living client: its priority, its open call, and the place of its latest call.
+/// The row of a living client: its priority, its open call, and the place of its latest call.
 #[derive(Clone, Copy, Debug, PartialEq, Eq)]
 pub struct Caller {
     pub priority: Priority,

@@ -29,7 +29,7 @@ pub(crate) fn moved(open: Option<Open>, at: u64, cause: Cause) -> Option<Open>
     }
 }
 
-/// The client's open call is moved by the entry at this place.  [profile]
+/// The client's open call is moved by the entry at this place.
 pub fn wake<A: Allocator + Copy>(clients: &mut Clients<Caller, A>, c: u64, at: u64, cause: Cause)
     requires { has_client clients.old c ≡ true }
     ensures { (v : Caller) → client_value clients.old c ≡ Some v
@@ -72,7 +72,7 @@ fn wake_nth<A: Allocator + Copy>(
     }
 }
 
-/// The waits at the condition are moved by the entry at this place.  [profile]
+/// The waits at the condition are moved by the entry at this place.
 pub fn wake_waits<A: Allocator + Copy>(
     clients: &mut Clients<Caller, A>,
     q: ObjectId,

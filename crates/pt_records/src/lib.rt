@@ -1,5 +1,5 @@
-//! The rows of one core: what is kept of its living clients, of its objects and of its answers,
-//! what one row tells, and loops over all of them.
+//! The rows of one core: those of its living clients, of its objects and of its answers,
+//! what one row says, and loops over all of them.
 #![tactic(auto)]
 
 pub mod answers;

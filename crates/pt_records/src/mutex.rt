@@ -15,7 +15,7 @@ use pt_table::Objects;
 use pt_types::{ClientId, Consistency, How, MutexKind, Verdict};
 use std::alloc::Allocator;
 
-/// Whether an object is a robust mutex with an owner.  [profile]
+/// Whether an object is a robust mutex with an owner.
 pub fn is_robust_mutex<A: Allocator + Copy>(object: &Object<A>) -> bool
     ensures { result ≡ is_robust_held object.now }
 {
@@ -54,7 +54,7 @@ pub fn may_lock(mutex: &MutexObj) -> bool
     mutex.consistency() == Consistency::NotRecoverable || mutex.owner().is_none()
 }
 
-/// Whether a moved wait can have it back from its own client.  [profile]
+/// Whether a moved wait can have it back from its own client.
 pub fn may_relock(mutex: &MutexObj, c: ClientId) -> bool
     ensures { result ≡ may_relock_it mutex.now.seen c }
 {

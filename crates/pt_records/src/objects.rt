@@ -31,7 +31,7 @@ pub fn class_kept<A: Allocator + Copy>(object: &Object<A>) -> ObjectClass
     }
 }
 
-/// What is kept of an object, by what it was made as.  [XSH 2.9]
+/// The row of an object, by what it was made as.  [XSH 2.9]
 #[derive(Drop)]
 pub enum Object<A: Allocator + Copy = Global> {
     Mutex(MutexObj),
@@ -53,7 +53,7 @@ pub fn make<A: Allocator + Copy>(kind: ObjectKind, alloc: A) -> Object<A>
     }
 }
 
-/// A new object gets its row. ENOMEM where there is no memory for it.  [profile]
+/// A new object gets its row. ENOMEM if there is no memory for it.
 pub fn add<A: Allocator + Copy>(
     objects: &mut Objects<Object<A>, A>,
     o: u64,
@@ -73,7 +73,7 @@ pub fn add<A: Allocator + Copy>(
     }
 }
 
-/// The object's row is taken out, and its name is free.  [profile]
+/// The object's row is taken out, and its name is free.
 pub fn remove<A: Allocator + Copy>(objects: &mut Objects<Object<A>, A>, o: u64)
     requires { has_object objects.old o ≡ true }
     ensures { RemovesObject objects.old objects.new o }

@@ -19,14 +19,14 @@ use pt_table::{Clients, Objects};
 use pt_types::{ClientId, Refusal};
 use std::alloc::Allocator;
 
-/// Whether a client may read, behind writers or not.  [XSH pthread_rwlock_rdlock]
+/// Whether a client may read, with writers ahead or none.  [XSH pthread_rwlock_rdlock]
 pub fn may_read<A: Allocator + Copy>(lock: &RwObj<A>, c: ClientId, blocked: bool) -> bool
     ensures { result ≡ may_read_it (seen_by lock.now c) blocked }
 {
     lock.writer().is_none() && (!blocked || lock.holds(c))
 }
 
-/// The client has its row in the lock. ENOMEM where there is no memory for a new one.  [profile]
+/// The client has its row in the lock. ENOMEM if there is no memory for a new one.
 pub fn make_row<A: Allocator + Copy>(
     objects: &mut Objects<Object<A>, A>,
     r: u64,

@@ -1,4 +1,4 @@
--- Ends: what is told of the open calls when they are looked at one by one, from their end.
+-- Ends: what is answered of the open calls when they are looked at one by one, from their end.
 use Rattle.std.proofs.Common.{◌≡◌, ℕ, suc, inl, inr, ◌+◌, ◌-◌, ◌<◌, Bool, true, false, cond, List, [], ◌∷◌, ◌++◌, Option, Some, None, refl, sym, ap, ◌∙◌, filter, length, length-append, take, get_or, arith}
 use Rattle.pt_model.specs.declared.entry.Entry.{Entry}
 use Rattle.std.proofs.lemmas.List.Elements.{filter-append}

@@ -15,7 +15,7 @@ use Rattle.pt_readings.proofs.Past.{place_all, history_more}
 use Rattle.pt_reference.proofs.Ends.{both}
 use Rattle.pt_reference.specs.Best.{kept_of}
 
--- what is kept for these calls
+-- what is reserved for these calls
 abbrev pub kept_for_all : History → List WaitingCall → ℕ
 kept_for_all h ws = sum (map (kept_for h) ws)
 
@@ -43,7 +43,7 @@ kept_more h i =
 pub kept_none : (h : History) → sum (map (kept_for h) (upto 0 (open_calls h))) ≡ 0
 kept_none h = ap (kept_for_all h) (upto-before 0 0 (open_calls h) (open-ascends h) (omega arith))
 
--- all, behind one entry more
+-- all, after one more entry
 pub kept_end :
     (es : List Entry) (e : Entry) (n : ℕ) → n ≡ length es + 1
     → sum (map (kept_for (history es ▷ e)) (upto n (open_calls (history es ▷ e))))
@@ -65,7 +65,7 @@ pub count_no :
     (test : ℕ → Bool) (i : ℕ) → test i ≡ false → count_below (i + 1) test ≡ count_below i test
 count_no test i e = ap (λ n. count_below n test) (add-one i) ∙ rw e (omega arith)
 
--- all, behind one entry more
+-- all, after one more entry
 pub count_end :
     (es : List Entry) (test : ℕ → Bool) (n : ℕ) → n ≡ length es + 1
     → count_below n test ≡ count_below (suc (place (history es))) test

@@ -6,19 +6,19 @@ use Rattle.pt_model.specs.Histories.{History}
 use Rattle.pt_model.specs.Verdicts.{mutex_awaited}
 use Rattle.pt_model.specs.Room.{kept_for}
 
--- the least, where one call more may stand before those of which it is known  [profile]
+-- the least, if one more call may come before those whose least is known
 abbrev pub best_of :
     (WaitingCall → WaitingCall → Bool) → Option WaitingCall → Option WaitingCall
     → Option WaitingCall
 best_of before None best = best
 best_of before (Some w) best = least_with before w best
 
--- the mutex of a wait, if there is a call; else the mutex that was found  [profile]
+-- the mutex of a wait, if there is a call; else the mutex that was found
 abbrev pub awaited_or : Option WaitingCall → Option ℕ → Option ℕ
 awaited_or None found = found
 awaited_or (Some w) found = mutex_awaited w.role
 
--- the entries kept for a call, if there is one  [profile]
+-- the entries reserved for a call, if there is one
 abbrev pub kept_of : History → Option WaitingCall → ℕ
 kept_of h None = 0
 kept_of h (Some w) = kept_for h w

@@ -18,7 +18,7 @@ use pt_readings::mutexes::owner;
 use pt_readings::objects::{is_robust, kind_of};
 use pt_types::ObjectId;
 
-/// The lower object first, and there the order of its calls.  [profile]
+/// The lower object first, and there the order of its calls.
 pub fn is_served_before(entries: &[Entry], v: &WaitingCall, w: &WaitingCall) -> bool
     ensures { result ≡ is_served_before_in (history entries.now) (shown v.now) (shown w.now) }
 {
@@ -34,7 +34,7 @@ pub fn is_served(entries: &[Entry], w: &WaitingCall) -> bool
     is_grantable(entries, w) || is_complete(entries, w)
 }
 
-/// The open call at a place, if it may be served.  [profile]
+/// The open call at a place, if it may be served.
 pub fn served_at(entries: &[Entry], i: u64) -> Option<WaitingCall>
     ensures { option_map shown result
         ≡ keep (is_served_in (history entries.now))
@@ -46,7 +46,7 @@ pub fn served_at(entries: &[Entry], i: u64) -> Option<WaitingCall>
     }
 }
 
-/// The one to serve first, of a call and the first behind it.  [profile]
+/// The one to serve first, of a call and the first after it.
 pub fn better_served(
     entries: &[Entry],
     w: Option<WaitingCall>,
@@ -63,7 +63,7 @@ pub fn better_served(
     }
 }
 
-/// The call to serve first.  [profile]
+/// The call to serve first.
 pub fn first_served(entries: &[Entry]) -> Option<WaitingCall>
     ensures { option_map shown result
         ≡ least (is_served_before_in (history entries.now))
@@ -99,7 +99,7 @@ pub fn forced_service(entries: &[Entry]) -> Option<Entry>
     }
 }
 
-/// Whether it is a robust mutex with a dead owner.  [XSH pthread_mutex_lock, EOWNERDEAD]
+/// Whether an object is a robust mutex with a dead owner.  [XSH pthread_mutex_lock, EOWNERDEAD]
 pub fn is_orphan(entries: &[Entry], m: ObjectId) -> bool
     ensures { result ≡ is_orphan_in (history entries.now) m }
 {
@@ -131,7 +131,7 @@ pub fn is_overdue(entries: &[Entry], w: &WaitingCall) -> bool
     is_due(clock(entries, w.clock), w.deadline) && !is_moved(entries, w)
 }
 
-/// The open call at a place, if it is overdue.  [profile]
+/// The open call at a place, if it is overdue.
 pub fn overdue_at(entries: &[Entry], i: u64) -> Option<WaitingCall>
     ensures { option_map shown result
         ≡ keep (is_overdue_in (history entries.now))
@@ -143,7 +143,7 @@ pub fn overdue_at(entries: &[Entry], i: u64) -> Option<WaitingCall>
     }
 }
 
-/// The lesser deadline first, then the lesser place.  [profile]
+/// The lesser deadline first, then the lesser place.
 pub fn expires_before(v: &WaitingCall, w: &WaitingCall) -> bool
     ensures { result ≡ expires_before_it (shown v.now) (shown w.now) }
 {
@@ -152,7 +152,7 @@ pub fn expires_before(v: &WaitingCall, w: &WaitingCall) -> bool
     one < other || one == other && v.place < w.place
 }
 
-/// The one to expire first, of a call and the first behind it.  [profile]
+/// The one to expire first, of a call and the first after it.
 pub fn sooner(w: Option<WaitingCall>, best: Option<WaitingCall>) -> Option<WaitingCall>
     ensures { option_map shown result
         ≡ best_of expires_before_it (option_map shown w) (option_map shown best) }
@@ -164,7 +164,7 @@ pub fn sooner(w: Option<WaitingCall>, best: Option<WaitingCall>) -> Option<Waiti
     }
 }
 
-/// The call to expire first.  [profile]
+/// The call to expire first.
 pub fn first_overdue(entries: &[Entry]) -> Option<WaitingCall>
     ensures { option_map shown result
         ≡ least expires_before_it
@@ -189,7 +189,7 @@ pub fn forced_expire(entries: &[Entry]) -> Option<Entry>
     }
 }
 
-/// The one entry that must follow: service, then yields, then deadlines.  [profile]
+/// The one entry that must follow: service, then yields, then deadlines.
 pub fn forced(entries: &[Entry]) -> Option<Entry>
     ensures { result ≡ forced_in (history entries.now) }
 {

@@ -19,7 +19,7 @@ use pt_readings::rwlocks::rwlock_view;
 use pt_types::tables::{is_lost, lock_outcome, may_read, may_relock, may_write};
 use pt_types::{ClientId, ObjectId, Outcome};
 
-/// Whether the open call at a place stands at the lock as a writer of this priority or a higher
+/// Whether the open call at a place waits at the lock as a writer of this priority or a higher
 /// one.  [XSH pthread_rwlock_rdlock]
 pub fn holds_back(entries: &[Entry], r: ObjectId, priority: u64, i: u64) -> bool
     ensures { result
@@ -32,7 +32,7 @@ pub fn holds_back(entries: &[Entry], r: ObjectId, priority: u64, i: u64) -> bool
     }
 }
 
-/// Whether such a writer stands at the lock.  [XSH pthread_rwlock_rdlock]
+/// Whether such a writer waits at the lock.  [XSH pthread_rwlock_rdlock]
 pub fn is_blocked(entries: &[Entry], r: ObjectId, priority: u64) -> bool
     ensures { result ≡ is_blocked_in (history entries.now) r priority }
 {
@@ -78,7 +78,7 @@ pub fn is_grantable(entries: &[Entry], w: &WaitingCall) -> bool
     }
 }
 
-/// How many open calls stand at a barrier.  [XSH pthread_barrier_wait]
+/// How many open calls wait at a barrier.  [XSH pthread_barrier_wait]
 #[tactic(auto, using(crate::proofs::Ends::counting))]
 pub fn arrivals(entries: &[Entry], b: ObjectId) -> u64
     ensures value { result ≡ length (at_barrier b (open_calls (history entries.now))) }
@@ -93,7 +93,7 @@ pub fn arrivals(entries: &[Entry], b: ObjectId) -> u64
     count
 }
 
-/// Whether a call stands at a barrier with as many as its count.  [XSH pthread_barrier_wait]
+/// Whether a call waits at a barrier with as many as its count.  [XSH pthread_barrier_wait]
 pub fn is_complete(entries: &[Entry], w: &WaitingCall) -> bool
     ensures { result ≡ is_complete_in (history entries.now) (shown w.now) }
 {
@@ -101,14 +101,14 @@ pub fn is_complete(entries: &[Entry], w: &WaitingCall) -> bool
     is_arrival(w.role) && arrivals(entries, b) == barrier_count(kind_of(entries, b))
 }
 
-/// What a mutex tells to a call.  [XSH pthread_mutex_lock, pthread_cond_timedwait]
+/// What a mutex answers to a call.  [XSH pthread_mutex_lock, pthread_cond_timedwait]
 pub fn mutex_outcome(entries: &[Entry], w: &WaitingCall, m: ObjectId) -> Outcome
     ensures { result ≡ mutex_outcome_in (history entries.now) (shown w.now) m }
 {
     lock_outcome(consistency(entries, m), is_expired(moved(entries, w.place)))
 }
 
-/// What an open call is told when it is granted.  [XSH, the call's page]
+/// What an open call is answered when it is granted.  [XSH, the call's page]
 pub fn grant_outcome(entries: &[Entry], w: &WaitingCall) -> Outcome
     ensures { result ≡ grant_outcome_in (history entries.now) (shown w.now) }
 {

@@ -18,7 +18,7 @@ use pt_readings::moves::is_moved;
 use pt_readings::waiting::waiting_call_at;
 use pt_types::{ClientId, Clock, Outcome};
 
-/// An answer: who gets it, to the call at which place, and what it says.  [profile]
+/// An answer: who gets it, to the call at which place, and what it says.
 #[derive(Clone, Copy, Debug, PartialEq, Eq)]
 pub struct Told {
     /// The number of the client.
@@ -28,7 +28,7 @@ pub struct Told {
     pub outcome: Outcome,
 }
 
-/// What an entry does to the caller of a place.  [profile]
+/// What an entry does to the caller of a place.
 #[tactic(auto, using(crate::proofs::Ends::place_of_all))]
 pub fn caller_by(
     entries: &[Entry],
@@ -44,7 +44,7 @@ pub fn caller_by(
     }
 }
 
-/// The client of the call at a place.  [profile]
+/// The client of the call at a place.
 #[tactic(auto, using(crate::proofs::Ends::one_more))]
 pub fn caller(entries: &[Entry], j: u64) -> Option<ClientId>
     ensures { result ≡ caller_in (history entries.now) j }
@@ -56,7 +56,7 @@ pub fn caller(entries: &[Entry], j: u64) -> Option<ClientId>
     found
 }
 
-/// What an entry does to a client's latest call.  [profile]
+/// What an entry does to a client's latest call.
 #[tactic(auto, using(crate::proofs::Ends::place_of_all))]
 pub fn latest_by(entries: &[Entry], entry: &Entry, before: Option<u64>, c: ClientId) -> Option<u64>
     ensures { result ≡ latest_after (history entries.now) entry.now before c }
@@ -67,7 +67,7 @@ pub fn latest_by(entries: &[Entry], entry: &Entry, before: Option<u64>, c: Clien
     }
 }
 
-/// The place of a client's latest call.  [profile]
+/// The place of a client's latest call.
 #[tactic(auto, using(crate::proofs::Ends::one_more))]
 pub fn latest(entries: &[Entry], c: ClientId) -> Option<u64>
     ensures { result ≡ latest_in (history entries.now) c }
@@ -79,7 +79,7 @@ pub fn latest(entries: &[Entry], c: ClientId) -> Option<u64>
     found
 }
 
-/// The answer to a client's call at this place, where it has one.  [profile]
+/// The answer to a client's call at this place, if it has one.
 pub fn told_if(client: u64, place: u64, outcome: Option<Outcome>) -> Option<Told>
     ensures { option_map shown_told result ≡ told_meant client place outcome }
 {
@@ -93,7 +93,7 @@ pub fn told_if(client: u64, place: u64, outcome: Option<Outcome>) -> Option<Told
     }
 }
 
-/// The answer to a living client's latest call.  [profile]
+/// The answer to a living client's latest call.
 pub fn answer_of(entries: &[Entry], c: ClientId) -> Option<Told>
     ensures { option_map shown_told result ≡ answer_of_in (history entries.now) c }
 {
@@ -106,7 +106,7 @@ pub fn answer_of(entries: &[Entry], c: ClientId) -> Option<Told>
     }
 }
 
-/// The client of the call that came without a reply at a place; 0 where there is none.  [profile]
+/// The client of the call that came without a reply at a place; 0 if there is none.
 pub fn client_at(entries: &[Entry], j: u64) -> u64
     ensures { result ≡ client_if (at_place j (stood (history entries.now))) }
 {
@@ -116,7 +116,7 @@ pub fn client_at(entries: &[Entry], j: u64) -> u64
     }
 }
 
-/// Who gets the answer to the call at a place that an entry behind these gives.  [profile]
+/// Who gets the answer to the call at a place that an entry after these gives.
 pub fn told_client(entries: &[Entry], entry: &Entry, j: u64) -> u64
     ensures { result ≡ client_told (history entries.now) entry.now j }
 {
@@ -126,7 +126,7 @@ pub fn told_client(entries: &[Entry], entry: &Entry, j: u64) -> u64
     }
 }
 
-/// The answer that an entry behind these gives to the call at a place, if it gives one.
+/// The answer that an entry after these gives to the call at a place, if it gives one.
 /// [XSH, the call's page]
 #[tactic(auto, using(crate::proofs::Tellings::told_at_place))]
 pub fn told_at(entries: &[Entry], entry: &Entry, j: u64) -> Option<Told>
@@ -148,7 +148,7 @@ pub fn has_deadline(entries: &[Entry], which: Clock, w: &WaitingCall) -> bool
     w.deadline.is_some() && is_same_clock(w.clock, which) && !is_moved(entries, w)
 }
 
-/// The open call at a place, if it has a deadline by this clock.  [profile]
+/// The open call at a place, if it has a deadline by this clock.
 pub fn timed_at(entries: &[Entry], which: Clock, i: u64) -> Option<WaitingCall>
     ensures { option_map shown result
         ≡ keep (has_deadline_in (history entries.now) which)
@@ -160,7 +160,7 @@ pub fn timed_at(entries: &[Entry], which: Clock, i: u64) -> Option<WaitingCall>
     }
 }
 
-/// The call with the least deadline by this clock.  [profile]
+/// The call with the least deadline by this clock.
 pub fn first_timed(entries: &[Entry], which: Clock) -> Option<WaitingCall>
     ensures { option_map shown result
         ≡ least expires_before_it
@@ -176,7 +176,6 @@ pub fn first_timed(entries: &[Entry], which: Clock) -> Option<WaitingCall>
 }
 
 /// The least deadline by this clock of the open calls that aren't moved, in nanoseconds.
-/// [profile]
 pub fn least_deadline(entries: &[Entry], which: Clock) -> Option<u64>
     ensures { result ≡ least_deadline_in (history entries.now) which }
 {

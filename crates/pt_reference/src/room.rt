@@ -10,7 +10,7 @@ use pt_readings::clients::{is_alive, living};
 use pt_types::tables::reply;
 use pt_types::{ClientId, MOST_CLIENTS, Refusal};
 
-/// The entries kept: for the Death of each living client, for open calls, for Yields.  [profile]
+/// The reserved entries: for the Death of each living client, open calls and Yields.
 pub fn need(entries: &[Entry]) -> u64
     ensures value { result ≡ need_in (history entries.now) }
     ensures small { result ≤ 5 * length entries.now }
@@ -22,7 +22,7 @@ pub fn need(entries: &[Entry]) -> u64
     after::need(&entries[..last], &entries[last])
 }
 
-/// The outer entry that an accepted event becomes.  [profile]
+/// The outer entry that an accepted event becomes.
 #[tactic(auto, using(crate::proofs::Ends::place_of_all))]
 pub fn entry_for(entries: &[Entry], event: &Event) -> Entry
     ensures { result ≡ entry_for_in (history entries.now) event.now }
@@ -38,7 +38,7 @@ pub fn entry_for(entries: &[Entry], event: &Event) -> Entry
     }
 }
 
-/// A client that doesn't live: DEAD where a place has its number, else NOHELLO.  [profile]
+/// A client that doesn't live: DEAD if a place has its number, else NOHELLO.
 #[tactic(auto, using(crate::proofs::Ends::place_of_all))]
 pub fn refusal_of_stranger(entries: &[Entry], c: ClientId) -> Refusal
     ensures { result ≡ refusal_of_stranger_in (history entries.now) c }
@@ -50,7 +50,7 @@ pub fn refusal_of_stranger(entries: &[Entry], c: ClientId) -> Refusal
     }
 }
 
-/// Why an event is refused for its sender, or at 1,024 living clients; or none.  [profile]
+/// Why an event is refused for its sender, or at 1,024 living clients; or none.
 pub fn refusal(entries: &[Entry], event: &Event) -> Option<Refusal>
     ensures { result ≡ refusal_in (history entries.now) event.now }
 {
@@ -64,14 +64,13 @@ pub fn refusal(entries: &[Entry], event: &Event) -> Option<Refusal>
 }
 
 /// Whether a history with one entry more, and what must still be written, is longer than a limit.
-/// [profile]
 pub fn is_over(entries: &[Entry], entry: &Entry, limit: u64) -> bool
     ensures { result ≡ is_over_in limit (history entries.now ▷ entry.now) }
 {
     limit < entries.len() as u64 + 1 + after::need(entries, entry)
 }
 
-/// The first refusal that applies, with so many entries at most; or none.  [profile]
+/// The first refusal that applies, with so many entries at most; or none.
 pub fn refusal_within(entries: &[Entry], limit: u64, event: &Event) -> Option<Refusal>
     ensures { result ≡ refusal_within_in limit (history entries.now) event.now }
 {

@@ -28,7 +28,7 @@ use pt_types::tables::{
 };
 use pt_types::{Call, ClientId, Deadline, How, Name, ObjectId, Outcome, Verdict};
 
-/// The mutex of the call at a place, if it is open and stands at the condition; else the one that
+/// The mutex of the call at a place, if it is open and waits at the condition; else the one that
 /// was found.  [XSH pthread_cond_wait]
 pub fn awaited_at(
     entries: &[Entry],
@@ -48,7 +48,7 @@ pub fn awaited_at(
     }
 }
 
-/// The mutex with which calls stand at a condition, where some do.  [XSH pthread_cond_wait]
+/// The mutex with which calls wait at a condition, if some do.  [XSH pthread_cond_wait]
 pub fn bound(entries: &[Entry], q: ObjectId) -> Option<ObjectId>
     ensures { result ≡ bound_by (waiting_at_object (history entries.now) q) }
 {
@@ -61,7 +61,7 @@ pub fn bound(entries: &[Entry], q: ObjectId) -> Option<ObjectId>
     found
 }
 
-/// Whether the open call at a place stands at the object.  [XSH pthread_mutex_destroy]
+/// Whether the open call at a place waits at the object.  [XSH pthread_mutex_destroy]
 pub fn stands_at(entries: &[Entry], o: ObjectId, i: u64) -> bool
     ensures { result
         ≡ passes (λ w. at_object_in (history entries.now) w == o)
@@ -73,7 +73,7 @@ pub fn stands_at(entries: &[Entry], o: ObjectId, i: u64) -> bool
     }
 }
 
-/// Whether a call stands at the object.  [XSH pthread_mutex_destroy]
+/// Whether a call waits at the object.  [XSH pthread_mutex_destroy]
 pub fn is_awaited(entries: &[Entry], o: ObjectId) -> bool
     ensures { result ≡ is_awaited_in (history entries.now) o }
 {
@@ -121,7 +121,7 @@ pub fn is_alive_if(entries: &[Entry], owner: Option<ClientId>) -> bool
     }
 }
 
-/// Whether an object can't be ended now.  [XSH pthread_mutex_destroy, that it is told is profile]
+/// Whether an object can't be ended now.  [XSH pthread_mutex_destroy, the answer is profile]
 pub fn is_busy(entries: &[Entry], class: ObjectClass, o: ObjectId) -> bool
     ensures { result ≡ is_busy_in (history entries.now) (shown_class class) o }
 {
@@ -244,7 +244,7 @@ pub fn rwunlocks_verdict(entries: &[Entry], c: ClientId, n: &Name) -> Verdict
     }
 }
 
-/// A call on an object of this class, where nothing but the object is asked for.
+/// A call that looks at nothing but its object, which is of this class.
 /// [XSH pthread_cond_signal, pthread_barrier_wait]
 pub fn known_verdict(entries: &[Entry], n: &Name, class: ObjectClass, known: Verdict) -> Verdict
     ensures { result ≡ on (find_in (history entries.now) n.now (shown_class class)) (λ o. known) }

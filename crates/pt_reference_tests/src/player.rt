@@ -10,7 +10,7 @@ use pt_reference::queries::told_at;
 use pt_reference::room::{entry_for, refusal_within};
 use std::alloc::{AllocError, Global};
 
-// How many entries may be in a history before a script says otherwise.  [profile]
+// How many entries may be in a history before a script says otherwise.
 const LIMIT: u64 = 1 << 20;
 
 // How many entries may follow an event of these scripts.

@@ -9,7 +9,7 @@ use std::alloc::AllocError;
 /// What a script asks of a history.
 #[derive(Clone, Copy)]
 pub enum Question {
-    /// How many entries must be kept free for what may have to follow.
+    /// How many entries must be free for what may have to follow.
     Need,
     /// The least deadline of an open call by this clock, in nanoseconds.
     LeastDeadline(Clock),

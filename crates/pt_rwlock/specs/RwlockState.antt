@@ -36,7 +36,7 @@ reads_of r c = unwrap_or (row_of r c) 0
 abbrev pub is_read : RwlockState → Bool
 is_read r = list_any (λ c. nat_lt 0 (reads_of r c)) (keys_of r.rows)
 
--- a lock is read exactly where a client has read locks  [XSH pthread_rwlock_wrlock]
+-- a lock is read exactly if a client has read locks  [XSH pthread_rwlock_wrlock]
 abbrev pub ReadBySomebody : Type 0
 ReadBySomebody = (r : RwlockState) → IsTrue (is_read r) ↔ ((c : ℕ) × (0 < reads_of r c))
 
@@ -62,23 +62,23 @@ SaysBlocked r p blocked = IsTrue blocked ↔ AnyFrom r.waiting (p - 1)
 abbrev pub writers_at : RwlockState → (priority : ℕ) → ℕ
 writers_at r p = slice_index r.waiting (p - 1)
 
--- a writer waits that is of this priority or a higher one exactly where their counts say so
+-- a writer waits that is of this priority or a higher one exactly if their counts say so
 -- [XSH pthread_rwlock_rdlock]
 abbrev pub BlockedByCounts : Type 0
 BlockedByCounts = (r : RwlockState) (p : ℕ) → length r.waiting ≡ most_priority → 1 ≤ p
     → AnyFrom r.waiting (p - 1) ↔ ((q : ℕ) × (p ≤ q) × (q ≤ most_priority) × (0 < writers_at r q))
 
--- so many writers of this priority wait, and of each other one as many as before  [profile]
+-- so many writers of this priority wait, and of each other one as many as before
 abbrev pub with_writers : RwlockState → (priority : ℕ) → ℕ → RwlockState
 with_writers r p n = record r { waiting = slice_set r.waiting (p - 1) n }
 
--- so many writers of this priority wait, and each other priority has its count  [profile]
+-- so many writers of this priority wait, and each other priority has its count
 abbrev pub ChangesCount : (old new : RwlockState) (priority count : ℕ) → Type 0
 ChangesCount old new p n =
     (other : ℕ) → 1 ≤ other → other ≤ most_priority
     → writers_at new other ≡ (if p == other then n else writers_at old other)
 
--- the client has a row: its own as it was, or a new one without read locks  [profile]
+-- the client has a row: its own as it was, or a new one without read locks
 abbrev pub with_row : RwlockState → (client : ℕ) → RwlockState
 with_row r c =
     if is_some (row_of r c) then r
@@ -100,7 +100,7 @@ has_room (Some reads) = nat_lt reads most_reads
 abbrev pub can_acquire_read : RwlockState → (client : ℕ) → Bool
 can_acquire_read r c = is_none r.writer && has_room (row_of r c)
 
--- this is the client's row, and each other client has the row that it had  [profile]
+-- this is the client's row, and each other client has the row that it had
 abbrev pub ChangesRow : (old new : RwlockState) (client : ℕ) → Option ℕ → Type 0
 ChangesRow old new c row =
     (other : ℕ) → row_of new other ≡ (if c == other then row else row_of old other)
@@ -111,7 +111,7 @@ released r c =
     if is_number r.writer c then record r { writer = None }
     else with_reads r c (reads_of r c - 1)
 
--- whether the first waiter can have the lock now, where writers of its priority or a higher one
+-- whether the first waiter can have the lock now, if writers of its priority or a higher one
 -- wait or don't  [XSH pthread_rwlock_unlock, pthread_rwlock_rdlock]
 abbrev pub may_have : RwlockState → Waiter → (blocked : Bool) → Bool
 may_have r w blocked =

@@ -17,7 +17,7 @@ use std::marker::Model;
 #[derive(Clone, Copy, Debug, PartialEq, Eq)]
 pub enum Held {
     Nothing,
-    /// So many read locks, at least one.
+    /// This many read locks, at least one.
     Read(u8),
     Write,
 }
@@ -37,7 +37,7 @@ pub struct RwObj<A: Allocator + Copy = Global> {
     writer: Option<ClientId>,
     /// By the number of the client.
     reads: BTreeMap<u64, u8, A>,
-    /// Priority p stands at index p - 1.
+    /// Priority p is at index p - 1.
     waiting_writers: [u32; MOST_PRIORITY],
 }
 
@@ -75,7 +75,7 @@ impl<A: Allocator + Copy> RwObj<A> {
         }
     }
 
-    /// Makes room for the client's read locks; one that has its row keeps it. ENOMEM where there
+    /// Makes room for the client's read locks; one that has its row keeps it. ENOMEM if there
     /// is no memory for a new one.
     pub fn make_row(&mut self, client: ClientId) -> Result<(), Refusal>
         ensures ok { OnOk result (self.new ≡ with_row self.old client) }
@@ -92,8 +92,8 @@ impl<A: Allocator + Copy> RwObj<A> {
         Ok(())
     }
 
-    /// Whether the client has a row.
-    pub fn has_row(&self, client: ClientId) -> bool
+    // Whether the client has a row.
+    fn has_row(&self, client: ClientId) -> bool
         ensures { result ≡ is_some (row_of self.now client) }
     {
         self.reads.contains_key(&client.0)
@@ -160,7 +160,7 @@ impl<A: Allocator + Copy> RwObj<A> {
         self.verdict_read_behind(caller, self.is_blocked(priority), how)
     }
 
-    /// The same, told whether a writer of the client's priority or a higher one waits.
+    /// What becomes of a read lock's call, given whether such a writer waits.
     /// [XSH pthread_rwlock_rdlock]
     pub fn verdict_read_behind(&self, caller: ClientId, blocked: bool, how: How) -> Verdict
         ensures { result ≡ read_verdict (seen_by self.now caller) blocked how }
@@ -213,8 +213,8 @@ impl<A: Allocator + Copy> RwObj<A> {
         self.held_by(client) != Held::Nothing
     }
 
-    /// Whether the first waiter of its queue can have the lock now: a writer where nobody holds it;
-    /// a reader where no writer holds it, and no writer of its priority or a higher one waits or
+    /// Whether the first waiter of its queue can have the lock now: a writer if nobody holds it;
+    /// a reader if no writer holds it, and no writer of its priority or a higher one waits or
     /// its client has a read lock already, which is a deviation.  [XSH pthread_rwlock_unlock]
     pub fn grantable(&self, first: Option<Waiter>) -> bool
         ensures none { IfNone first (result ≡ false) }
@@ -256,23 +256,8 @@ impl<A: Allocator + Copy> RwObj<A> {
         self.waiting_writers[priority.level() as usize - 1] -= 1;
     }
 
-    /// How many writers of this priority wait.  [XSH pthread_rwlock_rdlock]
-    pub fn waiting_writers(&self, priority: Priority) -> u32
-        ensures { result ≡ writers_at self.now priority }
-    {
-        self.waiting_writers[priority.level() as usize - 1]
-    }
-
-    /// Whether the client can be given a read lock: no writer holds the lock, and the client has
-    /// its row with fewer than 255 read locks.  [XSH pthread_rwlock_rdlock]
-    pub fn can_acquire_read(&self, client: ClientId) -> bool
-        ensures { result ≡ can_acquire_read self.now client }
-    {
-        let row = self.reads.get(&client.0).copied();
-        self.writer.is_none() && row.is_some_and(|reads| reads < MOST_READS)
-    }
-
-    /// The client has one read lock more.  [XSH pthread_rwlock_rdlock]
+    /// The client has one read lock more. No writer holds the lock, and the client has its row with
+    /// fewer than 255 read locks.  [XSH pthread_rwlock_rdlock]
     pub fn acquire_read(&mut self, client: ClientId)
         requires { IsTrue (can_acquire_read self.old client) }
         ensures change { self.new ≡ with_reads self.old client (reads_of self.old client + 1) }

@@ -1,4 +1,4 @@
--- What is told of an event: it is refused, or accepted.
+-- What is answered of an event: it is refused, or accepted.
 use Rattle.std.proofs.Common.{◌≡◌, ℕ, suc, ◌<◌, Bool, true, false, cond, List, [], ◌∷◌, ◌++◌, length, drop, Option, Some, None, nat_eq, refl, sym, ap, subst, ◌∙◌, append_assoc, length-append, arith}
 use Rattle.std.proofs.Math.Seq.{take-append_seam, drop-append_seam}
 use Rattle.std.specs.Option.{option_or, MatchOption}
@@ -209,7 +209,7 @@ refused s core next names calls noted v line why out told is whole stays kept re
       written = ap (refusal_text line) is_it;
     })
 
--- no call is noted at a place that comes, also behind an accepted event
+-- no call is noted at a place that comes, also after an accepted event
 pub fresh_noted : (calls noted : List (ℕ × LineId)) (m : Mark) (line : LineId) (place next : ℕ)
     → IsFresh calls place → place < next → noted ≡ calls_marked m line place calls
     → IsFresh noted next
@@ -244,7 +244,7 @@ some_seen seen who =
     ∙ ap (λ b. cond b (suc (lines_of_who seen who)) (lines_of_who seen who)) (same_as_itself who) in
     omega (arith, count)
 
--- what a core and its calls keep, behind an accepted event
+-- what a core and its calls keep, after an accepted event
 pub kept_noted : (core next : Kept) (calls noted : List (ℕ × LineId)) (v : Event) (line : LineId)
     (a : Applied) (m : Mark) → IsFirst core → IsFresh calls (length core.entries)
     → IsApplied core v next a → noted ≡ calls_marked m line a.first calls

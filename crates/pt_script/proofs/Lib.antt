@@ -1,10 +1,10 @@
--- Counted: counts of lines, and look-ups, behind one row more
+-- Counted: counts of lines, and look-ups, after one row more
 mod Counted
--- Rows: rows of names, behind one that was written
+-- Rows: rows of names, after one that was written
 mod Rows
 -- Texts: texts of answers, and how they are written
 mod Texts
--- Accepted: what is told of an event: it is refused, or accepted
+-- Accepted: what is answered of an event: it is refused, or accepted
 mod Accepted
 -- Runs: lines one after the other: what is said of them, and how many they are
 mod Runs

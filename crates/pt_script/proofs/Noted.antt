@@ -165,7 +165,7 @@ pub record IsWellNoted (s : Script) : Type 0 where
   pub fresh : IsFresh s.calls (length s.entries)
   pub lines : (j c : ℕ) → caller (history s.entries) j ≡ Some c → IsNoted s.calls s.clients j c
 
--- each call is, behind the entry of an event
+-- each call is, after the entry of an event
 lines_after : (s : Script) (v : Event) (line : LineId) → IsWellNoted s
     → IsAsked v line.who s.clients → (j c : ℕ)
     → caller (history s.entries ▷ entry_for (history s.entries) v) j ≡ Some c
@@ -254,7 +254,7 @@ line_noted s line next text n (Ok v) e says = go says
         event_noted (counted s line.who) v (line_id s line.who) next text seen
         (asked_of s line.who line.body v e) a
 
--- so it is behind all lines
+-- so it is after all lines
 pub says_noted : (s : Script) (xs : List ScriptLine) (last : Script) (text : List ℕ)
     → IsWellNoted s → SaysAll s xs last text → IsWellNoted last
 says_noted s [] last text n says = subst IsWellNoted (sym says.0) n

@@ -29,7 +29,7 @@ use Rattle.pt_script.specs.Laws.{BeginningsOfAll, EachText, OneText, SaysAllMet,
 use Rattle.pt_script.proofs.Runs.{says_join}
 use Rattle.pt_script.proofs.Settled.{settles}
 
--- one text and one script behind it
+-- one text and one script after it
 abbrev Same : Script → List ℕ → Script → List ℕ → Type 0
 Same s text t other = (s ≡ t) × (text ≡ other)
 
@@ -275,7 +275,7 @@ abbrev flags : Bool → (ℕ → Bool) → ℕ → Bool
 flags b wanted zero = b
 flags b wanted (suc k) = wanted k
 
--- at which lines memory is wanted
+-- at which lines memory is lacking
 met_of : (s : Script) (v : Event) (line : LineId) (next : Script) (text : List ℕ)
     → SaysOf s v line next text → (b : Bool) × SaysMet b s v line next text
 met_of s v line next text (refuses r) = (false, refused r)
@@ -327,7 +327,7 @@ each_text lines last text = (
   λ met. said_all met.0 begun lines last text met.1,
 )
 
--- behind lines the entries are still the history of their own events
+-- after lines the entries are still the history of their own events
 legal_of : (s : Script) (v : Event) (line : LineId) (next : Script) (text : List ℕ) → IsLegal s
     → SaysOf s v line next text → IsLegal next
 legal_of s v line next text legal (refuses r) = subst IsLegal (sym r.same) legal

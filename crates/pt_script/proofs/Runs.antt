@@ -108,7 +108,7 @@ answers_few held s out next last new a =
     let all = ap length (a.given []) ∙ length-append a.cuts (to_come next []) in
     omega (arith, seen, same, all)
 
--- a buffer that began empty, behind what was taken before
+-- a buffer that began empty, after what was taken before
 pub onto_taken : (s : Script) (cuts : List Cut) (begun : List ℕ) (last : Script)
     (out shown old : List ℕ) → IsAnswered s cuts begun last out → begun ≡ [] → shown ≡ out
     → IsAnswered s cuts old last (old ++ shown)
@@ -140,7 +140,7 @@ cut_off held fed s begun next last out shown old w a feeds empty shows breaks = 
       (shown_text s a.cuts begun last out shown a.answered empty shows) breaks;
 }
 
--- a fault that is told is this one
+-- a fault that is answered is this one
 pub told_fault : {T : Type 0} (r : Result T ScriptFault) (fault : ScriptFault)
     (P : ScriptFault → Type 0) → IsErrAnd r (λ f. f ≡ fault) → P fault → IfErr r P
 told_fault (Ok done) fault P told holds = absurd told

@@ -266,7 +266,7 @@ begun_held held e =
       dropped = λ d. refl;
     })
 
--- memory is wanted before the first read
+-- memory is lacking before the first read
 pub wanted_at_once : (c : Course) → IsPrefix c.reader.earlier c.reader.given
     → IsPrefix c.writer.flushed c.writer.taken → c.reader.given ≡ [] → c.writer.taken ≡ []
     → c.reader.failures ≡ 0 → c.writer.failures ≡ 0 → c.writer.rejections ≡ 0

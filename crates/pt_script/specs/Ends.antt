@@ -11,18 +11,18 @@ use Rattle.pt_script.specs.Scripts.{Script, begun}
 use Rattle.pt_script.specs.Says.{SaysAll}
 use Rattle.pt_script.specs.Texts.{IsBroken, Writing}
 
--- the lines of a script's bytes, as they are read  [profile]
+-- the lines of a script's bytes, as they are read
 abbrev pub lines_of : List ℕ → List ScriptLine
 lines_of bytes = map script_of (lines bytes)
 
--- all that may be written for these bytes was written, and nothing else  [profile]
+-- all that may be written for these bytes was written, and nothing else
 pub record IsScriptText (bytes text : List ℕ) (count entries : ℕ) : Type 0 where
   pub last : Script
   pub says : SaysAll begun (lines_of bytes) last text
   pub lines : count ≡ length (lines_of bytes)
   pub history : entries ≡ length last.entries
 
--- what was written begins what may be written for the first lines of these bytes  [profile]
+-- what was written begins what may be written for the first lines of these bytes
 pub record BeginsScriptText (bytes text : List ℕ) : Type 0 where
   pub count : ℕ
   pub last : Script
@@ -32,14 +32,14 @@ pub record BeginsScriptText (bytes text : List ℕ) : Type 0 where
   pub begins : IsPrefix text whole
 
 -- the lines that are whole in these bytes were answered by this text, and a cutter holds the rest
--- of the bytes  [profile]
+-- of the bytes
 pub record IsBehind (bytes : List ℕ) (held : Held) (s : Script) (text : List ℕ) : Type 0 where
   pub cuts : List Cut
   pub given : (more : List ℕ) → lines (bytes ++ more) ≡ cuts ++ to_come held more
   pub says : SaysAll begun (map script_of cuts) s text
 
 -- each line that is whole in these bytes was answered, by this text and nothing else; the rest of
--- the bytes is the beginning of a line  [profile]
+-- the bytes is the beginning of a line
 pub record AnswersWhole (bytes text : List ℕ) : Type 0 where
   pub rest : Held
   pub last : Script
@@ -47,7 +47,7 @@ pub record AnswersWhole (bytes text : List ℕ) : Type 0 where
   pub begun : IsBegun rest
 
 -- what a reader gave, and what it gave before its latest read; how often it failed, how many reads
--- there were meanwhile, and whether it has reported its end  [profile]
+-- there were meanwhile, and whether it has reported its end
 pub record Reading : Type 0 where
   pub given : List ℕ
   pub earlier : List ℕ
@@ -57,7 +57,7 @@ pub record Reading : Type 0 where
 
 -- the same of a reader of some type, by what is known of one: what it gave, what it gave before its
 -- latest read, how often it failed, how many reads there were, and whether it has reported its end;
--- with the reader before and after  [profile]
+-- with the reader before and after
 abbrev pub reading : {R : Type 0} → (R → List ℕ) → (R → List ℕ) → (R → ℕ) → (R → ℕ) → (R → Bool)
     → R → R → Reading
 reading given earlier failures reads ended old new = record {
@@ -75,14 +75,14 @@ pub record Course : Type 0 where
   pub limit : ℕ
 
 -- why the input is given up: a read failed; or there were as many reads as there may be, and each
--- gave a byte or more  [profile]
+-- gave a byte or more
 abbrev pub IsCutInput : Course → Type 0
 IsCutInput c =
     (c.reader.failures ≡ 1)
     ⊎ ((c.reader.failures ≡ 0) × (c.reader.reads ≡ c.limit) × (c.limit ≤ length c.reader.given))
 
 -- a read fault: no end was reported, and each line that had come whole is answered, written and
--- flushed  [profile]
+-- flushed
 pub record IsReadFault (c : Course) : Type 0 where
   pub cause : IsCutInput c
   pub no_end : c.reader.has_ended ≡ false
@@ -92,7 +92,7 @@ pub record IsReadFault (c : Course) : Type 0 where
   pub accepted : c.writer.rejections ≡ 0
 
 -- a write fault: the writer broke, and not all that had to be written is flushed; but the answers
--- to each line that was whole before the latest read are  [profile]
+-- to each line that was whole before the latest read are
 pub record IsWriteFault (c : Course) : Type 0 where
   pub cause : IsBroken c.writer.failures c.writer.rejections
   pub begins : BeginsScriptText c.reader.given c.writer.taken
@@ -100,8 +100,8 @@ pub record IsWriteFault (c : Course) : Type 0 where
   pub answers : AnswersWhole c.reader.earlier c.writer.flushed
   pub read : c.reader.failures ≡ 0
 
--- want of memory: neither device failed, and each line that was whole before the latest read is
--- answered, written and flushed  [profile]
+-- lack of memory: neither device failed, and each line that was whole before the latest read is
+-- answered, written and flushed
 pub record IsWantOfMemory (c : Course) : Type 0 where
   pub read : c.reader.failures ≡ 0
   pub wrote : c.writer.failures ≡ 0
@@ -109,7 +109,7 @@ pub record IsWantOfMemory (c : Course) : Type 0 where
   pub answers : AnswersWhole c.reader.earlier c.writer.taken
   pub flushed : c.writer.flushed ≡ c.writer.taken
 
--- where each fault comes  [profile]
+-- when each fault comes
 abbrev pub IsFaultOf : Course → ScriptFault → Type 0
 IsFaultOf c Read = IsReadFault c
 IsFaultOf c Write = IsWriteFault c

@@ -20,50 +20,50 @@ use Rattle.pt_script.specs.Scripts.{Script, line_at, clients_joined}
 use Rattle.pt_script.specs.Says.{SaysAll}
 use Rattle.pt_script.specs.Texts.{BreaksOff, IsUntouched, Writing}
 
--- a text of which this holds was appended  [profile]
+-- a text of which this holds was appended
 pub record Adds (Holds : List ℕ → Type 0) (old new : List ℕ) : Type 0 where
   pub text : List ℕ
   pub grows : new ≡ old ++ text
   pub holds : Holds text
 
--- no call is noted at a place that comes  [profile]
+-- no call is noted at a place that comes
 abbrev pub IsFresh : List (ℕ × LineId) → ℕ → Type 0
 IsFresh calls next = (j : ℕ) → next ≤ j → line_at calls j ≡ None
 
--- what is noted of an event, once it is accepted  [profile]
+-- what is noted of an event, once it is accepted
 abbrev pub mark_of : Event → Mark
 mark_of (event.Join p) = Client
 mark_of (event.Call c call) = Call
 mark_of _ = Nothing
 
--- the clients behind a line of this mark  [profile]
+-- the clients after a line of this mark
 abbrev pub clients_marked : Mark → Who → ℕ → List (List ℕ × ℕ) → List (List ℕ × ℕ)
 clients_marked Client who place rows = clients_joined who place rows
 clients_marked _ who place rows = rows
 
--- the lines of calls behind it  [profile]
+-- the lines of calls after it
 abbrev pub calls_marked : Mark → LineId → ℕ → List (ℕ × LineId) → List (ℕ × LineId)
 calls_marked Call line place rows = rows ++ (place, line) ∷ []
 calls_marked _ line place rows = rows
 
--- its greeting  [profile]
+-- the greeting that a line is written for
 abbrev pub greeting_marked : Mark → LineId → List ℕ
 greeting_marked Client line = reply_line (Some line.who) line.number (word.Outcome Done)
 greeting_marked _ line = []
 
--- the client that a line is of, where hello came first  [profile]
+-- the client that a line is of, if hello came first  [profile]
 abbrev pub client_for : Option ℕ → Result ℕ Refusal
 client_for None = Err Nohello
 client_for (Some c) = Ok c
 
--- these lines were answered, and what may be written for them was appended  [profile]
+-- these lines were answered, and what may be written for them was appended
 pub record IsAnswered (s : Script) (cuts : List Cut) (old : List ℕ) (last : Script)
     (new : List ℕ) : Type 0 where
   pub text : List ℕ
   pub says : SaysAll s (map script_of cuts) last text
   pub grows : new ≡ old ++ text
 
--- so were all lines that a cutter had whole  [profile]
+-- so were all lines that a cutter had whole
 pub record Answers (held : Held) (s : Script) (old : List ℕ) (next : Held) (last : Script)
     (new : List ℕ) : Type 0 where
   pub cuts : List Cut
@@ -71,7 +71,7 @@ pub record Answers (held : Held) (s : Script) (old : List ℕ) (next : Held) (la
   pub answered : IsAnswered s cuts old last new
 
 -- the first of the lines to come were answered, and the writer broke while the answers were written
--- after the old text, or flushed  [profile]
+-- after the old text, or flushed
 pub record IsCutOff (held : Held) (s : Script) (old : List ℕ) (w : Writing) : Type 0 where
   pub cuts : List Cut
   pub later : List Cut
@@ -81,13 +81,13 @@ pub record IsCutOff (held : Held) (s : Script) (old : List ℕ) (w : Writing) : 
   pub says : SaysAll s (map script_of cuts) last text
   pub breaks : BreaksOff old text w
 
--- how the answers to lines to come are stopped; no reader has a part in it  [profile]
+-- how the answers to lines to come are stopped; no reader has a part in it
 abbrev pub IsStopped : ScriptFault → Held → Script → List ℕ → Writing → Type 0
 IsStopped Read held s old w = ⊥
 IsStopped Write held s old w = IsCutOff held s old w
 IsStopped Memory held s old w = IsUntouched old w
 
--- all lines to come were answered, and these are the counts of all lines and all entries  [profile]
+-- all lines to come were answered, and these are the counts of all lines and all entries
 pub record IsEnd (held : Held) (s : Script) (old new : List ℕ) (count entries : ℕ) : Type 0 where
   pub last : Script
   pub answered : IsAnswered s (to_come held []) old last new

@@ -13,7 +13,7 @@ use Rattle.pt_script.specs.Scripts.{Script, begun, line_id, event_of_line, line_
 use Rattle.pt_script.specs.Says.{SaysAll, IsRefused, IsUnmet, IsAccepted, counted}
 use Rattle.pt_script.specs.Ends.{BeginsScriptText, lines_of}
 
--- the line that made the call of an answer is noted, and it is the client's own  [profile]
+-- the line that made the call of an answer is noted, and it is the client's own
 pub record HasLine (s : Script) (t : Told) : Type 0 where
   pub line : LineId
   pub noted : line_at s.calls t.place ≡ Some line
@@ -25,8 +25,8 @@ AnswersHaveLines =
     (lines : List ScriptLine) (s : Script) (text : List ℕ) → SaysAll begun lines s text
     → Each (HasLine s) (replies s.entries)
 
--- what is written for an event, if memory is wanted or not: ENOMEM is written only where it is, and
--- then where there is no other refusal, and for no `die`  [profile]
+-- what is written for an event, if memory lacks or not: ENOMEM is written only if it does, and
+-- then if there is no other refusal, and for no `die`  [profile]
 pub data SaysMet (wanted : Bool) (s : Script) (event : Event) (line : LineId) (next : Script)
     (text : List ℕ) : Type 0 where
   refused : IsRefused s event line next text → SaysMet wanted s event line next text
@@ -34,13 +34,13 @@ pub data SaysMet (wanted : Bool) (s : Script) (event : Event) (line : LineId) (n
   accepted : (wanted && not (is_death event)) ≡ false → IsAccepted s event line next text
       → SaysMet wanted s event line next text
 
--- the same, where the line may have a refusal of its own  [profile]
+-- the same, if the line may have a refusal of its own  [profile]
 abbrev pub SaysToMet : Bool → Script → LineId → Result Event Refusal → Script → List ℕ → Type 0
 SaysToMet wanted s line (Err why) next text = (next ≡ s) × (text ≡ refusal_text line why)
 SaysToMet wanted s line (Ok event) next text = SaysMet wanted s event line next text
 
--- what is written for these lines, one after the other, if memory is wanted at the lines of these
--- numbers, from 0  [profile]
+-- what is written for these lines, one after the other, if memory lacks at the lines of these
+-- numbers, from 0
 abbrev pub SaysAllMet : (ℕ → Bool) → Script → List ScriptLine → Script → List ℕ → Type 0
 SaysAllMet wanted s [] last text = (last ≡ s) × (text ≡ [])
 SaysAllMet wanted s (line ∷ more) last text =
@@ -49,7 +49,7 @@ SaysAllMet wanted s (line ∷ more) last text =
     first
     × SaysAllMet (λ k. wanted (suc k)) next more last rest × (text ≡ first ++ rest)
 
--- there is one script after these lines, and one text for them  [profile]
+-- there is one script after these lines, and one text for them
 pub record IsOneText (wanted : ℕ → Bool) (lines : List ScriptLine) : Type 0 where
   pub last : Script
   pub text : List ℕ
@@ -58,18 +58,18 @@ pub record IsOneText (wanted : ℕ → Bool) (lines : List ScriptLine) : Type 0 
       (other : Script) (others : List ℕ) → SaysAllMet wanted begun lines other others
       → (other ≡ last) × (others ≡ text)
 
--- One text: the lines, and those of them at which memory is wanted, have one text.
+-- One text: the lines, and those of them at which memory is lacking, have one text.
 abbrev pub OneText : Type 0
 OneText = (wanted : ℕ → Bool) (lines : List ScriptLine) → IsOneText wanted lines
 
--- Each text: what may be written for some lines is their text, if memory is wanted at some of them.
+-- Each text: what may be written for some lines is their text, if memory lacks at some of them.
 abbrev pub EachText : Type 0
 EachText =
     (lines : List ScriptLine) (last : Script) (text : List ℕ)
     → SaysAll begun lines last text
     ↔ ((wanted : ℕ → Bool) × SaysAllMet wanted begun lines last text)
 
--- what was written begins the text of all lines of these bytes  [profile]
+-- what was written begins the text of all lines of these bytes
 pub record BeginsAll (bytes text : List ℕ) : Type 0 where
   pub wanted : ℕ → Bool
   pub last : Script

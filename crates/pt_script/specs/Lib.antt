@@ -1,10 +1,10 @@
--- Scripts: what is known behind some lines, and what the next one asks for
+-- Scripts: what is known after some lines, and what the next one asks for
 pub mod Scripts
 -- Says: what is written for each line, and for all of them
 pub mod Says
--- Ends: what a whole script has read and written, and where each fault comes
+-- Ends: what a whole script has read and written, and when each fault comes
 pub mod Ends
--- Names: what is kept of the clients of a script
+-- Names: what is stored of the clients of a script
 pub mod Names
 -- Texts: how a text is written, and how its writing breaks off
 pub mod Texts

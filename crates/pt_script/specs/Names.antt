@@ -1,4 +1,4 @@
--- Names: what is kept of the clients of a script.
+-- Names: what is stored of the clients of a script.
 use Rattle.std.specs.Prelude.{◌≡◌, ℕ, suc, List, length, Option, Some, None, if◌then◌else◌}
 use Rattle.std.specs.Map.{lookup}
 use Rattle.std.specs.Str.{bytes_eq}
@@ -8,22 +8,21 @@ use Rattle.pt_script.specs.declared.names.Row.{Row}
 use Rattle.pt_script.specs.Scripts.{same_who, lines_of_who, number_named}
 
 -- whose the lines were so far, and the number of each client that has joined under a name
--- [profile]
 pub record Known : Type 0 where
   pub seen : List Who
   pub clients : List (List ℕ × ℕ)
 
--- the number of a client's lines, by its row  [profile]
+-- the number of a client's lines, by its row
 abbrev pub lines_in : Option Row → ℕ
 lines_in None = 0
 lines_in (Some row) = row.lines
 
--- the number of the client that has joined, by its row  [profile]
+-- the number of the client that has joined, by its row
 abbrev pub client_in : Option Row → Option ℕ
 client_in None = None
 client_in (Some row) = row.client
 
--- the row of a name  [profile]
+-- the row of a name
 abbrev pub row_of : List (List ℕ × Row) → List ℕ → Option Row
 row_of rows name = lookup (bytes_eq name) rows
 
@@ -33,13 +32,13 @@ pub record Counted : Type 0 where
   pub star : ℕ
   pub unknown : ℕ
 
--- how many lines are counted for a client  [profile]
+-- how many lines are counted for a client
 abbrev pub lines_counted : Counted → Who → ℕ
 lines_counted k (Named name) = lines_in (row_of k.rows name)
 lines_counted k Star = k.star
 lines_counted k Unknown = k.unknown
 
--- one line more of this name, and all else of the rows as it was  [profile]
+-- one line more of this name, and all else of the rows as it was
 pub record IsRowRaised (old : List (List ℕ × Row)) (name : List ℕ)
     (new : List (List ℕ × Row)) : Type 0 where
   pub lines :
@@ -49,7 +48,7 @@ pub record IsRowRaised (old : List (List ℕ × Row)) (name : List ℕ)
       else lines_in (row_of old other))
   pub clients : (other : List ℕ) → client_in (row_of new other) ≡ client_in (row_of old other)
 
--- the same of any client  [profile]
+-- one more line of a client is counted, named or not
 pub record IsRaised (old : Counted) (who : Who) (new : Counted) : Type 0 where
   pub lines :
       (other : Who)
@@ -58,7 +57,7 @@ pub record IsRaised (old : Counted) (who : Who) (new : Counted) : Type 0 where
   pub clients :
       (name : List ℕ) → client_in (row_of new.rows name) ≡ client_in (row_of old.rows name)
 
--- the client of this name has its number, and all else of the rows is as it was  [profile]
+-- the client of this name has its number, and all else of the rows is as it was
 pub record IsRowGiven (old : List (List ℕ × Row)) (name : List ℕ) (c : ℕ)
     (new : List (List ℕ × Row)) : Type 0 where
   pub lines : (other : List ℕ) → lines_in (row_of new other) ≡ lines_in (row_of old other)
@@ -67,7 +66,7 @@ pub record IsRowGiven (old : List (List ℕ × Row)) (name : List ℕ) (c : ℕ)
       → client_in (row_of new other)
       ≡ (if bytes_eq name other then Some c else client_in (row_of old other))
 
--- the same of all that is counted  [profile]
+-- a client's number is noted, and no line is counted
 pub record IsGiven (old : Counted) (name : List ℕ) (c : ℕ) (new : Counted) : Type 0 where
   pub lines : (who : Who) → lines_counted new who ≡ lines_counted old who
   pub clients :
@@ -75,7 +74,7 @@ pub record IsGiven (old : Counted) (name : List ℕ) (c : ℕ) (new : Counted) :
       → client_in (row_of new.rows other)
       ≡ (if bytes_eq name other then Some c else client_in (row_of old.rows other))
 
--- what is counted is what came so far  [profile]
+-- what is counted is what came so far
 pub record AreCounted (k : Counted) (total : ℕ) (known : Known) : Type 0 where
   pub lines : (who : Who) → lines_counted k who ≡ lines_of_who known.seen who
   pub all : total ≡ length known.seen

@@ -5,23 +5,23 @@ use Rattle.pt_script.specs.declared.fault.ScriptFault.TheVariants.{Read, Write, 
 use Rattle.pt_script.specs.Texts.{IsBroken, Writing}
 use Rattle.pt_script.specs.Ends.{Course, IsFaultOf, IsScriptText}
 
--- the exit status of a fault: 3 for one of a device, 5 for want of memory  [profile]
+-- the exit status of a fault: 3 for one of a device, 5 for lack of memory  [profile]
 abbrev pub status_of : ScriptFault → ℕ
 status_of Read = 3
 status_of Write = 3
 status_of Memory = 5
 
--- the words that report a fault  [profile]
+-- the words that report a fault
 abbrev pub words_of : ScriptFault → List ℕ
 words_of Read = codes "ptserver: read failed"
 words_of Write = codes "ptserver: write failed"
 words_of Memory = codes "ptserver: out of memory"
 
--- the line that reports a fault, with its newline  [profile]
+-- the line that reports a fault, with its newline
 abbrev pub report_of : ScriptFault → List ℕ
 report_of fault = words_of fault ++ 10 ∷ []
 
--- the writer broke while a line was written after the old text, or flushed  [profile]
+-- the writer broke while a line was written after the old text, or flushed
 pub record IsCutReport (old line : List ℕ) (w : Writing) : Type 0 where
   pub front : List ℕ
   pub rest : List ℕ
@@ -29,12 +29,12 @@ pub record IsCutReport (old line : List ℕ) (w : Writing) : Type 0 where
   pub taken : w.taken ≡ old ++ front
   pub cause : IsBroken w.failures w.rejections
 
--- a line was written after the old text, and is flushed; or the writer broke  [profile]
+-- a line was written after the old text, and is flushed; or the writer broke
 abbrev pub Reports : List ℕ → List ℕ → Writing → Type 0
 Reports old line w =
     ((w.taken ≡ old ++ line) × (w.flushed ≡ old ++ line)) ⊎ IsCutReport old line w
 
--- all was read, and all of its text is written and flushed  [profile]
+-- all was read, and all of its text is written and flushed
 pub record IsDone (c : Course) : Type 0 where
   pub lines : ℕ
   pub entries : ℕ
@@ -44,8 +44,8 @@ pub record IsDone (c : Course) : Type 0 where
   pub read : c.reader.failures ≡ 0
   pub wrote : c.writer.failures ≡ 0
 
--- how the program ends: with status 0 and no report, where all is done; else with the status of a
--- fault, which is reported  [profile]
+-- how the program ends: with status 0 and no report, if all is done; else with the status of a
+-- fault, which is reported
 pub data EndsWith (c : Course) (old : List ℕ) (errors : Writing) (status : ℕ) : Type 0 where
   done : IsDone c → errors.taken ≡ old → status ≡ 0 → EndsWith c old errors status
   stops : (fault : ScriptFault) → IsFaultOf c fault → Reports old (report_of fault) errors

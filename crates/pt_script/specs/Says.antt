@@ -16,7 +16,7 @@ use Rattle.pt_core.specs.Applying.{Applies, is_death}
 use Rattle.pt_script.specs.declared.line_id.LineId.{LineId}
 use Rattle.pt_script.specs.Scripts.{Script, line_id, event_of_line, told_text, refusal_text, clients_with, calls_with, greeting}
 
--- the core behind these lines  [profile]
+-- the core after these lines
 abbrev pub core_of : Script → Kept
 core_of s = record { start = nothing; entries = s.entries; limit = most_entries }
 
@@ -25,7 +25,7 @@ core_of s = record { start = nothing; entries = s.entries; limit = most_entries 
 abbrev pub refusal_of_event : Script → Event → Option Refusal
 refusal_of_event s event = refusal_within most_entries (history s.entries) event
 
--- one line more was seen, and nothing else came of it yet  [profile]
+-- one line more was seen, and nothing else came of it yet
 abbrev pub counted : Script → Who → Script
 counted s who = record s { seen = s.seen ++ who ∷ [] }
 
@@ -37,7 +37,7 @@ pub record IsRefused (s : Script) (event : Event) (line : LineId) (next : Script
   pub same : next ≡ s
   pub written : text ≡ refusal_text line why
 
--- a growth was refused: ENOMEM is written where there is no other refusal, and for no `die`
+-- a growth was refused: ENOMEM is written if there is no other refusal, and for no `die`
 -- [profile]
 pub record IsUnmet (s : Script) (event : Event) (line : LineId) (next : Script)
     (text : List ℕ) : Type 0 where
@@ -47,7 +47,6 @@ pub record IsUnmet (s : Script) (event : Event) (line : LineId) (next : Script)
   pub written : text ≡ refusal_text line Enomem
 
 -- the event is accepted: its entries are added to the history, and their answers are written
--- [profile]
 pub record IsAccepted (s : Script) (event : Event) (line : LineId) (next : Script)
     (text : List ℕ) : Type 0 where
   pub applies : Applies (core_of s) event (core_of next)
@@ -59,25 +58,25 @@ pub record IsAccepted (s : Script) (event : Event) (line : LineId) (next : Scrip
   pub written :
       text ≡ greeting event line ++ told_text next.calls (replies_from (history s.entries) added)
 
--- what may be written for the event that a line asks for  [profile]
+-- what may be written for the event that a line asks for
 pub data SaysOf (s : Script) (event : Event) (line : LineId) (next : Script)
     (text : List ℕ) : Type 0 where
   refuses : IsRefused s event line next text → SaysOf s event line next text
   lacks : IsUnmet s event line next text → SaysOf s event line next text
   accepts : IsAccepted s event line next text → SaysOf s event line next text
 
--- the same, where the line may ask for none: its own refusal is written then, and it leaves no
+-- the same, if the line may ask for none: its own refusal is written then, and it leaves no
 -- entry  [profile]
 abbrev pub SaysTo : Script → LineId → Result Event Refusal → Script → List ℕ → Type 0
 SaysTo s line (Err why) next text = (next ≡ s) × (text ≡ refusal_text line why)
 SaysTo s line (Ok event) next text = SaysOf s event line next text
 
--- what may be written for a line: it is counted, and then what it asks for is done  [profile]
+-- what may be written for a line: it is counted, and then what it asks for is done
 abbrev pub Says : Script → ScriptLine → Script → List ℕ → Type 0
 Says s line next text =
     SaysTo (counted s line.who) (line_id s line.who) (event_of_line s line) next text
 
--- what may be written for these lines, one after the other  [profile]
+-- what may be written for these lines, one after the other
 abbrev pub SaysAll : Script → List ScriptLine → Script → List ℕ → Type 0
 SaysAll s [] last text = (last ≡ s) × (text ≡ [])
 SaysAll s (line ∷ more) last text =

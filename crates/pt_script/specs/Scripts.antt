@@ -1,4 +1,4 @@
--- Scripts: what is known behind some lines of a script, and what its next line asks for.
+-- Scripts: what is known after some lines of a script, and what its next line asks for.
 use Rattle.std.specs.Prelude.{ℕ, suc, ◌++◌, Bool, true, false, List, [], ◌∷◌, count_by, nat_eq, Option, Some, None, Result, Ok, Err, if◌then◌else◌}
 use Rattle.std.specs.List.{flat_map}
 use Rattle.std.specs.Map.{lookup}
@@ -22,15 +22,15 @@ use Rattle.pt_model.specs.Clients.{is_alive}
 use Rattle.pt_model.specs.Records.{Told}
 use Rattle.pt_script.specs.declared.line_id.LineId.{LineId}
 
--- behind some lines: the history of the accepted ones, whose the lines were, the number of each
--- client that has joined under a name, and which line made the call at each place  [profile]
+-- after some lines: the history of the accepted ones, whose the lines were, the number of each
+-- client that has joined under a name, and which line made the call at each place
 pub record Script : Type 0 where
   pub entries : List Entry
   pub seen : List Who
   pub clients : List (List ℕ × ℕ)
   pub calls : List (ℕ × LineId)
 
--- before the first line  [profile]
+-- before the first line
 abbrev pub begun : Script
 begun = record { entries = []; seen = []; clients = []; calls = [] }
 
@@ -41,7 +41,7 @@ same_who Star Star = true
 same_who Unknown Unknown = true
 same_who _ _ = false
 
--- how many of these lines are the client's  [profile]
+-- how many of these lines are the client's
 abbrev pub lines_of_who : List Who → Who → ℕ
 lines_of_who seen who = count_by (λ w. same_who w who) seen
 
@@ -49,7 +49,7 @@ lines_of_who seen who = count_by (λ w. same_who w who) seen
 abbrev pub line_id : Script → Who → LineId
 line_id s who = record { who = who; number = suc (lines_of_who s.seen who) }
 
--- the number of the client with this name, if one has joined under it  [profile]
+-- the number of the client with this name, if one has joined under it
 abbrev pub number_named : List (List ℕ × ℕ) → List ℕ → Option ℕ
 number_named rows name = lookup (bytes_eq name) rows
 
@@ -58,7 +58,7 @@ abbrev pub number_of : List (List ℕ × ℕ) → Who → Option ℕ
 number_of rows (Named name) = number_named rows name
 number_of rows _ = None
 
--- the line that made the call at a place  [profile]
+-- the line that made the call at a place
 abbrev pub line_at : List (ℕ × LineId) → ℕ → Option LineId
 line_at rows j = lookup (nat_eq j) rows
 
@@ -76,7 +76,7 @@ abbrev pub of_client : (ℕ → Event) → Option ℕ → Result Event Refusal
 of_client make None = Err Nohello
 of_client make (Some c) = Ok (make c)
 
--- what a line says, as an event; moments stand under `*`, and nothing else does  [profile]
+-- what a line says, as an event; moments come under `*`, and nothing else does  [profile]
 abbrev pub event_for : Script → Who → ScriptBody → Result Event Refusal
 event_for s (Named name) (Hello p) = join_for s.entries p (number_named s.clients name)
 event_for s (Named name) (Ask call) =
@@ -85,21 +85,21 @@ event_for s (Named name) Die = of_client (λ c. event.Death c) (number_named s.c
 event_for s Star (Tick clock t) = Ok (event.Moment clock t)
 event_for s _ _ = Err Syntax
 
--- the same of a line that may not be readable  [profile]
+-- the event of a line, if it could be read
 abbrev pub event_of_body : Script → Who → Result ScriptBody Refusal → Result Event Refusal
 event_of_body s who (Err r) = Err r
 event_of_body s who (Ok body) = event_for s who body
 
--- the event that a line asks for, or why it asks for none  [profile]
+-- the event that a line asks for, or why it asks for none
 abbrev pub event_of_line : Script → ScriptLine → Result Event Refusal
 event_of_line s line = event_of_body s line.who line.body
 
--- an answer under the line that made its call  [profile]
+-- an answer under the line that made its call
 abbrev pub told_line : Option LineId → Outcome → List ℕ
 told_line None x = []
 told_line (Some line) x = reply_line (Some line.who) line.number (word.Outcome x)
 
--- all these answers, in order, each under the line that made its call  [profile]
+-- all these answers, in order, each under the line that made its call
 abbrev pub told_text : List (ℕ × LineId) → List Told → List ℕ
 told_text calls ts = flat_map (λ t. told_line (line_at calls t.place) t.outcome) ts
 
@@ -107,17 +107,17 @@ told_text calls ts = flat_map (λ t. told_line (line_at calls t.place) t.outcome
 abbrev pub refusal_text : LineId → Refusal → List ℕ
 refusal_text line r = reply_line (Some line.who) line.number (word.Refusal r)
 
--- the clients behind a join, with the number of its client  [profile]
+-- the clients after a join, with the number of its client
 abbrev pub clients_joined : Who → ℕ → List (List ℕ × ℕ) → List (List ℕ × ℕ)
 clients_joined (Named name) c rows = rows ++ (name, c) ∷ []
 clients_joined who c rows = rows
 
--- the clients behind an accepted event of this line, whose entry stands at that place  [profile]
+-- the clients after an accepted event of this line, whose entry is at that place
 abbrev pub clients_with : Event → Who → ℕ → List (List ℕ × ℕ) → List (List ℕ × ℕ)
 clients_with (event.Join p) who place rows = clients_joined who place rows
 clients_with _ who place rows = rows
 
--- the lines of calls behind it  [profile]
+-- the lines of calls after it
 abbrev pub calls_with : Event → LineId → ℕ → List (ℕ × LineId) → List (ℕ × LineId)
 calls_with (event.Call c call) line place rows = rows ++ (place, line) ∷ []
 calls_with _ line place rows = rows

@@ -1,7 +1,7 @@
 -- Texts: how a text is written, and how its writing breaks off.
 use Rattle.std.specs.Prelude.{◌≡◌, ℕ, ◌-◌, ◌<◌, ◌++◌, ◌⊎◌, List, length}
 
--- a front of these bytes was taken after the old text, and not all of them  [profile]
+-- a front of these bytes was taken after the old text, and not all of them
 pub record IsCutShort (old bytes text : List ℕ) : Type 0 where
   pub front : List ℕ
   pub rest : List ℕ
@@ -16,7 +16,7 @@ IsBroken failures rejections =
     ((failures ≡ 1) × (rejections ≡ 0)) ⊎ ((failures ≡ 0) × (rejections ≡ 1))
 
 -- what a writer took, what of it is flushed, how often it failed, and how many writes took none of
--- their bytes meanwhile  [profile]
+-- their bytes meanwhile
 pub record Writing : Type 0 where
   pub taken : List ℕ
   pub flushed : List ℕ
@@ -25,7 +25,6 @@ pub record Writing : Type 0 where
 
 -- the same of a writer of some type, by what is known of one: what it took, what is flushed, how
 -- often it failed, and how many of its writes took none; with the writer before and after
--- [profile]
 abbrev pub writing : {W : Type 0} → (W → List ℕ) → (W → List ℕ) → (W → ℕ) → (W → ℕ) → W → W
     → Writing
 writing taken flushed failures rejections old new = record {
@@ -36,7 +35,7 @@ writing taken flushed failures rejections old new = record {
 }
 
 -- the writer broke while these bytes were written after the old text, or flushed: some were taken,
--- in order, and none of them is flushed  [profile]
+-- in order, and none of them is flushed
 pub record BreaksOff (old bytes : List ℕ) (w : Writing) : Type 0 where
   pub front : List ℕ
   pub rest : List ℕ
@@ -46,7 +45,7 @@ pub record BreaksOff (old bytes : List ℕ) (w : Writing) : Type 0 where
   pub flushed : w.flushed ≡ old
   pub cause : IsBroken w.failures w.rejections
 
--- the writer has taken and flushed the old text, and was not given up  [profile]
+-- the writer has taken and flushed the old text, and was not given up
 pub record IsUntouched (old : List ℕ) (w : Writing) : Type 0 where
   pub taken : w.taken ≡ old
   pub flushed : w.flushed ≡ old

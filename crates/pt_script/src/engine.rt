@@ -35,7 +35,7 @@ fn mark_of(event: &Event) -> Mark
     }
 }
 
-// Notes an accepted line, whose entry stands at this place.
+// Notes an accepted line, whose entry is at this place.
 fn note<A: Allocator + Copy>(
     names: &mut Names<A>,
     calls: &mut Calls<A>,
@@ -96,7 +96,7 @@ fn tell_from<A: Allocator + Copy>(
 
 /// All clients of a script, the lines that they sent, and the core that these asked.
 ///
-/// Contracts see what is known behind the lines so far.
+/// Contracts see what is known after the lines so far.
 #[derive(Drop)]
 pub struct Engine<A: Allocator + Copy = Global> {
     core: Core<A>,
@@ -135,7 +135,7 @@ impl<A: Allocator + Copy> Engine<A> {
     ghost use Rattle.pt_script.specs.Says.{Says, SaysOf};
     ghost use Rattle.pt_script.specs.Engines.{Adds, Answers, IsAnswered, client_for};
 
-    /// An engine behind no line. A refused growth is a fault.
+    /// An engine that has read no line. A refused growth is a fault.
     pub fn new(alloc: A) -> Result<Engine<A>, ScriptFault>
         ensures ok { IfOk result (λ engine. engine ≡ begun) }
         ensures why { IfErr result (λ fault. fault ≡ ScriptFault.Memory) }
@@ -186,7 +186,7 @@ impl<A: Allocator + Copy> Engine<A> {
         }
     }
 
-    // The client of a name, where one has joined under it.
+    // The client of a name, if one has joined under it.
     fn client(&self, name: &ClientName) -> Result<ClientId, Refusal>
         ensures { result ≡ client_for (number_named self.now.clients name.now) }
     {
@@ -219,7 +219,7 @@ impl<A: Allocator + Copy> Engine<A> {
         }
     }
 
-    // Does what a counted line asks for, and appends what is told of it.
+    // Does what a counted line asks for, and appends its answer.
     fn run(&mut self, event: Event, line: LineId, out: &mut Vec<u8, A>) -> Result<(), ScriptFault>
         requires counted { 0 < lines_of_who self.old.seen line.who }
         requires first { mark_of event ≡ Mark.Client → number_of self.old.clients line.who ≡ None }
@@ -245,7 +245,7 @@ impl<A: Allocator + Copy> Engine<A> {
         }
     }
 
-    /// Counts a line, does what it asks for, and appends what is told of it. A refused growth that
+    /// Counts a line, does what it asks for, and appends its answer. A refused growth that
     /// the line is not answered ENOMEM for is a fault.
     pub fn answer(&mut self, line: ScriptLine, out: &mut Vec<u8, A>) -> Result<(), ScriptFault>
         requires { length self.old.seen < 2 ^ 53 }

@@ -1,6 +1,6 @@
 use thiserror::Error;
 
-/// Why a script ends before its input does.  [profile]
+/// Why a script ends before its input does.
 #[derive(Clone, Copy, Debug, PartialEq, Eq, Error)]
 pub enum ScriptFault {
     /// A read failed, or the input did not end within as many reads as there may be.

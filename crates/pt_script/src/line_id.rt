@@ -1,6 +1,6 @@
 use pt_lines::Who;
 
-/// A line of a script: whose it is, and its number among that client's lines, from 1.  [profile]
+/// A line of a script: whose it is, and its number among that client's lines, from 1.
 #[derive(Debug, PartialEq, Eq, Drop)]
 pub struct LineId {
     pub who: Who,

@@ -10,7 +10,7 @@ use std::alloc::{Allocator, Global};
 use std::hash::{BuildHasherDefault, FoldHasher};
 use std::marker::Model;
 
-/// What is kept of a client's name: how many of its lines came, and its number once it joined.
+/// What is stored of a client's name: how many of its lines came, and its number once it joined.
 #[derive(Debug, Drop)]
 pub struct Row {
     pub lines: u64,

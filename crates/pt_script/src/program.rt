@@ -15,7 +15,7 @@ const DONE: u8 = 0;
 /// The exit status of a fault of a device.  [profile]
 const DEVICE: u8 = 3;
 
-/// The exit status of want of memory.  [profile]
+/// The exit status of lack of memory.  [profile]
 const MEMORY: u8 = 5;
 
 fn status_of(fault: ScriptFault) -> u8
@@ -51,7 +51,7 @@ fn report<E: Sink>(errors: &mut E, fault: ScriptFault)
 /// Runs a script as `script` does, and returns the exit status of a program that does nothing else.
 ///
 /// The status is 0 if all lines were read and answered. A fault is reported on `errors`, and gives
-/// 3 if it is one of the reader or the writer, and 5 if it is want of memory.  [profile]
+/// 3 if it is one of the reader or the writer, and 5 if it is lack of memory.  [profile]
 pub fn answer<R: Source, W: Sink, E: Sink, A: Allocator + Copy>(
     alloc: A,
     reader: &mut R,

@@ -1,4 +1,4 @@
-ghost use Rattle.std.specs.Prelude.{◌≡◌, ◌<◌, ◌≤◌, ◌-◌, ◌++◌, length, map, take, OnOk, OnErr, IfOk, IfErr, Some};
+ghost use Rattle.std.specs.Prelude.{◌≡◌, ◌<◌, ◌≤◌, ◌+◌, ◌-◌, ◌++◌, length, map, take, vec_len, vec_capacity, IsOk, OnOk, OnErr, IfOk, IfErr, Some};
 ghost use Rattle.pt_lines.specs.Replies.{reply_line};
 ghost use Rattle.pt_core.specs.Replies.{told_of};
 ghost use Rattle.pt_script.specs.Scripts.{told_text};
@@ -25,6 +25,10 @@ pub fn tell<A: Allocator + Copy>(
     ensures ok { OnOk result (out.new.items
         ≡ out.old.items ++ reply_line (Some line.now.who) line.now.number word) }
     ensures why { IfErr result (λ fault. fault ≡ ScriptFault.Memory) }
+
+    // An answer for which there is room is never refused.
+    ensures enough { vec_len out.old + length (reply_line (Some line.now.who) line.now.number word)
+        ≤ vec_capacity out.old → IsOk result }
 {
     match write_reply(out, Some(&line.who), line.number, word) {
         Ok(()) => Ok(()),

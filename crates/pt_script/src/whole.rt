@@ -12,10 +12,10 @@ use pt_io::{Sink, Source};
 use pt_lines::Cutter;
 use std::alloc::Allocator;
 
-/// How many reads there may be of one input, the one that tells its end counted.  [profile]
+/// How many reads there may be of one input, the one that reports its end counted.  [profile]
 pub const MOST_READS: u64 = 1 << 40;
 
-/// How many bytes are read at once, at most.  [profile]
+/// How many bytes are read at once, at most.
 const PIECE: usize = 4096;
 
 /// How a script ended that was read to its end.

@@ -1,4 +1,4 @@
--- The rows of objects behind a forced entry, and what the writes of its object ask.
+-- The rows of objects after a forced entry, and what the writes of its object ask.
 use Rattle.std.proofs.Common.{◌≡◌, ℕ, ◌+◌, true, false, List, Option, Some, None, IsSome, option_map, refl, sym, ap, ◌∙◌}
 use Rattle.std.proofs.lemmas.Bool.{and_parts}
 use Rattle.pt_types.specs.Operations.{MutexClass, RwlockClass}
@@ -78,7 +78,7 @@ housed-rwlock h q (ForCond k) move s = (λ e. absurd cc, λ e. absurd cc)
 housed-rwlock h q ForBarrier move s = (λ e. absurd cc, λ e. absurd cc)
 
 module _ {A : Type 0} (h : History) (look : ℕ → Option (Object A)) (t : ObjectsLook h look) where
-  -- what exists as a mutex is kept as one
+  -- what exists as a mutex is stored as one
   pub kept-mutex : (m : ℕ) → exists_as h MutexClass m ≡ true
       → (x : MutexState) × (look m ≡ Some (Mutex x))
   kept-mutex m e = go (look m) refl (ap (λ k. is_class k MutexClass) (t.kinds m) ∙ e)
@@ -92,7 +92,7 @@ module _ {A : Type 0} (h : History) (look : ℕ → Option (Object A)) (t : Obje
       go (Some (Cond q)) eo s = absurd cc
       go (Some (Barrier n)) eo s = absurd cc
 
-  -- what exists as a read-write lock is kept as one
+  -- what exists as a read-write lock is stored as one
   pub kept-rwlock : (o : ℕ) → exists_as h RwlockClass o ≡ true
       → (r : RwlockState) × (look o ≡ Some (Rwlock r))
   kept-rwlock o e = go (look o) refl (ap (λ k. is_class k RwlockClass) (t.kinds o) ∙ e)

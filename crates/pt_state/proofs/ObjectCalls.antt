@@ -1,4 +1,4 @@
--- ObjectCalls: what is kept of all objects, behind a call that changes none of them but a count.
+-- ObjectCalls: what is stored of all objects, after a call that changes none of them but a count.
 use Rattle.std.proofs.Common.{◌≡◌, ℕ, Bool, true, false, cond, ◌⊎◌, inl, inr, ◌==◌, ◌∷◌, [], Option, Some, is_some, refl, sym, ap, ◌∙◌, subst, arith}
 use Rattle.std.proofs.lemmas.Bool.Decides.{nat_tests}
 use Rattle.std.specs.Prelude.{unwrap_or}
@@ -31,7 +31,7 @@ use Rattle.pt_state.proofs.ObjectEntries.{quiet-parts, old-readers}
 abbrev pub does : History → ℕ → Asked → Effect
 does h c call = effect h c call (reply (verdict h c call))
 
--- the history behind it
+-- the history after it
 abbrev pub behind : History → ℕ → Asked → History
 behind h c call = h ▷ Call c call (reply (verdict h c call))
 
@@ -56,7 +56,7 @@ quiet-call h c call f o s =
     (λ d. writes-call h c call (reply (verdict h c call)) o d (writes h o d) ∙ rw s.returns refl)
     (λ d. reads-call h c call (reply (verdict h c call)) o d (reads h o d) ∙ rw s.returns refl)
 
--- whoever waits for a read lock behind a call did so before, unless the call does
+-- whoever waits for a read lock after a call did so before, unless the call does
 pub call-readers : (h : History) (c : ℕ) (call : Asked) → Follows h
     → Step h (Call c call (reply (verdict h c call))) → (E : Effect) → does h c call ≡ E
     → ((w : WaitingCall) → In w (left_by E) → w.role ≡ ForRead → ⊥)

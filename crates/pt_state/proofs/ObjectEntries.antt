@@ -1,4 +1,4 @@
--- ObjectEntries: what is kept of all objects, behind each entry but calls and grants.
+-- ObjectEntries: what is stored of all objects, after each entry but calls and grants.
 use Rattle.std.proofs.Common.{◌≡◌, ℕ, suc, true, cond, ◌⊎◌, inl, inr, ◌==◌, nat_lt, Option, Some, None, refl, ap, ◌∙◌, arith}
 use Rattle.std.proofs.lemmas.Bool.Decides.{nat_tests}
 use Rattle.pt_types.specs.MutexTable.{after_yield}
@@ -63,7 +63,7 @@ old-readers h e f s none = λ w i role. go w role (was_open h e f s w i)
     go w role (inr i) = absurd (none w i role)
 
 module _ {A : Type 0} where
-  -- the same look-up is right behind a Join
+  -- the same look-up is right after a Join
   pub object_rows-join : (h : History) (look : ℕ → Option (Object A)) (p : ℕ) → Follows h
       → Step h (Join (place h) p) → ObjectsLook h look → ObjectsLook (h ▷ Join (place h) p) look
   object_rows-join h look p f s t =
@@ -71,7 +71,7 @@ module _ {A : Type 0} where
       (λ o. quiet-parts h (Join (place h) p) o f refl refl (λ c. refl) (λ c. refl) (λ c. refl))
       (old-readers h (Join (place h) p) f s (λ w i e. i))
 
-  -- and behind a Death
+  -- and after a Death
   pub object_rows-death : (h : History) (look : ℕ → Option (Object A)) (c : ℕ) → Follows h
       → Step h (Death c) → ObjectsLook h look → ObjectsLook (h ▷ Death c) look
   object_rows-death h look c f s t =
@@ -79,7 +79,7 @@ module _ {A : Type 0} where
       (λ o. quiet-parts h (Death c) o f refl refl (λ d. refl) (λ d. refl) (λ d. refl))
       (old-readers h (Death c) f s (λ w i e. i))
 
-  -- and behind a Moment
+  -- and after a Moment
   pub object_rows-moment : (h : History) (look : ℕ → Option (Object A)) (k : Clock) (n : ℕ)
       → Follows h → Step h (Moment k n) → ObjectsLook h look → ObjectsLook (h ▷ Moment k n) look
   object_rows-moment h look k n f s t =
@@ -87,7 +87,7 @@ module _ {A : Type 0} where
       (λ o. quiet-parts h (Moment k n) o f refl refl (λ c. refl) (λ c. refl) (λ c. refl))
       (old-readers h (Moment k n) f s (λ w i e. i))
 
-  -- and behind a Trip
+  -- and after a Trip
   pub object_rows-trip : (h : History) (look : ℕ → Option (Object A)) (b : ℕ) → Follows h
       → Step h (Trip b) → ObjectsLook h look → ObjectsLook (h ▷ Trip b) look
   object_rows-trip h look b f s t =
@@ -95,7 +95,7 @@ module _ {A : Type 0} where
       (λ o. quiet-parts h (Trip b) o f refl refl (λ c. refl) (λ c. refl) (λ c. refl))
       (old-readers h (Trip b) f s (λ w i e. i))
 
-  -- and behind an Expire
+  -- and after an Expire
   pub object_rows-expire : (h : History) (look : ℕ → Option (Object A)) (j : ℕ) → Follows h
       → Step h (Expire j) → ObjectsLook h look → ObjectsLook (h ▷ Expire j) look
   object_rows-expire h look j f s t =

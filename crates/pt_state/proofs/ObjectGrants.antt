@@ -1,4 +1,4 @@
--- ObjectGrants: what is kept of all objects, behind a Grant.
+-- ObjectGrants: what is stored of all objects, after a Grant.
 use Rattle.std.proofs.Common.{◌≡◌, ℕ, suc, ◌+◌, Bool, true, false, cond, ◌&&◌, ◌==◌, nat_lt, Option, Some, None, is_none, refl, sym, ap, ◌∙◌, arith}
 use Rattle.std.proofs.lemmas.Bool.Decides.{nat_tests}
 use Rattle.pt_types.specs.MutexTable.{is_number, is_acquired}
@@ -30,7 +30,7 @@ use Rattle.pt_state.proofs.ObjectEntries.{writer-same, quiet-parts, old-readers}
 use Rattle.pt_state.proofs.ObjectCalls.{reads-changed, rows-changed}
 use Rattle.pt_state.proofs.ObjectChanges.{view-parts}
 
--- the history behind the Grant of a call
+-- the history after the Grant of a call
 abbrev pub after_grant : History → WaitingCall → History
 after_grant h w = h ▷ Grant w.place (grant_outcome h w)
 
@@ -169,7 +169,7 @@ module _ {A : Type 0} (h : History) (look : ℕ → Option (Object A)) (w : Wait
       (mutex-changed h (after_grant h w) look t m x k refl (λ v. acquired v w.client)
       (granted_view h w f i s m e told))
 
-  -- one that is told that the mutex is lost changes nothing
+  -- one that is answered that the mutex is lost changes nothing
   pub object_rows-grant-lost : (m : ℕ) → mutex_of w.role w.object ≡ Some m
       → is_acquired (grant_outcome h w) ≡ false → ObjectsLook (after_grant h w) look
   object_rows-grant-lost m e told =

@@ -1,4 +1,4 @@
--- ObjectKept: what is kept of one object, and of all objects where one of them changes.
+-- ObjectKept: what is stored of one object, and of all objects where one of them changes.
 use Rattle.std.proofs.Common.{◌≡◌, ℕ, Bool, true, false, cond, ◌==◌, Option, Some, None, is_some, option_map, refl, sym, ap, ◌∙◌, subst, arith}
 use Rattle.std.proofs.lemmas.Bool.Decides.{nat_tests}
 use Rattle.pt_types.specs.MutexTable.{MutexView, is_number}
@@ -76,7 +76,7 @@ module _ {A : Type 0} where
         rwlocks = λ o. (each o).rwlock;
       }
 
-  -- an object of which nothing changed is kept as it was
+  -- an object of which nothing changed is stored as it was
   pub kept-quiet : (h g : History) (o : ℕ) (x : Option (Object A)) → Quiet h g o
       → ((r : RwlockState) → x ≡ Some (Rwlock r) → HasRows h o r → HasRows g o r) → IsKept h o x
       → IsKept g o x
@@ -124,7 +124,7 @@ module _ {A : Type 0} where
           kept-quiet h g o (look o) (quiet o e) (λ r k rows. rows-old h g o r old rows)
           (kept-at h look t o)
 
-  -- a mutex is kept where it is as it is seen
+  -- a mutex is stored right if it is as it is seen
   pub kept-mutex : (g : History) (m : ℕ) (y : MutexState) (k : MutexKind) (robust : Bool)
       → kind_of g m ≡ Some (kind.Mutex k robust) → y.seen ≡ mutex_view g m → y.bound_waits ≡ 0
       → IsKept g m (Some (Mutex y))
@@ -145,7 +145,7 @@ module _ {A : Type 0} where
       kept-mutex g m (record x { seen = change x.seen }) x.seen.kind x.seen.robust
       (k ∙ (sym (t.kinds m) ∙ ap (option_map kind_kept) e)) (ap change old.0 ∙ sym v) old.1
 
-  -- a read-write lock is kept where it is as it is read off
+  -- a read-write lock is stored right if it is as it is read off
   pub kept-rwlock : (g : History) (o : ℕ) (r : RwlockState) → kind_of g o ≡ Some kind.Rwlock
       → IsRwlock g o r → IsKept g o (Some (Rwlock r))
   kept-rwlock g o r e k =

@@ -1,4 +1,4 @@
--- ObjectLocks: what is kept of all objects, behind a call that makes one or gives back a lock.
+-- ObjectLocks: what is stored of all objects, after a call that makes one or gives back a lock.
 use Rattle.std.proofs.Common.{◌≡◌, ℕ, suc, ◌-◌, ◌<◌, Bool, true, false, cond, ◌==◌, List, Option, Some, None, refl, sym, ap, ◌∙◌, subst, arith}
 use Rattle.std.proofs.lemmas.Bool.Decides.{nat_tests}
 use Rattle.pt_types.specs.declared.call.Call.{Call as Asked}
@@ -85,7 +85,7 @@ module _ (h : History) (c : ℕ) (call : Asked) (f : Follows h)
 module _ {A : Type 0} (h : History) (look look' : ℕ → Option (Object A)) (c : ℕ) (call : Asked)
     (f : Follows h) (s : Step h (Call c call (reply (verdict h c call)))) (t : ObjectsLook h look)
   where
-    -- what is made is kept as it is new
+    -- what is made is stored as it is new
     new_kept : (n : List ℕ) (k : ObjectKind) → does h c call ≡ Creates n k → (x : Object A)
         → IsNew x k → IsKept (behind h c call) (place h) (Some x)
     new_kept n (kind.Mutex m robust) e (Mutex x) new =

@@ -1,4 +1,4 @@
--- ObjectNames: what names mean and how many objects there are, behind each entry.
+-- ObjectNames: what names mean and how many objects there are, after each entry.
 use Rattle.std.proofs.Common.{◌≡◌, ℕ, suc, ◌-◌, Bool, true, false, cond, ◌==◌, List, Option, Some, None, option_map, refl, sym, ap, ◌∙◌, subst, arith}
 use Rattle.std.proofs.lemmas.Bool.Decides.{nat_tests}
 use Rattle.pt_types.specs.declared.call.Call.{Call as Asked}
@@ -49,7 +49,7 @@ names_kept at (Waits w) before n e = refl
 names_kept at (Creates m kind) before n e = absurd cc
 names_kept at (Removes m class q) before n e = absurd cc
 
--- what a name means behind a call
+-- what a name means after a call
 pub numbered-call : (h : History) (c : ℕ) (call : Asked) (E : Effect) → does h c call ≡ E
     → (n : List ℕ) → numbered (behind h c call) n
     ≡ option_map (λ (x : Named_object). x.number)
@@ -200,7 +200,7 @@ objects_reply h c call (Some Etimedout) before s = refl
 objects_reply h c call (Some Eownerdead) before s = refl
 objects_reply h c call (Some Enotrecoverable) before s = refl
 
--- how many objects there are behind a call
+-- how many objects there are after a call
 pub objects-call : (h : History) (c : ℕ) (call : Asked)
     → objects (behind h c call) ≡ objects_effect (does h c call) (objects h)
 objects-call h c call =
@@ -222,13 +222,13 @@ objects-same h c call e = objects-call h c call ∙ go (does h c call) e
     go (Creates m kind) t = absurd cc
     go (Removes m class q) t = absurd cc
 
--- one more behind an init
+-- one more after an init
 pub objects-creates : (h : History) (c : ℕ) (call : Asked) (m : List ℕ) (kind : ObjectKind)
     → does h c call ≡ Creates m kind → objects (behind h c call) ≡ suc (objects h)
 objects-creates h c call m kind e =
     objects-call h c call ∙ ap (λ E. objects_effect E (objects h)) e
 
--- one less behind a destroy
+-- one less after a destroy
 pub objects-removes : (h : History) (c : ℕ) (call : Asked) (m : List ℕ) (class : ObjectClass)
     (q : ℕ)
     → does h c call ≡ Removes m class q → objects (behind h c call) ≡ objects h - 1

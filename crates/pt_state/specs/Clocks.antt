@@ -1,4 +1,4 @@
--- Clocks: the two clocks as they are kept, and as they are read off a history.
+-- Clocks: the two clocks as they are stored, and as they are read off a history.
 use Rattle.std.specs.Prelude.{ℕ, ◌≡◌, Option}
 use Rattle.pt_types.specs.declared.time.Clock.{Clock}
 use Rattle.pt_types.specs.declared.time.Clock.TheVariants.{Real, Mono}
@@ -6,12 +6,11 @@ use Rattle.pt_model.specs.Histories.{History}
 use Rattle.pt_model.specs.Clients.{clock}
 use Rattle.pt_state.specs.declared.clock.Clocks.{Clocks}
 
--- what is kept of a clock: its greatest moment, in nanoseconds; before its first there is none
--- [profile]
+-- what is stored of a clock: its greatest moment, in nanoseconds; before its first there is none
 abbrev pub reading : Clocks → Clock → Option ℕ
 reading kept Real = kept.real
 reading kept Mono = kept.mono
 
--- the clocks are those of the history  [profile]
+-- the clocks are those of the history
 abbrev pub AreClocks : History → Clocks → Type 0
 AreClocks h kept = (k : Clock) → reading kept k ≡ clock h k

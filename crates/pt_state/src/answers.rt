@@ -1,36 +1,21 @@
-//! Answers: what is told to whom, from which place on.
+//! Answers: their clients, their calls and their outcomes, from any place on.
 
-ghost use Rattle.std.specs.Prelude.{◌<◌, ◌≡◌, map, option_map, true, vec_capacity, vec_len};
+ghost use Rattle.std.specs.Prelude.{◌<◌, ◌≡◌, map, true, vec_capacity, vec_len};
 ghost use Rattle.pt_records.specs.Logs.{logged};
 ghost use Rattle.pt_table.specs.ClientRows.{has_client};
-ghost use Rattle.pt_state.specs.Forcing.{Answers};
-ghost use Rattle.pt_model.specs.Histories.{history};
+ghost use Rattle.pt_state.specs.Forcing.{Answers, told_to};
 ghost use Rattle.pt_model.specs.Answers.{outcome as said};
+ghost use Rattle.pt_model.specs.StartRows.{reads_of};
 ghost use Rattle.pt_state.specs.Reads.{AreTables};
-ghost use Rattle.pt_model.specs.Queries.{answer_of as answer_in, answers_from as answers_in};
+ghost use Rattle.pt_model.specs.Queries.{answer_of as answer_in, answers_behind as answers_in};
+ghost use Rattle.pt_state.specs.Adds.{past};
 
 use crate::state::State;
 use pt_records::Open;
-use pt_records::answers::{Answered, answer_since, answered_since, outcome_since, tell};
+use pt_records::answers::{Answered, answered_since, outcome_since, tell};
 use pt_records::calls::close;
 use pt_types::{ClientId, Outcome};
 use std::alloc::Allocator;
-
-// An answer as one to this client.
-fn to_client(answer: Option<Answered>, c: ClientId) -> Option<Answered>
-    ensures { option_map (λ a. (logged a).1) result
-        ≡ option_map (λ a. record (logged a).1 { client = c }) answer }
-{
-    match answer {
-        Some(answer) => Some(Answered {
-            at: answer.at,
-            client: c,
-            place: answer.place,
-            outcome: answer.outcome,
-        }),
-        None => None,
-    }
-}
 
 impl<A: Allocator + Copy> State<A> {
     // The call is open no more, and is answered.
@@ -58,26 +43,32 @@ impl<A: Allocator + Copy> State<A> {
     /// The answer to the call at a place.  [XSH, the call's page]
     pub fn outcome(&self, place: u64) -> Option<Outcome>
         requires { AreTables self.now }
-        ensures { result ≡ said (history self.now.stored.entries) place }
+        ensures { result ≡ said (past self.now) place }
     {
-        outcome_since(self.answers.as_slice(), place)
+        match outcome_since(self.answers.as_slice(), place) {
+            Some(outcome) => Some(outcome),
+            None => self.stored.start().answer_at(place),
+        }
     }
 
-    /// The answer to a living client's latest call.  [profile]
-    pub fn answer_of(&self, c: ClientId) -> Option<Answered>
+    /// The answer to a living client's latest call, with the place of the call.
+    pub fn answer_of(&self, c: ClientId) -> Option<(u64, Outcome)>
         requires { AreTables self.now }
-        ensures { option_map (λ a. (logged a).1) result
-            ≡ answer_in (history self.now.stored.entries) c }
+        ensures { told_to c result ≡ answer_in (past self.now) c }
     {
         let caller = self.clients.at(c.0)?;
         let place = caller.latest?;
-        to_client(answer_since(self.answers.as_slice(), place), c)
+        match self.outcome(place) {
+            Some(outcome) => Some((place, outcome)),
+            None => None,
+        }
     }
 
-    /// The answers that the entries from a place on gave, in order.  [profile]
+    /// The answers that the entries from a place on gave, in order.
     pub fn answers_since(&self, place: u64) -> &[Answered]
         requires { AreTables self.now }
-        ensures { map (λ a. (logged a).1) result.now ≡ answers_in place self.now.stored.entries }
+        ensures { map (λ a. (logged a).1) result.now ≡ answers_in
+            (reads_of self.now.stored.start) place self.now.stored.entries }
     {
         let answers = self.answers.as_slice();
         &answers[answered_since(answers, place)..]

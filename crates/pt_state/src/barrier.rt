@@ -3,10 +3,10 @@
 ghost use Rattle.std.specs.Prelude.{None, ◌++◌, ◌+◌, ◌<◌, ◌==◌, ◌≡◌, ◌≤◌, length, map, vec_capacity, vec_len};
 ghost use Rattle.pt_model.specs.declared.entry.Entry.TheVariants as entry;
 ghost use Rattle.pt_model.specs.declared.entry.Entry.{Entry as AnyEntry};
-ghost use Rattle.pt_state.specs.Adds.{Adds, IsReadyFor};
+ghost use Rattle.pt_state.specs.Adds.{Adds, IsReadyFor, past};
 ghost use Rattle.pt_table.specs.ObjectRows.{object_value};
 ghost use Rattle.pt_state.specs.Granting.{count_kept};
-ghost use Rattle.pt_model.specs.Histories.{history, place};
+ghost use Rattle.pt_model.specs.Histories.{place};
 ghost use Rattle.pt_model.specs.Answers.{at_barrier, open_calls, told};
 ghost use Rattle.pt_records.specs.Logs.{logged, told_at};
 ghost use Rattle.pt_state.specs.Reads.{AreTables};
@@ -22,7 +22,7 @@ use pt_types::{Call, ClientId, Name, ObjectId};
 use std::alloc::Allocator;
 
 impl<A: Allocator + Copy> State<A> {
-    /// A full barrier lets the calls that stand at it go on.  [XSH pthread_barrier_wait]
+    /// A full barrier lets the calls that wait at it go on.  [XSH pthread_barrier_wait]
     pub fn push_trip(&mut self, b: ObjectId)
         requires { IsReadyFor self.old (entry.Trip b) }
         ensures { Adds self.old (entry.Trip b) self.new }
@@ -32,7 +32,7 @@ impl<A: Allocator + Copy> State<A> {
         self.stored.push(Entry::Trip(b));
     }
 
-    /// Whether it lets the calls go that stand at it, where they are so many.
+    /// Whether a barrier is full with this many waiting calls.
     /// [XSH pthread_barrier_wait]
     pub fn is_full(&self, b: ObjectId, waiting: usize) -> bool
         ensures { result ≡ (waiting == count_kept (object_value self.now.objects b)) }
@@ -43,19 +43,19 @@ impl<A: Allocator + Copy> State<A> {
         }
     }
 
-    /// Adds what the barrier's Trip answers, and changes nothing else.  [profile]
+    /// Adds what the barrier's Trip answers, and changes nothing else.
     pub fn tell_trip(&mut self, b: ObjectId)
         requires read { AreTables self.old }
         requires room { vec_len self.old.answers
-            + length (at_barrier b (open_calls (history self.old.stored.entries)))
+            + length (at_barrier b (open_calls (past self.old)))
             ≤ vec_capacity self.old.answers }
-        ensures told { let h = history self.old.stored.entries in
+        ensures told { let h = past self.old in
             map logged self.new.answers.items
             ≡ map logged self.old.answers.items ++ told_at (place h) (told h (AnyEntry.Trip b)) }
         ensures capacity { vec_capacity self.new.answers ≡ vec_capacity self.old.answers }
         ensures rest { self.new ≡ record self.old { answers = self.new.answers } }
     {
-        tell_trip(self.stored.entries(), &self.clients, &mut self.answers, b);
+        tell_trip(&self.stored, &self.clients, &mut self.answers, b);
     }
 
     // An arrival at a barrier.  [XSH pthread_barrier_wait]

@@ -28,7 +28,7 @@ use pt_types::{Call, ClientId, Clock, Deadline, How, Name, ObjectId, Outcome, Re
 use std::alloc::Allocator;
 
 impl<A: Allocator + Copy> State<A> {
-    /// A call that is told anything but 0 changes nothing.  [XSH 2.3]
+    /// A call that is answered anything but 0 changes nothing.  [XSH 2.3]
     pub fn push_told(&mut self, c: ClientId, call: &Call, outcome: Outcome)
         requires ready { IsReadyFor self.old (entry.Call c call.now (Some outcome)) }
         requires other { is_done outcome ≡ false }
@@ -52,7 +52,7 @@ impl<A: Allocator + Copy> State<A> {
         }
     }
 
-    /// A call that is told 0, makes no object, ends none and wakes no wait, with what it does.
+    /// A call that is answered 0, makes no object, ends none and wakes no wait, with what it does.
     /// [XSH, the call's page]
     pub fn push_plain(&mut self, c: ClientId, call: &Call)
         requires ready { IsReadyFor self.old (entry.Call c call.now (Some told.Done)) }
@@ -70,7 +70,7 @@ impl<A: Allocator + Copy> State<A> {
         }
     }
 
-    /// The open call in the row of clients at this index.  [profile]
+    /// The open call in the row of clients at this index.
     pub fn open_nth(&self, index: usize) -> Option<Open>
         ensures { result ≡ open_in (nth_value self.now.clients index) }
     {
@@ -94,7 +94,7 @@ impl<A: Allocator + Copy> State<A> {
             .push(Entry::Call(c, call.copied(), Some(outcome)));
     }
 
-    /// A client's call that is entered now.  [profile]
+    /// A client's call that is entered now.
     pub fn entered(
         &self,
         c: ClientId,
@@ -133,7 +133,7 @@ impl<A: Allocator + Copy> State<A> {
         self.stored.push(Entry::Call(c, call.copied(), None));
     }
 
-    /// A call that changes no object as it begins to stand.
+    /// A call that changes no object as it begins to wait.
     /// [XSH pthread_mutex_lock, pthread_rwlock_wrlock, pthread_barrier_wait]
     pub fn push_waiting(&mut self, c: ClientId, call: &Call, open: Open)
         requires ready { IsReadyFor self.old (entry.Call c call.now None) }
@@ -172,7 +172,7 @@ impl<A: Allocator + Copy> State<A> {
         }
     }
 
-    /// A call that is left waiting. ENOMEM where there is no memory for its row in a read-write
+    /// A call that is left waiting. ENOMEM if there is no memory for its row in a read-write
     /// lock. No other operation than these three is left so.  [XSH, the call's page]
     pub fn push_left(&mut self, c: ClientId, call: &Call) -> Result<(), Refusal>
         requires ready { IsReadyFor self.old (entry.Call c call.now None) }

@@ -1,7 +1,7 @@
 //! Living clients: who lives, with which priority, and what a join and a death change.
 
 ghost use Rattle.std.specs.Prelude.{IfErr, OnErr, OnOk, Some, ◌≡◌, false, unwrap_or};
-ghost use Rattle.pt_model.specs.Histories.{history, place};
+ghost use Rattle.pt_model.specs.Histories.{place};
 ghost use Rattle.pt_model.specs.Clients.{client, is_alive as is_alive_in, living as living_in};
 ghost use Rattle.pt_state.specs.Reads.{AreTables};
 ghost use Rattle.pt_table.specs.ClientRows.{client_value};
@@ -20,10 +20,10 @@ use pt_types::{ClientId, Priority, Refusal};
 use std::alloc::Allocator;
 
 impl<A: Allocator + Copy> State<A> {
-    /// Whether a client lives.  [profile]
+    /// Whether a client lives.
     pub fn is_alive(&self, c: ClientId) -> bool
         requires { AreTables self.now }
-        ensures { result ≡ is_alive_in (history self.now.stored.entries) c }
+        ensures { result ≡ is_alive_in (past self.now) c }
     {
         self.clients.at(c.0).is_some()
     }
@@ -31,7 +31,7 @@ impl<A: Allocator + Copy> State<A> {
     /// The priority of a living client.  [XSH 2.8.4]
     pub fn priority(&self, c: ClientId) -> Option<Priority>
         requires { AreTables self.now }
-        ensures { result ≡ client (history self.now.stored.entries) c }
+        ensures { result ≡ client (past self.now) c }
     {
         match self.clients.at(c.0) {
             Some(caller) => Some(caller.priority),
@@ -42,7 +42,7 @@ impl<A: Allocator + Copy> State<A> {
     /// The priority of a living client; 0 of any other.  [XSH 2.8.4]
     pub fn priority_of(&self, c: ClientId) -> u64
         requires { AreTables self.now }
-        ensures { result ≡ unwrap_or (client (history self.now.stored.entries) c) 0 }
+        ensures { result ≡ unwrap_or (client (past self.now) c) 0 }
     {
         match self.clients.at(c.0) {
             Some(caller) => caller.priority.level() as u64,
@@ -50,7 +50,7 @@ impl<A: Allocator + Copy> State<A> {
         }
     }
 
-    /// A client's open call, with its move.  [profile]
+    /// A client's open call, with its move.
     pub fn open_of(&self, c: ClientId) -> Option<Open>
         requires { AreTables self.now }
         ensures { result ≡ open_in (client_value self.now.clients c) }
@@ -61,10 +61,10 @@ impl<A: Allocator + Copy> State<A> {
         }
     }
 
-    /// The place of a client's open call.  [profile]
+    /// The place of a client's open call.
     pub fn open_place(&self, c: ClientId) -> Option<u64>
         requires { AreTables self.now }
-        ensures { result ≡ open_place_in (history self.now.stored.entries) c }
+        ensures { result ≡ open_place_in (past self.now) c }
     {
         match self.open_of(c) {
             Some(open) => Some(open.call.place),
@@ -72,10 +72,10 @@ impl<A: Allocator + Copy> State<A> {
         }
     }
 
-    /// How many clients live.  [profile]
+    /// How many clients live.
     pub fn living(&self) -> usize
         requires { AreTables self.now }
-        ensures { result ≡ living_in (history self.now.stored.entries) }
+        ensures { result ≡ living_in (past self.now) }
     {
         self.clients.len()
     }
@@ -91,7 +91,7 @@ impl<A: Allocator + Copy> State<A> {
         }
     }
 
-    /// A client joins, and has its row; ENOMEM where the row's growth is refused.
+    /// A client joins, and has its row; ENOMEM if the row's growth is refused.
     pub fn push_join(&mut self, priority: Priority) -> Result<(), Refusal>
         requires { IsReadyFor self.old (entry.Join (place (past self.old)) priority) }
         ensures ok { OnOk result

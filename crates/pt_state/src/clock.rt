@@ -12,14 +12,14 @@ use pt_model::Entry;
 use pt_types::{Clock, Moment};
 use std::alloc::Allocator;
 
-/// The greatest moment so far of each clock; before its first there is none.  [profile]
+/// The greatest moment so far of each clock; before its first there is none.
 #[derive(Clone, Copy, Debug, PartialEq, Eq)]
 pub struct Clocks {
     pub real: Option<Moment>,
     pub mono: Option<Moment>,
 }
 
-/// The later of a clock and a moment.  [profile]
+/// The later of a clock and a moment.
 fn later(clock: Option<Moment>, moment: Moment) -> Moment
     ensures { result ≡ later_of clock moment }
 {

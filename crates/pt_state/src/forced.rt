@@ -10,7 +10,6 @@ ghost use Rattle.pt_model.specs.Records.{ForRead, ForWrite};
 ghost use Rattle.pt_model.specs.Forced.{service};
 ghost use Rattle.pt_state.specs.Serving.{IsFor, called, entry_of};
 ghost use Rattle.pt_state.specs.Granting.{outcome_kept as outcome_kept_in};
-ghost use Rattle.pt_model.specs.Histories.{history};
 ghost use Rattle.pt_model.specs.Grants.{grant_outcome as grant_outcome_in};
 ghost use Rattle.pt_state.specs.Reads.{AreTables};
 
@@ -90,7 +89,7 @@ impl<A: Allocator + Copy> State<A> {
         }
     }
 
-    // What a call is told when it is granted, by its role.  [XSH, its page]
+    // What a call is answered when it is granted, by its role.  [XSH, its page]
     fn outcome_kept(&self, kept: &Open) -> Outcome
         ensures { result ≡ outcome_kept_in self.now.objects kept.now }
     {
@@ -101,12 +100,12 @@ impl<A: Allocator + Copy> State<A> {
         }
     }
 
-    /// What an open call is told when it is granted.  [XSH, the call's page]
+    /// What an open call is answered when it is granted.  [XSH, the call's page]
     pub fn grant_outcome(&self, kept: &Open) -> Outcome
         requires read { AreTables self.now }
         requires known { In kept.now (opens_of self.now.clients) }
         ensures { result
-            ≡ grant_outcome_in (history self.now.stored.entries) (called kept.now) }
+            ≡ grant_outcome_in (past self.now) (called kept.now) }
     {
         self.outcome_kept(kept)
     }

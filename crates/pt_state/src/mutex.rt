@@ -2,7 +2,7 @@
 
 ghost use Rattle.std.specs.Prelude.{IfSome, Some, ◌<◌, ◌||◌, ◌≡◌, ◌≤◌, option_map};
 ghost use Rattle.std.specs.List.{list_any};
-ghost use Rattle.pt_model.specs.Histories.{history, place};
+ghost use Rattle.pt_model.specs.Histories.{place};
 ghost use Rattle.pt_model.specs.Answers.{open_calls};
 ghost use Rattle.pt_model.specs.Verdicts.{is_alive_if as is_alive_if_in, on, operation_verdict as said_of, will_return as will_return_in};
 ghost use Rattle.pt_state.specs.Reads.{AreTables};
@@ -49,8 +49,8 @@ impl<A: Allocator + Copy> State<A> {
     pub fn will_return(&self, m: ObjectId) -> bool
         requires { AreTables self.now }
         ensures { result
-            ≡ list_any (will_return_in (history self.now.stored.entries) m)
-            (open_calls (history self.now.stored.entries)) }
+            ≡ list_any (will_return_in (past self.now) m)
+            (open_calls (past self.now)) }
     {
         any_returns(&self.clients, m)
     }
@@ -88,7 +88,7 @@ impl<A: Allocator + Copy> State<A> {
         self.finish(c, call, Outcome::Done);
     }
 
-    // One for the object at this index, if it is a robust mutex with an owner.  [profile]
+    // One for the object at this index, if it is a robust mutex with an owner.
     fn robust_nth(&self, index: usize) -> u64
         ensures value { result
             ≡ counted (λ x. one_if (is_robust_held x)) (nth_object self.now.objects index) }
@@ -100,10 +100,10 @@ impl<A: Allocator + Copy> State<A> {
         }
     }
 
-    /// How many robust mutexes have an owner.  [profile]
+    /// How many robust mutexes have an owner.
     pub fn robust_owned(&self) -> u64
         requires { AreTables self.now }
-        ensures value { let h = history self.now.stored.entries in
+        ensures value { let h = past self.now in
             result ≡ count_below (place h) (is_robust_owned h) }
         ensures small { result ≤ 4096 }
     {
@@ -123,7 +123,7 @@ impl<A: Allocator + Copy> State<A> {
         self.stored.push(Entry::Yield(m));
     }
 
-    /// A call gets its mutex, or is told that the mutex is lost.  [XSH pthread_mutex_lock]
+    /// A call gets its mutex, or is answered that the mutex is lost.  [XSH pthread_mutex_lock]
     pub(crate) fn push_grant_mutex(&mut self, found: &Open, m: ObjectId)
         requires ready { IsReadyFor self.old (entry.Grant found.now.call.place
             (grant_outcome_in (past self.old) (called found.now))) }
@@ -161,14 +161,14 @@ impl<A: Allocator + Copy> State<A> {
         }
     }
 
-    // What a mutex tells to a call with this move.  [XSH pthread_mutex_lock]
+    // What a mutex answers to a call with this move.  [XSH pthread_mutex_lock]
     pub(crate) fn told_at(&self, m: ObjectId, moved: Option<Move>) -> Outcome
         ensures { result ≡ told_at_in self.now.objects m (option_map shown_move moved) }
     {
         lock_outcome(self.consistency_at(m), is_expired(moved))
     }
 
-    /// The mutex with this number, if it is one.  [profile]
+    /// The mutex with this number, if it is one.
     pub fn mutex_at(&self, m: ObjectId) -> Option<&MutexObj>
         ensures { option_copied result ≡ mutex_in (object_value self.now.objects m) }
     {
@@ -178,7 +178,7 @@ impl<A: Allocator + Copy> State<A> {
         }
     }
 
-    /// The mutex of this name, with its number.  [profile]
+    /// The mutex of this name, with its number.
     pub fn mutex_named(&self, n: &Name) -> Option<(ObjectId, &MutexObj)>
         requires { AreTables self.now }
         ensures number { option_map (λ found. found.0) result
@@ -206,7 +206,7 @@ impl<A: Allocator + Copy> State<A> {
         }
     }
 
-    /// A call that ends a mutex, where a call waits for it or will come back to it, or none does.
+    /// A call that ends a mutex, given whether a call waits for it or will come back to it.
     /// [XSH pthread_mutex_destroy]
     pub fn mutex_end_verdict(&self, m: ObjectId, awaited: bool) -> Verdict
         requires read { AreTables self.now }
@@ -266,8 +266,8 @@ impl<A: Allocator + Copy> State<A> {
     pub fn first_orphan(&self) -> Option<ObjectId>
         requires { AreTables self.now }
         ensures { result
-            ≡ first_below (place (history self.now.stored.entries))
-            (is_orphan_in (history self.now.stored.entries)) }
+            ≡ first_below (place (past self.now))
+            (is_orphan_in (past self.now)) }
     {
         for i in 0..self.objects.len() {
             if let Some(m) = self.orphan_nth(i) {

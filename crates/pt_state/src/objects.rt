@@ -10,7 +10,6 @@ ghost use Rattle.pt_types.specs.Shown.{shown_class};
 ghost use Rattle.pt_table.specs.ObjectRows.{object_value};
 ghost use Rattle.pt_model.specs.Found.{passes};
 ghost use Rattle.pt_records.specs.Objects.{kind_kept};
-ghost use Rattle.pt_model.specs.Histories.{history};
 ghost use Rattle.pt_model.specs.Objects.{find as find_in, object_named, objects};
 ghost use Rattle.pt_state.specs.Reads.{AreTables};
 ghost use Rattle.pt_model.specs.Verdicts.{on};
@@ -39,7 +38,7 @@ fn kind_verdict(kind: ObjectKind) -> Verdict
 }
 
 impl<A: Allocator + Copy> State<A> {
-    /// An object is made. ENOMEM where there is no memory for its row.
+    /// An object is made. ENOMEM if there is no memory for its row.
     pub fn push_made(
         &mut self,
         c: ClientId,
@@ -86,10 +85,10 @@ impl<A: Allocator + Copy> State<A> {
         }
     }
 
-    /// The object of this class that bears the name, if one does.  [profile]
+    /// The object of this class that bears the name, if one does.
     pub fn find(&self, n: &Name, class: ObjectClass) -> Option<ObjectId>
         requires { AreTables self.now }
-        ensures { result ≡ find_in (history self.now.stored.entries) n.now (shown_class class) }
+        ensures { result ≡ find_in (past self.now) n.now (shown_class class) }
     {
         match self.objects.find(n) {
             Some(number) => {
@@ -103,7 +102,7 @@ impl<A: Allocator + Copy> State<A> {
         }
     }
 
-    /// A call on an object of this class, where nothing but the object is asked for.
+    /// A call that looks at nothing but its object, which is of this class.
     /// [XSH pthread_cond_signal, pthread_barrier_wait]
     pub fn known_verdict(&self, n: &Name, class: ObjectClass, known: Verdict) -> Verdict
         requires { AreTables self.now }
@@ -133,7 +132,7 @@ impl<A: Allocator + Copy> State<A> {
         }
     }
 
-    // The object that a name means as the call comes; 0 where it means none.  [profile]
+    // The object that a name means as the call comes; 0 if it means none.
     pub(crate) fn meant(&self, n: &Name, class: ObjectClass) -> ObjectId
         requires { AreTables self.now }
         ensures { result ≡ meant_in (past self.now) n.now (shown_class class) }

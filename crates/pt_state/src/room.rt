@@ -3,7 +3,6 @@
 ghost use Rattle.std.specs.Prelude.{None, ◌*◌, ◌≡◌, ◌≤◌, map, sum};
 ghost use Rattle.pt_types.specs.Operations.{MutexClass, operation};
 ghost use Rattle.pt_state.specs.Needed.{added_by, added_by_operation, last_lock, last_lock_if, used_to_wait};
-ghost use Rattle.pt_model.specs.Histories.{history};
 ghost use Rattle.pt_model.specs.Answers.{open_calls};
 ghost use Rattle.pt_model.specs.Room.{kept_for, need as need_in, refusal as refusal_in, refusal_of_stranger as refusal_of_stranger_in};
 ghost use Rattle.pt_state.specs.Reads.{AreTables};
@@ -22,7 +21,7 @@ use pt_types::operations::{ObjectClass, Operation, operation_of};
 use pt_types::{Call, ClientId, MOST_CLIENTS, Name, ObjectId, Refusal};
 use std::alloc::Allocator;
 
-// The entries kept for a call that is left waiting.  [profile]
+// The entries reserved for a call that is left waiting.
 fn added_by_call(call: &Call) -> u64
     ensures value { result ≡ added_by_operation (operation call.now) }
     ensures small { result ≤ 3 }
@@ -35,7 +34,7 @@ fn added_by_call(call: &Call) -> u64
     }
 }
 
-/// The entries that are kept from an outer entry on.  [profile]
+/// The entries that are reserved from an outer entry on.
 pub fn added(entry: &Entry) -> u64
     ensures value { result ≡ added_by entry.now }
     ensures small { result ≤ 3 }
@@ -48,10 +47,10 @@ pub fn added(entry: &Entry) -> u64
 }
 
 impl<A: Allocator + Copy> State<A> {
-    /// The entries kept for all open calls.  [profile]
+    /// The entries reserved for all open calls.
     pub fn kept(&self) -> u64
         requires { AreTables self.now }
-        ensures value { let h = history self.now.stored.entries in
+        ensures value { let h = past self.now in
             result ≡ sum (map (kept_for h) (open_calls h)) }
         ensures small { result ≤ 3 * 1024 }
     {
@@ -62,10 +61,10 @@ impl<A: Allocator + Copy> State<A> {
         count
     }
 
-    // One where the client's lock is the last one on a robust mutex.  [profile]
+    // One if the client's lock is the last one on a robust mutex.
     fn last_lock(&self, c: ClientId, m: ObjectId) -> u64
         requires { AreTables self.now }
-        ensures value { result ≡ last_lock (history self.now.stored.entries) c m }
+        ensures value { result ≡ last_lock (past self.now) c m }
         ensures small { result ≤ 1 }
     {
         match self.objects.at(m.0) {
@@ -74,10 +73,10 @@ impl<A: Allocator + Copy> State<A> {
         }
     }
 
-    // The same of the mutex that is meant; 0 stands for none.  [profile]
+    // One if the client's lock is the last one on the robust mutex of this name.
     fn last_lock_meant(&self, c: ClientId, n: &Name) -> u64
         requires { AreTables self.now }
-        ensures value { let h = history self.now.stored.entries in
+        ensures value { let h = past self.now in
             result ≡ last_lock h c (meant h n.now MutexClass) }
         ensures small { result ≤ 1 }
     {
@@ -87,10 +86,10 @@ impl<A: Allocator + Copy> State<A> {
         }
     }
 
-    /// The same of the mutex that is found, if one is.  [profile]
+    /// One if the client's lock is the last one on the robust mutex that is found.
     pub fn last_lock_found(&self, c: ClientId, n: &Name) -> u64
         requires { AreTables self.now }
-        ensures value { let h = history self.now.stored.entries in
+        ensures value { let h = past self.now in
             result ≡ last_lock_if h c (find h n.now MutexClass) }
         ensures small { result ≤ 1 }
     {
@@ -100,11 +99,11 @@ impl<A: Allocator + Copy> State<A> {
         }
     }
 
-    /// The entries that aren't kept any more where a call is left waiting.  [profile]
+    /// The entries that are no longer reserved if a call is left waiting.
     pub fn used_to_wait(&self, c: ClientId, call: &Call) -> u64
         requires { AreTables self.now }
         ensures value { result
-            ≡ used_to_wait (history self.now.stored.entries) c (operation call.now) }
+            ≡ used_to_wait (past self.now) c (operation call.now) }
         ensures small { result ≤ 1 }
     {
         match operation_of(call) {
@@ -113,7 +112,7 @@ impl<A: Allocator + Copy> State<A> {
         }
     }
 
-    /// The entries kept for a client's open call, if it has one.  [profile]
+    /// The entries reserved for a client's open call, if it has one.
     pub fn kept_of(&self, c: ClientId) -> u64
         ensures value { result ≡ counted kept_open (open_in (client_value self.now.clients c)) }
         ensures small { result ≤ 3 }
@@ -124,18 +123,17 @@ impl<A: Allocator + Copy> State<A> {
         }
     }
 
-    /// The entries kept: for the Death of each living client, for open calls, for Yields.
-    /// [profile]
+    /// The entries reserved: for the Death of each living client, for open calls, for Yields.
     pub fn need(&self) -> u64
         requires { AreTables self.now }
-        ensures value { result ≡ need_in (history self.now.stored.entries) }
+        ensures value { result ≡ need_in (past self.now) }
         ensures small { result ≤ 8192 }
     {
         self.clients.len() as u64 + self.kept() + self.robust_owned()
     }
 
-    /// A client that doesn't live: DEAD where a place has its number, else NOHELLO.  [profile]
-    #[tactic(auto, using(crate::proofs::Places::place_of_next))]
+    /// A client that doesn't live: DEAD if a place has its number, else NOHELLO.
+    #[tactic(auto, using(pt_history::proofs::Places::place_of_next))]
     fn refusal_of_stranger(&self, c: ClientId) -> Refusal
         ensures { result ≡ refusal_of_stranger_in (past self.now) c }
     {
@@ -146,7 +144,7 @@ impl<A: Allocator + Copy> State<A> {
         }
     }
 
-    /// Why an event is refused for its sender, or at 1,024 living clients; or none.  [profile]
+    /// Why an event is refused for its sender, or at 1,024 living clients; or none.
     pub fn refusal(&self, event: &Event) -> Option<Refusal>
         requires { AreTables self.now }
         ensures { result ≡ refusal_in (past self.now) event.now }

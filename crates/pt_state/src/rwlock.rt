@@ -1,7 +1,6 @@
 //! Read-write locks: verdicts, reading, writing, and who holds the last lock of a client.
 
 ghost use Rattle.std.specs.Prelude.{IfErr, IfSome, None, OnErr, OnOk, Some, ◌<◌, ◌≡◌, option_map};
-ghost use Rattle.pt_model.specs.Histories.{history};
 ghost use Rattle.pt_model.specs.Objects.{find as find_in, kind_of, objects};
 ghost use Rattle.pt_model.specs.Rwlocks.{is_held_alive as is_held_alive_in, rwlock_view as rwlock_seen};
 ghost use Rattle.pt_state.specs.Reads.{AreTables};
@@ -39,8 +38,8 @@ impl<A: Allocator + Copy> State<A> {
     /// Whether a living client holds the lock.  [XSH pthread_rwlock_destroy]
     pub fn is_held_alive(&self, r: ObjectId) -> bool
         requires read { AreTables self.now }
-        requires lock { kind_of (history self.now.stored.entries) r ≡ Some ObjectKind.Rwlock }
-        ensures { result ≡ is_held_alive_in (history self.now.stored.entries) r }
+        requires lock { kind_of (past self.now) r ≡ Some ObjectKind.Rwlock }
+        ensures { result ≡ is_held_alive_in (past self.now) r }
     {
         match self.objects.at(r.0) {
             Some(Object::Rwlock(lock)) => any_holds(&self.clients, lock),
@@ -87,7 +86,7 @@ impl<A: Allocator + Copy> State<A> {
         self.grant(found, Outcome::Done);
     }
 
-    /// Whether a client may read there, behind writers or not.  [XSH pthread_rwlock_rdlock]
+    /// Whether a client may read there, with writers ahead or none.  [XSH pthread_rwlock_rdlock]
     pub fn may_read(&self, r: ObjectId, c: ClientId, blocked: bool) -> bool
         ensures { result
             ≡ passes (is_readable_kept c blocked) (object_value self.now.objects r) }
@@ -108,7 +107,7 @@ impl<A: Allocator + Copy> State<A> {
         }
     }
 
-    /// The read-write lock with this number, if it is one.  [profile]
+    /// The read-write lock with this number, if it is one.
     pub fn rwlock_at(&self, r: ObjectId) -> Option<&RwObj<A>>
         ensures { option_copied result ≡ rwlock_in (object_value self.now.objects r) }
     {
@@ -118,7 +117,7 @@ impl<A: Allocator + Copy> State<A> {
         }
     }
 
-    /// The read-write lock of this name, with its number.  [profile]
+    /// The read-write lock of this name, with its number.
     pub fn rwlock_named(&self, n: &Name) -> Option<(ObjectId, &RwObj<A>)>
         requires { AreTables self.now }
         ensures number { option_map (λ found. found.0) result
@@ -133,7 +132,7 @@ impl<A: Allocator + Copy> State<A> {
         }
     }
 
-    /// A client's call to read, where a writer goes before it or none does.
+    /// A client's call to read, given whether a writer goes before it.
     /// [XSH pthread_rwlock_rdlock]
     pub fn read_verdict(&self, c: ClientId, r: ObjectId, blocked: bool, how: &How) -> Verdict
         requires read { AreTables self.now }
@@ -166,7 +165,7 @@ impl<A: Allocator + Copy> State<A> {
         }
     }
 
-    /// A call for a read lock: its client gets a row in the lock. ENOMEM where there is no memory
+    /// A call for a read lock: its client gets a row in the lock. ENOMEM if there is no memory
     /// for it.  [XSH pthread_rwlock_rdlock]
     pub fn push_reading(&mut self, c: ClientId, call: &Call, open: Open) -> Result<(), Refusal>
         requires ready { IsReadyFor self.old (entry.Call c call.now None) }

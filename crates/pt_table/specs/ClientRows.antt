@@ -11,19 +11,19 @@ module _ {T : Type 0} where
   abbrev pub client_at : List (ClientRow T) → ℕ → Option (ClientRow T)
   client_at rows number = row_at (λ row. row.number) rows number
 
-  -- what is kept of this client
+  -- the value of this client
   abbrev pub client_value : List (ClientRow T) → ℕ → Option T
   client_value rows number = option_map (λ row. row.value) (client_at rows number)
 
-  -- whether the number stands for a client
+  -- whether a client has this number
   abbrev pub has_client : List (ClientRow T) → ℕ → Bool
   has_client rows number = is_some (client_at rows number)
 
-  -- the number is new, and there are as many clients as there may be  [profile]
+  -- the number is new, and there are as many clients as there may be
   abbrev pub IsFullFor : List (ClientRow T) → ℕ → Type 0
   IsFullFor rows number = (has_client rows number ≡ false) × (length rows ≡ most_clients)
 
-  -- the number of the row at an index, and what is kept there
+  -- the number of the row at an index, and its value
   abbrev pub nth_number : List (ClientRow T) → ℕ → Option ℕ
   nth_number rows index = option_map (λ row. row.number) (slice_get rows index)
 
@@ -43,6 +43,6 @@ module _ {T : Type 0} where
   abbrev pub without_client : List (ClientRow T) → ℕ → List (ClientRow T)
   without_client rows number = without (λ row. row.number) rows number
 
-  -- the numbers list each client once, and there are at most 1,024  [profile]
+  -- the numbers list each client once, and there are at most 1,024
   abbrev pub AreClients : List (Option (ClientRow T)) → List (ℕ × ℕ) → Type 0
   AreClients slots numbers = IsNumbered (λ row. row.number) slots numbers most_clients

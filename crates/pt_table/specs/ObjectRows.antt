@@ -13,7 +13,7 @@ module _ {T : Type 0} where
   abbrev pub object_at : List (ObjectRow T) → ℕ → Option (ObjectRow T)
   object_at rows number = row_at (λ row. row.number) rows number
 
-  -- what is kept of this object
+  -- the value of this object
   abbrev pub object_value : List (ObjectRow T) → ℕ → Option T
   object_value rows number = option_map (λ row. row.value) (object_at rows number)
 
@@ -25,19 +25,19 @@ module _ {T : Type 0} where
   abbrev pub number_of : List (ObjectRow T) → List ℕ → Option ℕ
   number_of rows name = option_map (λ row. row.number) (object_named rows name)
 
-  -- whether the number stands for an object
+  -- whether an object has this number
   abbrev pub has_object : List (ObjectRow T) → ℕ → Bool
   has_object rows number = is_some (object_at rows number)
 
-  -- whether the number or the name stands for an object
+  -- whether an object has this number or this name
   abbrev pub is_taken : List (ObjectRow T) → ℕ → List ℕ → Bool
   is_taken rows number name = has_object rows number || is_some (object_named rows name)
 
-  -- number and name are new, and there are as many objects as there may be  [profile]
+  -- number and name are new, and there are as many objects as there may be
   abbrev pub IsFullFor : List (ObjectRow T) → ℕ → List ℕ → Type 0
   IsFullFor rows number name = (is_taken rows number name ≡ false) × (length rows ≡ most_objects)
 
-  -- the number of the row at an index, and what is kept there
+  -- the number of the row at an index, and its value
   abbrev pub nth_number : List (ObjectRow T) → ℕ → Option ℕ
   nth_number rows index = option_map (λ row. row.number) (slice_get rows index)
 
@@ -58,7 +58,7 @@ module _ {T : Type 0} where
   abbrev pub without_object : List (ObjectRow T) → ℕ → List (ObjectRow T)
   without_object rows number = without (λ row. row.number) rows number
 
-  -- numbers and names list each object once, and there are at most 4,096  [profile]
+  -- numbers and names list each object once, and there are at most 4,096
   abbrev pub AreObjects : List (Option (ObjectRow T)) → List (ℕ × ℕ) → List (List ℕ × ℕ) → Type 0
   AreObjects slots numbers names =
       IsNumbered (λ row. row.number) slots numbers most_objects × IsNamed slots names

@@ -10,6 +10,6 @@ module _ {R : Type 0} (number : R → ℕ) where
   abbrev pub without : List R → ℕ → List R
   without rows n = filter (λ row. not (nat_eq n (number row))) rows
 
-  -- the rows, where the one with this number is changed
+  -- the rows, with the one of this number changed
   abbrev pub changed_at : (R → R) → List R → ℕ → List R
   changed_at change rows n = map (λ row. if nat_eq n (number row) then change row else row) rows

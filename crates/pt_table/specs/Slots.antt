@@ -1,4 +1,4 @@
--- Slots: where rows lie, and the list of rows that they stand for.
+-- Slots: where rows are, and the list of rows that they make.
 use Rattle.std.specs.Prelude.{◌≡◌, ◌≢◌, ◌≤◌, ℕ, List, [], ◌∷◌, Option, Some, None, IsSome, length, nat_eq, filter_map, slice_get, slice_index_or, slice_set}
 use Rattle.std.specs.Option.{option_and_then, option_map}
 use Rattle.std.specs.Map.{lookup, remove_entry}
@@ -17,7 +17,7 @@ module _ {R : Type 0} where
   abbrev pub row_in_slot : List (Option R) → ℕ → Option R
   row_in_slot slots slot = slice_index_or slots slot None
 
-  -- the same where there may be no slot
+  -- the row in a slot, if there is a slot with one
   abbrev pub row_in_any : List (Option R) → Option ℕ → Option R
   row_in_any slots slot = option_and_then (row_in_slot slots) slot
 

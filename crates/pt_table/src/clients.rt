@@ -72,7 +72,7 @@ impl<T, A: Allocator + Copy> Clients<T, A> {
         self.numbers.len()
     }
 
-    /// What is kept of the client with this number.
+    /// The value of the client with this number.
     pub fn at(&self, number: u64) -> Option<&T>
         ensures { option_copied result ≡ client_value self.now number }
     {
@@ -82,9 +82,9 @@ impl<T, A: Allocator + Copy> Clients<T, A> {
         }
     }
 
-    /// The number of the client at this index, and what is kept of it.
+    /// The number of the client at this index, and its value.
     ///
-    /// The clients stand in the order in which they were added, from index 0 on.
+    /// The clients are in the order in which they were added, from index 0 on.
     pub fn nth(&self, index: usize) -> Option<(u64, &T)>
         ensures number { option_map (λ p. p.0) result ≡ nth_number self.now index }
         ensures value { option_map (λ p. p.1.now) result ≡ nth_value self.now index }
@@ -114,7 +114,7 @@ impl<T, A: Allocator + Copy> Clients<T, A> {
 
     ghost use Rattle.pt_table.specs.ClientLends.{lends_if_at};
 
-    /// What is kept of the client with this number, to be changed.
+    /// The value of the client with this number, to be changed.
     pub fn at_mut(&mut self, number: u64) -> Option<&mut T>
         ensures* lends { sem 𝓛 (lends_if_at T.row A.row A.Allocator self.entry number result) }
         ensures value { option_copied_mut result ≡ client_value self.old number }
@@ -136,12 +136,12 @@ impl<T, A: Allocator + Copy> Clients<T, A> {
         Some(value)
     }
 
-    /// Adds a client, or hands back what was to be kept of it.
+    /// Adds a client with its value, or returns the value.
     ///
     /// # Errors
     ///
-    /// Taken where the number stands for a client already, else AtLimit at 1,024 clients, else
-    /// Memory where a growth was refused. The table stays as it was.
+    /// Taken if a client has the number already, else AtLimit at 1,024 clients, else
+    /// Memory if a growth was refused. The table stays as it was.
     pub fn add(&mut self, number: u64, value: T) -> Result<(), (T, TableFault)>
         ensures ok { OnOk result (self.new ≡ and_client self.old number value) }
 

@@ -3,7 +3,7 @@ use thiserror::Error;
 /// Why a table took no row.
 #[derive(Clone, Copy, Debug, PartialEq, Eq, Error)]
 pub enum TableFault {
-    /// The number, or the name, stands for a row already.
+    /// A row has the number, or the name, already.
     #[error("taken")]
     Taken,
     /// There are as many rows as there may be.

@@ -3,7 +3,7 @@
 //!
 //! Contracts see a table as the list of its rows in the order in which they were added, as a finite
 //! map from numbers, and for objects from names, that has a limit. They pin the answer and the
-//! rows after each call. Only tests show that want of memory is told only where a growth was
+//! rows after each call. Only tests show that `Memory` is returned only if a growth was
 //! refused, that an empty table takes no memory, and the texts that `Display` writes.
 #![tactic(auto)]
 

@@ -83,7 +83,7 @@ fn make_room_named<T, A: Allocator + Copy>(
     names.reserve(1)
 }
 
-// Puts a row with a new number and a new name in, where there is room, and answers its slot.
+// Puts a row with a new number and a new name in, if there is room, and returns its slot.
 fn put_named<T, A: Allocator + Copy>(
     rows: &mut Slab<ObjectRow<T>, A>,
     numbers: &mut Numbers<A>,
@@ -134,7 +134,7 @@ impl<T, A: Allocator + Copy> Objects<T, A> {
         self.numbers.len()
     }
 
-    /// What is kept of the object with this number.
+    /// The value of the object with this number.
     pub fn at(&self, number: u64) -> Option<&T>
         ensures { option_copied result ≡ object_value self.now number }
     {
@@ -154,9 +154,9 @@ impl<T, A: Allocator + Copy> Objects<T, A> {
         }
     }
 
-    /// The number of the object at this index, and what is kept of it.
+    /// The number of the object at this index, and its value.
     ///
-    /// The objects stand in the order in which they were added, from index 0 on.
+    /// The objects are in the order in which they were added, from index 0 on.
     pub fn nth(&self, index: usize) -> Option<(u64, &T)>
         ensures number { option_map (λ p. p.0) result ≡ nth_number self.now index }
         ensures value { option_map (λ p. p.1.now) result ≡ nth_value self.now index }
@@ -192,7 +192,7 @@ impl<T, A: Allocator + Copy> Objects<T, A> {
 
     ghost use Rattle.pt_table.specs.ObjectLends.{lends_if_at};
 
-    /// What is kept of the object with this number, to be changed.
+    /// The value of the object with this number, to be changed.
     pub fn at_mut(&mut self, number: u64) -> Option<&mut T>
         ensures* lends { sem 𝓛 (lends_if_at T.row A.row A.Allocator self.entry number result) }
         ensures value { option_copied_mut result ≡ object_value self.old number }
@@ -219,12 +219,12 @@ impl<T, A: Allocator + Copy> Objects<T, A> {
         Some(value)
     }
 
-    /// Adds an object, or hands back what was to be kept of it.
+    /// Adds an object with its value, or returns the value.
     ///
     /// # Errors
     ///
-    /// Taken where the number or the name stands for an object already, else AtLimit at 4,096
-    /// objects, else Memory where a growth was refused. The table stays as it was.
+    /// Taken if an object has the number or the name already, else AtLimit at 4,096
+    /// objects, else Memory if a growth was refused. The table stays as it was.
     pub fn add(&mut self, number: u64, name: Name, value: T) -> Result<(), (T, TableFault)>
         ensures ok { OnOk result (self.new ≡ and_object self.old number name value) }
 

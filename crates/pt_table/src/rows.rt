@@ -67,7 +67,7 @@ pub(crate) fn make_room<R, A: Allocator + Copy>(
     numbers.reserve(1)
 }
 
-// Puts a row with a new number in, where there is room, and answers its slot.
+// Puts a row with a new number in, if there is room, and returns its slot.
 pub(crate) fn put<R, A: Allocator + Copy>(
     rows: &mut Slab<R, A>,
     numbers: &mut Numbers<A>,

@@ -8,12 +8,12 @@ use Rattle.pt_types.specs.declared.time.Clock.TheVariants.{Real, Mono}
 use Rattle.pt_types.specs.Times.{Timespec, deadline_nanos, is_bad_deadline, pair_before}
 use Rattle.pt_timers.specs.declared.key.TimerKey.{TimerKey}
 
--- the deadline that is set at a place: its clock, and its nanoseconds  [profile]
+-- the deadline that is set at a place: its clock, and its nanoseconds
 abbrev pub deadline_at : List (ℕ × (Clock × ℕ)) → ℕ → Option (Clock × ℕ)
 deadline_at [] p = None
 deadline_at (t ∷ ts) p = if t.0 == p then Some t.1 else deadline_at ts p
 
--- what each of the clocks shows; before its first moment nothing  [profile]
+-- what each of the clocks shows; before its first moment nothing
 abbrev pub moments : Option ℕ → Option ℕ → Clock → Option ℕ
 moments real mono Real = real
 moments real mono Mono = mono
@@ -23,11 +23,11 @@ abbrev pub is_reached : Option ℕ → ℕ → Bool
 is_reached None n = false
 is_reached (Some now) n = nat_le n now
 
--- what says which is due first: the deadline, then the place  [profile]
+-- what says which is due first: the deadline, then the place
 abbrev pub pair_of : TimerKey → ℕ × ℕ
 pair_of k = (k.nanos, k.place)
 
--- of a clock's deadlines the least by (deadline, place), if the clock has reached it  [profile]
+-- of a clock's deadlines the least by (deadline, place), if the clock has reached it
 abbrev pub IsFirstDue : List (ℕ × (Clock × ℕ)) → Clock → Option ℕ → Option TimerKey → Type 0
 IsFirstDue ts k now found =
     MatchOption found
@@ -37,7 +37,7 @@ IsFirstDue ts k now found =
     × ((q m : ℕ) → deadline_at ts q ≡ Some (k, m) → pair_before (m, q) (pair_of t) ≡ false))
 
 -- of the deadlines that their own clocks have reached the least by (deadline, place), whichever the
--- clock; or none where none is reached  [XSH pthread_mutex_clocklock; the order is profile]
+-- clock; or none if none is reached  [XSH pthread_mutex_clocklock; the order is profile]
 abbrev pub IsLeastDue : List (ℕ × (Clock × ℕ)) → (Clock → Option ℕ) → Option ℕ → Type 0
 IsLeastDue ts now found =
     MatchOption found
@@ -46,8 +46,7 @@ IsLeastDue ts now found =
     × ((q : ℕ) (l : Clock) (m : ℕ) → deadline_at ts q ≡ Some (l, m)
     → is_reached (now l) m ≡ true → pair_before (m, q) (n, p) ≡ false))
 
--- a deadline of this clock that is set, and none of the clock is less; or none where none is set
--- [profile]
+-- a deadline of this clock that is set, and none of the clock is less; or none if none is set
 abbrev pub IsLeast : List (ℕ × (Clock × ℕ)) → Clock → Option Timespec → Type 0
 IsLeast ts k found =
     MatchOption found
@@ -55,20 +54,20 @@ IsLeast ts k found =
     (λ d. (p : ℕ) × (deadline_at ts p ≡ Some (k, deadline_nanos d)) × (is_bad_deadline d ≡ false)
     × ((q m : ℕ) → deadline_at ts q ≡ Some (k, m) → deadline_nanos d ≤ m))
 
--- the sooner of these  [profile]
+-- the sooner of these
 abbrev pub sooner_of : Option TimerKey → TimerKey → TimerKey
 sooner_of None t = t
 sooner_of (Some b) t = if pair_before (pair_of t) (pair_of b) then t else b
 
--- whether two keys are the same  [profile]
+-- whether two keys are the same
 abbrev pub same_key : TimerKey → TimerKey → Bool
 same_key a b = (a.nanos == b.nanos) && (a.place == b.place)
 
--- the order of the keys: by nanoseconds, then by place  [profile]
+-- the order of the keys: by nanoseconds, then by place
 abbrev pub key_cmp : TimerKey → TimerKey → Ordering
 key_cmp a b = ordering_then (nat_cmp a.nanos b.nanos) (nat_cmp a.place b.place)
 
--- the deadline with this key  [profile]
+-- the deadline with this key
 abbrev pub in_order : BTreeMap TimerKey Timespec → TimerKey → Option Timespec
 in_order order key = get key_cmp order key
 

@@ -1,7 +1,7 @@
 ghost use Rattle.std.specs.Prelude.{◌≡◌};
 ghost use Rattle.pt_timers.specs.Deadlines.{sooner_of};
 
-/// What says which deadline is due first: its nanoseconds, then the place of its call.  [profile]
+/// What says which deadline is due first: its nanoseconds, then the place of its call.
 #[derive(Clone, Copy, PartialEq, Eq, PartialOrd, Ord)]
 pub(crate) struct TimerKey {
     pub(crate) nanos: u64,

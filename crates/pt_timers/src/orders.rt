@@ -8,7 +8,7 @@ use pt_types::{Clock, Deadline, Refusal};
 use std::alloc::Allocator;
 use std::collections::BTreeMap;
 
-/// The deadlines of each clock, in the order in which they are due.  [profile]
+/// The deadlines of each clock, in the order in which they are due.
 #[derive(Drop)]
 pub(crate) struct Orders<A: Allocator + Copy> {
     real: BTreeMap<TimerKey, Deadline, A>,
@@ -39,7 +39,7 @@ impl<A: Allocator + Copy> Orders<A> {
         }
     }
 
-    /// Puts a deadline in its order; ENOMEM where the growth is refused, which changes nothing.
+    /// Puts a deadline in its order; ENOMEM if the growth is refused, which changes nothing.
     pub(crate) fn insert(
         &mut self,
         clock: Clock,

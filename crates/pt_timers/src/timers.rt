@@ -8,7 +8,7 @@ use std::collections::BTreeMap;
 use std::marker::Model;
 
 /// Deadlines by the places of their calls. Only `set` takes memory. Each call takes time that
-/// grows with the logarithm of how many are set.  [profile]
+/// grows with the logarithm of how many are set.
 #[derive(Drop)]
 pub struct Timers<A: Allocator + Copy = Global> {
     /// By the place: the clock, and the nanoseconds.
@@ -44,7 +44,7 @@ impl<A: Allocator + Copy> Timers<A> {
         }
     }
 
-    /// Sets the deadline of a place that has none; `Enomem` where a growth is refused.
+    /// Sets the deadline of a place that has none; `Enomem` if a growth is refused.
     pub fn set(&mut self, place: u64, clock: Clock, deadline: Deadline) -> Result<(), Refusal>
         requires good { is_bad_deadline deadline ≡ false }
         requires unset { deadline_at self.old place ≡ None }
@@ -104,7 +104,7 @@ impl<A: Allocator + Copy> Timers<A> {
         }
     }
 
-    /// The least deadline of a clock.  [profile]
+    /// The least deadline of a clock.
     pub fn least(&self, clock: Clock) -> Option<Deadline>
         ensures { IsLeast self.now clock result }
     {

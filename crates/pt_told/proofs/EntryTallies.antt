@@ -72,7 +72,7 @@ one_told c d j x = go (d == c)
     go true = refl
     go false = refl
 
--- a client that lives behind it is not the one that died
+-- a client that lives after it is not the one that died
 not_died : (h : History) (d c : ℕ) → is_alive (h ▷ Death d) c ≡ true → (d == c) ≡ false
 not_died h d c a = go (d == c) refl a
   where
@@ -80,7 +80,7 @@ not_died h d c a = go (d == c) refl a
     go true e t = absurd cc
     go false e t = e
 
--- an expired call is told so, or is a wait and stays open
+-- an expired call is answered so, or is a wait and stays open
 expiry_tally : (c : ℕ) (w : WaitingCall) (ws : List WaitingCall) (b : Bool) → In w ws → Apart ws
     → heard c (told_by_expiry w.place (Some w) b)
     + calls_of c (filter (λ v. b || not (v.place == w.place)) ws) ≡ calls_of c ws
@@ -91,7 +91,7 @@ expiry_tally c w ws false i a =
     omega (arith, one_told c w.client w.place Etimedout, calls_of-out c ws w i a)
 
 module _ (h : History) (c : ℕ) where
-  -- the client's calls that are open behind an entry, and its answers by it
+  -- the client's calls that are open after an entry, and its answers by it
   calls_step : (e : Entry) → Follows h → Step h e → is_alive (h ▷ e) c ≡ true
       → heard c (told h e) + calls_of c (open_calls (h ▷ e)) ≡ calls_of c (open_calls h) + asks c e
   calls_step _ f (joins p n lt) a = rw (open-join h p (Fresh-follows h f)) (omega arith)

@@ -4,3 +4,6 @@ pub mod ForcedTallies
 pub mod EventTallies
 pub mod LatestCalls
 pub mod Strangers
+pub mod Silences
+pub mod Partings
+pub mod Walks

@@ -8,7 +8,7 @@ use Rattle.pt_model.specs.Room.{entry_for}
 use Rattle.pt_model.specs.Legal.{LegalBehind, events_of}
 use Rattle.pt_model.specs.Steps.{IsStart}
 
--- the event's entry and forced ones follow the old entries of a Start, legally  [profile]
+-- the event's entry and forced ones follow the old entries of a Start, legally
 pub record GoesOn (s : Start) (old : List Entry) (v : Event) (new : List Entry) : Type 0 where
   pub starts : IsStart s
   pub extends : (fs : List Entry) × (new ≡ old ++ entry_for (behind s old) v ∷ fs)

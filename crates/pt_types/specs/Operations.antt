@@ -24,7 +24,7 @@ class_of Rwlock = RwlockClass
 class_of Cond = CondClass
 class_of (Barrier count) = BarrierClass
 
--- whether two classes are one  [profile]
+-- whether two classes are one
 abbrev pub same_class : ObjectClass → ObjectClass → Bool
 same_class MutexClass MutexClass = true
 same_class RwlockClass RwlockClass = true
@@ -57,7 +57,7 @@ pub data Operation : Type 0 where
   Broadcasts : List ℕ → Operation
   Arrives : List ℕ → Operation
 
--- what each call word does; its page has its name behind `pthread_`  [XSH, the call's page]
+-- what each call word does; its page has its name after `pthread_`  [XSH, the call's page]
 abbrev pub operation : Call → Operation
 operation (MutexInit n kind robust) = Makes n (Mutex kind robust)
 operation (Lock n) = Acquires n MutexLock Plain
@@ -98,7 +98,7 @@ clock_of (Clockwrlock n k d) = k
 clock_of (Clockwait n m k d) = k
 clock_of _ = Real
 
--- whether two clocks are one  [profile]
+-- whether two clocks are one
 abbrev pub same_clock : Clock → Clock → Bool
 same_clock Real Real = true
 same_clock Mono Mono = true

@@ -11,20 +11,20 @@ use Rattle.pt_types.specs.declared.operations.ObjectClass.TheVariants as classes
 use Rattle.pt_types.specs.declared.operations.LockKind.{LockKind as PlainLockKind}
 use Rattle.pt_types.specs.declared.operations.LockKind.TheVariants as wants
 
--- a class of objects  [profile]
+-- a class of objects
 abbrev pub shown_class : PlainClass → ObjectClass
 shown_class classes.Mutex = MutexClass
 shown_class classes.Rwlock = RwlockClass
 shown_class classes.Cond = CondClass
 shown_class classes.Barrier = BarrierClass
 
--- a lock that is asked for  [profile]
+-- a lock that is asked for
 abbrev pub shown_lock_kind : PlainLockKind → LockKind
 shown_lock_kind wants.MutexLock = MutexLock
 shown_lock_kind wants.ReadLock = ReadLock
 shown_lock_kind wants.WriteLock = WriteLock
 
--- what a call does  [profile]
+-- what a call does
 abbrev pub shown_operation : PlainOperation → Operation
 shown_operation (operations.Makes n kind) = Makes n.now kind
 shown_operation (operations.Ends n class) = Ends n.now (shown_class class)
@@ -38,7 +38,7 @@ shown_operation (operations.Signals n) = Signals n.now
 shown_operation (operations.Broadcasts n) = Broadcasts n.now
 shown_operation (operations.Arrives n) = Arrives n.now
 
--- a mutex as its table sees it  [profile]
+-- a mutex as its table sees it
 abbrev pub shown_mutex : PlainMutex → MutexView
 shown_mutex m =
     record {
@@ -49,7 +49,7 @@ shown_mutex m =
       count = m.count;
     }
 
--- a read-write lock as its tables see it, for one caller  [profile]
+-- a read-write lock as its tables see it, for one caller
 abbrev pub shown_rwlock : PlainRwlock → RwlockView
 shown_rwlock r =
     record { writes = r.writes; reads = r.reads; is_written = r.is_written; is_read = r.is_read }

@@ -1,7 +1,7 @@
 //! Names, numbers, calls and outcomes of a server of shared pthread objects.
 //!
 //! Contracts see a number type as its number, a name as its bytes and a moment as its nanoseconds.
-//! The verdict tables of all calls stand in `specs/`, over what one object is seen as.
+//! The verdict tables of all calls are in `specs/`, over what one object is seen as.
 //! Only tests show the texts that `Display` writes.
 #![tactic(auto)]
 

@@ -21,5 +21,5 @@ pub const MOST_AT_BARRIER: u32 = 1024;
 /// Bytes of the longest line, without its newline.  [profile]
 pub const MOST_IN_LINE: usize = 128;
 
-/// Entries of a history, with the room kept for what must follow.  [profile]
+/// Entries of a history, with the room reserved for what must follow.  [profile]
 pub const MOST_ENTRIES: u32 = 1_048_576;

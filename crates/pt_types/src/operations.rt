@@ -111,7 +111,7 @@ pub fn class_needed(lock_kind: LockKind) -> ObjectClass
     }
 }
 
-/// Whether two classes are one.  [profile]
+/// Whether two classes are one.
 pub fn is_same(one: ObjectClass, other: ObjectClass) -> bool
     ensures { result ≡ same_class (shown_class one) (shown_class other) }
 {

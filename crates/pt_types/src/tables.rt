@@ -16,7 +16,7 @@ use crate::{
     MutexKind, ObjectId, ObjectKind, Outcome, Verdict,
 };
 
-/// The answer that a call gets at once, or none where it stands.  [profile]
+/// The answer that a call gets at once, or none if it waits.
 pub fn reply(verdict: Verdict) -> Option<Outcome>
     ensures { result ≡ reply_of_verdict verdict }
 {
@@ -36,7 +36,7 @@ pub fn is_bad_kind(kind: ObjectKind) -> bool
     }
 }
 
-/// Making an object, where so many exist; EBUSY is profile.  [XSH pthread_mutex_init, EAGAIN]
+/// Making an object, if so many exist; EBUSY is profile.  [XSH pthread_mutex_init, EAGAIN]
 pub fn init_verdict(kind: ObjectKind, in_use: bool, objects: u64) -> Verdict
     ensures { result ≡ init_table kind in_use objects }
 {
@@ -79,7 +79,7 @@ pub fn has_bad_deadline(deadline: Option<Deadline>) -> bool
     }
 }
 
-/// The same of a call for a lock.  [XSH pthread_mutex_timedlock, EINVAL]
+/// Whether a call for a lock has a deadline that is no time.  [XSH pthread_mutex_timedlock, EINVAL]
 pub fn is_bad_how(how: &How) -> bool
     ensures { result ≡ has_bad (deadline_meant how.now) }
 {
@@ -123,7 +123,7 @@ pub fn lock_verdict(m: &MutexView, c: ClientId, how: &How) -> Verdict
     }
 }
 
-/// `unlock`; EPERM is profile where the standard leaves it open.  [XSH pthread_mutex_unlock]
+/// `unlock`; EPERM is profile if the standard leaves it open.  [XSH pthread_mutex_unlock]
 pub fn unlock_verdict(m: &MutexView, c: ClientId) -> Verdict
     ensures { result ≡ unlock_table (shown_mutex m.now) c }
 {
@@ -147,21 +147,21 @@ pub fn consistent_verdict(m: &MutexView, c: ClientId) -> Verdict
     }
 }
 
-/// Whether it is permanently unusable.  [XSH pthread_mutex_lock, ENOTRECOVERABLE]
+/// Whether the mutex is permanently unusable.  [XSH pthread_mutex_lock, ENOTRECOVERABLE]
 pub fn is_lost(consistency: Consistency) -> bool
     ensures { result ≡ is_lost_consistency consistency }
 {
     matches!(consistency, Consistency::NotRecoverable)
 }
 
-/// Whether a moved wait can have it back from its own client.  [profile]
+/// Whether a moved wait can have it back from its own client.
 pub fn may_relock(m: &MutexView, c: ClientId) -> bool
     ensures { result ≡ may_relock_it (shown_mutex m.now) c }
 {
     m.kind == MutexKind::Recursive && owns(m, c)
 }
 
-/// What a mutex tells to the call that is granted it.
+/// What a mutex answers to the call that is granted it.
 /// [XSH pthread_mutex_lock, pthread_cond_timedwait]
 pub fn lock_outcome(consistency: Consistency, expired: bool) -> Outcome
     ensures { result ≡ outcome_of_lock consistency expired }
@@ -188,7 +188,7 @@ pub fn is_free(r: RwlockView) -> bool
     !r.is_written && !r.is_read
 }
 
-/// A lock asked for by its own holder; that it is told is profile.  [XSH pthread_rwlock_wrlock]
+/// A lock asked for by its own holder; the answer is profile.  [XSH pthread_rwlock_wrlock]
 pub fn relock_outcome(tries: bool) -> Outcome
     ensures { result ≡ outcome_of_relock tries }
 {
@@ -266,7 +266,7 @@ pub fn may_write(r: RwlockView, is_least: bool) -> bool
     is_free(r) && is_least
 }
 
-/// `wait`, `timedwait`, where a condition is bound to a mutex or none; EINVAL by another mutex
+/// `wait`, `timedwait`, at a condition that is bound to a mutex or to none; EINVAL by another mutex
 /// and EPERM are profile.  [XSH pthread_cond_timedwait]
 pub fn wait_verdict(
     bound: Option<ObjectId>,

@@ -25,7 +25,7 @@ pub struct RwlockView {
     pub is_read: bool,
 }
 
-/// What a consistency becomes where its dead owner loses the mutex.
+/// What a consistency becomes if its dead owner loses the mutex.
 /// [XSH pthread_mutex_lock, EOWNERDEAD]
 pub fn after_yield(consistency: Consistency) -> Consistency
     ensures { result ≡ yielded consistency }
@@ -36,7 +36,7 @@ pub fn after_yield(consistency: Consistency) -> Consistency
     }
 }
 
-/// And by `consistent`.  [XSH pthread_mutex_consistent]
+/// What a consistency becomes by `consistent`.  [XSH pthread_mutex_consistent]
 pub fn after_consistent(consistency: Consistency) -> Consistency
     ensures { result ≡ restored consistency }
 {
@@ -46,7 +46,7 @@ pub fn after_consistent(consistency: Consistency) -> Consistency
     }
 }
 
-/// And where its owner's count falls to 0.  [XSH pthread_mutex_unlock]
+/// What a consistency becomes once its owner's count is 0.  [XSH pthread_mutex_unlock]
 pub fn after_release(consistency: Consistency) -> Consistency
     ensures { result ≡ released consistency }
 {

@@ -1,4 +1,4 @@
--- A chain, its ends and its count, as a node goes behind the last or is taken out.
+-- A chain, its ends and its count, as a node goes after the last or is taken out.
 use Rattle.std.proofs.Common.{◌≡◌, ◌≢◌, ℕ, ◌==◌, ◌+◌, ◌-◌, Bool, true, false, cond, ◌&&◌, ◌||◌, not, List, [], ◌∷◌, ◌++◌, length, filter, Option, Some, None, is_some, slice_index_or, refl, sym, ap, ◌∙◌, arith}
 use Rattle.std.specs.Prelude.{slice_index}
 use Rattle.std.proofs.lemmas.Bool.Decides.{nat_tests}
@@ -45,7 +45,7 @@ length_but n (m ∷ ms) i u = go (m == n) refl i (λ h. length_but n ms h u.1)
         omega (arith, h)
     go false e i ih = let h = ih i in let k = some ms i in omega (arith, h, k)
 
--- one more stands behind the last
+-- one more stands after the last
 pub chain-append : (nx bf nx' bf' : ℕ → Option ℕ) (side side' : Side) (p n : ℕ) (ns : List ℕ)
     → slice_index side'.counts p ≡ slice_index side.counts p + 1
     → slice_index_or side'.tails p None ≡ Some n

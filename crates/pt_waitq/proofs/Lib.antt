@@ -6,9 +6,9 @@ mod ChangeLemmas
 pub mod CallerLemmas
 -- MemberLemmas: members of queues, as calls come, go and are moved
 pub mod MemberLemmas
--- LinkLemmas: what is kept of a chain's links as a node is put behind the last one, or taken out
+-- LinkLemmas: what is stored of a chain's links as a node is put after the last one, or taken out
 mod LinkLemmas
--- EndLemmas: A chain, its ends and its count, as a node goes behind the last or is taken out
+-- EndLemmas: A chain, its ends and its count, as a node goes after the last or is taken out
 mod EndLemmas
 -- SortedLemmas: chains in the order of arrival, and the queues that they make
 mod SortedLemmas

@@ -1,4 +1,4 @@
--- What is kept of a chain's links as a node is put behind the last one, or taken out.
+-- What is stored of a chain's links as a node is put after the last one, or taken out.
 use Rattle.std.proofs.Common.{◌≡◌, ℕ, ◌==◌, Bool, true, false, cond, ◌||◌, not, List, [], ◌∷◌, ◌++◌, filter, Option, Some, None, is_some, refl, sym, ap, ◌∙◌, subst, arith}
 use Rattle.std.proofs.lemmas.Bool.Decides.{nat_tests}
 use Rattle.std.proofs.lemmas.Bool.{false≢true}
@@ -150,7 +150,7 @@ module _ (nx bf nx' bf' : ℕ → Option ℕ) (n : ℕ)
   now_before c e f = hb c ∙ (ap (λ t. cond t None (cond (is_at c (nx n)) (bf n) (bf c))) e
       ∙ ap (λ t. cond t (bf n) (bf c)) f)
 
-  -- what stood behind it is led to from the one ahead of it
+  -- what stood after it is led to from the one ahead of it
   rest_linked : (b : Option ℕ) (ms : List ℕ) → ((c : ℕ) → is_listed c ms ≡ true → is_at c b ≡ false)
       → bf n ≡ b → nx n ≡ first_in ms → is_listed n ms ≡ false → Unique ms
       → Links nx bf (Some n) ms → Links nx' bf' b ms

@@ -74,7 +74,7 @@ map-append : (es : List (ℕ × Waiter)) (e : ℕ × Waiter)
 map-append [] e = refl
 map-append (x ∷ es) e = ap (λ ws. x.1 ∷ ws) (map-append es e)
 
--- who is the latest of its kind goes behind its chain, which stays in the order of arrival
+-- who is the latest of its kind goes after its chain, which stays in the order of arrival
 pub sorted-more : (o : ℕ) (k : Bool) (p : ℕ) (es : List (ℕ × Waiter)) (w : Waiter)
     → is_kind k p w ≡ true → IsLatest w (queue_of o es)
     → queue_of o (chain_of o k p es) ≡ map (λ e. e.1) (chain_of o k p es)

@@ -1,4 +1,4 @@
--- Chains: what nodes and the ends of chains say of the waiters that stand.
+-- Chains: what nodes and the ends of chains say of the queued waiters.
 use Rattle.std.specs.Prelude.{ℕ, ◌≡◌, ◌≢◌, ◌⊎◌, ◌==◌, ◌+◌, ◌-◌, ◌<◌, ◌≤◌, ◌^◌, Bool, true, false, ◌&&◌, not, List, [], ◌∷◌, ◌++◌, Option, Some, None, is_some, IsSome, filter, map, length, slice_index, slice_index_or, unwrap_or, nat_eq, if◌then◌else◌}
 use Rattle.std.specs.Option.{option_and_then}
 use Rattle.std.specs.Map.{lookup}
@@ -11,11 +11,11 @@ use Rattle.pt_waitq.specs.declared.sides.Side.{Side}
 use Rattle.pt_waitq.specs.declared.sides.Queue.{Queue}
 use Rattle.pt_waitq.specs.Waits.{queue_of, is_listed, AllStand}
 
--- the keys of a map  [profile]
+-- the keys of a map
 abbrev pub numbers : {X : Type 0} → List (ℕ × X) → List ℕ
 numbers es = map (λ e. e.0) es
 
--- the waiters after one is put in (with its queue's number) or taken out (with none)  [profile]
+-- the waiters after one is put in (with its queue's number) or taken out (with none)
 abbrev pub after : List (ℕ × Waiter) → Option ℕ → Waiter → List (ℕ × Waiter)
 after es (Some o) w = es ++ (o, w) ∷ []
 after es None w = filter (λ e. not (e.1.client == w.client)) es
@@ -24,18 +24,18 @@ abbrev pub waiting_from : List (ℕ × Waiter) → List (Option ℕ × Waiter) �
 waiting_from es [] = es
 waiting_from es (a ∷ log) = waiting_from (after es a.0 a.1) log
 
--- those that stand, in the order in which they were put in  [profile]
+-- those that are queued, in the order in which they were put in
 abbrev pub waiting_by : List (Option ℕ × Waiter) → List (ℕ × Waiter)
 waiting_by log = waiting_from [] log
 
--- a waiter of this kind and priority  [profile]
+-- a waiter of this kind and priority
 abbrev pub is_kind : Bool → ℕ → Waiter → Bool
 is_kind k p w = (w.prio == p) && (rank w.writer == rank k)
 
 abbrev pub in_chain : ℕ → Bool → ℕ → ℕ × Waiter → Bool
 in_chain o k p e = (e.0 == o) && is_kind k p e.1
 
--- the waiters of one chain, in the order in which they were put in  [profile]
+-- the waiters of one chain, in the order in which they were put in
 abbrev pub chain_of : ℕ → Bool → ℕ → List (ℕ × Waiter) → List (ℕ × Waiter)
 chain_of o k p es = filter (in_chain o k p) es
 
@@ -51,13 +51,13 @@ abbrev pub is_at : ℕ → Option ℕ → Bool
 is_at c None = false
 is_at c (Some n) = n == c
 
--- each leads to the one behind it, and back to the one ahead of it  [profile]
+-- each leads to the one after it, and back to the one ahead of it
 abbrev pub Links : (ℕ → Option ℕ) → (ℕ → Option ℕ) → Option ℕ → List ℕ → Type 0
 Links next before b [] = Unit {0}
 Links next before b (n ∷ ns) =
     (before n ≡ b) × (next n ≡ first_in ns) × Links next before (Some n) ns
 
--- the node at an index  [profile]
+-- the node at an index
 abbrev pub node_in : List (Option Node) → ℕ → Option Node
 node_in nodes n = slice_index_or nodes n None
 
@@ -70,7 +70,7 @@ before_in nodes n = option_and_then (λ node. node.before) (node_in nodes n)
 abbrev pub entry_in : List (Option Node) → ℕ → Option (ℕ × Waiter)
 entry_in nodes n = option_and_then (λ node. node.entry) (node_in nodes n)
 
--- the index of a client's node, and what the node says  [profile]
+-- the index of a client's node, and what the node says
 abbrev pub home_of : List (ℕ × ℕ) → ℕ → Option ℕ
 home_of homes c = lookup (nat_eq c) homes
 
@@ -80,7 +80,7 @@ index_of homes c = unwrap_or (home_of homes c) 0
 abbrev pub entry_of : List (ℕ × ℕ) → List (Option Node) → ℕ → Option (ℕ × Waiter)
 entry_of homes nodes c = option_and_then (entry_in nodes) (home_of homes c)
 
--- the nodes of these waiters  [profile]
+-- the nodes of these waiters
 abbrev pub nodes_of : (ℕ → ℕ) → List (ℕ × Waiter) → List ℕ
 nodes_of index es = map (λ e. index e.1.client) es
 
@@ -92,25 +92,25 @@ abbrev pub side_of : Bool → Queue → Side
 side_of true q = q.writers
 side_of false q = q.readers
 
--- no number twice  [profile]
+-- no number twice
 abbrev pub Unique : List ℕ → Type 0
 Unique [] = Unit {0}
 Unique (n ∷ ns) = (is_listed n ns ≡ false) × Unique ns
 
--- the chain from the ends and by the links  [profile]
+-- the chain from the ends and by the links
 pub record IsChain (next before : ℕ → Option ℕ) (side : Side) (p : ℕ) (ns : List ℕ) : Type 0 where
   pub count : slice_index side.counts p ≡ length ns
   pub head : slice_index_or side.heads p None ≡ first_in ns
   pub tail : slice_index_or side.tails p None ≡ last_in None ns
   pub links : Links next before None ns
 
--- each client has a node of its own  [profile]
+-- each client has a node of its own
 pub record AreHomes (homes : List (ℕ × ℕ)) (nodes : List (Option Node)) : Type 0 where
   pub there : (c n : ℕ) → home_of homes c ≡ Some n → IsSome (node_in nodes n)
   pub apart : (c d n : ℕ) → home_of homes c ≡ Some n → home_of homes d ≡ Some n → c ≡ d
   pub few : length homes < 2 ^ 32
 
--- nodes and ends of chains are those of the waiters that stand  [profile]
+-- nodes and ends of chains are those of the queued waiters
 pub record AreChains (homes : List (ℕ × ℕ)) (nodes : List (Option Node))
     (queues : List (ℕ × Queue)) (es : List (ℕ × Waiter)) : Type 0 where
   pub stand : AllStand (numbers queues) es
@@ -129,7 +129,7 @@ pub record AreChains (homes : List (ℕ × ℕ)) (nodes : List (Option Node))
       → IsChain (next_in nodes) (before_in nodes) (side_of k q) p
       (nodes_of (index_of homes) (chain_of o k (p + 1) es))
 
--- a node was made the tail of a chain  [profile]
+-- a node was made the tail of a chain
 pub record IsPut (k : Bool) (p node : ℕ) (tail : Option ℕ) (old new : Queue) : Type 0 where
   pub len : new.len ≡ old.len + 1
   pub other : side_of (not k) new ≡ side_of (not k) old
@@ -144,7 +144,7 @@ pub record IsPut (k : Bool) (p node : ℕ) (tail : Option ℕ) (old new : Queue)
       then Some node
       else slice_index_or (side_of k old).heads i None)
 
--- a node was taken out of a chain  [profile]
+-- a node was taken out of a chain
 pub record IsTaken (k : Bool) (p : ℕ) (before next : Option ℕ) (old new : Queue) : Type 0 where
   pub len : new.len + 1 ≡ old.len
   pub other : side_of (not k) new ≡ side_of (not k) old
@@ -158,7 +158,7 @@ pub record IsTaken (k : Bool) (p : ℕ) (before next : Option ℕ) (old new : Qu
       ≡ (if (p == i) && not (is_some before) then next else slice_index_or
       (side_of k old).heads i None)
 
--- a queue with no waiter  [profile]
+-- a queue with no waiter
 pub record HasNone (q : Queue) : Type 0 where
   pub len : q.len ≡ 0
   pub counts : (k : Bool) (p : ℕ) → p < most_priority → slice_index (side_of k q).counts p ≡ 0

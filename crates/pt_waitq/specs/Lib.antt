@@ -2,13 +2,13 @@
 pub mod Queues
 -- Waits: clients, objects and waiters in any order, and the queues that they make
 pub mod Waits
--- Members: queues by who stands where
+-- Members: queues by who waits where
 pub mod Members
--- WaitLaws: what holds of all queues at once, with the lemmas that it stands on below
+-- WaitLaws: what holds of all queues at once, with the lemmas that it needs below
 pub mod WaitLaws
 pub mod ListLemmas
 pub mod OrderLemmas
 pub mod QueueLemmas
 pub mod WaitingLemmas
--- Chains: what nodes and the ends of chains say of the waiters that stand
+-- Chains: what nodes and the ends of chains say of the queued waiters
 pub mod Chains

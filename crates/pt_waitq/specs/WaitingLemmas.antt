@@ -1,4 +1,4 @@
--- Who stands where, and the waiters that are the last of their clients.
+-- Who waits where, and the waiters that are the last of their clients.
 use Rattle.std.proofs.Common.{◌≡◌, ℕ, ◌≤◌, length, ◌==◌, inl, inr, Bool, true, false, cond, ◌&&◌, ◌||◌, not, List, [], ◌∷◌, ◌++◌, filter, refl, sym, ap, ◌∙◌, subst, arith, eq-eqb}
 use Rattle.std.proofs.lemmas.Bool.Decides.{nat_tests}
 use Rattle.std.proofs.lemmas.Bool.{false≢true, and_from, and_parts}
@@ -8,7 +8,7 @@ use Rattle.pt_waitq.specs.Waits.{Waits, is_listed, has_waiter, queue_of, latest,
 use Rattle.pt_waitq.specs.ListLemmas.{any-in, any-out, any-append, any-filter, filter-all, filter-none}
 use Rattle.pt_waitq.specs.QueueLemmas.{queue_of-filter, any-queue_of}
 
--- who stands in a queue has an entry there
+-- who waits in a queue has an entry there
 pub stands-entry : (c q : ℕ) (es : List (ℕ × Waiter)) → stands_in c (queue_of q es) ≡ true
     → (e : ℕ × Waiter) × In e es × (e.0 ≡ q) × (e.1.client ≡ c)
 stands-entry c q es s =
@@ -30,7 +30,7 @@ false_unless : (b : Bool) → (b ≡ true → ⊥) → b ≡ false
 false_unless true f = absurd (f refl)
 false_unless false f = refl
 
--- who has no entry stands nowhere, and the other way round
+-- who has no entry waits nowhere, and the other way round
 pub nowhere : (c q : ℕ) (es : List (ℕ × Waiter)) → has_waiter c es ≡ false
     → stands_in c (queue_of q es) ≡ false
 nowhere c q es n =
@@ -152,7 +152,7 @@ In-latest d (e ∷ es) i = go (has_waiter e.1.client es) (In-latest d es) i
     go false ih (inl h) = inl h
     go false ih (inr h) = inr (ih h)
 
--- where all waiters stand, each queue is made of all of them
+-- if all waiters are queued, each queue is made of all of them
 pub all-stand : (w : Waits) → AllStand w.objects w.waiting → waiting_of w ≡ w.waiting
 all-stand w a =
     ap latest (filter-all (λ (e : ℕ × Waiter). is_listed e.0 w.objects) w.waiting a.made)

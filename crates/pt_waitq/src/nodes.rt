@@ -17,7 +17,7 @@ use std::hash::{BuildHasherDefault, FoldHasher};
 /// Rows by number.
 pub(crate) type Rows<T, A> = IndexMap<u64, T, BuildHasherDefault<FoldHasher>, A>;
 
-/// A client's place in a chain, if it stands in one.
+/// A client's place in a chain, if it is in one.
 #[derive(Clone, Copy)]
 pub(crate) struct Node {
     pub(crate) entry: Option<(u64, Waiter)>,
@@ -88,7 +88,7 @@ pub(crate) fn set_node<A: Allocator + Copy>(nodes: &mut Slab<Node, A>, node: usi
     *nodes.get_mut(node).unwrap() = value;
 }
 
-/// The waiter of a node that stands in a chain.
+/// The waiter of a node that is in a chain.
 pub(crate) fn waiter_of<A: Allocator + Copy>(
     nodes: &Slab<Node, A>,
     node: Option<usize>,
@@ -100,7 +100,7 @@ pub(crate) fn waiter_of<A: Allocator + Copy>(
     Some(waiter)
 }
 
-/// Puts a node behind the last of its chain.
+/// Puts a node after the last of its chain.
 pub(crate) fn insert<A: Allocator + Copy>(
     nodes: &mut Slab<Node, A>,
     last: Option<usize>,
@@ -180,7 +180,7 @@ pub(crate) fn home_of<A: Allocator + Copy>(homes: &Rows<usize, A>, client: u64) 
     *homes.get(&client).unwrap()
 }
 
-/// Where a client stands, if it does.
+/// Where a client waits, if it does.
 pub(crate) fn place_of<A: Allocator + Copy>(
     homes: &Rows<usize, A>,
     nodes: &Slab<Node, A>,
@@ -217,7 +217,7 @@ pub(crate) fn make_room<A: Allocator + Copy>(
     nodes.reserve(1)
 }
 
-/// Adds a node that stands nowhere, and returns its index.
+/// Adds a node that is in no chain, and returns its index.
 pub(crate) fn admit<A: Allocator + Copy>(
     homes: &mut Rows<usize, A>,
     nodes: &mut Slab<Node, A>,

@@ -70,7 +70,7 @@ pub(crate) fn add(side: &mut Side, p: usize, node: usize) -> Option<usize>
     last
 }
 
-/// Takes a node out of a chain, which stood between these two.
+/// Takes a node out of a chain, which was between these two.
 pub(crate) fn take(side: &mut Side, p: usize, before: Option<usize>, next: Option<usize>)
     requires index { p < most_priority }
     requires stands { 1 ≤ slice_index side.old.counts p }
@@ -133,7 +133,7 @@ pub(crate) fn put_in(queue: &mut Queue, writer: bool, p: usize, node: usize) -> 
     }
 }
 
-/// Takes a node out of one of a queue's chains, which stood between these two.
+/// Takes a node out of one of a queue's chains, which was between these two.
 pub(crate) fn take_out(
     queue: &mut Queue,
     writer: bool,
@@ -173,7 +173,7 @@ pub(crate) fn take_out(
     }
 }
 
-/// How many stand in a queue.
+/// How many wait in a queue.
 pub(crate) fn len_of<A: Allocator + Copy>(queues: &Rows<Queue, A>, object: u64) -> usize
     ensures { result
         ≡ unwrap_or (option_map (λ q. q.len) (lookup (nat_eq object) queues.now.entries)) 0 }
@@ -209,7 +209,7 @@ pub(crate) fn insert<A: Allocator + Copy>(
     put_in(queues.get_mut(&object).unwrap(), writer, p, node)
 }
 
-/// Takes a node out of a chain of a queue that there is, where it stood between these two.
+/// Takes a node out of a chain of a queue that there is, if it was between these two.
 pub(crate) fn remove<A: Allocator + Copy>(
     queues: &mut Rows<Queue, A>,
     object: u64,

@@ -9,7 +9,7 @@ const M: ObjectId = ObjectId(3);
 
 const N: ObjectId = ObjectId(4);
 
-// A condition at which calls stand with this mutex.
+// A condition at which calls wait with this mutex.
 fn bound_to(mutex: ObjectId) -> CondObj
     ensures { result ≡ record { bound = Some mutex } }
 {
@@ -18,11 +18,13 @@ fn bound_to(mutex: ObjectId) -> CondObj
     cond
 }
 
-#[test]
-fn a_wait_line_by_line(rt: HostRuntime) -> Result<(), Fail> {
+// Whether waits are answered so, at a condition of `M` and at one of nothing.
+fn are_waits_told() -> bool {
     let good = Deadline::new(9, 999_999_999);
     let bad = Deadline::new(9, 1_000_000_000);
-    assert!(rt; good.is_some() && bad.is_some());
+    if good.is_none() || bad.is_none() {
+        return false;
+    }
     let [einval, eperm] = [Outcome::Einval, Outcome::Eperm].map(Verdict::Reply);
     for (mutex, owns, deadline, verdict) in [
         (M, true, bad, einval),
@@ -34,28 +36,30 @@ fn a_wait_line_by_line(rt: HostRuntime) -> Result<(), Fail> {
         (M, true, None, Verdict::Stands),
         (M, true, good, Verdict::Stands),
     ] {
-        assert_eq!(rt; bound_to(M).verdict_wait(mutex, owns, deadline), verdict);
+        if bound_to(M).verdict_wait(mutex, owns, deadline) != verdict {
+            return false;
+        }
     }
-    for (mutex, owns, deadline, verdict) in [
-        (N, true, None, Verdict::Stands),
-        (N, false, None, eperm),
-        (N, false, bad, einval),
-    ] {
-        assert_eq!(rt; CondObj::new().verdict_wait(mutex, owns, deadline), verdict);
-    }
-    Ok(())
+    let free = CondObj::new();
+    free.verdict_wait(N, true, None) == Verdict::Stands
+        && free.verdict_wait(N, false, None) == eperm
+        && free.verdict_wait(N, false, bad) == einval
+}
+
+#[test]
+fn a_wait_line_by_line(rt: HostRuntime) {
+    assert!(rt; are_waits_told());
 }
 
 #[test]
 fn bound_while_calls_stand(rt: HostRuntime) {
     let mut cond = bound_to(M);
-    assert_eq!(rt; cond.bound(), Some(M));
-    assert!(rt; !cond.is_elsewhere(M) && cond.is_elsewhere(N));
+    let first = cond.bound();
     cond.bind(M);
     cond.unbind();
-    assert_eq!(rt; cond.bound(), None);
+    let none = cond.bound();
     cond.bind(N);
-    assert_eq!(rt; cond.bound(), Some(N));
+    assert!(rt; first == Some(M) && none.is_none() && cond.bound() == Some(N));
 }
 
 #[test]
@@ -75,7 +79,6 @@ fn the_least_is_the_first_of_its_queue(rt: HostRuntime) -> Result<(), Fail> {
     };
     list.insert(N, waiter);
     let least = cond.least(&list, N);
-    assert_eq!(rt; least.map(|waiter| waiter.place), Some(9));
-    assert!(rt; cond.least(&list, M).is_none());
+    assert!(rt; least.is_some_and(|waiter| waiter.place == 9) && cond.least(&list, M).is_none());
     Ok(())
 }

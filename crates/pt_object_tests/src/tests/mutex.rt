@@ -1,192 +1,260 @@
+ghost use Rattle.std.specs.Prelude.{◌≤◌};
+
 use pt_mutex::MutexObj;
-use pt_types::{ClientId, Consistency, Deadline, MutexKind, Outcome, Verdict};
-use std::test::Fail;
+use pt_types::{ClientId, Consistency, Deadline, MOST_LOCKS, MutexKind, Outcome, Verdict};
 
 const A: ClientId = ClientId(0);
 
 const B: ClientId = ClientId(1);
 
-const KINDS: [MutexKind; 3] = [
-    MutexKind::Normal,
-    MutexKind::Errorcheck,
-    MutexKind::Recursive,
-];
+// A deadline in the ninth second.
+fn deadline(nsec: u64) -> Deadline
+    requires { nsec ≤ 9999999999 }
+{
+    Deadline::new(9, nsec).unwrap()
+}
 
-// What `lock`, `trylock`, `timedlock`, and `timedlock` with a second of nanoseconds are told.
-fn told(mutex: &MutexObj, caller: ClientId) -> Result<[Verdict; 4], Fail> {
-    let good = Deadline::new(9, 999_999_999).ok_or("deadline")?;
-    let bad = Deadline::new(9, 1_000_000_000).ok_or("deadline")?;
-    Ok([
+// What `lock`, `trylock`, `timedlock`, and `timedlock` with a second of nanoseconds answer.
+fn told(mutex: &MutexObj, caller: ClientId) -> [Verdict; 4] {
+    [
         mutex.verdict_lock(caller),
         mutex.verdict_try(caller),
-        mutex.verdict_timed(caller, good),
-        mutex.verdict_timed(caller, bad),
-    ])
+        mutex.verdict_timed(caller, deadline(999_999_999)),
+        mutex.verdict_timed(caller, deadline(1_000_000_000)),
+    ]
 }
 
-// A robust mutex that A holds so often, or as often as it can.
-fn held(kind: MutexKind, locks: u8) -> MutexObj {
+// What `unlock` and `consistent` are answered.
+fn told_by_right(mutex: &MutexObj, caller: ClientId) -> [Verdict; 2] {
+    [
+        mutex.verdict_unlock(caller),
+        mutex.verdict_consistent(caller),
+    ]
+}
+
+// Gives the client the lock, if it can be given it once more.
+fn lock(mutex: &mut MutexObj, client: ClientId) {
+    let relocks = mutex.kind() == MutexKind::Recursive && mutex.count() < MOST_LOCKS;
+    if mutex.owner().is_none() || mutex.is_owned_by(client) && relocks {
+        mutex.acquire(client);
+    }
+}
+
+// Takes one lock from the client, if it has one.
+fn unlock(mutex: &mut MutexObj, client: ClientId) {
+    if mutex.is_owned_by(client) {
+        mutex.release(client);
+    }
+}
+
+/// What became of a robust mutex so far.
+#[derive(Clone, Copy)]
+enum Past {
+    /// A has locked it so often, or as often as it can.
+    Locked(u8),
+    /// A has died with it.
+    Orphaned,
+    /// B has it after A has died with it.
+    Inherited,
+    /// And B has given it back.
+    Lost,
+}
+
+// A robust mutex after this.
+fn mutex_after(kind: MutexKind, past: Past) -> MutexObj {
     let mut mutex = MutexObj::new(kind, true);
+    let locks = if let Past::Locked(locks) = past {
+        locks
+    } else {
+        1
+    };
     for _ in 0..locks {
-        if mutex.can_acquire(A) {
-            mutex.acquire(A);
+        lock(&mut mutex, A);
+    }
+    if !matches!(past, Past::Locked(_)) {
+        mutex.yield_dead();
+    }
+    if matches!(past, Past::Inherited | Past::Lost) {
+        lock(&mut mutex, B);
+    }
+    if matches!(past, Past::Lost) {
+        unlock(&mut mutex, B);
+    }
+    mutex
+}
+
+// Whether the client is answered this of a mutex.
+fn is_told(
+    mutex: &MutexObj,
+    caller: ClientId,
+    locks: [Verdict; 4],
+    by_right: [Verdict; 2],
+) -> bool {
+    told(mutex, caller) == locks && told_by_right(mutex, caller) == by_right
+}
+
+// Whether verdicts that no kind changes are so for a mutex of this kind.
+fn is_as_every_mutex(kind: MutexKind) -> bool {
+    let [busy, einval, eperm] = [Outcome::Ebusy, Outcome::Einval, Outcome::Eperm].map(
+        Verdict::Reply,
+    );
+    let stands = [Verdict::Stands; 4];
+    let held = [Verdict::Stands, busy, Verdict::Stands, einval];
+    for (past, caller, locks, by_right) in [
+        (Past::Locked(1), B, held, [eperm, einval]),
+        (Past::Orphaned, B, stands, [eperm, eperm]),
+        (Past::Inherited, A, held, [eperm, eperm]),
+        (Past::Lost, A, stands, [eperm, einval]),
+        (Past::Lost, B, stands, [eperm, einval]),
+    ] {
+        if !is_told(&mutex_after(kind, past), caller, locks, by_right) {
+            return false;
         }
     }
-    mutex
-}
-
-// The same, after A has died and B has it.
-fn inherited(kind: MutexKind) -> MutexObj {
-    let mut mutex = held(kind, 1);
-    mutex.yield_dead();
-    if mutex.can_acquire(B) {
-        mutex.acquire(B);
-    }
-    mutex
+    is_told(&MutexObj::new(kind, false), A, stands, [eperm, einval])
 }
 
 #[test]
-fn a_free_mutex_can_be_had_at_once(rt: HostRuntime) -> Result<(), Fail> {
-    for kind in KINDS {
-        let mutex = MutexObj::new(kind, false);
-        assert_eq!(rt; told(&mutex, A)?, [Verdict::Stands; 4]);
-        let mut mutex = held(kind, 1);
-        mutex.yield_dead();
-        assert_eq!(rt; told(&mutex, B)?, [Verdict::Stands; 4]);
-    }
-    Ok(())
+fn verdicts_of_every_kind(rt: HostRuntime) {
+    assert!(rt; is_as_every_mutex(MutexKind::Normal));
+    assert!(rt; is_as_every_mutex(MutexKind::Errorcheck));
+    assert!(rt; is_as_every_mutex(MutexKind::Recursive));
 }
 
-#[test]
-fn a_lost_mutex_is_told_by_a_grant(rt: HostRuntime) -> Result<(), Fail> {
-    for kind in KINDS {
-        let mut mutex = inherited(kind);
-        assert!(rt; mutex.is_owned_by(B));
-        mutex.release(B);
-        assert_eq!(rt; mutex.consistency(), Consistency::NotRecoverable);
-        assert_eq!(rt; told(&mutex, A)?, [Verdict::Stands; 4]);
-    }
-    Ok(())
-}
-
-#[test]
-fn a_relock_by_the_owner(rt: HostRuntime) -> Result<(), Fail> {
-    let again = |outcome| [Verdict::Reply(outcome); 4];
-    for (locks, outcome) in [
-        (1, Outcome::Done),
-        (254, Outcome::Done),
-        (255, Outcome::Eagain),
+// Whether owners are answered this.
+fn are_owners_told() -> bool {
+    let [done, busy] = [Outcome::Done, Outcome::Ebusy].map(Verdict::Reply);
+    let [again, deadlock, einval] = [Outcome::Eagain, Outcome::Edeadlk, Outcome::Einval].map(
+        Verdict::Reply,
+    );
+    let checked = [deadlock, busy, deadlock, deadlock];
+    let normal = [Verdict::Stands, busy, Verdict::Stands, einval];
+    for (kind, past, caller, locks, consistent) in [
+        (MutexKind::Recursive, Past::Locked(1), A, [done; 4], einval),
+        (
+            MutexKind::Recursive,
+            Past::Locked(254),
+            A,
+            [done; 4],
+            einval,
+        ),
+        (
+            MutexKind::Recursive,
+            Past::Locked(255),
+            A,
+            [again; 4],
+            einval,
+        ),
+        (MutexKind::Recursive, Past::Inherited, B, [done; 4], done),
+        (MutexKind::Errorcheck, Past::Locked(1), A, checked, einval),
+        (MutexKind::Normal, Past::Locked(1), A, normal, einval),
     ] {
-        let mutex = held(MutexKind::Recursive, locks);
-        assert_eq!(rt; mutex.count(), locks);
-        assert_eq!(rt; told(&mutex, A)?, again(outcome), "at {locks}");
+        if !is_told(&mutex_after(kind, past), caller, locks, [done, consistent]) {
+            return false;
+        }
     }
-    assert_eq!(rt;
-        told(&inherited(MutexKind::Recursive), B)?,
-        again(Outcome::Done)
-    );
-    let [busy, deadlock, bad] = [Outcome::Ebusy, Outcome::Edeadlk, Outcome::Einval];
-    assert_eq!(rt;
-        told(&held(MutexKind::Errorcheck, 1), A)?,
-        [deadlock, busy, deadlock, deadlock].map(Verdict::Reply)
-    );
-    assert_eq!(rt;
-        told(&held(MutexKind::Normal, 1), A)?,
-        [
-            Verdict::Stands,
-            Verdict::Reply(busy),
-            Verdict::Stands,
-            Verdict::Reply(bad),
-        ]
-    );
-    Ok(())
+    true
 }
 
 #[test]
-fn a_mutex_of_another_owner(rt: HostRuntime) -> Result<(), Fail> {
-    let expected = [
-        Verdict::Stands,
-        Verdict::Reply(Outcome::Ebusy),
-        Verdict::Stands,
-        Verdict::Reply(Outcome::Einval),
-    ];
-    for kind in KINDS {
-        assert_eq!(rt; told(&held(kind, 1), B)?, expected);
-        assert_eq!(rt; told(&inherited(kind), A)?, expected);
-    }
-    assert_eq!(rt; told(&held(MutexKind::Recursive, 255), B)?, expected);
-    Ok(())
+fn verdicts_of_an_owner(rt: HostRuntime) {
+    assert!(rt; are_owners_told());
+}
+
+// Whether A has so many locks after so many calls.
+fn is_counted(kind: MutexKind, locks: u8, count: u8) -> bool {
+    let mutex = mutex_after(kind, Past::Locked(locks));
+    mutex.is_owned_by(A) && mutex.owner() == Some(A) && mutex.count() == count
 }
 
 #[test]
-fn only_the_owner_unlocks(rt: HostRuntime) {
-    for kind in KINDS {
-        let eperm = Verdict::Reply(Outcome::Eperm);
-        assert_eq!(rt; MutexObj::new(kind, true).verdict_unlock(A), eperm);
-        let mutex = held(kind, 1);
-        assert_eq!(rt; mutex.verdict_unlock(B), eperm);
-        assert_eq!(rt; mutex.verdict_unlock(A), Verdict::Reply(Outcome::Done));
-    }
+fn counts_up_to_255(rt: HostRuntime) {
+    assert!(rt;
+        is_counted(MutexKind::Recursive, 254, 254)
+            && is_counted(MutexKind::Recursive, 255, 255)
+            && is_counted(MutexKind::Normal, 2, 1)
+    );
 }
 
-#[test]
-fn consistent_line_by_line(rt: HostRuntime) {
-    let einval = Verdict::Reply(Outcome::Einval);
-    let stalled = MutexObj::new(MutexKind::Normal, false);
-    assert_eq!(rt; stalled.verdict_consistent(A), einval);
-    assert_eq!(rt; held(MutexKind::Normal, 1).verdict_consistent(A), einval);
-    let mut mutex = inherited(MutexKind::Normal);
-    assert_eq!(rt; mutex.verdict_consistent(A), Verdict::Reply(Outcome::Eperm));
-    assert_eq!(rt; mutex.verdict_consistent(B), Verdict::Reply(Outcome::Done));
-    assert!(rt; mutex.is_owned_by(B));
-    mutex.release(B);
-    assert_eq!(rt; mutex.verdict_consistent(B), einval);
+// Whether this is the consistency after this past, and the other once it is marked.
+fn is_marked(past: Past, before: Consistency, after: Consistency) -> bool {
+    let mut mutex = mutex_after(MutexKind::Recursive, past);
+    let first = mutex.consistency();
     mutex.mark_consistent();
-    assert_eq!(rt; mutex.consistency(), Consistency::NotRecoverable);
-}
-
-#[test]
-fn destroy_line_by_line(rt: HostRuntime) {
-    let done = Verdict::Reply(Outcome::Done);
-    let ebusy = Verdict::Reply(Outcome::Ebusy);
-    let free = MutexObj::new(MutexKind::Normal, false);
-    assert_eq!(rt; free.verdict_destroy(true, false), done);
-    assert_eq!(rt; free.verdict_destroy(true, true), ebusy);
-    let mut owned = held(MutexKind::Normal, 1);
-    assert_eq!(rt; owned.verdict_destroy(true, false), ebusy);
-    assert_eq!(rt; owned.verdict_destroy(false, false), done);
-    owned.bind();
-    assert_eq!(rt; owned.verdict_destroy(false, false), ebusy);
+    first == before && mutex.consistency() == after
 }
 
 #[test]
 fn the_consistency_by_its_events(rt: HostRuntime) {
-    let mut mutex = inherited(MutexKind::Recursive);
-    assert_eq!(rt; mutex.consistency(), Consistency::Inconsistent);
+    let [good, bad, lost] = [
+        Consistency::Consistent,
+        Consistency::Inconsistent,
+        Consistency::NotRecoverable,
+    ];
+    assert!(rt;
+        is_marked(Past::Locked(1), good, good)
+            && is_marked(Past::Orphaned, bad, good)
+            && is_marked(Past::Inherited, bad, good)
+            && is_marked(Past::Lost, lost, lost)
+    );
+}
+
+// The consistency, the owner and the count.
+fn seen(mutex: &MutexObj) -> (Consistency, Option<ClientId>, u8) {
+    (mutex.consistency(), mutex.owner(), mutex.count())
+}
+
+// Whether a robust mutex is in order again after two deaths and a repair.
+fn is_repaired() -> bool {
+    let mut mutex = mutex_after(MutexKind::Recursive, Past::Inherited);
     mutex.yield_dead();
-    assert_eq!(rt; mutex.consistency(), Consistency::Inconsistent);
-    assert_eq!(rt; (mutex.owner(), mutex.count()), (None, 0));
-    assert!(rt; mutex.can_acquire(A));
-    mutex.acquire(A);
-    assert!(rt; mutex.can_acquire(A));
-    mutex.acquire(A);
-    assert!(rt; mutex.is_owned_by(A));
-    mutex.release(A);
-    assert_eq!(rt; (mutex.owner(), mutex.count()), (Some(A), 1));
+    let orphaned = seen(&mutex);
+    lock(&mut mutex, A);
+    lock(&mut mutex, A);
+    unlock(&mut mutex, A);
+    let owned = seen(&mutex);
     mutex.mark_consistent();
-    assert!(rt; mutex.is_owned_by(A));
-    mutex.release(A);
-    assert_eq!(rt; mutex.consistency(), Consistency::Consistent);
-    assert!(rt; mutex.is_robust() && mutex.kind() == MutexKind::Recursive);
+    unlock(&mut mutex, A);
+    orphaned == (Consistency::Inconsistent, None, 0)
+        && owned == (Consistency::Inconsistent, Some(A), 1)
+        && seen(&mutex) == (Consistency::Consistent, None, 0)
+        && mutex.is_robust()
+        && mutex.kind() == MutexKind::Recursive
 }
 
 #[test]
-fn waits_that_are_bound(rt: HostRuntime) {
+fn a_second_death_and_a_repair(rt: HostRuntime) {
+    assert!(rt; is_repaired());
+}
+
+// What `mutex-destroy` is told: if the owner lives, if besides a call waits, if the owner is dead.
+fn told_destroy(mutex: &MutexObj) -> [Verdict; 3] {
+    [
+        mutex.verdict_destroy(true, false),
+        mutex.verdict_destroy(true, true),
+        mutex.verdict_destroy(false, false),
+    ]
+}
+
+// Whether `mutex-destroy` is answered so: of a free mutex, an owned one, and one that a wait names.
+fn is_busy_in_time() -> bool {
+    let [done, ebusy] = [Outcome::Done, Outcome::Ebusy].map(Verdict::Reply);
     let mut mutex = MutexObj::new(MutexKind::Normal, true);
+    let free = told_destroy(&mutex);
     mutex.acquire(A);
+    let owned = told_destroy(&mutex);
     mutex.bind();
     mutex.release(A);
-    assert_eq!(rt; mutex.bound_waits(), 1);
+    let named = told_destroy(&mutex);
+    let waits = mutex.bound_waits();
     mutex.unbind();
-    assert_eq!(rt; mutex.bound_waits(), 0);
+    free == [done, ebusy, done]
+        && owned == [ebusy, ebusy, done]
+        && named == [ebusy; 3]
+        && (waits, mutex.bound_waits()) == (1, 0)
+}
+
+#[test]
+fn destroyed_if_nobody_needs_it(rt: HostRuntime) {
+    assert!(rt; is_busy_in_time());
 }

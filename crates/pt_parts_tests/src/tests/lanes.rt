@@ -1,36 +1,17 @@
-use pt_lanes::{all_zero, any_from, highest, plain};
+use pt_lanes::{all_zero, any_from, highest};
 
-#[test]
-fn no_counts(rt: HostRuntime) {
-    assert!(rt; !any_from(&[], 0));
-    assert!(rt; all_zero(&[]));
-    assert_eq!(rt; highest(&[]), None);
+// Whether these are the answers for the counts, of which so many are seen from an index on.
+fn is_told(counts: &[u32], from: usize, any: bool, greatest: Option<usize>) -> bool {
+    any_from(counts, from) == any
+        && highest(counts) == greatest
+        && all_zero(counts) == greatest.is_none()
 }
 
 #[test]
-fn one_count_of_three(rt: HostRuntime) {
-    assert!(rt; any_from(&[0, 1, 0], 1));
-    assert!(rt; !any_from(&[0, 1, 0], 2));
-}
-
-#[test]
-fn the_last_of_33_counts(rt: HostRuntime) {
+fn counts_by_their_index(rt: HostRuntime) {
+    assert!(rt; is_told(&[], 0, false, None) && is_told(&[0, 0], 0, false, None));
+    assert!(rt; is_told(&[0, 1, 0], 1, true, Some(1)) && is_told(&[0, 1, 0], 2, false, Some(1)));
     let mut counts = [0; 33];
     counts[32] = u32::MAX;
-    assert!(rt; any_from(&counts, 32));
-    assert!(rt; !any_from(&counts, 33));
-    assert_eq!(rt; highest(&counts), Some(32));
-    assert!(rt; !all_zero(&counts));
-}
-
-#[test]
-fn plain_calls_alike(rt: HostRuntime) {
-    let mut counts = [0; 33];
-    assert!(rt; plain::all_zero(&counts));
-    assert_eq!(rt; plain::highest(&counts), None);
-    counts[32] = u32::MAX;
-    assert!(rt; plain::any_from(&counts, 32));
-    assert!(rt; !plain::any_from(&counts, 33));
-    assert_eq!(rt; plain::highest(&counts), Some(32));
-    assert!(rt; !plain::all_zero(&counts));
+    assert!(rt; is_told(&counts, 32, true, Some(32)) && is_told(&counts, 33, false, Some(32)));
 }

@@ -7,7 +7,6 @@ use pt_failing_alloc::{Refusing, refuse_each};
 use pt_table::{Clients, Objects, TableFault};
 use pt_types::Name;
 use std::alloc::Global;
-use std::process::Abort;
 use std::test::Fail;
 
 // The name of four digits of a number below 10,000.
@@ -38,7 +37,7 @@ fn fill_objects(objects: &mut Objects<u64>, count: u64) -> bool {
     filled
 }
 
-// Adds a client, once more where there was no memory for it.
+// Adds a client, once more if there was no memory for it.
 fn add_client(
     clients: &mut Clients<u64, &Refusing<Global>>,
     number: u64,
@@ -105,129 +104,129 @@ fn write(rows: &mut Objects<u32>, number: u64, value: u32)
     }
 }
 
-#[test]
-fn clients_by_number(rt: HostRuntime) {
-    lend(
-        Clients::new(rt.alloc()),
-        |clients| play_clients_by_number(&rt, clients),
-    );
-}
-
-fn play_clients_by_number(rt: &impl Abort, clients: &mut Clients<u32>) {
+// Adds three clients, of which the last has a number that is taken.
+fn is_taken_seen(clients: &mut Clients<u32>) -> bool {
     for (number, value, refused) in [
         (3, 30, None),
         (5, 50, None),
         (3, 31, Some((31, TableFault::Taken))),
     ] {
-        assert_eq!(rt; clients.add(number, value).err(), refused, "{number}");
+        if clients.add(number, value).err() != refused {
+            return false;
+        }
     }
-    assert_eq!(rt; clients.len(), 2);
-    assert_eq!(rt; clients.nth(1).map(|pair| pair.0), Some(5));
+    clients.len() == 2 && clients.nth(1).is_some_and(|pair| pair.0 == 5)
+}
+
+// Writes to a client's value, and takes another client out.
+fn is_removed(clients: &mut Clients<u32>) -> bool {
     if let Some(value) = clients.at_mut(5) {
         *value = 51;
     }
-    assert_eq!(rt; clients.at(5).copied(), Some(51));
-    assert_eq!(rt; clients.remove(3), Some(30));
-    assert_eq!(rt; clients.remove(3), None);
-    assert_eq!(rt; clients.at(3).copied(), None);
-    assert_eq!(rt; clients.nth(0).map(|pair| *pair.1), Some(51));
+    let removed = [clients.remove(3), clients.remove(3)];
+    removed == [Some(30), None]
+        && clients.at(5).copied() == Some(51)
+        && clients.at(3).is_none()
+        && clients.nth(0).is_some_and(|pair| *pair.1 == 51)
+}
+
+#[test]
+fn clients_by_number(rt: HostRuntime) {
+    let mut clients = Clients::new(rt.alloc());
+    assert!(rt; is_taken_seen(&mut clients));
+    assert!(rt; is_removed(&mut clients));
+}
+
+// Adds two objects, and two more whose number or name is taken.
+fn are_taken_seen(objects: &mut Objects<u32>, m: &Name, n: &Name, o: &Name) -> bool {
+    for (number, name, value, refused) in [
+        (3, m, 30, None),
+        (4, n, 40, None),
+        (3, o, 31, Some((31, TableFault::Taken))),
+        (5, m, 50, Some((50, TableFault::Taken))),
+    ] {
+        if objects.add(number, name.copied(), value).err() != refused {
+            return false;
+        }
+    }
+    objects.find(m) == Some(3) && objects.nth(1).is_some_and(|pair| pair.0 == 4)
+}
+
+// The first object is taken out, and another one put in with its name.
+fn is_name_free_again(objects: &mut Objects<u32>, m: &Name, n: &Name) -> bool {
+    write(objects, 4, 41);
+    write(objects, 5, 51);
+    let removed = objects.remove(3);
+    let found = objects.find(m);
+    let added = objects.add(6, m.copied(), 60);
+    removed == Some(30)
+        && found.is_none()
+        && added.is_ok()
+        && objects.at(4).copied() == Some(41)
+        && objects.find(m) == Some(6)
+        && objects.find(n) == Some(4)
+        && objects.len() == 2
+}
+
+// A name of one letter.
+fn letter(byte: u8) -> Result<Name, Fail> {
+    Ok(Name::new(&[byte]).ok_or("name")?)
 }
 
 #[test]
 fn objects_by_number_and_name(rt: HostRuntime) -> Result<(), Fail> {
-    lend(
-        Objects::new(rt.alloc()),
-        |objects| play_objects_by_number_and_name(&rt, objects),
-    )
-}
-
-fn play_objects_by_number_and_name(
-    rt: &impl Abort,
-    objects: &mut Objects<u32>,
-) -> Result<(), Fail> {
-    let name = Name::new(b"m").ok_or("name")?;
-    let other = Name::new(b"n").ok_or("name")?;
-    let third = Name::new(b"o").ok_or("name")?;
-    for (number, name, value, refused) in [
-        (3, &name, 30, None),
-        (4, &other, 40, None),
-        (3, &third, 31, Some((31, TableFault::Taken))),
-        (5, &name, 50, Some((50, TableFault::Taken))),
-    ] {
-        assert_eq!(rt;
-            objects.add(number, name.copied(), value).err(),
-            refused,
-            "{number}"
-        );
-    }
-    assert_eq!(rt; objects.find(&name), Some(3));
-    assert_eq!(rt; objects.nth(1).map(|pair| pair.0), Some(4));
-    write(objects, 4, 41);
-    write(objects, 5, 51);
-    a_name_is_free_again(rt, objects, &name, &other);
+    let (m, n, o) = (letter(b'm')?, letter(b'n')?, letter(b'o')?);
+    let mut objects = Objects::new(rt.alloc());
+    assert!(rt; are_taken_seen(&mut objects, &m, &n, &o));
+    assert!(rt; is_name_free_again(&mut objects, &m, &n));
     Ok(())
 }
 
-// The object with the first name is taken out, and another one put in with that name.
-fn a_name_is_free_again(rt: &impl Abort, objects: &mut Objects<u32>, name: &Name, other: &Name) {
-    assert_eq!(rt; objects.remove(3), Some(30));
-    assert_eq!(rt; objects.find(name), None);
-    assert_eq!(rt; objects.at(4).copied(), Some(41));
-    assert!(rt; objects.add(6, name.copied(), 60).is_ok());
-    assert_eq!(rt; objects.find(name), Some(6));
-    assert_eq!(rt; objects.find(other), Some(4));
-    assert_eq!(rt; objects.len(), 2);
-}
-
-#[test]
-fn at_most_1024_clients(rt: HostRuntime) {
-    lend(
-        Clients::new(rt.alloc()),
-        |clients| play_at_most_1024_clients(&rt, clients),
-    );
-}
-
-fn play_at_most_1024_clients(rt: &impl Abort, clients: &mut Clients<u64>) {
-    assert!(rt; fill_clients(clients, 1023));
+// Whether a table of 1,023 clients takes one more, and no other until one is gone.
+fn is_full_at_1024(clients: &mut Clients<u64>) -> bool {
     for (number, value, refused) in [
         (1023, 7, None),
         (1024, 8, Some((8, TableFault::AtLimit))),
         (1023, 9, Some((9, TableFault::Taken))),
     ] {
-        assert_eq!(rt; clients.add(number, value).err(), refused, "{number}");
+        if clients.add(number, value).err() != refused {
+            return false;
+        }
     }
-    assert_eq!(rt; clients.len(), 1024);
-    assert_eq!(rt; clients.remove(0), Some(0));
-    assert!(rt; clients.add(1024, 8).is_ok());
+    let len = clients.len();
+    let removed = clients.remove(0);
+    len == 1024 && removed == Some(0) && clients.add(1024, 8).is_ok()
+}
+
+#[test]
+fn at_most_1024_clients(rt: HostRuntime) {
+    let mut clients = Clients::new(rt.alloc());
+    assert!(rt; fill_clients(&mut clients, 1023) && is_full_at_1024(&mut clients));
+}
+
+// Whether a table of 4,095 objects takes one more, and no other until one is gone.
+fn is_full_at_4096(objects: &mut Objects<u64>, last: &Name, more: &Name) -> bool {
+    for (number, name, value, refused) in [
+        (4095, last, 7, None),
+        (4096, more, 8, Some((8, TableFault::AtLimit))),
+        (4096, last, 9, Some((9, TableFault::Taken))),
+        (4095, more, 9, Some((9, TableFault::Taken))),
+    ] {
+        if objects.add(number, name.copied(), value).err() != refused {
+            return false;
+        }
+    }
+    let len = objects.len();
+    let removed = objects.remove(0);
+    len == 4096 && removed == Some(0) && objects.add(4096, more.copied(), 8).is_ok()
 }
 
 #[test]
 fn at_most_4096_objects(rt: HostRuntime) -> Result<(), Fail> {
-    lend(
-        Objects::new(rt.alloc()),
-        |objects| play_at_most_4096_objects(&rt, objects),
-    )
-}
-
-fn play_at_most_4096_objects(rt: &impl Abort, objects: &mut Objects<u64>) -> Result<(), Fail> {
-    assert!(rt; fill_objects(objects, 4095));
     let last = name_of(4095).ok_or("name")?;
     let more = name_of(4096).ok_or("name")?;
-    for (number, name, value, refused) in [
-        (4095, &last, 7, None),
-        (4096, &more, 8, Some((8, TableFault::AtLimit))),
-        (4096, &last, 9, Some((9, TableFault::Taken))),
-        (4095, &more, 9, Some((9, TableFault::Taken))),
-    ] {
-        assert_eq!(rt;
-            objects.add(number, name.copied(), value).err(),
-            refused,
-            "{number}"
-        );
-    }
-    assert_eq!(rt; objects.len(), 4096);
-    assert_eq!(rt; objects.remove(0), Some(0));
-    assert!(rt; objects.add(4096, more, 8).is_ok());
+    let mut objects = Objects::new(rt.alloc());
+    assert!(rt; fill_objects(&mut objects, 4095) && is_full_at_4096(&mut objects, &last, &more));
     Ok(())
 }
 
@@ -241,22 +240,28 @@ fn each_growth_is_refused_in_turn(rt: HostRuntime) -> Result<(), Fail> {
 #[test]
 fn new_tables_take_no_memory(rt: HostRuntime) {
     let heap = Refusing::new(rt.alloc(), 1);
-    let clients = |clients: &mut Clients<u64, &Refusing<Global>>| clients.len();
-    assert_eq!(rt; lend(Clients::new(&heap), clients), 0);
-    let objects = |objects: &mut Objects<u64, &Refusing<Global>>| objects.len();
-    assert_eq!(rt; lend(Objects::new(&heap), objects), 0);
+    let clients: Clients<u64, &Refusing<Global>> = Clients::new(&heap);
+    let objects: Objects<u64, &Refusing<Global>> = Objects::new(&heap);
+    assert!(rt; clients.len() == 0 && objects.len() == 0);
     assert!(rt; !heap.has_refused());
 }
 
-#[test]
-fn faults_print_their_texts(rt: HostRuntime) -> Result<(), Fail> {
-    let alloc = rt.alloc();
+// Whether these texts are printed for the faults.
+fn are_faults_printed(alloc: Global) -> Result<bool, Fail> {
     for (fault, text) in [
         (TableFault::Taken, "taken"),
         (TableFault::AtLimit, "at the limit"),
         (TableFault::Memory, "out of memory"),
     ] {
-        assert_eq!(rt; format!(in alloc; "{fault}")?.as_str(), text);
+        if format!(in alloc; "{fault}")?.as_str() != text {
+            return Ok(false);
+        }
     }
+    Ok(true)
+}
+
+#[test]
+fn faults_print_their_texts(rt: HostRuntime) -> Result<(), Fail> {
+    assert!(rt; are_faults_printed(rt.alloc())?);
     Ok(())
 }

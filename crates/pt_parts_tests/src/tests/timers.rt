@@ -24,7 +24,7 @@ fn clock_of(number: u64) -> Clock {
     }
 }
 
-// Sets the deadline of the next place, once more where there was no memory for it.
+// Sets the deadline of the next place, once more if there was no memory for it.
 fn set_next(
     timers: &mut Timers<&Refusing<Global>>,
     place: u64,
@@ -83,53 +83,80 @@ fn set_timers(heap: &Refusing<Global>) -> Result<bool, Fail> {
     set_20_timers(&mut timers)
 }
 
+// The place that is due at these seconds of both clocks, the last nanosecond of the second counted.
+fn due_in(timers: &Timers, real: u64, mono: u64) -> Option<u64> {
+    timers.least_due(
+        Moment::new(real, 999_999_999),
+        Moment::new(mono, 999_999_999),
+    )
+}
+
+// Whether three timers of one clock are due by their deadlines, and then by their places.
+fn are_due_in_order(alloc: Global, soon: Deadline, late: Deadline) -> bool
+    requires soon { is_bad_deadline soon ≡ false }
+    requires late { is_bad_deadline late ≡ false }
+{
+    let mut timers = Timers::new(alloc);
+    let none = timers.least(Clock::Real);
+    let is_set = timers.set(4, Clock::Real, late).is_ok()
+        && timers.set(7, Clock::Real, soon).is_ok()
+        && timers.set(3, Clock::Real, soon).is_ok();
+    let least = timers.least(Clock::Real);
+    let early = due_in(&timers, 4, 0);
+    let first = timers.least_due(Moment::new(5, 0), None);
+    timers.cancel(3);
+    timers.cancel(3);
+    let second = due_in(&timers, 5, 0);
+    timers.cancel(7);
+    is_set
+        && (none, least) == (None, Some(soon))
+        && [early, first, second] == [None, Some(3), Some(7)]
+        && (due_in(&timers, 8, 0), timers.least(Clock::Real)) == (None, Some(late))
+}
+
 #[test]
 fn due_at_their_nanosecond_by_deadline_then_place(rt: HostRuntime) -> Result<(), Fail> {
     let late = Deadline::new(9, 1).ok_or("deadline")?;
     let soon = Deadline::new(5, 0).ok_or("deadline")?;
-    let before = Moment::new(4, 999_999_999).ok_or("moment")?;
-    let at = Moment::new(5, 0).ok_or("moment")?;
-    let mut timers = Timers::new(rt.alloc());
-    assert!(rt; timers.least(Clock::Real).is_none());
-    assert!(rt; timers.set(4, Clock::Real, late).is_ok());
-    assert!(rt; timers.set(7, Clock::Real, soon).is_ok());
-    assert!(rt; timers.set(3, Clock::Real, soon).is_ok());
-    assert_eq!(rt; timers.least(Clock::Real), Some(soon));
-    assert_eq!(rt; timers.least_due(Some(before), None), None);
-    assert_eq!(rt; timers.least_due(Some(at), None), Some(3));
-    timers.cancel(3);
-    timers.cancel(3);
-    assert_eq!(rt; timers.least_due(Some(at), None), Some(7));
-    timers.cancel(7);
-    assert_eq!(rt; timers.least_due(Some(at), None), None);
-    assert_eq!(rt; timers.least(Clock::Real), Some(late));
+    assert!(rt; !late.is_bad() && !soon.is_bad());
+    assert!(rt; are_due_in_order(rt.alloc(), soon, late));
     Ok(())
+}
+
+// Whether three timers are due by their own clocks.
+fn are_due_by_their_clocks(alloc: Global, soon: Deadline, late: Deadline) -> bool
+    requires soon { is_bad_deadline soon ≡ false }
+    requires late { is_bad_deadline late ≡ false }
+{
+    let Some(nine) = Moment::new(9, 0) else {
+        return false;
+    };
+    let mut timers = Timers::new(alloc);
+    let is_set = timers.set(2, Clock::Real, late).is_ok()
+        && timers.set(3, Clock::Mono, soon).is_ok()
+        && timers.set(4, Clock::Real, soon).is_ok();
+    let none = timers.least_due(None, None);
+    let real = timers.least_due(Some(nine), None);
+    let mono = timers.least_due(None, Some(nine));
+    let early = timers.least_due(Some(nine), Moment::new(4, 999_999_999));
+    let both = due_in(&timers, 5, 5);
+    timers.cancel(4);
+    let (by_real, by_mono) = (timers.least(Clock::Real), timers.least(Clock::Mono));
+    let due = timers.least_due(Some(nine), Moment::new(5, 0));
+    timers.cancel(3);
+    is_set
+        && (none, real, mono) == (None, Some(4), Some(3))
+        && (early, both, due) == (Some(4), Some(3), Some(3))
+        && (by_real, by_mono) == (Some(late), Some(soon))
+        && timers.least(Clock::Mono).is_none()
 }
 
 #[test]
 fn each_deadline_is_due_by_its_own_clock(rt: HostRuntime) -> Result<(), Fail> {
     let soon = Deadline::new(5, 0).ok_or("deadline")?;
     let late = Deadline::new(9, 0).ok_or("deadline")?;
-    let five = Moment::new(5, 0).ok_or("moment")?;
-    let nine = Moment::new(9, 0).ok_or("moment")?;
-    let mut timers = Timers::new(rt.alloc());
-    assert!(rt; timers.set(2, Clock::Real, late).is_ok());
-    assert!(rt; timers.set(3, Clock::Mono, soon).is_ok());
-    assert!(rt; timers.set(4, Clock::Real, soon).is_ok());
-    assert_eq!(rt; timers.least_due(None, None), None);
-    assert_eq!(rt; timers.least_due(Some(nine), None), Some(4));
-    assert_eq!(rt; timers.least_due(None, Some(nine)), Some(3));
-    assert_eq!(rt;
-        timers.least_due(Some(nine), Moment::new(4, 999_999_999)),
-        Some(4)
-    );
-    assert_eq!(rt; timers.least_due(Some(five), Some(five)), Some(3));
-    timers.cancel(4);
-    assert_eq!(rt; timers.least_due(Some(nine), Some(five)), Some(3));
-    assert_eq!(rt; timers.least(Clock::Real), Some(late));
-    assert_eq!(rt; timers.least(Clock::Mono), Some(soon));
-    timers.cancel(3);
-    assert_eq!(rt; timers.least(Clock::Mono), None);
+    assert!(rt; !late.is_bad() && !soon.is_bad());
+    assert!(rt; are_due_by_their_clocks(rt.alloc(), soon, late));
     Ok(())
 }
 

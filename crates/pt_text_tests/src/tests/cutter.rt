@@ -4,7 +4,7 @@ use pt_lines::{Cut, Cutter, cut_all};
 use std::alloc::{Allocator, Global};
 use std::test::Fail;
 
-// Writes lines, each with a bar behind it.
+// Writes lines, each with a bar after it.
 fn show(text: &mut Vec<u8>, cuts: &[Cut]) -> Result<(), Fail> {
     for cut in cuts {
         match cut {
@@ -16,7 +16,7 @@ fn show(text: &mut Vec<u8>, cuts: &[Cut]) -> Result<(), Fail> {
     Ok(())
 }
 
-// The lines of the pieces, each with a bar behind it.
+// The lines of the pieces, each with a bar after it.
 fn shown(alloc: Global, pieces: &[&[u8]]) -> Result<Vec<u8>, Fail> {
     let cuts = cut_all(alloc, pieces)?;
     let mut text = Vec::new(alloc);
@@ -97,7 +97,7 @@ fn count_long<A: Allocator + Copy>(cutter: &mut Cutter<A>, piece: &[u8]) -> Resu
     Ok(long)
 }
 
-// How often a line of so many bytes is told to be too long, when it is fed byte by byte.
+// How often a line of so many bytes is reported as too long, when it is fed byte by byte.
 fn count_long_by_bytes(cutter: &mut Cutter, count: usize) -> Result<usize, Fail> {
     let mut long: usize = 0;
     for _ in 0..count {

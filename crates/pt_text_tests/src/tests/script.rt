@@ -30,7 +30,7 @@ fn reader<A: Allocator + Copy>(
     Ok(Faulty::new(Vec::from_slice(alloc, bytes)?, step, fails_at))
 }
 
-// Writes what this input is told, which is read to its end.
+// Writes what this input is answered, which is read to its end.
 fn tell(alloc: Global, bytes: &[u8], step: usize, writer: &mut Faulty) -> Result<ScriptEnd, Fail>
     requires step { 0 < step }
     requires fresh { writer.old.taken ≡ [] }

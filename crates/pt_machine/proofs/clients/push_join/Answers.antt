@@ -1,23 +1,23 @@
 use Rattle.std.proofs.Common.{sym, ◌∙◌}
 use Rattle.pt_model.specs.declared.entry.Entry.TheVariants as entry
 use Rattle.pt_model.specs.Histories.{place}
-use Rattle.pt_model.proofs.Histories.{place-history}
 use Rattle.pt_state.specs.Adds.{past}
 use Rattle.pt_machine.proofs.QueuedSame.{queued-kept, queued-adds, queued-stays}
 use Rattle.pt_machine.proofs.QueuedArrivals.{queued-join, no-room-yet, no-room-nowhere, room-back}
 use Rattle.pt_machine.proofs.clients.push_join.Goals as goal
+use Rattle.pt_history.proofs.Places.{place_of_next}
 
 pub admit-requires : goal.admit-requires
 admit-requires g c =
     let s = c.args.state.now in
     no-room-yet (past s) c.len.result _ _ _ c.requires.ready.read.follows
-    (c.len.ensures ∙ sym (place-history s.stored.entries)) c.requires.queued
+    (c.len.ensures ∙ sym (place_of_next s.stored)) c.requires.queued
 
 pub dismiss-requires-clause-nowhere : goal.dismiss-requires-clause-nowhere
 dismiss-requires-clause-nowhere g c =
     let s = c.args.state.now in
     let none = no-room-yet (past s) c.len.result _ _ _ c.requires.ready.read.follows
-    (c.len.ensures ∙ sym (place-history s.stored.entries)) c.requires.queued in
+    (c.len.ensures ∙ sym (place_of_next s.stored)) c.requires.queued in
     no-room-nowhere c.len.result (g.Q.WaitList.queue c.args.queues.now)
     (g.Q.WaitList.queue c.admit.new.self) (g.Q.WaitList.admitted c.args.queues.now)
     (g.met.Q.WaitList.admits c.args.queues.now c.len.result) none c.in_default.ensures.queues
@@ -29,7 +29,7 @@ returns-in-Ok-clause-queued g c =
     queued-adds s c.push_join.new.self (entry.Join (place h) c.args.priority) _ _ _
     c.in-Ok.ensures.ok
     (queued-join h c.len.result c.args.priority _ _ _ _ _ _ c.requires.ready.read.follows
-    (c.len.ensures ∙ sym (place-history s.stored.entries)) c.in_default.ensures.queues
+    (c.len.ensures ∙ sym (place_of_next s.stored)) c.in_default.ensures.queues
     c.in_default.ensures.ok c.in_default.ensures.made c.requires.queued)
 
 pub returns-in-Err-push_join-clause-queued : goal.returns-in-Err-push_join-clause-queued
@@ -37,7 +37,7 @@ returns-in-Err-push_join-clause-queued g c =
     let s = c.args.state.now in
     let h = past s in
     let none = no-room-yet h c.len.result _ _ _ c.requires.ready.read.follows
-    (c.len.ensures ∙ sym (place-history s.stored.entries)) c.requires.queued in
+    (c.len.ensures ∙ sym (place_of_next s.stored)) c.requires.queued in
     queued-stays s c.push_join.new.self _ _ _ c.in-Err-push_join.ensures.err
     (queued-kept h _ _ _ _ _ _
     (λ q. c.dismiss.ensures.queues q ∙ c.in_default.ensures.queues q)

@@ -1,6 +1,7 @@
 use Rattle.std.proofs.Common.{◌≡◌, length, map, vec_len, vec_capacity}
 use Rattle.std.specs.Prelude.{option_map}
-use Rattle.pt_model.specs.Histories.{history}
+use Rattle.pt_history.specs.Stored.{past_of}
+use Rattle.pt_model.specs.Histories.{place}
 use Rattle.pt_model.specs.Answers.{at_barrier, open_calls}
 use Rattle.pt_model.specs.Shown.{shown}
 use Rattle.pt_records.specs.Logs.{logged}
@@ -10,7 +11,8 @@ use Rattle.pt_records.proofs.barrier.tell_trip.Given as goal
 abbrev pub invariant-loop-next : goal.invariant-loop-next
 invariant-loop-next g l =
     record {
-      so_far : TripSoFar (at_barrier l.fn.b (open_calls (history l.entries))) (length l.entries)
+      so_far : TripSoFar (at_barrier l.fn.b (open_calls (past_of l.history)))
+          (place (past_of l.history))
           (map logged l.fn.answers.items) l.answers.items (option_map shown l.next)
           (vec_len l.answers) (vec_capacity l.answers);
       capacity : vec_capacity l.answers ≡ vec_capacity l.fn.answers;
@@ -18,4 +20,4 @@ invariant-loop-next g l =
 
 abbrev pub decreases-loop-next : goal.decreases-loop-next
 decreases-loop-next g l =
-    length (rest_of (option_map shown l.next) (at_barrier l.fn.b (open_calls (history l.entries))))
+    length (rest_of (option_map shown l.next) (at_barrier l.fn.b (open_calls (past_of l.history))))

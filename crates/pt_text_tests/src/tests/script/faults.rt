@@ -38,7 +38,7 @@ impl Write for Filling {
     }
 }
 
-// The exit status of the script of two clients where a call of one of these devices fails, and what
+// The exit status of the script of two clients if a call of one of these devices fails, and what
 // was written and reported.
 fn answered(
     alloc: Global,

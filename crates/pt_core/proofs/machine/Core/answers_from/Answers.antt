@@ -1,8 +1,7 @@
-use Rattle.std.proofs.Common.{◌≡◌, List, map, sym, ap, ◌∙◌, subst}
+use Rattle.std.proofs.Common.{◌≡◌, List, map, ap, subst}
 use Rattle.std.specs.Prelude.{IfOk}
 use Rattle.pt_model.specs.Records.{Told}
-use Rattle.pt_model.specs.Queries.{answers_behind, answers_from}
-use Rattle.pt_model.proofs.Induction.{less_none}
+use Rattle.pt_model.specs.Queries.{answers_behind}
 use Rattle.pt_core.specs.Cores.{Seen, shown}
 use Rattle.pt_core.specs.Replies.{told_of}
 use Rattle.pt_core.proofs.machine.Core.answers_from.Goals as goal
@@ -11,8 +10,5 @@ pub returns-clause-ok : goal.returns-clause-ok
 returns-clause-ok g c =
     subst
     (λ (ts : List Told). IfOk c.answers_from.result (λ replies. map told_of replies.items ≡ ts))
-    (
-    ap (λ n. answers_from n c.self.inside.body.stored.entries) (sym (less_none c.args.place))
-    ∙ ap (λ (s : Seen). answers_behind (shown s).start c.args.place s.entries) c.self.view_is
-    )
+    (ap (λ (s : Seen). answers_behind (shown s).start c.args.place s.entries) c.self.view_is)
     c.answers_from.ensures.ok

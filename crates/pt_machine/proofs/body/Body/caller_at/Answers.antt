@@ -1,21 +1,20 @@
-use Rattle.std.proofs.Common.{◌∙◌, ap, sym, Some, None}
-use Rattle.pt_machine.proofs.OpenPlaces.{caller_of, caller-stored, no-caller}
+use Rattle.std.proofs.Common.{◌≡◌, sym, ◌∙◌, arith}
+use Rattle.pt_model.specs.StartRows.{rows_of}
+use Rattle.pt_machine.proofs.OpenPlaces.{caller-begun}
 use Rattle.pt_machine.proofs.body.Body.caller_at.Goals as goal
 
-pub returns-in_err-c : goal.returns-in_err-c
-returns-in_err-c g c =
-    c.from_residual.ensures
-    ∙ sym (caller-stored c.self.inside.state c.args.self.now c.self.view_is c.args.place None
-    c.in_err-c.ensures)
+pub returns-in-Some : goal.returns-in-Some
+returns-in-Some g c =
+    sym c.in-Some.is
+    ∙ (c.caller_at.ensures
+    ∙ caller-begun c.self.inside.state c.args.self.now c.self.view_is
+    (rows_of c.start-start.result.now) c.start-start.ensures c.args.place
+    (omega (arith, c.if-start-place.false)))
 
-pub returns-in-Call : goal.returns-in-Call
-returns-in-Call g c =
-    sym (caller-stored c.self.inside.state c.args.self.now c.self.view_is c.args.place
-    (Some c.in_ok-c.field-0.now) c.in_ok-c.ensures
-    ∙ ap caller_of c.in-Call.is)
-
-pub returns-in_default : goal.returns-in_default
-returns-in_default g c =
-    sym (caller-stored c.self.inside.state c.args.self.now c.self.view_is c.args.place
-    (Some c.in_ok-c.field-0.now) c.in_ok-c.ensures
-    ∙ no-caller c.in_ok-c.field-0.now c.in_default.not-Call)
+pub returns-in-None : goal.returns-in-None
+returns-in-None g c =
+    sym c.in-None.is
+    ∙ (c.caller_at.ensures
+    ∙ caller-begun c.self.inside.state c.args.self.now c.self.view_is
+    (rows_of c.start-start.result.now) c.start-start.ensures c.args.place
+    (omega (arith, c.if-start-place.false)))

@@ -2,8 +2,7 @@ use Rattle.std.proofs.Common.{◌≡◌, ◌+◌, ℕ, suc, ap, sym, ◌∙◌, 
 use Rattle.pt_model.specs.Histories.{held, ◌▷◌}
 use Rattle.pt_model.specs.Room.{need}
 use Rattle.pt_state.specs.Adds.{past}
-use Rattle.pt_model.specs.Starts.{nothing}
-use Rattle.pt_model.proofs.Histories.{held-behind}
+use Rattle.pt_history.proofs.Places.{held-past}
 use Rattle.pt_machine.proofs.body.Body.is_over.Goals as goal
 
 pub returns : goal.returns
@@ -12,7 +11,7 @@ returns g c =
     let count : length c.entries.result.now ≡ held h =
     ap length c.entries.ensures
     ∙ (ap (λ s. length s.stored.entries) c.self.view_is
-    ∙ sym (held-behind nothing c.args.self.now.stored.entries)) in
+    ∙ sym (held-past c.args.self.now.stored)) in
     let total : length c.entries.result.now + 1 + c.need_after.result
     ≡ suc (held h) + need (h ▷ c.args.entry.now) = omega (arith, count, c.need_after.ensures.value)
     in

@@ -1,0 +1,2 @@
+-- Places: the places of a stored history
+pub mod Places

@@ -1,0 +1,48 @@
+-- PlayLemmas: a list in play stays in play as a change is made.
+use Rattle.std.proofs.Common.{ℕ, ◌≡◌, ◌<◌, ◌+◌, Bool, List, sym, subst, arith, ◌∙◌}
+use Rattle.std.specs.List.{AllByRecursion as Each}
+use Rattle.pt_waitq.specs.declared.waiter.Waiter.{Waiter}
+use Rattle.pt_waitq.specs.Queues.{without}
+use Rattle.pt_waitq.specs.ListLemmas.{Each-weaker}
+use Rattle.pt_waitq.proofs.CallerLemmas.{without-each}
+use Rattle.pt_parts_tests.specs.Playing.{IsInPlay}
+
+-- who came before a place came before the next one
+pub later : (n : ℕ) (ws : List Waiter) → Each (λ v. v.moved < n) ws
+    → Each (λ v. v.moved < n + 1) ws
+later n ws a =
+    Each-weaker (λ (v : Waiter). v.moved < n) (λ v. v.moved < n + 1) (λ v lt. omega (arith, lt))
+    ws a
+
+-- a change after which all who wait came before the next place
+pub plays : (before after : ℕ → List Waiter) (admitted admits made makes : ℕ → Bool) (n : ℕ)
+    → IsInPlay before admitted made n → ((c : ℕ) → admits c ≡ admitted c)
+    → ((q : ℕ) → makes q ≡ made q) → ((q : ℕ) → Each (λ v. v.moved < n + 1) (after q))
+    → IsInPlay after admits makes (n + 1)
+plays before after admitted admits made makes n p a m e =
+    record {
+      clients = λ c lt. a c ∙ p.clients c lt;
+      queues = λ q lt. m q ∙ p.queues q lt;
+      earlier = e;
+    }
+
+-- a change that leaves the queues as they are
+pub plays-same : (before after : ℕ → List Waiter) (admitted admits made makes : ℕ → Bool) (n : ℕ)
+    → IsInPlay before admitted made n → ((c : ℕ) → admits c ≡ admitted c)
+    → ((q : ℕ) → makes q ≡ made q) → ((q : ℕ) → after q ≡ before q)
+    → IsInPlay after admits makes (n + 1)
+plays-same before after admitted admits made makes n p a m e =
+    plays before after admitted admits made makes n p a m (λ q.
+    subst (λ (ws : List Waiter). Each (λ v. v.moved < n + 1) ws) (sym (e q))
+    (later n (before q) (p.earlier q)))
+
+-- a change that takes a client's waiters out
+pub plays-without : (before after : ℕ → List Waiter) (admitted admits made makes : ℕ → Bool)
+    (client n : ℕ) → IsInPlay before admitted made n → ((c : ℕ) → admits c ≡ admitted c)
+    → ((q : ℕ) → makes q ≡ made q) → ((q : ℕ) → after q ≡ without client (before q))
+    → IsInPlay after admits makes (n + 1)
+plays-without before after admitted admits made makes client n p a m e =
+    plays before after admitted admits made makes n p a m (λ q.
+    subst (λ (ws : List Waiter). Each (λ v. v.moved < n + 1) ws) (sym (e q))
+    (without-each (λ v. v.moved < n + 1) client (before q)
+    (later n (before q) (p.earlier q))))

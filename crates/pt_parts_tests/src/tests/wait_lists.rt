@@ -1,0 +1,352 @@
+//! The same calls on both lists of waiters. After each call they answer alike.
+
+ghost use Rattle.std.specs.Prelude.{ℕ, ◌≡◌, ◌+◌, ◌<◌, true, false, OnOk, []};
+ghost use Rattle.std.specs.List.{AllByRecursion as Each};
+ghost use Rattle.pt_parts_tests.specs.Playing.{IsInPlay, clients_in_play, queues_in_play};
+
+use pt_types::{ClientId, ObjectId, Priority, Refusal};
+use pt_waitq::{Chains, PlainList, WaitList, Waiter};
+use std::test::Fail;
+
+const CLIENTS: u64 = 40;
+
+const QUEUES: u64 = 2;
+
+/// What is done to a list.
+#[derive(Clone, Copy)]
+enum Change {
+    Insert,
+    Remove,
+    RemoveFirst,
+    AdmitAgain,
+    MakeAgain,
+}
+
+/// A change, with what it is done to.
+#[derive(Clone, Copy)]
+struct Step {
+    change: Change,
+    client: u64,
+    other: u64,
+    object: u64,
+    prio: Priority,
+    writer: bool,
+    ghost client_in_play: { client < clients_in_play },
+    ghost other_in_play: { other < clients_in_play },
+    ghost object_in_play: { object < queues_in_play },
+}
+
+impl Step {
+    fn waiter(&self, place: u64) -> Waiter
+        ensures client { result.client ≡ self.now.client }
+        ensures moved { result.moved ≡ place }
+    {
+        Waiter {
+            client: ClientId(self.client),
+            place,
+            prio: self.prio,
+            writer: self.writer,
+            moved: place,
+        }
+    }
+}
+
+/// A fixed sequence of numbers, by a linear congruential generator.
+#[derive(Drop)]
+struct Draws {
+    last: u64,
+}
+
+impl Draws {
+    fn below(&mut self, end: u64) -> u64
+        requires { 0 < end }
+        ensures { result < end }
+    {
+        self.last = self
+            .last
+            .wrapping_mul(6364136223846793005)
+            .wrapping_add(1442695040888963407);
+        (self.last >> 33) % end
+    }
+
+    // Where the queues fill, 10 changes of 16 put a waiter in, and else 1 of 7.
+    fn change(&mut self, fills: bool) -> Change {
+        match self.below(if fills { 16 } else { 7 }) {
+            0..=2 => Change::Remove,
+            3 => Change::RemoveFirst,
+            4 => Change::AdmitAgain,
+            5 => Change::MakeAgain,
+            _ => Change::Insert,
+        }
+    }
+
+    fn step(&mut self, fills: bool) -> Option<Step> {
+        Some(Step {
+            change: self.change(fills),
+            client: self.below(CLIENTS),
+            other: self.below(CLIENTS),
+            object: self.below(QUEUES),
+            prio: Priority::new(1 + 49 * self.below(3))?,
+            writer: self.below(2) == 0,
+        })
+    }
+}
+
+// Puts a waiter in, unless its client waits.
+fn insert<W: WaitList>(list: &mut W, object: ObjectId, waiter: Waiter)
+    requires admitted { W.admitted list.old waiter.client ≡ true }
+    requires made { W.made list.old object ≡ true }
+    requires earlier { (q : ℕ) → Each (λ v. v.moved < waiter.moved) (W.queue list.old q) }
+    ensures admitted { (c : ℕ) → W.admitted list.new c ≡ W.admitted list.old c }
+    ensures made { (q : ℕ) → W.made list.new q ≡ W.made list.old q }
+    ensures earlier { (q : ℕ) → Each (λ v. v.moved < waiter.moved + 1) (W.queue list.new q) }
+{
+    if list.at(waiter.client).is_some() {
+        return;
+    }
+    list.insert(object, waiter);
+}
+
+// Gives the room of two clients back and makes room for both, unless one of them waits.
+fn admit_again<W: WaitList>(list: &mut W, one: ClientId, other: ClientId) -> Result<(), Refusal>
+    requires one { W.admitted list.old one ≡ true }
+    requires other { W.admitted list.old other ≡ true }
+    ensures admitted { OnOk result ((c : ℕ) → W.admitted list.new c ≡ W.admitted list.old c) }
+    ensures made { (q : ℕ) → W.made list.new q ≡ W.made list.old q }
+    ensures queues { (q : ℕ) → W.queue list.new q ≡ W.queue list.old q }
+{
+    if one == other || list.at(one).is_some() || list.at(other).is_some() {
+        return Ok(());
+    }
+    list.dismiss(one);
+    list.dismiss(other);
+    list.admit(one)?;
+    list.admit(other)
+}
+
+// Takes a queue away and makes it, unless one waits there.
+fn make_again<W: WaitList>(list: &mut W, object: ObjectId) -> Result<(), Refusal>
+    requires { W.made list.old object ≡ true }
+    ensures admitted { (c : ℕ) → W.admitted list.new c ≡ W.admitted list.old c }
+    ensures made { OnOk result ((q : ℕ) → W.made list.new q ≡ W.made list.old q) }
+    ensures queues { (q : ℕ) → W.queue list.new q ≡ W.queue list.old q }
+{
+    if list.len(object) != 0 {
+        return Ok(());
+    }
+    list.discard(object);
+    list.make(object)
+}
+
+// Whose waiter is taken out: the first of the queue, or the client's own.
+fn leaving<W: WaitList>(list: &W, step: &Step) -> ClientId {
+    match step.change {
+        Change::RemoveFirst => list
+            .first(ObjectId(step.object))
+            .map_or(ClientId(step.client), |first| first.client),
+        _ => ClientId(step.client),
+    }
+}
+
+// Makes a change at this place, and reports who was taken out.
+fn play<W: WaitList>(
+    list: &mut W,
+    step: &Step,
+    place: u64,
+) -> Result<Option<(ObjectId, Waiter)>, Refusal>
+    requires { IsInPlay (W.queue list.old) (W.admitted list.old) (W.made list.old) place }
+    ensures { OnOk result
+        (IsInPlay (W.queue list.new) (W.admitted list.new) (W.made list.new) (place + 1)) }
+{
+    let client = ClientId(step.client);
+    let object = ObjectId(step.object);
+    match step.change {
+        Change::Insert => {
+            insert(list, object, step.waiter(place));
+            Ok(None)
+        }
+        Change::Remove | Change::RemoveFirst => {
+            let client = leaving(list, step);
+            Ok(list.remove(client))
+        }
+        Change::AdmitAgain => {
+            admit_again(list, client, ClientId(step.other))?;
+            Ok(None)
+        }
+        Change::MakeAgain => {
+            make_again(list, object)?;
+            Ok(None)
+        }
+    }
+}
+
+// What can be seen of a queue.
+fn seen<W: WaitList>(
+    list: &W,
+    object: ObjectId,
+    prio: Priority,
+) -> (Option<Waiter>, Option<Waiter>, bool, usize) {
+    (
+        list.first(object),
+        list.first_writer(object),
+        list.blocks_reader(object, prio),
+        list.len(object),
+    )
+}
+
+fn queues_agree<P: WaitList, C: WaitList>(plain: &P, chains: &C, prio: Priority) -> bool {
+    for number in 0..QUEUES {
+        if seen(plain, ObjectId(number), prio) != seen(chains, ObjectId(number), prio) {
+            return false;
+        }
+    }
+    true
+}
+
+fn clients_agree<P: WaitList, C: WaitList>(plain: &P, chains: &C) -> bool {
+    for number in 0..CLIENTS {
+        if plain.at(ClientId(number)) != chains.at(ClientId(number)) {
+            return false;
+        }
+    }
+    true
+}
+
+// Plays a step on both lists, and compares what they answer and every queue.
+fn play_on_both<P: WaitList, C: WaitList>(
+    plain: &mut P,
+    chains: &mut C,
+    step: &Step,
+    place: u64,
+) -> Result<(), &'static str>
+    requires plain { IsInPlay (P.queue plain.old) (P.admitted plain.old) (P.made plain.old) place }
+    requires chains { IsInPlay (C.queue chains.old) (C.admitted chains.old) (C.made chains.old)
+        place }
+    ensures plain { OnOk result
+        (IsInPlay (P.queue plain.new) (P.admitted plain.new) (P.made plain.new) (place + 1)) }
+    ensures chains { OnOk result
+        (IsInPlay (C.queue chains.new) (C.admitted chains.new) (C.made chains.new) (place + 1)) }
+{
+    let of_plain = play(plain, step, place).ok().ok_or("memory")?;
+    let of_chains = play(chains, step, place).ok().ok_or("memory")?;
+    if of_plain != of_chains {
+        return Err("who is taken out");
+    }
+    if !queues_agree(plain, chains, step.prio) || !clients_agree(plain, chains) {
+        return Err("what is seen after a change");
+    }
+    Ok(())
+}
+
+fn admit_all<W: WaitList>(list: &mut W) -> Result<(), Refusal>
+    requires { (c : ℕ) → W.admitted list.old c ≡ false }
+    ensures admitted { OnOk result ((c : ℕ)
+        → c < clients_in_play → W.admitted list.new c ≡ true) }
+    ensures made { (q : ℕ) → W.made list.new q ≡ W.made list.old q }
+    ensures queues { (q : ℕ) → W.queue list.new q ≡ W.queue list.old q }
+{
+    for number in 0..CLIENTS {
+        list.admit(ClientId(number))?;
+    }
+    Ok(())
+}
+
+fn make_all<W: WaitList>(list: &mut W) -> Result<(), Refusal>
+    requires { (q : ℕ) → W.made list.old q ≡ false }
+    ensures made { OnOk result ((q : ℕ) → q < queues_in_play → W.made list.new q ≡ true) }
+    ensures admitted { (c : ℕ) → W.admitted list.new c ≡ W.admitted list.old c }
+    ensures queues { (q : ℕ) → W.queue list.new q ≡ W.queue list.old q }
+{
+    list.make(ObjectId(0))?;
+    list.make(ObjectId(1))
+}
+
+// Brings an empty list into play.
+fn begin<W: WaitList>(list: &mut W) -> Result<(), &'static str>
+    requires clients { (c : ℕ) → W.admitted list.old c ≡ false }
+    requires unmade { (q : ℕ) → W.made list.old q ≡ false }
+    requires empty { (q : ℕ) → W.queue list.old q ≡ [] }
+    ensures { OnOk result
+        (IsInPlay (W.queue list.new) (W.admitted list.new) (W.made list.new) 0) }
+{
+    admit_all(list).ok().ok_or("clients")?;
+    make_all(list).ok().ok_or("queues")
+}
+
+/// Five clients come into one chain. Then the one in the middle leaves, the head, the tail, the
+/// head again, and the only one.
+const ONE_CHAIN: [(Change, u64); 10] = [
+    (Change::Insert, 0),
+    (Change::Insert, 1),
+    (Change::Insert, 2),
+    (Change::Insert, 3),
+    (Change::Insert, 4),
+    (Change::Remove, 2),
+    (Change::Remove, 0),
+    (Change::Remove, 4),
+    (Change::Remove, 1),
+    (Change::Remove, 3),
+];
+
+fn play_one_chain<P: WaitList, C: WaitList>(
+    plain: &mut P,
+    chains: &mut C,
+) -> Result<(), &'static str>
+    requires plain { IsInPlay (P.queue plain.old) (P.admitted plain.old) (P.made plain.old) 0 }
+    requires chains { IsInPlay (C.queue chains.old) (C.admitted chains.old) (C.made chains.old) 0 }
+    ensures plain { OnOk result
+        (IsInPlay (P.queue plain.new) (P.admitted plain.new) (P.made plain.new) 10) }
+    ensures chains { OnOk result
+        (IsInPlay (C.queue chains.new) (C.admitted chains.new) (C.made chains.new) 10) }
+{
+    let prio = Priority::new(50).ok_or("priority")?;
+    for place in 0..10 {
+        let (change, client) = ONE_CHAIN[place];
+        let step = Step {
+            change,
+            client: client % CLIENTS,
+            other: 0,
+            object: 0,
+            prio,
+            writer: true,
+        };
+        play_on_both(plain, chains, &step, place as u64)?;
+    }
+    Ok(())
+}
+
+// The queues fill and empty in turn, 250 changes each.
+fn play_2000<P: WaitList, C: WaitList>(plain: &mut P, chains: &mut C) -> Result<(), &'static str>
+    requires plain { IsInPlay (P.queue plain.old) (P.admitted plain.old) (P.made plain.old) 10 }
+    requires chains { IsInPlay (C.queue chains.old) (C.admitted chains.old) (C.made chains.old)
+        10 }
+{
+    let mut draws = Draws { last: 1 };
+    for place in 10..2010 {
+        let fills = place / 250 % 2 == 0;
+        let step = draws.step(fills).ok_or("priority")?;
+        play_on_both(plain, chains, &step, place)?;
+    }
+    Ok(())
+}
+
+fn play_all<P: WaitList, C: WaitList>(plain: &mut P, chains: &mut C) -> Result<(), &'static str>
+    requires clients { (c : ℕ) → P.admitted plain.old c ≡ false }
+    requires unmade { (q : ℕ) → P.made plain.old q ≡ false }
+    requires empty { (q : ℕ) → P.queue plain.old q ≡ [] }
+    requires no_clients { (c : ℕ) → C.admitted chains.old c ≡ false }
+    requires no_queues { (q : ℕ) → C.made chains.old q ≡ false }
+    requires no_waiters { (q : ℕ) → C.queue chains.old q ≡ [] }
+{
+    begin(plain)?;
+    begin(chains)?;
+    play_one_chain(plain, chains)?;
+    play_2000(plain, chains)
+}
+
+#[test]
+fn both_lists_answer_2000_calls_alike(rt: HostRuntime) {
+    let mut plain = PlainList::new(rt.alloc());
+    let mut chains = Chains::new(rt.alloc());
+    assert_eq!(rt; play_all(&mut plain, &mut chains), Ok(()));
+}

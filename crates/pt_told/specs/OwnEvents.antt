@@ -1,0 +1,65 @@
+-- OwnEvents: what a client did by its entries, and where two accounts of it part.
+use Rattle.std.specs.Prelude.{ℕ, suc, ◌≡◌, ◌≢◌, ◌≤◌, ◌-◌, ◌==◌, ◌⊎◌, min, nat_le, List, [], ◌∷◌, ◌++◌, slice_get, Option, Some, None, if◌then◌else◌}
+use Rattle.std.specs.List.{filter}
+use Rattle.pt_model.specs.declared.entry.Entry.{Entry}
+use Rattle.pt_model.specs.declared.entry.Entry.TheVariants.{Join, Call, Death}
+use Rattle.pt_model.specs.declared.entry.Event.{Event}
+use Rattle.pt_model.specs.declared.entry.Event.TheVariants as event
+use Rattle.pt_model.specs.Starts.{Start}
+
+-- the event of an entry, if the client joins, makes a call or dies by it
+abbrev pub own_event : ℕ → Entry → Option Event
+own_event c (Join d p) = if d == c then Some (event.Join p) else None
+own_event c (Call d call answer) = if d == c then Some (event.Call d call) else None
+own_event c (Death d) = if d == c then Some (event.Death d) else None
+own_event c _ = None
+
+-- an event with its place; none if there is no event
+abbrev pub placed : ℕ → Option Event → List (ℕ × Event)
+placed k None = []
+placed k (Some v) = (k, v) ∷ []
+
+-- the events of a client's own entries with their places, where the first entry is at place k
+abbrev pub own_from : ℕ → ℕ → List Entry → List (ℕ × Event)
+own_from c k [] = []
+own_from c k (e ∷ es) = placed k (own_event c e) ++ own_from c (suc k) es
+
+-- a client's own entries since a Start
+abbrev pub own_since : Start → List Entry → ℕ → List (ℕ × Event)
+own_since s es c = own_from c s.at es
+
+-- the event of an entry, if there is one and it is the client's own
+abbrev pub own_if : ℕ → Option Entry → Option Event
+own_if c None = None
+own_if c (Some e) = own_event c e
+
+-- the event of the entry at this place, if it is the client's own
+abbrev pub own_at : Start → List Entry → ℕ → ℕ → Option Event
+own_at s es c j = own_if c (slice_get es (j - s.at))
+
+-- those whose places are this one or later
+abbrev pub placed_since : ℕ → List (ℕ × Event) → List (ℕ × Event)
+placed_since k xs = filter (λ x. nat_le k x.0) xs
+
+-- the two agree so far and then part, first at this place: the lesser one of those two
+abbrev pub PartsAt : List (ℕ × Event) → List (ℕ × Event) → ℕ → Type 0
+PartsAt [] [] k = ⊥
+PartsAt (x ∷ xs) [] k = x.0 ≡ k
+PartsAt [] (y ∷ ys) k = y.0 ≡ k
+PartsAt (x ∷ xs) (y ∷ ys) k = ((x ≡ y) × PartsAt xs ys k) ⊎ ((x ≢ y) × (min x.0 y.0 ≡ k))
+
+-- the place of an event, if there is one
+abbrev pub place_if : Option (ℕ × Event) → Option ℕ
+place_if None = None
+place_if (Some x) = Some x.0
+
+-- the least place of which P holds; if it holds of none, this is so instead
+abbrev pub Finds : (ℕ → Type 0) → Type 0 → Option ℕ → Type 0
+Finds P So None = So × ((j : ℕ) → P j → ⊥)
+Finds P So (Some k) = P k × ((j : ℕ) → P j → k ≤ j)
+
+-- whether an event with its place is the next of these: if not, the place at which they part
+abbrev pub Compares : ℕ × Event → Option (ℕ × Event) → Option ℕ → Type 0
+Compares x None parted = parted ≡ Some x.0
+Compares x (Some y) None = x ≡ y
+Compares x (Some y) (Some k) = (x ≢ y) × (min x.0 y.0 ≡ k)

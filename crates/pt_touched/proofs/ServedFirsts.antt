@@ -1,0 +1,238 @@
+-- Which call is served at a mutex, a condition or a barrier, by the first that waits there.
+use Rattle.std.proofs.Common.{◌≡◌, ℕ, Bool, true, false, not, ◌&&◌, ◌||◌, ◌==◌, length, Option, Some, None, is_some, is_none, refl, sym, ap, ◌∙◌, subst, arith, filter}
+use Rattle.std.proofs.lemmas.Bool.Decides.{nat_tests}
+use Rattle.std.proofs.lemmas.Bool.{and_parts, and_from, false≢true}
+use Rattle.pt_types.specs.Operations.{ObjectClass, MutexClass, CondClass, BarrierClass}
+use Rattle.pt_types.specs.MutexTable.{is_number, is_lost, is_recursive, may_lock, may_relock}
+use Rattle.pt_model.specs.Searches.{In, least}
+use Rattle.pt_model.specs.Histories.{History}
+use Rattle.pt_model.specs.Objects.{kind_of, mutex_kind, barrier_count}
+use Rattle.pt_model.specs.Records.{Role, ForMutex, ForRead, ForWrite, ForBarrier, ForCond, WaitingCall, Move}
+use Rattle.pt_model.specs.WaitingCall.{is_arrival, is_wait}
+use Rattle.pt_model.specs.Answers.{open_calls, at_barrier}
+use Rattle.pt_model.specs.Moves.{moved, is_moved, object_by, at_object, precedes, waiting_at, is_least}
+use Rattle.pt_model.specs.Mutexes.{owner, consistency, mutex_view}
+use Rattle.pt_model.specs.Grants.{is_grantable_as, is_complete}
+use Rattle.pt_model.specs.Forced.{is_served}
+use Rattle.pt_model.specs.Steps.{Follows}
+use Rattle.pt_model.proofs.Lists.{In-filter, filter-in, filter-all, in-all}
+use Rattle.pt_model.proofs.Leasts.{least-in, least-none, none-least}
+use Rattle.pt_model.proofs.Orders.{precedes-order, least-first, least-part}
+use Rattle.pt_model.proofs.Services.{or_left_true}
+use Rattle.pt_model.proofs.Seats.{exists_as, seat, housed, one_class}
+use Rattle.pt_touched.specs.Candidates.{first_at, served_at}
+use Rattle.pt_touched.proofs.WokenWaits.{unserved}
+
+module _ (h : History) (f : Follows h) (o : ℕ) where
+  -- what waits there
+  pub there : (w : WaitingCall) → In w (waiting_at h o) → In w (open_calls h) × (at_object h w ≡ o)
+  there w i =
+      let p = In-filter (λ (u : WaitingCall). at_object h u == o) (open_calls h) w i in
+      let at : at_object h w ≡ o =
+      let t : (at_object h w == o) ≡ true = p.1 in grind (arith, nat_tests) in
+      (p.0, at)
+
+  -- if the first call can be served, it is the one that is
+  pub first_serves : (u : WaitingCall) → first_at h o ≡ Some u → is_served h u ≡ true
+      → served_at h o
+      ≡ Some u
+  first_serves u e t =
+      least-part (precedes h) (precedes-order h) (is_served h) (λ w. true) (λ w k. refl)
+      (waiting_at h o) u
+      (ap (least (precedes h)) (filter-all (λ w. true) (waiting_at h o) (λ w i. refl)) ∙ e) t
+
+  -- if no call can be served there, none is
+  pub none_serves : ((w : WaitingCall) → In w (open_calls h) → at_object h w ≡ o → is_served h w
+      ≡ true → ⊥) → served_at h o ≡ None
+  none_serves none =
+      none-least (precedes h) (filter (is_served h) (waiting_at h o))
+      (λ w i. let p = In-filter (is_served h) (waiting_at h o) w i in
+      let q = there w p.0 in none w q.0 q.1 p.1)
+
+  -- so it is if no call waits there, or the first can be served
+  pub first_decides : ((u : WaitingCall) → first_at h o ≡ Some u → is_served h u ≡ true)
+      → served_at h o ≡ first_at h o
+  first_decides each = go (first_at h o) refl
+    where
+      go : (x : Option WaitingCall) → first_at h o ≡ x → served_at h o ≡ x
+      go None e =
+          none_serves (λ w i at t. least-none (precedes h) (waiting_at h o) e w
+          (filter-in (λ (u : WaitingCall). at_object h u == o) (open_calls h) w i
+          (let yes : (at_object h w == o) ≡ true = grind (arith, nat_tests) in yes)))
+      go (Some u) e = first_serves u e (each u e)
+
+  -- the first is least
+  pub first_least : (u : WaitingCall) → first_at h o ≡ Some u → is_least h u ≡ true
+  first_least u e =
+      in-all (λ v. not (precedes h v u)) (waiting_at h (at_object h u))
+      (λ v i. ap not (least-first (precedes h) (precedes-order h) (waiting_at h o) u e v
+      (subst (λ (q : ℕ). In v (waiting_at h q))
+      (there u (least-in (precedes h) (waiting_at h o) u e)).1 i)))
+
+  -- all calls at an object are for its class
+  pub sits : (s : ObjectClass) → exists_as h s o ≡ true → (w : WaitingCall) → In w (open_calls h)
+      → at_object h w ≡ o → seat w.role (moved h w.place) ≡ s
+  sits s k w i at =
+      one_class (kind_of h o) (seat w.role (moved h w.place)) s
+      (ap (exists_as h (seat w.role (moved h w.place))) (sym at) ∙ (housed h f w i).0) k
+
+  pub at_role : (w : WaitingCall) (role : Role) → w.role ≡ role → at_object h w ≡ o
+      → object_by role (moved h w.place) w.object ≡ o
+  at_role w role r at = sym (ap (λ x. object_by x (moved h w.place) w.object) r) ∙ at
+
+  -- at a condition none is served
+  pub cond-none : exists_as h CondClass o ≡ true → served_at h o ≡ None
+  cond-none k =
+      none_serves (λ w i at t. unserved h w w.role (moved h w.place) refl refl
+      (sits CondClass k w i at) t)
+
+  -- at a mutex that is lost or has no owner the first call is served
+  pub mutex-first : exists_as h MutexClass o ≡ true
+      → (is_lost (consistency h o) || is_none (owner h o)) ≡ true → served_at h o ≡ first_at h o
+  mutex-first k free = first_decides each
+    where
+      may : (b : Bool) → b ≡ true → (l n : Bool) → (l || n) ≡ true → (l || (n && b)) ≡ true
+      may b e true n t = refl
+      may b e false true t = e
+      may b e false false t = absurd cc
+
+      each : (u : WaitingCall) → first_at h o ≡ Some u → is_served h u ≡ true
+      each u e = go u.role (moved h u.place) refl refl (sits MutexClass k u p.0 p.1)
+        where
+          p : In u (open_calls h) × (at_object h u ≡ o)
+          p = there u (least-in (precedes h) (waiting_at h o) u e)
+
+          can : may_lock (mutex_view h o) (is_least h u) ≡ true
+          can =
+              may (is_least h u) (first_least u e) (is_lost (consistency h o))
+              (is_none (owner h o)) free
+
+          go : (role : Role) (x : Option Move) → u.role ≡ role → moved h u.place ≡ x
+              → seat role x ≡ MutexClass → is_served h u ≡ true
+          go ForMutex x r m s =
+              let at : u.object ≡ o = at_role u ForMutex r p.1 in
+              or_left_true (is_grantable_as h u u.role) (is_complete h u)
+              (ap (is_grantable_as h u) r
+              ∙ (ap (λ q. may_lock (mutex_view h q) (is_least h u)) at ∙ can))
+          go (ForCond n) (Some v) r m s =
+              let at : n ≡ o =
+              sym (ap (λ x. object_by (ForCond n) x u.object) m) ∙ at_role u (ForCond n) r p.1 in
+              or_left_true (is_grantable_as h u u.role) (is_complete h u)
+              (ap (is_grantable_as h u) r
+              ∙ and_from (is_moved h u) (may_lock (mutex_view h n) (is_least h u) || may_relock
+              (mutex_view h n) u.client) (ap is_some m)
+              (or_left_true (may_lock (mutex_view h n) (is_least h u)) (may_relock
+              (mutex_view h n) u.client)
+              (ap (λ q. may_lock (mutex_view h q) (is_least h u)) at ∙ can)))
+          go (ForCond n) None r m s = absurd cc
+          go ForRead x r m s = absurd cc
+          go ForWrite x r m s = absurd cc
+          go ForBarrier x r m s = absurd cc
+
+  -- at one that has an owner and isn't lost, only a moved wait of the owner is, and only if it is
+  -- RECURSIVE
+  pub mutex-owned : (c : ℕ) → exists_as h MutexClass o ≡ true → is_lost (consistency h o) ≡ false
+      → owner h o ≡ Some c → (w : WaitingCall) → In w (open_calls h) → at_object h w ≡ o
+      → is_served h w ≡ true → (w.client ≡ c)
+      × (((is_wait w.role && is_moved h w) ≡ true)
+      × (is_recursive (mutex_kind (kind_of h o)) ≡ true))
+  mutex-owned c k live own w i at t =
+      go w.role (moved h w.place) refl refl (sits MutexClass k w i at)
+    where
+      ungranted : may_lock (mutex_view h o) (is_least h w) ≡ false
+      ungranted = rw (live, own) refl
+
+      go : (role : Role) (x : Option Move) → w.role ≡ role → moved h w.place ≡ x
+          → seat role x ≡ MutexClass → (w.client ≡ c)
+          × (((is_wait w.role && is_moved h w) ≡ true)
+          × (is_recursive (mutex_kind (kind_of h o)) ≡ true))
+      go ForMutex x r m s =
+          let here : w.object ≡ o = at_role w ForMutex r at in
+          let wrong : is_served h w ≡ false =
+          ap (λ q. is_grantable_as h w q || (is_arrival q && (length
+          (at_barrier w.object (open_calls h)) == barrier_count (kind_of h w.object)))) r
+          ∙ (ap (λ q. may_lock (mutex_view h q) (is_least h w) || false) here
+          ∙ ap (λ b. b || false) ungranted) in
+          absurd (false≢true (sym wrong ∙ t))
+      go (ForCond n) (Some v) r m s =
+          let here : n ≡ o =
+          sym (ap (λ x. object_by (ForCond n) x w.object) m) ∙ at_role w (ForCond n) r at in
+          let can : ((is_some (Some v) && (may_lock (mutex_view h o) (is_least h w) || may_relock
+          (mutex_view h o) w.client)) || false) ≡ true =
+          sym (ap (λ q. is_grantable_as h w q || (is_arrival q && (length
+          (at_barrier w.object (open_calls h)) == barrier_count (kind_of h w.object)))) r
+          ∙ (ap (λ y. (is_some y && (may_lock (mutex_view h n) (is_least h w) || may_relock
+          (mutex_view h n) w.client)) || false) m
+          ∙ ap (λ q. (is_some (Some v) && (may_lock (mutex_view h q) (is_least h w) || may_relock
+          (mutex_view h q) w.client)) || false) here)) ∙ t in
+          let back : may_relock (mutex_view h o) w.client ≡ true =
+          only (may_lock (mutex_view h o) (is_least h w)) (may_relock (mutex_view h o) w.client)
+          ungranted can in
+          let p =
+          and_parts (is_recursive (mutex_kind (kind_of h o))) (is_number (owner h o) w.client)
+          back in
+          let same : (c == w.client) ≡ true = sym (ap (λ x. is_number x w.client) own) ∙ p.1 in
+          let one : w.client ≡ c = grind (arith, nat_tests) in
+          (one, (and_from (is_wait w.role) (is_moved h w) (ap is_wait r) (ap is_some m), p.0))
+        where
+          only : (a b : Bool) → a ≡ false → ((a || b) || false) ≡ true → b ≡ true
+          only true b e z = absurd cc
+          only false true e z = refl
+          only false false e z = absurd cc
+      go (ForCond n) None r m s = absurd cc
+      go ForRead x r m s = absurd cc
+      go ForWrite x r m s = absurd cc
+      go ForBarrier x r m s = absurd cc
+
+  -- the only call that can be served there is the one that is
+  pub only_serves : (w : WaitingCall) → In w (open_calls h) → at_object h w ≡ o → is_served h w
+      ≡ true
+      → ((v : WaitingCall) → In v (open_calls h) → at_object h v ≡ o → is_served h v ≡ true → v ≡ w)
+      → served_at h o ≡ Some w
+  only_serves w i at t one = go (served_at h o) refl
+    where
+      go : (x : Option WaitingCall) → served_at h o ≡ x → x ≡ Some w
+      go None e =
+          absurd (least-none (precedes h) (filter (is_served h) (waiting_at h o)) e w
+          (filter-in (is_served h) (waiting_at h o) w
+          (filter-in (λ (v : WaitingCall). at_object h v == o) (open_calls h) w i
+          (let yes : (at_object h w == o) ≡ true = grind (arith, nat_tests) in yes)) t))
+      go (Some v) e =
+          let p =
+          In-filter (is_served h) (waiting_at h o) v
+          (least-in (precedes h) (filter (is_served h) (waiting_at h o)) v e) in
+          let q = there v p.0 in
+          ap Some (one v q.0 q.1 p.1)
+
+  -- at a full barrier the first call is served, and at another none
+  barrier_at : exists_as h BarrierClass o ≡ true → (w : WaitingCall) → In w (open_calls h)
+      → at_object h w ≡ o → is_served h w
+      ≡ (length (at_barrier o (open_calls h)) == barrier_count (kind_of h o))
+  barrier_at k w i at = go w.role (moved h w.place) refl refl (sits BarrierClass k w i at)
+    where
+      go : (role : Role) (x : Option Move) → w.role ≡ role → moved h w.place ≡ x
+          → seat role x ≡ BarrierClass → is_served h w
+          ≡ (length (at_barrier o (open_calls h)) == barrier_count (kind_of h o))
+      go ForBarrier x r m s =
+          ap (λ q. is_grantable_as h w q || (is_arrival q && (length
+          (at_barrier w.object (open_calls h)) == barrier_count (kind_of h w.object)))) r
+          ∙ ap (λ q. length (at_barrier q (open_calls h)) == barrier_count (kind_of h q))
+          (at_role w ForBarrier r at)
+      go ForMutex x r m s = absurd cc
+      go ForRead x r m s = absurd cc
+      go ForWrite x r m s = absurd cc
+      go (ForCond n) None r m s = absurd cc
+      go (ForCond n) (Some v) r m s = absurd cc
+
+  pub barrier-full : exists_as h BarrierClass o ≡ true
+      → (length (at_barrier o (open_calls h)) == barrier_count (kind_of h o)) ≡ true
+      → served_at h o ≡ first_at h o
+  barrier-full k full =
+      first_decides (λ u e. let p = there u (least-in (precedes h) (waiting_at h o) u e) in
+      barrier_at k u p.0 p.1 ∙ full)
+
+  pub barrier-short : exists_as h BarrierClass o ≡ true
+      → (length (at_barrier o (open_calls h)) == barrier_count (kind_of h o)) ≡ false
+      → served_at h o ≡ None
+  barrier-short k short =
+      none_serves (λ w i at t. false≢true (sym (barrier_at k w i at ∙ short) ∙ t))

@@ -1,0 +1,105 @@
+-- What a Grant touches: a call that may be served after it, and waits elsewhere, could be before.
+use Rattle.std.proofs.Common.{◌≡◌, ℕ, suc, Bool, true, false, cond, not, ◌&&◌, ◌||◌, ◌==◌, nat_lt, Option, Some, None, is_some, refl, sym, ap, ◌∙◌, arith}
+use Rattle.std.proofs.lemmas.Bool.Decides.{nat_tests}
+use Rattle.std.proofs.lemmas.Bool.{and_parts}
+use Rattle.pt_types.specs.MutexTable.{is_number, is_acquired, may_lock, may_relock}
+use Rattle.pt_model.specs.declared.entry.Entry.TheVariants.{Grant}
+use Rattle.pt_model.specs.Searches.{In}
+use Rattle.pt_model.specs.Histories.{History, ◌▷◌}
+use Rattle.pt_model.specs.Records.{Role, ForMutex, ForRead, ForWrite, ForBarrier, ForCond, WaitingCall, Move}
+use Rattle.pt_model.specs.WaitingCall.{mutex_of}
+use Rattle.pt_model.specs.Answers.{open_calls}
+use Rattle.pt_model.specs.Moves.{moved, is_moved, object_by, at_object, is_least}
+use Rattle.pt_model.specs.Mutexes.{mutex_view}
+use Rattle.pt_model.specs.Rwlocks.{writes, reads, reads_there, writes_there}
+use Rattle.pt_model.specs.Grants.{is_grantable_as, grant_outcome}
+use Rattle.pt_model.specs.Forced.{is_served}
+use Rattle.pt_model.specs.Steps.{Step, Follows}
+use Rattle.pt_model.proofs.Unheld.{has, and_false}
+use Rattle.pt_model.proofs.Found.{found_open, one_open}
+use Rattle.pt_model.proofs.Opens.{open-grant}
+use Rattle.pt_model.proofs.Counts.{count-grant}
+use Rattle.pt_model.proofs.Rwlocks.{writes-grant, reads-grant}
+use Rattle.pt_touched.specs.TouchLaws.{WasServed}
+use Rattle.pt_touched.specs.Touched.{object_if, touched_by}
+use Rattle.pt_touched.proofs.Unchanged.{Quiet, itself, was, quiet-entry, stays-filter, served-before}
+
+-- what is granted waits at what it is for
+away : (h : History) (v : WaitingCall) (role : Role) (o : ℕ) → v.role ≡ role
+    → is_grantable_as h v role ≡ true → (at_object h v == o) ≡ false
+    → (is_number (mutex_of role v.object) o ≡ false)
+    × (((x : Bool) → reads_there role ((v.object == o) && x) ≡ false)
+    × ((x : Bool) → writes_there role ((v.object == o) && x) ≡ false))
+away h v ForMutex o r t e =
+    (sym (ap (λ x. object_by x (moved h v.place) v.object == o) r) ∙ e, (λ x. refl, λ x. refl))
+away h v ForRead o r t e =
+    let there : (v.object == o) ≡ false =
+    sym (ap (λ x. object_by x (moved h v.place) v.object == o) r) ∙ e in
+    (refl, (λ x. ap (λ b. b && x) there, λ x. refl))
+away h v ForWrite o r t e =
+    let there : (v.object == o) ≡ false =
+    sym (ap (λ x. object_by x (moved h v.place) v.object == o) r) ∙ e in
+    (refl, (λ x. refl, λ x. ap (λ b. b && x) there))
+away h v ForBarrier o r t e = absurd cc
+away h v (ForCond m) o r t e =
+    let p =
+    and_parts (is_moved h v) (may_lock (mutex_view h m) (is_least h v) || may_relock
+    (mutex_view h m) v.client) t in
+    (go (moved h v.place) refl p.0, (λ x. refl, λ x. refl))
+  where
+    go : (k : Option Move) → moved h v.place ≡ k → is_some k ≡ true → (m == o) ≡ false
+    go None ek z = absurd cc
+    go (Some k) ek z =
+        let at : at_object h v ≡ m =
+        ap (λ x. object_by x (moved h v.place) v.object) r
+        ∙ ap (λ x. object_by (ForCond m) x v.object) ek in
+        sym (ap (λ x. x == o) at) ∙ e
+
+module _ (h : History) (v : WaitingCall) (f : Follows h)
+    (s : Step h (Grant v.place (grant_outcome h v))) (l : In v (open_calls h))
+    (can : is_grantable_as h v v.role ≡ true) where
+  abbrev given : History
+  given = h ▷ Grant v.place (grant_outcome h v)
+
+  pub grant_touched : touched_by h (Grant v.place (grant_outcome h v)) ≡ Some (at_object h v)
+  grant_touched = ap (object_if h) (found_open h f v l)
+
+  module _ (o : ℕ)
+      (k : is_number (touched_by h (Grant v.place (grant_outcome h v))) o ≡ false) where
+    out : (is_number (mutex_of v.role v.object) o ≡ false)
+        × (((x : Bool) → reads_there v.role ((v.object == o) && x) ≡ false)
+        × ((x : Bool) → writes_there v.role ((v.object == o) && x) ≡ false))
+    out = away h v v.role o refl can (sym (ap (λ x. is_number x o) grant_touched) ∙ k)
+
+    counts : (d : ℕ) → has given o d ≡ has h o d
+    counts d =
+        ap (nat_lt 0) (count-grant h v (grant_outcome h v) o d f l
+        ∙ rw (out.0, and_false (is_acquired (grant_outcome h v)) false refl) refl)
+
+    quiet_given : (d : ℕ) → Quiet h given o d
+    quiet_given d =
+        quiet-entry h (Grant v.place (grant_outcome h v)) o d f counts refl refl
+        (λ d. writes-grant h v (grant_outcome h v) o d f l
+        ∙ ap (λ b. cond b true (writes h o d)) (out.1.1 (v.client == d)))
+        (λ d. reads-grant h v (grant_outcome h v) o d f l
+        ∙ ap (λ b. cond b (suc (reads h o d)) (reads h o d)) (out.1.0 (v.client == d)))
+
+    ungranted : (u : WaitingCall) → In u (open_calls h) → at_object h u ≡ o → (b : Bool)
+        → (u.place == v.place) ≡ b → not b ≡ true
+    ungranted u j at false e = refl
+    ungranted u j at true e =
+        let same : u.place ≡ v.place = grind (arith, nat_tests) in
+        absurd (itself (touched_by h (Grant v.place (grant_outcome h v))) o (at_object h v)
+        grant_touched (ap (at_object h) (sym (one_open h f u v j l same)) ∙ at) k)
+
+  pub grant_aside : (w : WaitingCall) → In w (open_calls given) → is_served given w ≡ true
+      → is_number (touched_by h (Grant v.place (grant_outcome h v))) (at_object h w) ≡ false
+      → WasServed h given w
+  grant_aside w i t k =
+      let old : In w (open_calls h) = was h (Grant v.place (grant_outcome h v)) f s refl w i in (
+        old,
+        served-before h given w old (quiet_given (at_object h w) k w.client)
+            (stays-filter h given (at_object h w) (λ u. not (u.place == v.place))
+            (open-grant h v.place (grant_outcome h v))
+            (λ u j at. (ungranted (at_object h w) k u j at (u.place == v.place) refl, refl))) t,
+      )

@@ -1,0 +1,306 @@
+-- If nothing changed at an object, a call that waits there can be served no more than before.
+use Rattle.std.proofs.Common.{◌≡◌, ℕ, suc, Bool, true, false, not, ◌&&◌, ◌||◌, ◌==◌, nat_lt, ◌⊎◌, inl, inr, List, [], length, Option, Some, None, is_some, is_none, refl, sym, ap, ◌∙◌, subst, arith, filter}
+use Rattle.std.proofs.lemmas.Bool.Decides.{nat_tests}
+use Rattle.std.proofs.lemmas.Bool.{and_parts, and_from, false≢true}
+use Rattle.pt_types.specs.MutexTable.{is_number, is_lost, is_recursive, may_lock, may_relock}
+use Rattle.pt_model.specs.Searches.{In}
+use Rattle.pt_model.specs.declared.entry.Entry.{Entry}
+use Rattle.pt_model.specs.Histories.{History, ◌▷◌, place}
+use Rattle.pt_model.specs.Objects.{kind_of, mutex_kind, barrier_count}
+use Rattle.pt_model.specs.Records.{Role, ForMutex, ForRead, ForWrite, ForBarrier, ForCond, WaitingCall, Move}
+use Rattle.pt_model.specs.WaitingCall.{is_arrival}
+use Rattle.pt_model.specs.Answers.{open_calls, at_barrier}
+use Rattle.pt_model.specs.Moves.{moved, object_by, at_object, precedes, waiting_at, is_least}
+use Rattle.pt_model.specs.Mutexes.{owner, consistency, mutex_view}
+use Rattle.pt_model.specs.Rwlocks.{writes, reads, writer, reader}
+use Rattle.pt_model.specs.Grants.{holds_back, is_blocked, is_grantable_as, is_complete}
+use Rattle.pt_model.specs.Forced.{is_served}
+use Rattle.pt_model.specs.Steps.{Step, Follows}
+use Rattle.pt_model.proofs.Lists.{In-filter, filter-in, filter-filter, filter-agree_on, Each-from_in, any-in, in-any, all-in, in-all}
+use Rattle.pt_model.proofs.Leasts.{first_below-same, first_below-more}
+use Rattle.pt_model.proofs.Unheld.{has, Unheld-follows}
+use Rattle.pt_model.proofs.Opens.{stands_at_barrier, left, was_open}
+use Rattle.pt_model.proofs.Holders.{owner-same}
+use Rattle.pt_model.proofs.Services.{or_true, or_left_true}
+
+-- what is known of an object is as before, for one client
+pub record Quiet (h : History) (g : History) (o : ℕ) (c : ℕ) : Type 0 where
+  pub owners : owner g o ≡ owner h o
+  pub losses : is_lost (consistency g o) ≡ is_lost (consistency h o)
+  pub kinds : kind_of g o ≡ kind_of h o
+  pub writers : writer g o ≡ writer h o
+  pub readers : reader g o ≡ reader h o
+  pub counts : reads g o c ≡ reads h o c
+
+-- all that waited at an object still do, with the same moves, and no more arrive at a barrier
+pub record Stays (h : History) (g : History) (o : ℕ) : Type 0 where
+  pub stays : (v : WaitingCall) → In v (open_calls h) → at_object h v ≡ o → In v (open_calls g)
+      × (moved g v.place ≡ moved h v.place)
+  pub arrivals : at_barrier o (open_calls g) ≡ at_barrier o (open_calls h)
+
+-- an entry that changes no client's write lock leaves it to its writer
+pub writer-same : (h : History) (e : Entry) (r : ℕ) → Follows h
+    → ((c : ℕ) → writes (h ▷ e) r c ≡ writes h r c) → writer (h ▷ e) r ≡ writer h r
+writer-same h e r f same =
+    first_below-same (suc (place h)) (λ c. writes (h ▷ e) r c) (λ c. writes h r c) (λ c lt. same c)
+    ∙ first_below-more (place h) (λ c. writes h r c)
+    ((Unheld-follows h f).writers r (place h) (omega arith))
+
+-- and so for readers
+pub reader-same : (h : History) (e : Entry) (r : ℕ) → Follows h
+    → ((c : ℕ) → reads (h ▷ e) r c ≡ reads h r c) → reader (h ▷ e) r ≡ reader h r
+reader-same h e r f same =
+    first_below-same (suc (place h)) (λ c. nat_lt 0 (reads (h ▷ e) r c))
+    (λ c. nat_lt 0 (reads h r c)) (λ c lt. ap (nat_lt 0) (same c))
+    ∙ first_below-more (place h) (λ c. nat_lt 0 (reads h r c))
+    (ap (nat_lt 0) ((Unheld-follows h f).readers r (place h) (omega arith)))
+
+-- what an entry leaves of an object
+pub quiet-entry : (h : History) (e : Entry) (o c : ℕ) → Follows h
+    → ((d : ℕ) → has (h ▷ e) o d ≡ has h o d)
+    → is_lost (consistency (h ▷ e) o) ≡ is_lost (consistency h o) → kind_of (h ▷ e) o ≡ kind_of h o
+    → ((d : ℕ) → writes (h ▷ e) o d ≡ writes h o d)
+    → ((d : ℕ) → reads (h ▷ e) o d ≡ reads h o d) → Quiet h (h ▷ e) o c
+quiet-entry h e o c f own lost kind w r =
+    record {
+      owners = owner-same h e o f own;
+      losses = lost;
+      kinds = kind;
+      writers = writer-same h e o f w;
+      readers = reader-same h e o f r;
+      counts = r c;
+    }
+
+-- if no call at the object is taken away or moved
+pub stays-filter : (h g : History) (o : ℕ) (p : WaitingCall → Bool) → open_calls g
+    ≡ filter p (open_calls h)
+    → ((v : WaitingCall) → In v (open_calls h) → at_object h v ≡ o → (p v ≡ true) × (moved g v.place
+    ≡ moved h v.place)) → Stays h g o
+stays-filter h g o p e each =
+    record {
+      stays =
+          λ v i at. (
+            subst (λ (ws : List WaitingCall). In v ws) (sym e)
+                (filter-in p (open_calls h) v i (each v i at).0),
+            (each v i at).1,
+          );
+      arrivals =
+          ap (at_barrier o) e
+          ∙ (filter-filter (stands_at_barrier o) p (open_calls h)
+          ∙ filter-agree_on (λ v. p v && stands_at_barrier o v) (stands_at_barrier o)
+          (open_calls h) (Each-from_in (λ v. (p v && stands_at_barrier o v)
+          ≡ stands_at_barrier o v) (open_calls h) (λ v i. same v i (stands_at_barrier o v) refl)));
+    }
+  where
+    at : (v : WaitingCall) (role : Role) → v.role ≡ role
+        → (is_arrival role && (v.object == o)) ≡ true → at_object h v ≡ o
+    at v ForBarrier r t =
+        let here : v.object ≡ o = grind (arith, nat_tests) in
+        ap (λ x. object_by x (moved h v.place) v.object) r ∙ here
+    at v ForMutex r t = absurd cc
+    at v ForRead r t = absurd cc
+    at v ForWrite r t = absurd cc
+    at v (ForCond m) r t = absurd cc
+
+    same : (v : WaitingCall) → In v (open_calls h) → (b : Bool) → stands_at_barrier o v ≡ b
+        → (p v && b) ≡ b
+    same v i true t = rw ((each v i (at v v.role refl t)).0) refl
+    same v i false t = no (p v)
+      where
+        no : (b : Bool) → (b && false) ≡ false
+        no true = refl
+        no false = refl
+
+-- if no call is taken away
+pub stays-all : (h g : History) (o : ℕ) → open_calls g ≡ open_calls h
+    → ((v : WaitingCall) → In v (open_calls h) → at_object h v ≡ o → moved g v.place
+    ≡ moved h v.place) → Stays h g o
+stays-all h g o e each =
+    record {
+      stays = λ v i at. (subst (λ (ws : List WaitingCall). In v ws) (sym e) i, each v i at);
+      arrivals = ap (at_barrier o) e;
+    }
+
+or_map : (a b x y : Bool) → (a ≡ true → x ≡ true) → (b ≡ true → y ≡ true) → (a || b) ≡ true
+    → (x || y) ≡ true
+or_map true b x y f k e = or_left_true x y (f refl)
+or_map false b x y f k e = or_true x y (k e)
+
+and_map : (a b x y : Bool) → (a ≡ true → x ≡ true) → (b ≡ true → y ≡ true) → (a && b) ≡ true
+    → (x && y) ≡ true
+and_map a b x y f k e = let p = and_parts a b e in and_from x y (f p.0) (k p.1)
+
+turned : (a b : Bool) → (b ≡ true → a ≡ true) → not a ≡ true → not b ≡ true
+turned true b f e = absurd cc
+turned false true f e = absurd (false≢true (f refl))
+turned false false f e = refl
+
+module _ (h g : History) (w : WaitingCall) (i : In w (open_calls h)) where
+  module _ (o : ℕ) (here : at_object h w ≡ o) (s : Stays h g o) where
+    same_move : moved g w.place ≡ moved h w.place
+    same_move = (s.stays w i here).1
+
+    pub same_object : at_object h w ≡ at_object g w
+    same_object = ap (λ x. object_by w.role x w.object) (sym same_move)
+
+    -- what waited beside it does so still
+    beside : (v : WaitingCall) → In v (waiting_at h o) → In v (waiting_at g o)
+        × (moved g v.place ≡ moved h v.place)
+    beside v j =
+        let p = In-filter (λ (u : WaitingCall). at_object h u == o) (open_calls h) v j in
+        let at : at_object h v ≡ o =
+        let t : (at_object h v == o) ≡ true = p.1 in grind (arith, nat_tests) in
+        let q = s.stays v p.0 at in
+        let after : at_object g v ≡ o = ap (λ x. object_by v.role x v.object) q.1 ∙ at in
+        let test : (at_object g v == o) ≡ true = grind (arith, nat_tests) in
+        (filter-in (λ (u : WaitingCall). at_object g u == o) (open_calls g) v q.0 test, q.1)
+
+    precedes-same : (v : WaitingCall) → moved g v.place ≡ moved h v.place → precedes g v w
+        ≡ precedes h v w
+    precedes-same v e = rw (e, same_move) refl
+
+    least-before : is_least g w ≡ true → is_least h w ≡ true
+    least-before t =
+        in-all (λ v. not (precedes h v w)) (waiting_at h (at_object h w))
+        (λ v j. let b = beside v (subst (λ (q : ℕ). In v (waiting_at h q)) here j) in
+        let there : In v (waiting_at g (at_object g w)) =
+        subst (λ (q : ℕ). In v (waiting_at g q)) (sym here ∙ same_object) b.0 in
+        ap not (sym (precedes-same v b.1))
+        ∙ all-in (λ v. not (precedes g v w)) (waiting_at g (at_object g w)) v t there)
+
+    blocked-still : (p : ℕ) → is_blocked h o p ≡ true → is_blocked g o p ≡ true
+    blocked-still p t =
+        let r = any-in (λ (v : WaitingCall). holds_back v p) (waiting_at h o) t in
+        in-any (λ (v : WaitingCall). holds_back v p) (waiting_at g o) r.0 (beside r.0 r.1.0).0 r.1.1
+
+    module _ (q : Quiet h g o w.client) where
+      lock-before : may_lock (mutex_view g o) (is_least g w) ≡ true
+          → may_lock (mutex_view h o) (is_least h w) ≡ true
+      lock-before t =
+          or_map (is_lost (consistency g o)) (is_none (owner g o) && is_least g w)
+          (is_lost (consistency h o)) (is_none (owner h o) && is_least h w)
+          (λ e. sym q.losses ∙ e)
+          (λ e. and_map (is_none (owner g o)) (is_least g w) (is_none (owner h o)) (is_least h w)
+          (λ k. ap is_none (sym q.owners) ∙ k) least-before e) t
+
+      relock-before : may_relock (mutex_view g o) w.client ≡ true
+          → may_relock (mutex_view h o) w.client ≡ true
+      relock-before t =
+          sym (ap (λ k. is_recursive (mutex_kind k) && is_number (owner g o) w.client) q.kinds
+          ∙ ap (λ k. is_recursive (mutex_kind (kind_of h o)) && is_number k w.client) q.owners)
+          ∙ t
+
+      read-before : (not (is_some (writer g o)) && (not (is_blocked g o w.priority) || nat_lt 0
+          (reads g o w.client))) ≡ true
+          → (not (is_some (writer h o)) && (not (is_blocked h o w.priority) || nat_lt 0
+          (reads h o w.client))) ≡ true
+      read-before t =
+          and_map (not (is_some (writer g o)))
+          (not (is_blocked g o w.priority) || nat_lt 0 (reads g o w.client))
+          (not (is_some (writer h o)))
+          (not (is_blocked h o w.priority) || nat_lt 0 (reads h o w.client))
+          (λ e. ap (λ k. not (is_some k)) (sym q.writers) ∙ e)
+          (λ e. or_map (not (is_blocked g o w.priority)) (nat_lt 0 (reads g o w.client))
+          (not (is_blocked h o w.priority)) (nat_lt 0 (reads h o w.client))
+          (λ k. turned (is_blocked g o w.priority) (is_blocked h o w.priority)
+          (blocked-still w.priority) k) (λ k. ap (nat_lt 0) (sym q.counts) ∙ k) e) t
+
+      write-before : ((not (is_some (writer g o)) && not (is_some (reader g o))) && is_least g w)
+          ≡ true
+          → ((not (is_some (writer h o)) && not (is_some (reader h o))) && is_least h w) ≡ true
+      write-before t =
+          and_map (not (is_some (writer g o)) && not (is_some (reader g o))) (is_least g w)
+          (not (is_some (writer h o)) && not (is_some (reader h o))) (is_least h w)
+          (λ e. sym (ap (λ k. not (is_some k) && not (is_some (reader g o))) q.writers
+          ∙ ap (λ k. not (is_some (writer h o)) && not (is_some k)) q.readers) ∙ e)
+          least-before t
+
+      full-before : (length (at_barrier o (open_calls g)) == barrier_count (kind_of g o)) ≡ true
+          → (length (at_barrier o (open_calls h)) == barrier_count (kind_of h o)) ≡ true
+      full-before t =
+          sym (ap (λ (ws : List WaitingCall). length ws == barrier_count (kind_of g o)) s.arrivals
+          ∙ ap (λ k. length (at_barrier o (open_calls h)) == barrier_count k) q.kinds) ∙ t
+
+  -- the object of a call of this role
+  at_role : (role : Role) → w.role ≡ role → at_object h w ≡ object_by role (moved h w.place)
+      w.object
+  at_role role r = ap (λ x. object_by x (moved h w.place) w.object) r
+
+  module _ (q : Quiet h g (at_object h w) w.client) (s : Stays h g (at_object h w)) where
+    quiet_at : (o : ℕ) → at_object h w ≡ o → Quiet h g o w.client
+    quiet_at o e = subst (λ (x : ℕ). Quiet h g x w.client) e q
+
+    stays_at : (o : ℕ) → at_object h w ≡ o → Stays h g o
+    stays_at o e = subst (λ (x : ℕ). Stays h g x) e s
+
+    moved_grantable : (m : ℕ) → w.role ≡ ForCond m → (o : Option Move) → moved h w.place ≡ o
+        → (is_some o && (may_lock (mutex_view g m) (is_least g w) || may_relock (mutex_view g m)
+        w.client)) ≡ true
+        → (is_some o && (may_lock (mutex_view h m) (is_least h w) || may_relock (mutex_view h m)
+        w.client)) ≡ true
+    moved_grantable m r None e t = absurd cc
+    moved_grantable m r (Some v) e t =
+        let at : at_object h w ≡ m = rw (r, e) refl in
+        or_map (may_lock (mutex_view g m) (is_least g w)) (may_relock (mutex_view g m) w.client)
+        (may_lock (mutex_view h m) (is_least h w)) (may_relock (mutex_view h m) w.client)
+        (lock-before m at (stays_at m at) (quiet_at m at))
+        (relock-before m at (stays_at m at) (quiet_at m at)) t
+
+    grantable-before : (role : Role) → w.role ≡ role → is_grantable_as g w role ≡ true
+        → is_grantable_as h w role ≡ true
+    grantable-before ForMutex r t =
+        let at = at_role ForMutex r in
+        lock-before w.object at (stays_at w.object at) (quiet_at w.object at) t
+    grantable-before ForRead r t =
+        let at = at_role ForRead r in
+        read-before w.object at (stays_at w.object at) (quiet_at w.object at) t
+    grantable-before ForWrite r t =
+        let at = at_role ForWrite r in
+        write-before w.object at (stays_at w.object at) (quiet_at w.object at) t
+    grantable-before ForBarrier r t = absurd cc
+    grantable-before (ForCond m) r t =
+        let same : moved g w.place ≡ moved h w.place = (s.stays w i refl).1 in
+        moved_grantable m r (moved h w.place) refl
+        (sym (ap (λ x. is_some x && (may_lock (mutex_view g m) (is_least g w) || may_relock
+        (mutex_view g m) w.client)) same) ∙ t)
+
+    complete-before : is_complete g w ≡ true → is_complete h w ≡ true
+    complete-before t = go w.role refl t
+      where
+        go : (role : Role) → w.role ≡ role → (is_arrival role
+            && (length (at_barrier w.object (open_calls g)) == barrier_count (kind_of g w.object)))
+            ≡ true → (is_arrival w.role && (length (at_barrier w.object (open_calls h))
+            == barrier_count (kind_of h w.object))) ≡ true
+        go ForBarrier r t =
+            let at = at_role ForBarrier r in
+            and_from (is_arrival w.role) (length (at_barrier w.object (open_calls h))
+            == barrier_count (kind_of h w.object)) (ap is_arrival r)
+            (full-before w.object at (stays_at w.object at) (quiet_at w.object at) t)
+        go ForMutex r t = absurd cc
+        go ForRead r t = absurd cc
+        go ForWrite r t = absurd cc
+        go (ForCond m) r t = absurd cc
+
+    -- if nothing changed at its object, a call may be served only if it could be before
+    pub served-before : is_served g w ≡ true → (is_served h w ≡ true)
+        × (at_object h w ≡ at_object g w)
+    served-before t = (
+      or_map (is_grantable_as g w w.role) (is_complete g w) (is_grantable_as h w w.role)
+          (is_complete h w) (grantable-before w.role refl) complete-before t,
+      same_object (at_object h w) refl s,
+    )
+
+-- what is touched is no other than itself
+pub itself : (t : Option ℕ) (o q : ℕ) → t ≡ Some q → q ≡ o → is_number t o ≡ false → ⊥
+itself t o q e same k =
+    let yes : (q == o) ≡ true = grind (arith, nat_tests) in
+    false≢true (sym k ∙ (ap (λ x. is_number x o) e ∙ yes))
+
+-- if an entry leaves none waiting, an open call was open before
+pub was : (h : History) (e : Entry) → Follows h → Step h e → left h e ≡ [] → (w : WaitingCall)
+    → In w (open_calls (h ▷ e)) → In w (open_calls h)
+was h e f s none w i = go (was_open h e f s w i)
+  where
+    go : In w (open_calls h) ⊎ In w (left h e) → In w (open_calls h)
+    go (inl j) = j
+    go (inr j) = absurd (subst (λ (ws : List WaitingCall). In w ws) none j)

@@ -1,0 +1,111 @@
+-- Candidates: the call that is served at an object, found by one look at the object.
+use Rattle.std.specs.Prelude.{ℕ, nat_lt, length, ◌==◌, Bool, true, false, ◌&&◌, ◌||◌, Option, Some, None, is_some, is_none, if◌then◌else◌}
+use Rattle.std.specs.List.{filter}
+use Rattle.pt_types.specs.declared.call.ObjectKind.{ObjectKind}
+use Rattle.pt_types.specs.declared.call.ObjectKind.TheVariants.{Mutex, Rwlock, Cond, Barrier}
+use Rattle.pt_types.specs.MutexTable.{is_lost, is_recursive}
+use Rattle.pt_model.specs.declared.entry.Entry.{Entry}
+use Rattle.pt_model.specs.declared.entry.Entry.TheVariants.{Call}
+use Rattle.pt_model.specs.Searches.{least}
+use Rattle.pt_model.specs.Histories.{History, Begin, ◌▷◌, is_forced}
+use Rattle.pt_model.specs.Objects.{kind_of, mutex_kind}
+use Rattle.pt_model.specs.Records.{Role, ForRead, WaitingCall}
+use Rattle.pt_model.specs.WaitingCall.{is_wait, is_write}
+use Rattle.pt_model.specs.Answers.{open_calls, at_barrier}
+use Rattle.pt_model.specs.Moves.{is_moved, waiting_at, at_object, precedes}
+use Rattle.pt_model.specs.Mutexes.{owner, consistency}
+use Rattle.pt_model.specs.Rwlocks.{reads, writer, reader}
+use Rattle.pt_model.specs.Forced.{is_served}
+use Rattle.pt_model.specs.Queries.{client_at}
+use Rattle.pt_touched.specs.Touched.{open_call_of}
+
+-- the call that is served at an object: the first of those that may be  [XSH 2.8.4]
+abbrev pub served_at : History → ℕ → Option WaitingCall
+served_at h o = least (precedes h) (filter (is_served h) (waiting_at h o))
+
+-- the first call that waits at an object  [XSH 2.8.4]
+abbrev pub first_at : History → ℕ → Option WaitingCall
+first_at h o = least (precedes h) (waiting_at h o)
+
+-- whether a call is for a read lock  [XSH pthread_rwlock_rdlock]
+abbrev pub is_read : Role → Bool
+is_read ForRead = true
+is_read _ = false
+
+-- whether a call is for a read lock and its client holds one there already
+-- [XSH pthread_rwlock_rdlock]
+abbrev pub reads_again : History → WaitingCall → Bool
+reads_again h w = is_read w.role && nat_lt 0 (reads h w.object w.client)
+
+-- whose call came last, until the next event
+abbrev pub entering_by : Entry → Option ℕ → Option ℕ
+entering_by (Call c call r) before = Some c
+entering_by e before = if is_forced e then before else None
+
+-- the client whose call came last; at a Start, the one that asks for a read lock again
+abbrev pub entering : History → Option ℕ
+entering (Begin s) =
+    client_at (least (precedes (Begin s)) (filter (reads_again (Begin s)) (open_calls (Begin s))))
+entering (h ▷ e) = entering_by e (entering h)
+
+-- the open call of a client that was found
+abbrev pub open_call_if : History → Option ℕ → Option WaitingCall
+open_call_if h None = None
+open_call_if h (Some c) = open_call_of h c
+
+-- a call that was found, if it passes a test
+abbrev pub if_passes : (WaitingCall → Bool) → Option WaitingCall → Option WaitingCall
+if_passes test None = None
+if_passes test (Some w) = if test w then Some w else None
+
+-- whether a call that was found is for a write lock  [XSH pthread_rwlock_wrlock]
+abbrev pub is_write_if : Option WaitingCall → Bool
+is_write_if None = false
+is_write_if (Some w) = is_write w.role
+
+-- whether a wait has come back to this RECURSIVE mutex, if its client may lock again
+-- [XSH pthread_cond_wait]
+abbrev pub comes_back : History → ℕ → WaitingCall → Bool
+comes_back h o w =
+    (at_object h w == o)
+    && (is_recursive (mutex_kind (kind_of h o)) && (is_wait w.role && is_moved h w))
+
+-- whether a call at this lock is for a read lock that its client holds already
+-- [XSH pthread_rwlock_rdlock]
+abbrev pub reads_again_at : History → ℕ → WaitingCall → Bool
+reads_again_at h o w = (at_object h w == o) && reads_again h w
+
+-- the call that is served at a mutex: the first, if nobody owns it or it is lost, and otherwise a
+-- wait of its owner that has come back  [XSH pthread_mutex_unlock, pthread_cond_wait]
+abbrev pub mutex_candidate : History → ℕ → Option WaitingCall
+mutex_candidate h m =
+    if is_lost (consistency h m) || is_none (owner h m) then first_at h m
+    else if_passes (comes_back h m) (open_call_if h (owner h m))
+
+-- the call that is served at a read-write lock: none if it is written; the first, unless that is a
+-- writer and others read; then only the call that came last, if its client reads already
+-- [XSH pthread_rwlock_unlock, pthread_rwlock_rdlock]
+abbrev pub rwlock_candidate : History → ℕ → Option WaitingCall
+rwlock_candidate h r =
+    if is_some (writer h r) then None
+    else (if is_some (reader h r) && is_write_if (first_at h r)
+    then if_passes (reads_again_at h r) (open_call_if h (entering h)) else first_at h r)
+
+-- the call that is served at an object of this kind; at a barrier the first, if it is full
+-- [XSH pthread_barrier_wait, pthread_cond_wait]
+abbrev pub candidate_by : History → ℕ → Option ObjectKind → Option WaitingCall
+candidate_by h o None = None
+candidate_by h o (Some (Mutex kind robust)) = mutex_candidate h o
+candidate_by h o (Some Rwlock) = rwlock_candidate h o
+candidate_by h o (Some Cond) = None
+candidate_by h o (Some (Barrier n)) =
+    if length (at_barrier o (open_calls h)) == n then first_at h o else None
+
+-- the call that is served at an object  [XSH, the object's pages]
+abbrev pub candidate : History → ℕ → Option WaitingCall
+candidate h o = candidate_by h o (kind_of h o)
+
+-- the candidate of an object that was found
+abbrev pub candidate_if : History → Option ℕ → Option WaitingCall
+candidate_if h None = None
+candidate_if h (Some o) = candidate h o

@@ -1,0 +1,3 @@
+pub mod Touched
+pub mod Candidates
+pub mod TouchLaws
