@@ -37,7 +37,7 @@ module _ (old new : Kept) (v : Event) (b : IsStart old.start) (ok : Applies old 
         small = omega (arith, place-applied old new v b ok, k.small);
       }
 
--- a new client, told nothing so far
+-- a new client, which has no answer so far
 pub joined-account : (old new : Kept) (p : ℕ) (b : IsStart old.start)
     → Applies old (event.Join p) new → (c : ℕ) → c ≡ place (past old)
     → IsAccount new c (Some (record { owed = 0; taken = 0; awaits = false }))

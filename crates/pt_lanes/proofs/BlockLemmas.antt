@@ -1,4 +1,4 @@
--- Counts in blocks: the mask of a block, and what blocks and the rest tell of the whole.
+-- Counts in blocks: the mask of a block, and what blocks and the rest say of the whole.
 use Rattle.std.proofs.Common.{◌≡◌, ◌≢◌, ◌<◌, ◌≤◌, ◌+◌, ◌*◌, ◌-◌, ◌||◌, ◌∙◌, ℕ, zero, suc, Bool, true, false, not, nat_eq, nat_lt, cond, List, [], ◌∷◌, take, drop, get_or, map, refl, ap, sym, arith}
 use Rattle.std.specs.List.{list_any}
 use Rattle.std.specs.Simd.{first_chunks}

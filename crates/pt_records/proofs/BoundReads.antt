@@ -295,7 +295,7 @@ read-by h f o r same = go (is_read r) (reader h o) refl refl
     go false None eb ex = refl
     go false (Some c) eb ex = sym eb ∙ none c ex
 
--- nobody holds a lock that is stored so where it has neither a writer nor a reader
+-- nobody holds a lock that is stored so if it has neither a writer nor a reader
 pub nobody-holds : (h : History) → Follows h → (o : ℕ) (r : RwlockState) → r.writer ≡ writer h o
     → ((c : ℕ) → reads_of r c ≡ reads h o c) → is_none (writer h o) ≡ true
     → is_none (reader h o) ≡ true → nobody_holds r ≡ true

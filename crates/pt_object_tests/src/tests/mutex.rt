@@ -227,7 +227,7 @@ fn a_second_death_and_a_repair(rt: HostRuntime) {
     assert!(rt; is_repaired());
 }
 
-// What `mutex-destroy` is told: if the owner lives, if besides a call waits, if the owner is dead.
+// What `mutex-destroy` answers: if the owner lives, if also a call waits, if the owner is dead.
 fn told_destroy(mutex: &MutexObj) -> [Verdict; 3] {
     [
         mutex.verdict_destroy(true, false),
