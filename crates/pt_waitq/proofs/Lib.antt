@@ -30,3 +30,5 @@ mod StepLemmas
 mod FirstLemmas
 -- MadeLemmas: queues as they are made and discarded
 mod MadeLemmas
+-- ReadLemmas: what is read from a list after a write
+mod ReadLemmas

@@ -3,7 +3,7 @@ ghost use Rattle.std.specs.Prelude.{◌≡◌};
 ghost use Rattle.pt_waitq.specs.Waits.{no_waits};
 
 use crate::nodes::{self, Node, Rows};
-use crate::sides::{self, Queue};
+use crate::sides::{self, BoxedQueue};
 use crate::wait_list::WaitList;
 use crate::waiter::Waiter;
 use http_server::Log;
@@ -23,7 +23,7 @@ const MOST_NODES: usize = 4294967295;
 pub struct Chains<A: Allocator + Copy = Global> {
     homes: Rows<usize, A>,
     nodes: Slab<Node, A>,
-    queues: Rows<Queue, A>,
+    queues: Rows<BoxedQueue<A>, A>,
     /// What was put in and taken out. Only proofs read it.
     log: Log<Option<u64>, Waiter>,
 }

@@ -1,6 +1,6 @@
 //! Queues as the ends and the counts of their chains.
 
-ghost use Rattle.std.specs.Prelude.{◌≡◌, ◌↔◌, ◌+◌, ◌++◌, ◌∷◌, [], false, IsTrue, ◌-◌, ◌<◌, ◌≤◌, ◌^◌, ◌==◌, Some, None, IsSome, IfSome, unwrap_or, slice_index, ◌&&◌, slice_index_or, is_some, if◌then◌else◌, ℕ, not, List, nat_eq};
+ghost use Rattle.std.specs.Prelude.{◌≡◌, ◌↔◌, ◌+◌, ◌++◌, ◌∷◌, [], false, IsTrue, ◌-◌, ◌<◌, ◌≤◌, ◌^◌, ◌==◌, Some, None, IsSome, IfSome, IfOk, unwrap_or, slice_index, ◌&&◌, slice_index_or, is_some, if◌then◌else◌, ℕ, not, List, nat_eq};
 ghost use Rattle.std.specs.Map.{lookup};
 ghost use Rattle.std.specs.Option.{option_map};
 ghost use Rattle.pt_types.specs.Limits.{most_priority};
@@ -10,7 +10,8 @@ ghost use Rattle.pt_waitq.specs.Chains.{numbers, side_of, IsPut, IsTaken, HasNon
 use crate::nodes::Rows;
 use pt_lanes::{any_from, highest};
 use pt_types::MOST_PRIORITY;
-use std::alloc::Allocator;
+use std::alloc::{AllocError, Allocator};
+use std::marker::Model;
 
 /// The chains of one kind, by priority from 1 on.
 #[derive(Clone, Copy)]
@@ -28,6 +29,18 @@ pub(crate) struct Queue {
     pub(crate) len: usize,
 }
 
+/// A queue on the heap, so that the map of queues moves a pointer and not 7 kB.
+#[derive(Drop)]
+pub(crate) struct BoxedQueue<A: Allocator> {
+    queue: Box<Queue, A>,
+}
+
+impl<A: Allocator> Model for BoxedQueue<A> {
+    ghost Value = { Queue };
+
+    ghost view = { λ b. b.queue.value };
+}
+
 /// Empty chains of one kind.
 pub(crate) fn no_side() -> Side
     ensures counts { (p : ℕ) → p < most_priority → slice_index result.counts p ≡ 0 }
@@ -39,6 +52,19 @@ pub(crate) fn no_side() -> Side
         heads: [None; MOST_PRIORITY],
         tails: [None; MOST_PRIORITY],
     }
+}
+
+/// A queue with no waiter.
+fn no_queue<A: Allocator>(alloc: A) -> Result<BoxedQueue<A>, AllocError>
+    ensures { IfOk result HasNone }
+{
+    let queue = Queue {
+        writers: no_side(),
+        readers: no_side(),
+        len: 0,
+    };
+    let queue = Box::new(alloc, queue)?;
+    Ok(BoxedQueue { queue })
 }
 
 /// Makes this node the tail of a chain, and returns the tail before.
@@ -174,19 +200,19 @@ pub(crate) fn take_out(
 }
 
 /// How many wait in a queue.
-pub(crate) fn len_of<A: Allocator + Copy>(queues: &Rows<Queue, A>, object: u64) -> usize
+pub(crate) fn len_of<A: Allocator + Copy>(queues: &Rows<BoxedQueue<A>, A>, object: u64) -> usize
     ensures { result
         ≡ unwrap_or (option_map (λ q. q.len) (lookup (nat_eq object) queues.now.entries)) 0 }
 {
     match queues.get(&object) {
-        Some(queue) => queue.len,
+        Some(boxed) => boxed.queue.len,
         None => 0,
     }
 }
 
 /// Makes a node the tail of a chain of a queue that there is, and returns the tail before.
 pub(crate) fn insert<A: Allocator + Copy>(
-    queues: &mut Rows<Queue, A>,
+    queues: &mut Rows<BoxedQueue<A>, A>,
     object: u64,
     writer: bool,
     p: usize,
@@ -206,12 +232,13 @@ pub(crate) fn insert<A: Allocator + Copy>(
         → lookup (nat_eq object) queues.new.entries ≡ Some new
         → IsPut writer p node result old new }
 {
-    put_in(queues.get_mut(&object).unwrap(), writer, p, node)
+    let boxed = queues.get_mut(&object).unwrap();
+    put_in(&mut boxed.queue, writer, p, node)
 }
 
 /// Takes a node out of a chain of a queue that there is, if it was between these two.
 pub(crate) fn remove<A: Allocator + Copy>(
-    queues: &mut Rows<Queue, A>,
+    queues: &mut Rows<BoxedQueue<A>, A>,
     object: u64,
     writer: bool,
     p: usize,
@@ -232,11 +259,12 @@ pub(crate) fn remove<A: Allocator + Copy>(
         → lookup (nat_eq object) queues.new.entries ≡ Some new
         → IsTaken writer p before next old new }
 {
-    take_out(queues.get_mut(&object).unwrap(), writer, p, before, next)
+    let boxed = queues.get_mut(&object).unwrap();
+    take_out(&mut boxed.queue, writer, p, before, next)
 }
 
 /// Adds an empty queue, and returns whether there was memory.
-pub(crate) fn make<A: Allocator + Copy>(queues: &mut Rows<Queue, A>, object: u64) -> bool
+pub(crate) fn make<A: Allocator + Copy>(queues: &mut Rows<BoxedQueue<A>, A>, object: u64) -> bool
     requires { lookup (nat_eq object) queues.old.entries ≡ None }
     ensures numbers { numbers queues.new.entries
         ≡ (if result
@@ -249,10 +277,8 @@ pub(crate) fn make<A: Allocator + Copy>(queues: &mut Rows<Queue, A>, object: u64
         → lookup (nat_eq object) queues.new.entries ≡ Some new
         → HasNone new }
 {
-    let queue = Queue {
-        writers: no_side(),
-        readers: no_side(),
-        len: 0,
+    let Ok(queue) = no_queue(*queues.allocator()) else {
+        return false;
     };
     match queues.insert(object, queue) {
         Ok(_) => true,
@@ -261,7 +287,7 @@ pub(crate) fn make<A: Allocator + Copy>(queues: &mut Rows<Queue, A>, object: u64
 }
 
 /// Takes a queue away.
-pub(crate) fn discard<A: Allocator + Copy>(queues: &mut Rows<Queue, A>, object: u64)
+pub(crate) fn discard<A: Allocator + Copy>(queues: &mut Rows<BoxedQueue<A>, A>, object: u64)
     ensures { (x : ℕ)
         → lookup (nat_eq x) queues.new.entries
         ≡ (if object == x then None else lookup (nat_eq x) queues.old.entries) }
@@ -301,18 +327,21 @@ fn writer_from_in(queue: &Queue, p: usize) -> bool
 }
 
 /// The node of the first of a queue.
-pub(crate) fn first_of<A: Allocator + Copy>(queues: &Rows<Queue, A>, object: u64) -> Option<usize>
+pub(crate) fn first_of<A: Allocator + Copy>(
+    queues: &Rows<BoxedQueue<A>, A>,
+    object: u64,
+) -> Option<usize>
     ensures none { lookup (nat_eq object) queues.now.entries ≡ None → result ≡ None }
     ensures queue { (queue : Queue)
         → lookup (nat_eq object) queues.now.entries ≡ Some queue
         → IsFirst queue result }
 {
-    first_in(queues.get(&object)?)
+    first_in(&queues.get(&object)?.queue)
 }
 
 /// The node of the first of a queue that asks for a write lock.
 pub(crate) fn first_writer_of<A: Allocator + Copy>(
-    queues: &Rows<Queue, A>,
+    queues: &Rows<BoxedQueue<A>, A>,
     object: u64,
 ) -> Option<usize>
     ensures none { lookup (nat_eq object) queues.now.entries ≡ None → result ≡ None }
@@ -320,12 +349,12 @@ pub(crate) fn first_writer_of<A: Allocator + Copy>(
         → lookup (nat_eq object) queues.now.entries ≡ Some queue
         → IsFirstWriter queue result }
 {
-    first_writer_in(queues.get(&object)?)
+    first_writer_in(&queues.get(&object)?.queue)
 }
 
 /// Whether a queue has a writer of the priority with this index or a higher one.
 pub(crate) fn has_writer_from<A: Allocator + Copy>(
-    queues: &Rows<Queue, A>,
+    queues: &Rows<BoxedQueue<A>, A>,
     object: u64,
     p: usize,
 ) -> bool
@@ -335,7 +364,7 @@ pub(crate) fn has_writer_from<A: Allocator + Copy>(
         → IsTrue result ↔ HasWriterFrom queue p }
 {
     match queues.get(&object) {
-        Some(queue) => writer_from_in(queue, p),
+        Some(boxed) => writer_from_in(&boxed.queue, p),
         None => false,
     }
 }

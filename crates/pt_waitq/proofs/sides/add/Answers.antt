@@ -1,0 +1,28 @@
+use Rattle.std.proofs.Common.{◌≡◌, ◌<◌, Some, None, length, inl, inr, ap, get_or, arith}
+use Rattle.std.specs.Option.{is_some}
+use Rattle.pt_waitq.specs.declared.sides.Side.{Side}
+use Rattle.pt_waitq.proofs.ReadLemmas.{read-put, read-if}
+use Rattle.pt_waitq.proofs.sides.add.Goals as goal
+use Rattle.pt_waitq.proofs.sides.add.Goals.{then-is_none, else-is_none}
+
+pub returns-clause-tails : goal.returns-clause-tails
+returns-clause-tails c i lt =
+    let old = c.args.side.now in
+    let within : c.args.p < length old.tails = omega arith in
+    let same : c.if-is_none.side.tails ≡ old.tails =
+    elim c.if-is_none.branch [
+      | then-is_none w ↦ ap (λ (s : Side). s.tails) w.side-is
+      | else-is_none w ↦ ap (λ (s : Side). s.tails) w.side-is
+    ] in
+    read-put c.if-is_none.side.tails old.tails c.args.p i (Some c.args.node) same within
+
+pub returns-clause-heads : goal.returns-clause-heads
+returns-clause-heads c i lt =
+    let old = c.args.side.now in
+    let within : c.args.p < length old.heads = omega arith in
+    read-if c.if-is_none.side.heads old.heads c.args.p i (Some c.args.node)
+    (is_some (get_or old.tails c.args.p None)) c.is_none.result c.is_none.ensures
+    (elim c.if-is_none.branch [
+      | then-is_none w ↦ inl (w.if-is_none.true, ap (λ (s : Side). s.heads) w.side-is)
+      | else-is_none w ↦ inr (w.if-is_none.false, ap (λ (s : Side). s.heads) w.side-is)
+    ]) within
