@@ -19,7 +19,7 @@ def read_crates():
     """The crates of crates.txt, each with those of them that it uses."""
     with open(f"{TOP}/crates.txt", encoding="utf-8") as file:
         lines = [line.split("#")[0].strip() for line in file]
-    named = {line.split(":")[0]: line.split(":")[1].split() for line in lines if line}
+    named = {line.split()[0].rstrip(":"): line.split(":")[1].split() for line in lines if line}
     return {name: [use for use in uses if use in named] for name, uses in named.items()}
 
 

@@ -6,8 +6,10 @@ use Rattle.pt_types.specs.declared.call.ObjectKind.TheVariants.{Cond, Barrier}
 use Rattle.pt_types.specs.declared.outcome.Consistency.TheVariants.{Consistent}
 use Rattle.pt_types.specs.declared.outcome.Outcome.TheVariants.{Done, Einval, Ebusy, Eagain}
 use Rattle.pt_types.specs.declared.outcome.Verdict.TheVariants.{Reply, Stands}
-use Rattle.pt_types.specs.MutexTable.{MutexView, lock_verdict}
-use Rattle.pt_types.specs.RwlockTable.{RwlockView, read_verdict}
+use Rattle.pt_types.specs.MutexTable.{lock_verdict}
+use Rattle.pt_types.specs.declared.views.MutexView.{MutexView}
+use Rattle.pt_types.specs.RwlockTable.{read_verdict}
+use Rattle.pt_types.specs.declared.views.RwlockView.{RwlockView}
 use Rattle.pt_types.specs.ObjectTable.{init_verdict}
 
 -- a RECURSIVE mutex that client 0 has locked so often

@@ -1,2 +1,4 @@
+-- Counts: the number of outer entries of a stored history
+pub mod Counts
 -- Places: the places of a stored history
 pub mod Places

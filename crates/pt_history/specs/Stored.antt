@@ -1,9 +1,9 @@
 -- Stored: what is seen of a stored history.
-use Rattle.std.specs.Prelude.{ℕ, ◌+◌, ◌≤◌, List, []}
+use Rattle.std.specs.Prelude.{ℕ, ◌+◌, ◌≡◌, ◌≤◌, List, []}
 use Rattle.pt_types.specs.Limits.{most_places}
 use Rattle.pt_model.specs.declared.entry.Entry.{Entry}
 use Rattle.pt_model.specs.StartRows.{StartRows, no_rows, reads_of}
-use Rattle.pt_model.specs.Histories.{History, behind}
+use Rattle.pt_model.specs.Histories.{History, behind, outer}
 
 -- the rows that it begins with, the entries since, their greatest number, and for how many more
 -- there is room
@@ -27,3 +27,8 @@ pub record IsWithin (at len room limit capacity : ℕ) : Type 0 where
   pub fits : len + room ≤ limit
   pub held : len + room ≤ capacity
   pub places : at ≤ most_places
+
+-- as many outer entries are counted as there are; the Start has a place for each that it counts
+pub record IsCounted (start : StartRows) (entries : List Entry) (count : ℕ) : Type 0 where
+  pub before : start.outer ≤ start.at
+  pub all : count ≡ outer (behind (reads_of start) entries)

@@ -1,3 +1,6 @@
+ghost use Rattle.std.specs.Prelude.{◌≡◌, if◌then◌else◌};
+ghost use Rattle.pt_model.specs.Histories.{is_forced};
+
 use pt_model::{Entry, Start};
 use pt_types::Refusal;
 use std::alloc::{Allocator, Global};
@@ -9,12 +12,23 @@ use std::marker::Model;
 pub struct History<A: Allocator + Copy = Global> {
     start: Start<A>,
     entries: Vec<Entry, A>,
+    outer: u64,
     limit: u32,
     room: u64,
 }
 
+// What the entry adds to the number of outer entries.
+fn outer_in(entry: &Entry) -> u64
+    ensures { result ≡ if is_forced entry.now then 0 else 1 }
+{
+    match entry {
+        Entry::Join(..) | Entry::Call(..) | Entry::Death(_) | Entry::Moment(..) => 1,
+        Entry::Grant(..) | Entry::Trip(_) | Entry::Yield(_) | Entry::Expire(_) => 0,
+    }
+}
+
 impl<A: Allocator + Copy> Model for History<A> {
-    ghost use Rattle.pt_history.specs.Stored.{Stored, IsWithin};
+    ghost use Rattle.pt_history.specs.Stored.{Stored, IsWithin, IsCounted};
     ghost use Rattle.std.specs.Prelude.{◌+◌, ◌≤◌, vec_len, vec_capacity};
     ghost use Rattle.pt_model.specs.StartRows.{rows_of};
 
@@ -28,14 +42,16 @@ impl<A: Allocator + Copy> Model for History<A> {
     } };
 
     ghost invariant = { λ h.
-        IsWithin h.start.at (vec_len h.entries) h.room h.limit (vec_capacity h.entries) };
+        IsWithin h.start.at (vec_len h.entries) h.room h.limit (vec_capacity h.entries)
+        × IsCounted (rows_of h.start) h.entries.items h.outer };
 }
 
 impl<A: Allocator + Copy> History<A> {
     ghost use Rattle.std.specs.Prelude.{◌≡◌, ◌↔◌, ◌+◌, ◌-◌, ◌<◌, ◌≤◌, [], ◌∷◌, ◌++◌, length, slice_get, option_copied, None, IsOk, OnOk, OnErr, IfErr, ◌≢◌};
     ghost use Rattle.pt_types.specs.Limits.{most_places};
     ghost use Rattle.pt_model.specs.StartRows.{no_rows, rows_of};
-    ghost use Rattle.pt_history.specs.Stored.{Stored, begun};
+    ghost use Rattle.pt_history.specs.Stored.{Stored, begun, past_of};
+    ghost use Rattle.pt_model.specs.Histories.{outer};
 
     /// An empty history of at most so many entries. It takes no memory.
     pub fn with_limit(alloc: A, limit: u32) -> History<A>
@@ -44,6 +60,7 @@ impl<A: Allocator + Copy> History<A> {
         History {
             start: Start::new(alloc),
             entries: Vec::new(alloc),
+            outer: 0,
             limit,
             room: 0,
         }
@@ -79,6 +96,7 @@ impl<A: Allocator + Copy> History<A> {
               room = self.old.room - 1;
             } }
     {
+        self.outer += outer_in(&entry);
         self.entries.push_reserved(entry);
         self.room -= 1;
     }
@@ -86,9 +104,11 @@ impl<A: Allocator + Copy> History<A> {
     /// Forgets the entries and begins anew with this Start. The room stays, and so does the memory.
     /// It takes no memory.
     pub fn seal(&mut self, start: Start<A>)
-        requires { start.at ≤ most_places }
+        requires places { start.at ≤ most_places }
+        requires counted { start.outer ≤ start.at }
         ensures { self.new ≡ record self.old { start = rows_of start; entries = [] } }
     {
+        self.outer = start.outer;
         self.start = start;
         self.entries.clear();
     }
@@ -112,6 +132,13 @@ impl<A: Allocator + Copy> History<A> {
         ensures { result ≡ self.now.start.at + length self.now.entries }
     {
         self.start.at + self.entries.len() as u64
+    }
+
+    /// The number of outer entries: those since the Start, and those that it counts.
+    pub fn outer(&self) -> u64
+        ensures { result ≡ outer (past_of self.now) }
+    {
+        self.outer
     }
 
     /// The entry at a place, if there is one; places before the Start have none.

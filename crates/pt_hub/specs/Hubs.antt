@@ -1,8 +1,10 @@
 -- Hubs: what is seen of a hub, what always holds of it, and what each call makes of it.
-use Rattle.std.specs.Prelude.{ℕ, ◌≡◌, ◌+◌, ◌≤◌, ◌==◌, Bool, true, false, nat_eq, List, [], ◌∷◌, ◌++◌, length, Option, Some, None, is_some, is_none, slice_get, slice_set, ◌-◌, ◌&&◌, ◌^◌, if◌then◌else◌}
+use Rattle.std.specs.Prelude.{ℕ, ◌≡◌, ◌+◌, ◌≤◌, ◌==◌, Bool, true, false, nat_eq, List, [], ◌∷◌, ◌++◌, length, Option, Some, None, is_some, is_none, slice_get, slice_set, ◌-◌, ◌&&◌, ◌^◌, ◌≢◌, ◌⊎◌, if◌then◌else◌}
 use Rattle.std.specs.Map.{lookup}
 use Rattle.pt_types.specs.declared.call.Call.{Call as Asked}
 use Rattle.pt_types.specs.declared.outcome.Outcome.{Outcome}
+use Rattle.pt_types.specs.declared.outcome.Refusal.{Refusal}
+use Rattle.pt_types.specs.declared.outcome.Refusal.TheVariants.{Limit, Enomem}
 use Rattle.pt_types.specs.declared.time.Clock.{Clock}
 use Rattle.pt_model.specs.declared.entry.Event.TheVariants as event
 use Rattle.pt_model.specs.Records.{Told}
@@ -16,8 +18,8 @@ use Rattle.pt_core.specs.Applying.{Applies}
 use Rattle.pt_hub.specs.declared.pass.Receipt.{Receipt}
 use Rattle.pt_hub.specs.declared.pass.Sent.{Sent}
 use Rattle.pt_hub.specs.declared.pass.Answer.{Answer}
-use Rattle.pt_hub.specs.Desks.{Desk, kept, IsTakenButOne, Wrote, account_of, awaiting, after_taking, next_answer}
-use Rattle.pt_hub.specs.Passes.{PassView}
+use Rattle.pt_hub.specs.Desks.{Desk, kept, IsTakenButOne, Wrote, account_of, awaiting, after_taking, next_answer, one_if}
+use Rattle.pt_hub.specs.Passes.{PassView, LeftView}
 
 -- the history with the accounts; the open sessions with their marks; how many were opened; and
 -- the book of the ledger
@@ -162,3 +164,43 @@ set_in (Some b) = Some true
 -- a session's mark is set, if it is open
 abbrev pub IsEndedIf : List (ℕ × Bool) → List (ℕ × Bool) → ℕ → Type 0
 IsEndedIf old new s = Marked old new s (set_in (lookup (nat_eq s) old))
+
+-- nothing but the marks of sessions has changed
+pub record ChangesMarksAlone (old new : HubView) : Type 0 where
+  pub desk : new.desk ≡ old.desk
+  pub opened : new.opened ≡ old.opened
+  pub booked : new.booked ≡ old.booked
+
+-- a session opened, and this is its number: how many were opened before it
+pub record Opens (old new : HubView) (s : ℕ) : Type 0 where
+  pub number : s ≡ old.opened
+  pub mark : Marked old.marks new.marks s (Some false)
+  pub desk : new.desk ≡ old.desk
+  pub opened : new.opened ≡ old.opened + 1
+  pub booked : new.booked ≡ old.booked
+
+-- no session opens: as many were opened as may be, or else memory lacks  [profile]
+abbrev pub IsNotOpened : HubView → Refusal → Type 0
+IsNotOpened v r = ((r ≡ Limit) × (v.opened ≡ 2 ^ 32)) ⊎ ((r ≡ Enomem) × (v.opened ≢ 2 ^ 32))
+
+-- the input of a session has ended, if the session is open
+pub record EndsInput (old new : HubView) (s : ℕ) : Type 0 where
+  pub mark : IsEndedIf old.marks new.marks s
+  pub rest : ChangesMarksAlone old new
+
+-- a session isn't open any more
+pub record Closes (old new : HubView) (s : ℕ) : Type 0 where
+  pub mark : Marked old.marks new.marks s None
+  pub rest : ChangesMarksAlone old new
+
+-- a client died, if it lived; this is what it left
+pub record Leaves (old new : HubView) (p : PassView) (l : LeftView) : Type 0 where
+  pub alive : is_alive (past (kept old.desk)) p.client ≡ true → Dies old p.client new
+  pub dead : is_alive (past (kept old.desk)) p.client ≡ false → new ≡ old
+  pub left : l ≡ record {
+    client = p.client;
+    priority = p.priority;
+    receipts = p.receipts;
+    died_at = next_place old.desk;
+    deaths = one_if (is_alive (past (kept old.desk)) p.client);
+  }

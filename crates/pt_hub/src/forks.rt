@@ -6,11 +6,11 @@ ghost use Rattle.pt_told.specs.OwnEvents.{Compares, Finds, PartsAt};
 ghost use Rattle.pt_hub.specs.Desks.{kept};
 ghost use Rattle.pt_hub.specs.Closing.{claims_since, own_events, AnyAt, DiffersAt, Holds, IsAnswered, IsMistold, lesser};
 
-use crate::alike::same_event;
 use crate::claims::{claim, claim_count, claim_since, claimed_place};
 use crate::desk::Desk;
 use crate::pass::{Left, Receipt};
 use pt_model::Event;
+use pt_told::same_event;
 use std::alloc::Allocator;
 use std::sync::ledger::Ledger;
 

@@ -13,7 +13,7 @@ ghost use Rattle.pt_model.specs.Room.{refusal_within};
 ghost use Rattle.pt_model.specs.Legal.{LegalBehind, events_of};
 ghost use Rattle.pt_core.specs.Cores.{past};
 ghost use Rattle.pt_hub.specs.Desks.{IsRefusedAs, kept, call_refusal, one_if};
-ghost use Rattle.pt_hub.specs.Hubs.{Joins, Sends, Ticks, Dies, Takes, takeable, next_place, outer_count, has_ended, Marked, IsEndedIf, Fits};
+ghost use Rattle.pt_hub.specs.Hubs.{Joins, Sends, Ticks, Dies, Takes, takeable, next_place, outer_count, has_ended, Opens, IsNotOpened, EndsInput, Closes, Fits};
 ghost use Rattle.pt_hub.specs.Passes.{events_found};
 ghost use Rattle.pt_hub.specs.Closing.{Holds, IsCloseFault};
 
@@ -256,14 +256,10 @@ impl<L: Ledger, A: Allocator + Copy> Hub<L, A> {
     /// A session opens, with a clock. LIMIT after 2^32 sessions; else ENOMEM if a growth is
     /// refused.  [profile]
     pub fn open_session(&mut self) -> Result<(SessionId, ClockPass<L, A>), Refusal>
-        ensures id { IfOk result (λ r. r.0.0 ≡ self.old.opened) }
+        ensures ok { IfOk result (λ r. Opens self.old self.new r.0.0) }
         ensures clock { IfOk result (λ r. r.1.moments ≡ []) }
-        ensures mark { OnOk result (Marked self.old.marks self.new.marks self.old.opened
-            (Some false)) }
-        ensures ok { OnOk result ((self.new.desk ≡ self.old.desk)
-            × (self.new.opened ≡ self.old.opened + 1) × (self.new.booked ≡ self.old.booked)) }
         ensures limit { (result ≡ Err Refusal.Limit) ↔ (self.old.opened ≡ 2 ^ 32) }
-        ensures err { IfErr result (λ r. (r ≡ Refusal.Limit) ⊎ (r ≡ Refusal.Enomem)) }
+        ensures err { IfErr result (IsNotOpened self.old) }
         ensures unchanged { OnErr result (self.new ≡ self.old) }
     {
         let _ = self.desk.len();
@@ -286,9 +282,7 @@ impl<L: Ledger, A: Allocator + Copy> Hub<L, A> {
 
     /// The input of a session has ended, if it is open.
     pub fn end_input(&mut self, session: SessionId)
-        ensures mark { IsEndedIf self.old.marks self.new.marks session.0 }
-        ensures rest { (self.new.desk ≡ self.old.desk) × (self.new.opened ≡ self.old.opened)
-            × (self.new.booked ≡ self.old.booked) }
+        ensures { EndsInput self.old self.new session.0 }
     {
         marks::end(&mut self.marks, session.0);
     }
@@ -302,9 +296,7 @@ impl<L: Ledger, A: Allocator + Copy> Hub<L, A> {
 
     /// A session isn't open any more.
     pub fn close_session(&mut self, session: SessionId)
-        ensures mark { Marked self.old.marks self.new.marks session.0 None }
-        ensures rest { (self.new.desk ≡ self.old.desk) × (self.new.opened ≡ self.old.opened)
-            × (self.new.booked ≡ self.old.booked) }
+        ensures { Closes self.old self.new session.0 }
     {
         marks::close(&mut self.marks, session.0);
     }

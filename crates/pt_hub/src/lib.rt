@@ -6,7 +6,6 @@
 #![tactic(auto)]
 
 mod account;
-mod alike;
 mod claims;
 mod closing;
 mod desk;

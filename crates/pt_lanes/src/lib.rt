@@ -1,11 +1,11 @@
 //! Tests over slices of counts, some lanes at a time.
 //!
 //! Contracts see a slice as its list of counts, and say of each call what its definition says, for
-//! every slice and every index. `plain` has the same calls, one count at a time.
+//! every slice and every index.
 //! Only tests show how fast they are.
 #![tactic(auto)]
 
 mod kernel;
-pub mod plain;
+mod plain;
 
 pub use kernel::{all_zero, any_from, highest};

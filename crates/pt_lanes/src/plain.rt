@@ -1,8 +1,8 @@
-//! The same calls, one count at a time.
+//! Loops over one count at a time, for what is not a whole block.
 
-ghost use Rattle.std.specs.Prelude.{◌≡◌, ◌↔◌, IsTrue};
+ghost use Rattle.std.specs.Prelude.{◌≡◌};
 ghost use Rattle.std.specs.List.{list_any};
-ghost use Rattle.pt_lanes.specs.Counts.{is_set, AnyFrom, AllZero, IsHighest};
+ghost use Rattle.pt_lanes.specs.Counts.{is_set, IsHighest};
 
 /// Whether a count isn't zero.
 pub(crate) fn has_any(counts: &[u32]) -> bool
@@ -11,15 +11,8 @@ pub(crate) fn has_any(counts: &[u32]) -> bool
     counts.iter().any(|count| *count != 0)
 }
 
-/// Whether a count at index `p` or above isn't zero.
-pub fn any_from(counts: &[u32], p: usize) -> bool
-    ensures { IsTrue result ↔ AnyFrom counts.now p }
-{
-    p < counts.len() && has_any(&counts[p..])
-}
-
 /// The greatest index whose count isn't zero; None if each is zero.
-pub fn highest(counts: &[u32]) -> Option<usize>
+pub(crate) fn highest(counts: &[u32]) -> Option<usize>
     ensures { IsHighest counts.now result }
 {
     for i in (0..counts.len()).rev() {
@@ -28,11 +21,4 @@ pub fn highest(counts: &[u32]) -> Option<usize>
         }
     }
     None
-}
-
-/// Whether each count is zero.
-pub fn all_zero(counts: &[u32]) -> bool
-    ensures { IsTrue result ↔ AllZero counts.now }
-{
-    !has_any(counts)
 }

@@ -76,7 +76,7 @@ fn take_line<A: Allocator + Copy>(held: &mut BytesMut<A>) -> Option<Cut>
     ensures none { IfNone result (NoNewline held.old.items × (length held.old.items ≤ 128)
         × (held.new.items ≡ held.old.items)) }
 {
-    let count = held.len().min(129);
+    let count = held.len().min(MOST_IN_LINE + 1);
     let text = held.as_slice();
     match memchr(b'\n', &text[..count]) {
         Some(end) => {
@@ -85,7 +85,7 @@ fn take_line<A: Allocator + Copy>(held: &mut BytesMut<A>) -> Option<Cut>
             Some(Cut::Line(line))
         }
         None if count > MOST_IN_LINE => {
-            held.advance(129);
+            held.advance(MOST_IN_LINE + 1);
             Some(Cut::Long)
         }
         None => None,

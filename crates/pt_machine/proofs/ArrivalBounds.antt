@@ -2,7 +2,7 @@
 use Rattle.std.proofs.Common.{Bool, true, false, cond, ◌≡◌, ℕ, suc, ◌<◌, inl, inr, List, [], ◌∷◌, Option, Some, None, is_some, refl, sym, subst, arith}
 use Rattle.std.specs.List.{AllByRecursion as Each}
 use Rattle.pt_types.specs.declared.call.ObjectKind.{ObjectKind}
-use Rattle.pt_types.specs.Operations.{ObjectClass}
+use Rattle.pt_types.specs.declared.operations.ObjectClass.{ObjectClass}
 use Rattle.pt_waitq.specs.declared.waiter.Waiter.{Waiter}
 use Rattle.pt_waitq.specs.Queues.{In as Among}
 use Rattle.pt_waitq.specs.Members.{Members}
@@ -12,7 +12,8 @@ use Rattle.pt_model.specs.declared.entry.Cause.{Cause}
 use Rattle.pt_model.specs.Searches.{In}
 use Rattle.pt_model.specs.Histories.{History, ◌▷◌, place}
 use Rattle.pt_model.specs.Objects.{is_class, kind_of}
-use Rattle.pt_model.specs.Records.{WaitingCall, Move}
+use Rattle.pt_model.specs.declared.waiting_call.WaitingCall.{WaitingCall}
+use Rattle.pt_model.specs.declared.waiting_call.Move.{Move}
 use Rattle.pt_model.specs.Answers.{open_calls}
 use Rattle.pt_model.specs.Moves.{has_place, arrival_by, cause_by, move_or, moved, at_object}
 use Rattle.pt_model.specs.Steps.{Follows}

@@ -9,14 +9,17 @@ use Rattle.pt_types.specs.declared.outcome.Consistency.{Consistency}
 use Rattle.pt_types.specs.Times.{has_bad_deadline}
 use Rattle.pt_types.specs.Operations.{operation}
 use Rattle.pt_types.specs.MutexTable.{is_number, is_recursive, is_lost, may_lock}
-use Rattle.pt_types.specs.RwlockTable.{RwlockView, is_free, may_read}
+use Rattle.pt_types.specs.RwlockTable.{is_free, may_read}
+use Rattle.pt_types.specs.declared.views.RwlockView.{RwlockView}
 use Rattle.pt_types.specs.Tables.{reply}
 use Rattle.pt_model.specs.declared.entry.Entry.TheVariants.{Call, Grant, Trip}
 use Rattle.pt_model.specs.Searches.{In, least}
 use Rattle.pt_model.specs.Histories.{History, ◌▷◌, place}
 use Rattle.pt_model.specs.Clients.{is_alive}
 use Rattle.pt_model.specs.Objects.{kind_of, mutex_kind, barrier_count}
-use Rattle.pt_model.specs.Records.{Role, ForMutex, ForRead, ForWrite, ForBarrier, ForCond, WaitingCall}
+use Rattle.pt_model.specs.declared.waiting_call.WaitingCall.{WaitingCall}
+use Rattle.pt_model.specs.declared.waiting_call.Role.{Role}
+use Rattle.pt_model.specs.declared.waiting_call.Role.TheVariants.{ForMutex, ForRead, ForWrite, ForBarrier, ForCond}
 use Rattle.pt_model.specs.WaitingCall.{is_arrival, is_write}
 use Rattle.pt_model.specs.Answers.{open_calls, open_place, at_barrier}
 use Rattle.pt_model.specs.Moves.{move_or, moved, is_moved, object_by, at_object, waiting_at}

@@ -8,10 +8,14 @@ use Rattle.pt_types.specs.declared.outcome.Outcome.TheVariants.{Done, Eperm, Ein
 use Rattle.pt_types.specs.declared.outcome.Verdict.TheVariants.{Reply, Stands}
 use Rattle.pt_types.specs.Times.{Timespec, has_bad_deadline}
 use Rattle.pt_types.specs.declared.time.Clock.{Clock}
-use Rattle.pt_types.specs.Operations.{Operation, Makes, Ends, Acquires, Unlocks, Restores, Rwunlocks, Awaits, Signals, Broadcasts, Arrives, operation, MutexLock, ReadLock, WriteLock, MutexClass, RwlockClass, CondClass, is_try, deadline_of, clock_of}
+use Rattle.pt_types.specs.Operations.{Operation, Makes, Ends, Acquires, Unlocks, Restores, Rwunlocks, Awaits, Signals, Broadcasts, Arrives, operation, is_try, deadline_of, clock_of}
+use Rattle.pt_types.specs.declared.operations.ObjectClass.TheVariants.{Mutex as MutexClass, Rwlock as RwlockClass, Cond as CondClass}
+use Rattle.pt_types.specs.declared.operations.LockKind.TheVariants.{MutexLock, ReadLock, WriteLock}
 use Rattle.pt_types.specs.Limits.{most_locks, most_reads}
-use Rattle.pt_types.specs.MutexTable.{MutexView, owns, is_recursive, is_errorcheck, is_lost, may_lock}
-use Rattle.pt_types.specs.RwlockTable.{RwlockView, holds, is_free, relock_outcome, may_read}
+use Rattle.pt_types.specs.MutexTable.{owns, is_recursive, is_errorcheck, is_lost, may_lock}
+use Rattle.pt_types.specs.declared.views.MutexView.{MutexView}
+use Rattle.pt_types.specs.RwlockTable.{holds, is_free, relock_outcome, may_read}
+use Rattle.pt_types.specs.declared.views.RwlockView.{RwlockView}
 use Rattle.pt_types.specs.CondTable.{is_elsewhere}
 use Rattle.pt_types.specs.Tables.{reply}
 use Rattle.pt_model.specs.declared.entry.Entry.TheVariants.{Call}
@@ -19,7 +23,9 @@ use Rattle.pt_model.specs.Searches.{In}
 use Rattle.pt_model.specs.Histories.{History, place}
 use Rattle.pt_model.specs.Clients.{client}
 use Rattle.pt_model.specs.Objects.{find}
-use Rattle.pt_model.specs.Records.{Role, ForMutex, ForRead, ForWrite, ForBarrier, ForCond, WaitingCall}
+use Rattle.pt_model.specs.declared.waiting_call.WaitingCall.{WaitingCall}
+use Rattle.pt_model.specs.declared.waiting_call.Role.{Role}
+use Rattle.pt_model.specs.declared.waiting_call.Role.TheVariants.{ForMutex, ForRead, ForWrite, ForBarrier, ForCond}
 use Rattle.pt_model.specs.WaitingCall.{stood_by_operation, stood_by, is_arrival}
 use Rattle.pt_model.specs.Moves.{waiting_at}
 use Rattle.pt_model.specs.Mutexes.{owner, consistency, mutex_view}

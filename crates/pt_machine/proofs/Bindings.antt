@@ -1,11 +1,11 @@
 -- Bindings: a condition's mutex is that of the first wait of its queue.
 use Rattle.std.proofs.Common.{◌≡◌, ℕ, ◌==◌, true, List, Option, Some, None, filter, refl, sym, ap, ◌∙◌}
 use Rattle.pt_types.specs.declared.call.ObjectKind.TheVariants as kind
-use Rattle.pt_types.specs.Operations.{CondClass}
+use Rattle.pt_types.specs.declared.operations.ObjectClass.TheVariants.{Cond as CondClass}
 use Rattle.pt_model.specs.Searches.{In, least}
 use Rattle.pt_model.specs.Histories.{History}
 use Rattle.pt_model.specs.Objects.{kind_of}
-use Rattle.pt_model.specs.Records.{WaitingCall}
+use Rattle.pt_model.specs.declared.waiting_call.WaitingCall.{WaitingCall}
 use Rattle.pt_model.specs.Answers.{open_calls}
 use Rattle.pt_model.specs.Moves.{precedes, at_object, waiting_at}
 use Rattle.pt_model.specs.Verdicts.{bound_by, mutex_awaited}
@@ -14,7 +14,7 @@ use Rattle.pt_model.proofs.Lists.{In-filter, filter-in, false_by}
 use Rattle.pt_model.proofs.Leasts.{least-in, least-none}
 use Rattle.pt_model.proofs.Seats.{exists_as}
 use Rattle.pt_state.specs.Serving.{waits_in}
-use Rattle.pt_state.proofs.BoundMutex.{at_cond, bound-any, bound-none}
+use Rattle.pt_touched.proofs.BoundMutex.{at_cond, bound-any, bound-none}
 use Rattle.pt_machine.proofs.QueueClasses.{at-cond}
 
 module _ (h : History) (f : Follows h) (q : ℕ) (cond : kind_of h q ≡ Some kind.Cond) where

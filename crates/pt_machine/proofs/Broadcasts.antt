@@ -5,7 +5,8 @@ use Rattle.std.proofs.lemmas.Bool.{and_parts}
 use Rattle.pt_types.specs.declared.call.Call.{Call as Asked}
 use Rattle.pt_types.specs.declared.outcome.Outcome.{Outcome}
 use Rattle.pt_types.specs.declared.outcome.Outcome.TheVariants.{Done}
-use Rattle.pt_types.specs.Operations.{Operation, Broadcasts, operation, MutexClass, RwlockClass, CondClass, BarrierClass, clock_of}
+use Rattle.pt_types.specs.Operations.{Operation, Broadcasts, operation, clock_of}
+use Rattle.pt_types.specs.declared.operations.ObjectClass.TheVariants.{Mutex as MutexClass, Rwlock as RwlockClass, Cond as CondClass, Barrier as BarrierClass}
 use Rattle.pt_model.specs.declared.entry.Entry.TheVariants.{Call}
 use Rattle.pt_model.specs.declared.entry.Cause.{Cause}
 use Rattle.pt_model.specs.declared.entry.Cause.TheVariants.{Broadcasted}
@@ -13,7 +14,10 @@ use Rattle.pt_model.specs.Searches.{In}
 use Rattle.pt_model.specs.Histories.{History, ◌▷◌, place}
 use Rattle.pt_model.specs.Clients.{is_alive}
 use Rattle.pt_model.specs.Objects.{is_class, find, kind_of}
-use Rattle.pt_model.specs.Records.{Role, ForMutex, ForRead, ForWrite, ForBarrier, ForCond, WaitingCall, Move}
+use Rattle.pt_model.specs.declared.waiting_call.WaitingCall.{WaitingCall}
+use Rattle.pt_model.specs.declared.waiting_call.Move.{Move}
+use Rattle.pt_model.specs.declared.waiting_call.Role.{Role}
+use Rattle.pt_model.specs.declared.waiting_call.Role.TheVariants.{ForMutex, ForRead, ForWrite, ForBarrier, ForCond}
 use Rattle.pt_model.specs.WaitingCall.{is_wait}
 use Rattle.pt_model.specs.Answers.{open_calls}
 use Rattle.pt_model.specs.Moves.{arrival_by, cond_waits, woken, move_or, moved, object_by, at_object}

@@ -8,9 +8,12 @@ pub mod OpenPriorities
 pub mod ArrivalBounds
 -- PlaceTakes: what a client's row has of its open call is the call that takes its place
 pub mod PlaceTakes
--- MayLemmas: what decides whether an open call in the rows may go on: its client's priority, and
--- the class of its object
-pub mod MayLemmas
+-- OpenRowCalls: the open call in a client's row, as it is found by its client
+pub mod OpenRowCalls
+-- CandidateRows: the candidate of an object, by the rows of objects and of clients
+pub mod CandidateRows
+-- LastTouches: what is touched, and whose call came last, as entries are pushed
+pub mod LastTouches
 -- TableViews: what the tables answer, of the body that has them
 pub mod TableViews
 -- What a queue answers:
@@ -22,7 +25,7 @@ pub mod QueueClasses
 pub mod QueueReads
 -- QueueCounts: as many stand in a queue as open calls stand at its object
 pub mod QueueCounts
--- QueueFirsts: the first of a condition's queue is the wait that a signal wakes
+-- QueueFirsts: the first of a queue is the first of the calls that wait there
 pub mod QueueFirsts
 -- QueueClears: A queue whose first is taken out until none is left
 pub mod QueueClears

@@ -1,5 +1,5 @@
 -- What follows where a call needs no memory to wait.
-use Rattle.std.proofs.Common.{◌≡◌, Bool, true, false, ◌||◌, Some, is_some, refl, sym, ap, ◌∙◌}
+use Rattle.std.proofs.Common.{◌≡◌, Bool, true, false, ◌||◌, Some, is_some, refl, ap}
 use Rattle.pt_types.specs.Times.{Timespec}
 use Rattle.pt_types.specs.Operations.{Operation}
 use Rattle.pt_state.specs.Outer.{asks_to_read}

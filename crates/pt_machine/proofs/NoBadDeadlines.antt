@@ -17,7 +17,7 @@ use Rattle.pt_model.specs.declared.entry.Entry.{Entry}
 use Rattle.pt_model.specs.declared.entry.Entry.TheVariants.{Join, Call, Death, Moment, Grant, Trip, Yield, Expire}
 use Rattle.pt_model.specs.Searches.{In}
 use Rattle.pt_model.specs.Histories.{History, Begin, ◌▷◌, place}
-use Rattle.pt_model.specs.Records.{WaitingCall}
+use Rattle.pt_model.specs.declared.waiting_call.WaitingCall.{WaitingCall}
 use Rattle.pt_model.specs.WaitingCall.{at_place, stood, stood_by_operation, stood_by}
 use Rattle.pt_model.specs.Answers.{open_calls}
 use Rattle.pt_model.specs.Grants.{grant_outcome}

@@ -10,7 +10,6 @@ use Rattle.pt_types.specs.Tables.{reply}
 use Rattle.pt_table.specs.declared.clients.ClientRow.{ClientRow}
 use Rattle.pt_table.specs.ClientRows.{client_value}
 use Rattle.pt_model.specs.Found.{keep}
-use Rattle.pt_model.specs.Shown.{shown}
 use Rattle.pt_model.proofs.Ascending.{Each-weaker, at_place-below}
 use Rattle.pt_model.proofs.Rising.{stood-below}
 use Rattle.pt_model.specs.Starts.{nothing}
@@ -20,7 +19,7 @@ use Rattle.pt_model.specs.declared.entry.Entry.{Entry}
 use Rattle.pt_model.specs.declared.entry.Entry.TheVariants.{Join, Call, Death, Moment, Grant, Trip, Yield, Expire}
 use Rattle.pt_model.specs.Searches.{In}
 use Rattle.pt_model.specs.Histories.{History, Begin, ◌▷◌, place, onto}
-use Rattle.pt_model.specs.Records.{WaitingCall}
+use Rattle.pt_model.specs.declared.waiting_call.WaitingCall.{WaitingCall}
 use Rattle.pt_model.specs.WaitingCall.{stood, at_place, calls_below, waiting_there}
 use Rattle.pt_model.specs.declared.start.StartCall.{StartCall}
 use Rattle.pt_model.specs.StartRows.{StartRows, reads_of, call_at, call_row, client_of_call}
@@ -229,7 +228,7 @@ caller-begun {A = A} s t view rows same j lt =
     ∙ (client_below (call_at rows.calls) rows.at j lt ∙ found (call_row rows.calls j)))))
   where
     found : (o : Option StartCall)
-        → client_at (option_map (λ r. shown r.call) o) ≡ option_map (λ r. r.call.client) o
+        → client_at (option_map (λ r. r.call) o) ≡ option_map (λ r. r.call.client) o
     found None = refl
     found (Some r) = refl
 
@@ -361,7 +360,7 @@ module _ (h : History) (f : Follows h) where
           ≡ at_place p (open_calls h)
       go None q =
           let none : call_of (open_calls h) c ≡ None =
-          sym (a.look.calls c) ∙ ap (option_map (λ (o : Open). shown o.call)) q in
+          sym (a.look.calls c) ∙ ap (option_map (λ (o : Open). o.call)) q in
           sym (place-none p (open_calls h)
           (λ v i at. call_of-none (open_calls h) c none v i (its v i at)))
       go (Some o) q =

@@ -6,7 +6,7 @@ use Rattle.pt_model.proofs.Induction.{by_steps}
 use Rattle.pt_model.specs.declared.entry.Entry.{Entry}
 use Rattle.pt_model.specs.declared.entry.Entry.TheVariants.{Join, Death}
 use Rattle.pt_model.specs.Searches.{In}
-use Rattle.pt_model.specs.Records.{WaitingCall}
+use Rattle.pt_model.specs.declared.waiting_call.WaitingCall.{WaitingCall}
 use Rattle.pt_model.specs.Histories.{History, ◌▷◌, place}
 use Rattle.pt_model.specs.Clients.{client, is_alive}
 use Rattle.pt_model.specs.Answers.{open_calls}

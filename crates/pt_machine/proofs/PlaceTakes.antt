@@ -7,11 +7,11 @@ use Rattle.pt_waitq.specs.Queues.{stands_in, IsLatest, insert_in_order}
 use Rattle.pt_model.specs.Histories.{History}
 use Rattle.pt_model.specs.Searches.{In}
 use Rattle.pt_model.specs.Clients.{client}
-use Rattle.pt_model.specs.Records.{WaitingCall, Move}
+use Rattle.pt_model.specs.declared.waiting_call.WaitingCall.{WaitingCall}
+use Rattle.pt_model.specs.declared.waiting_call.Move.{Move}
 use Rattle.pt_model.specs.Answers.{open_calls}
 use Rattle.pt_model.specs.Moves.{moved, object_by, at_object}
 use Rattle.pt_model.specs.Steps.{Follows}
-use Rattle.pt_model.specs.Shown.{shown, shown_move}
 use Rattle.pt_records.specs.declared.clients.Caller.{Caller}
 use Rattle.pt_records.specs.declared.clients.Open.{Open}
 use Rattle.pt_records.specs.Callers.{AreCallers, call_of, open_in, move_in}
@@ -38,7 +38,7 @@ pub row-there :
     → w.client ≡ c → ⊥
 row-there h rows f a c none w i e =
     let here : ◌≡◌ {A = Option WaitingCall} None (Some w) =
-    ap (option_map (λ (o : Open). shown o.call)) (sym none)
+    ap (option_map (λ (o : Open). o.call)) (sym none)
     ∙ (a.look.calls c ∙ first-call h f c w i e) in
     cc
 
@@ -47,18 +47,18 @@ pub takes :
     (h : History) (rows : List (ClientRow Caller)) → Follows h → AreCallers h rows
     → (c object p : ℕ) (v : Waiter) (o : Open)
     → open_in (client_value rows c) ≡ Some o → client h c ≡ Some p → object ≡ object_of o
-    → v ≡ record (waiter_by (option_map shown_move o.moved) (shown o.call)) { prio = p }
+    → v ≡ record (waiter_by o.moved o.call) { prio = p }
     → Takes h c object v
 takes h rows f a c object p v o row level at is =
     record {
       seat = λ w i e.
           at
-          ∙ (ap (λ (u : WaitingCall). object_by u.role (option_map shown_move o.moved) u.object)
+          ∙ (ap (λ (u : WaitingCall). object_by u.role o.moved u.object)
           (call w i e)
           ∙ ap (λ (m : Option Move). object_by w.role m w.object) (move w i e));
       same = λ w i e.
           is
-          ∙ (ap (λ (u : WaitingCall). with_priority p (option_map shown_move o.moved) u)
+          ∙ (ap (λ (u : WaitingCall). with_priority p o.moved u)
           (call w i e)
           ∙ (ap (λ (m : Option Move). with_priority p m w) (move w i e)
           ∙ ap (λ (k : ℕ). with_priority k (moved h w.place) w) (priority w i e)));
@@ -67,17 +67,17 @@ takes h rows f a c object p v o row level at is =
     with_priority : ℕ → Option Move → WaitingCall → Waiter
     with_priority k m w = record (waiter_by m w) { prio = k }
 
-    call : (w : WaitingCall) → In w (open_calls h) → w.client ≡ c → shown o.call ≡ w
+    call : (w : WaitingCall) → In w (open_calls h) → w.client ≡ c → o.call ≡ w
     call w i e =
-        let here : ◌≡◌ {A = Option WaitingCall} (Some (shown o.call)) (Some w) =
-        ap (option_map (λ (x : Open). shown x.call)) (sym row)
+        let here : ◌≡◌ {A = Option WaitingCall} (Some o.call) (Some w) =
+        ap (option_map (λ (x : Open). x.call)) (sym row)
         ∙ (a.look.calls c ∙ first-call h f c w i e) in
         cc
 
     move : (w : WaitingCall) → In w (open_calls h) → w.client ≡ c
-        → option_map shown_move o.moved ≡ moved h w.place
+        → o.moved ≡ moved h w.place
     move w i e =
-        let has : move_in (client_value rows c) ≡ option_map shown_move o.moved = rw row refl in
+        let has : move_in (client_value rows c) ≡ o.moved = rw row refl in
         sym has ∙ a.look.moves c w (first-call h f c w i e)
 
     priority : (w : WaitingCall) → In w (open_calls h) → w.client ≡ c → p ≡ w.priority

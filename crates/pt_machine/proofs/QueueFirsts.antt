@@ -1,7 +1,6 @@
--- QueueFirsts: the first of a condition's queue is the wait that a signal wakes.
+-- QueueFirsts: the first of a queue is the first of the calls that wait there.
 use Rattle.std.proofs.Common.{◌≡◌, ℕ, ◌==◌, Bool, true, false, List, Option, Some, None, option_map, IfSome, filter, refl, sym, ap, ◌∙◌, subst, arith, eq-eqb}
 use Rattle.std.proofs.lemmas.Bool.Decides.{nat_tests}
-use Rattle.pt_types.specs.declared.call.ObjectKind.TheVariants as kind
 use Rattle.pt_types.specs.KeyOrder.{goes_before}
 use Rattle.pt_table.specs.declared.clients.ClientRow.{ClientRow}
 use Rattle.pt_table.specs.ClientRows.{client_value}
@@ -11,8 +10,8 @@ use Rattle.pt_waitq.specs.Queues.{In as InQueue, key_of, comes_before, head_of}
 use Rattle.pt_waitq.proofs.MemberLemmas.{head-in, head-first, head-none}
 use Rattle.pt_model.specs.Searches.{In, least}
 use Rattle.pt_model.specs.Histories.{History}
-use Rattle.pt_model.specs.Objects.{kind_of}
-use Rattle.pt_model.specs.Records.{WaitingCall, Move}
+use Rattle.pt_model.specs.declared.waiting_call.WaitingCall.{WaitingCall}
+use Rattle.pt_model.specs.declared.waiting_call.Move.{Move}
 use Rattle.pt_model.specs.Answers.{open_calls}
 use Rattle.pt_model.specs.Moves.{arrival_by, moved, key, precedes, at_object}
 use Rattle.pt_model.specs.Steps.{Follows}
@@ -22,13 +21,12 @@ use Rattle.pt_model.proofs.Orders.{precedes-order, least-first}
 use Rattle.pt_records.specs.declared.clients.Caller.{Caller}
 use Rattle.pt_records.specs.declared.clients.Open.{Open}
 use Rattle.pt_records.specs.Callers.{AreCallers, call_of, open_in, opens_of}
-use Rattle.pt_state.specs.Serving.{called, waits_in}
+use Rattle.pt_state.specs.Serving.{called}
 use Rattle.pt_records.proofs.OpenRows.{look-row, row-open}
 use Rattle.pt_state.proofs.CallerFinds.{call_of-open}
 use Rattle.pt_state.proofs.ServingOrders.{precedes-one}
 use Rattle.pt_machine.specs.Queued.{waiter}
 use Rattle.pt_machine.proofs.Membership.{in-list, in-queue}
-use Rattle.pt_machine.proofs.QueueClasses.{at-cond}
 
 -- by what a call goes before another is the same of its waiter
 key-waiter : (h : History) (w : WaitingCall) → key_of (waiter h w) ≡ key h w
@@ -69,25 +67,26 @@ least-open h f p w i t first = go (least (precedes h) those) refl
 
 module _ (h : History) (queue : ℕ → List Waiter)
     (m : Members (at_object h) (waiter h) (open_calls h) queue) (follows : Follows h) (q : ℕ)
-    (cond : kind_of h q ≡ Some kind.Cond) where
-  -- a wait that isn't moved stands in the queue of its condition
-  stands : (w : WaitingCall) → In w (open_calls h) → waits_in h q w ≡ true
+    (here : WaitingCall → Bool)
+    (agrees : (w : WaitingCall) → In w (open_calls h) → (at_object h w == q) ≡ here w) where
+  -- a call that waits there stands in its queue
+  stands : (w : WaitingCall) → In w (open_calls h) → here w ≡ true
       → InQueue (waiter h w) (queue q)
   stands w i t =
-      let test : (at_object h w == q) ≡ true = at-cond h follows q cond w i ∙ t in
-      let here : at_object h w ≡ q = grind (arith, nat_tests) in
-      subst (λ o. InQueue (waiter h w) (queue o)) here (m.held w (in-queue w (open_calls h) i))
+      let test : (at_object h w == q) ≡ true = agrees w i ∙ t in
+      let at : at_object h w ≡ q = grind (arith, nat_tests) in
+      subst (λ o. InQueue (waiter h w) (queue o)) at (m.held w (in-queue w (open_calls h) i))
 
-  -- the first of the queue is the least of the waits there
+  -- the first of the queue is the least of the calls there
   first-least : (v : Waiter) → head_of (queue q) ≡ Some v
       → (w : WaitingCall) × (In w (open_calls h) × (v.client ≡ w.client)
-      × (least (precedes h) (filter (waits_in h q) (open_calls h)) ≡ Some w))
+      × (least (precedes h) (filter here (open_calls h)) ≡ Some w))
   first-least v e =
       let r = m.known q v (head-in (queue q) v e) in
       let w = r.0 in
       let i = in-list w (open_calls h) r.1 in
-      let waits = sym (at-cond h follows q cond w i) ∙ eq-eqb (at_object h w) q r.2 in
-      let first : (u : WaitingCall) → In u (open_calls h) → waits_in h q u ≡ true
+      let waits = sym (agrees w i) ∙ eq-eqb (at_object h w) q r.2 in
+      let first : (u : WaitingCall) → In u (open_calls h) → here u ≡ true
       → precedes h u w ≡ false = λ u j t.
       sym (before-waiter h u w)
       ∙ (ap (comes_before (waiter h u)) (sym r.3)
@@ -96,29 +95,29 @@ module _ (h : History) (queue : ℕ → List Waiter)
         (
           i,
           ap (λ (x : Waiter). x.client) r.3,
-          least-open h follows (waits_in h q) w i waits first,
+          least-open h follows here w i waits first,
         ),
       )
 
-  -- the open call of the first waiter's client is the one that a signal wakes
+  -- the open call of the first waiter's client is the first call there
   pub first-called : (rows : List (ClientRow Caller)) → AreCallers h rows
       → (first : Option Waiter) (v : Waiter) (found : Option Open)
       → first ≡ head_of (queue q) → first ≡ Some v
       → found ≡ open_in (client_value rows v.client)
       → option_map called found
-      ≡ least (precedes h) (filter (waits_in h q) (open_calls h))
+      ≡ least (precedes h) (filter here (open_calls h))
   first-called rows a first v found e s t =
       let r = first-least v (sym e ∙ s) in
       let own : call_of (open_calls h) v.client ≡ Some r.0 =
       ap (call_of (open_calls h)) r.1.1 ∙ call_of-open h follows r.0 r.1.0 in
       ap (option_map called) t ∙ (a.look.calls v.client ∙ (own ∙ sym r.1.2))
 
-  -- where the queue is empty, a signal wakes none
+  -- where the queue is empty, no call waits there
   pub none-called : (first : Option Waiter) → first ≡ head_of (queue q) → first ≡ None
-      → None ≡ least (precedes h) (filter (waits_in h q) (open_calls h))
+      → None ≡ least (precedes h) (filter here (open_calls h))
   none-called first e s =
-      sym (none-least (precedes h) (filter (waits_in h q) (open_calls h)) (λ w i.
-      let j = In-filter (waits_in h q) (open_calls h) w i in
+      sym (none-least (precedes h) (filter here (open_calls h)) (λ w i.
+      let j = In-filter here (open_calls h) w i in
       head-none (queue q) (sym e ∙ s) (waiter h w) (stands w j.0 j.1)))
 
 -- a client's open call is one of those in the rows

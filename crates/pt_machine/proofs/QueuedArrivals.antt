@@ -12,7 +12,7 @@ use Rattle.pt_model.specs.Starts.{nothing}
 use Rattle.pt_model.specs.declared.entry.Entry.TheVariants.{Join, Death, Moment, Yield}
 use Rattle.pt_model.specs.Histories.{History, Begin, ◌▷◌, place}
 use Rattle.pt_model.specs.Clients.{client}
-use Rattle.pt_model.specs.Records.{WaitingCall}
+use Rattle.pt_model.specs.declared.waiting_call.WaitingCall.{WaitingCall}
 use Rattle.pt_model.specs.Answers.{open_calls}
 use Rattle.pt_model.specs.Moves.{at_object}
 use Rattle.pt_model.specs.Steps.{Follows}

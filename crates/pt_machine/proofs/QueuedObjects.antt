@@ -3,7 +3,8 @@ use Rattle.std.proofs.Common.{◌≡◌, ℕ, ◌+◌, ◌==◌, Bool, true, fal
 use Rattle.pt_types.specs.declared.call.Call.{Call as Asked}
 use Rattle.pt_types.specs.declared.call.ObjectKind.{ObjectKind}
 use Rattle.pt_types.specs.declared.outcome.Outcome.TheVariants.{Done}
-use Rattle.pt_types.specs.Operations.{Makes, Ends, operation, ObjectClass}
+use Rattle.pt_types.specs.Operations.{Makes, Ends, operation}
+use Rattle.pt_types.specs.declared.operations.ObjectClass.{ObjectClass}
 use Rattle.pt_waitq.specs.declared.waiter.Waiter.{Waiter}
 use Rattle.pt_waitq.specs.Queues.{stands_in}
 use Rattle.pt_model.specs.declared.entry.Entry.TheVariants.{Call}

@@ -4,7 +4,7 @@ use Rattle.pt_waitq.specs.declared.waiter.Waiter.{Waiter}
 use Rattle.pt_types.specs.declared.time.Clock.{Clock}
 use Rattle.pt_types.specs.Times.{has_bad_deadline}
 use Rattle.pt_model.specs.Searches.{In}
-use Rattle.pt_model.specs.Records.{WaitingCall}
+use Rattle.pt_model.specs.declared.waiting_call.WaitingCall.{WaitingCall}
 use Rattle.pt_model.specs.Histories.{History, Begin}
 use Rattle.pt_model.specs.WaitingCall.{at_place, stood}
 use Rattle.pt_model.specs.Answers.{open_calls}

@@ -1,6 +1,6 @@
 -- What the tables answer, of the body that has them.
 use Rattle.std.proofs.Common.{◌≡◌, ℕ, List, Option, Some, sym, ap, ◌∙◌}
-use Rattle.pt_types.specs.Operations.{ObjectClass}
+use Rattle.pt_types.specs.declared.operations.ObjectClass.{ObjectClass}
 use Rattle.pt_model.specs.Objects.{find}
 use Rattle.pt_state.specs.declared.state.State.{State}
 use Rattle.pt_state.specs.Adds.{past}

@@ -10,7 +10,7 @@ use Rattle.pt_model.specs.declared.entry.Entry.{Entry}
 use Rattle.pt_model.specs.declared.entry.Entry.TheVariants.{Join, Death, Moment, Grant, Yield, Expire}
 use Rattle.pt_model.specs.Searches.{In}
 use Rattle.pt_model.specs.Histories.{History, ◌▷◌, place}
-use Rattle.pt_model.specs.Records.{WaitingCall}
+use Rattle.pt_model.specs.declared.waiting_call.WaitingCall.{WaitingCall}
 use Rattle.pt_model.specs.WaitingCall.{at_place, is_wait}
 use Rattle.pt_model.specs.Answers.{open_calls, open_place}
 use Rattle.pt_model.specs.Moves.{cause_by_expiry, move_or, moved, is_moved}

@@ -9,7 +9,8 @@ use Rattle.pt_types.specs.Limits.{second}
 use Rattle.pt_model.specs.declared.entry.Entry.{Entry}
 use Rattle.pt_model.specs.declared.entry.Entry.TheVariants.{Call}
 use Rattle.pt_model.specs.Histories.{History, Begin, ◌▷◌, place}
-use Rattle.pt_model.specs.Records.{WaitingCall, Move}
+use Rattle.pt_model.specs.declared.waiting_call.WaitingCall.{WaitingCall}
+use Rattle.pt_model.specs.declared.waiting_call.Move.{Move}
 use Rattle.pt_model.specs.WaitingCall.{calls_below, at_place}
 use Rattle.pt_model.specs.Answers.{open_calls}
 use Rattle.pt_model.specs.Moves.{is_moved}

@@ -1,6 +1,7 @@
 //! Answers and entries, as the tables have them.
 
 ghost use Rattle.std.specs.Prelude.{None, ◌+◌, ◌-◌, ◌<◌, ◌≡◌, ◌≤◌, length, map, option_copied, slice_get};
+ghost use Rattle.pt_model.specs.Histories.{outer};
 ghost use Rattle.pt_model.specs.Answers.{outcome as said};
 ghost use Rattle.pt_state.specs.Adds.{past};
 ghost use Rattle.pt_model.specs.StartRows.{reads_of};
@@ -22,6 +23,13 @@ impl<Q: WaitList, A: Allocator + Copy> Body<Q, A> {
         ensures { result ≡ self.now.stored.start.at + length self.now.stored.entries }
     {
         self.state.stored.len()
+    }
+
+    /// The number of outer entries, those before the history was sealed included.
+    pub fn outer(&self) -> u64
+        ensures { result ≡ outer (past self.now) }
+    {
+        self.state.stored.outer()
     }
 
     /// The place of the first entry since the history was sealed.

@@ -1,8 +1,7 @@
 //! The tables with their queues and deadlines, and the two ways by which an entry comes in.
 
 ghost use Rattle.pt_state.specs.Adds.{Adds, IsReadyFor, Stays, past};
-ghost use Rattle.std.specs.Prelude.{IfErr, IsOk, OnErr, OnOk, ◌+◌, ◌<◌, ◌≡◌, ◌≤◌, false, length, vec_len};
-ghost use Rattle.pt_types.specs.Limits.{most_clients};
+ghost use Rattle.std.specs.Prelude.{IfErr, IsOk, OnErr, OnOk, ◌+◌, ◌<◌, ◌≡◌, false, vec_len};
 ghost use Rattle.pt_model.specs.Histories.{is_forced};
 ghost use Rattle.pt_machine.specs.Memory.{needs_memory};
 ghost use Rattle.pt_records.specs.Callers.{opens_of};
@@ -12,22 +11,26 @@ ghost use Rattle.pt_state.specs.Reads.{AreTables};
 ghost use Rattle.pt_history.specs.Stored.{begun};
 
 use crate::clock;
+use crate::touched::caller_of;
 use pt_model::Entry;
 use pt_state::{Forced, State};
 use pt_timers::Timers;
-use pt_types::{ClientId, Refusal};
+use pt_types::{ClientId, ObjectId, Refusal};
 use pt_waitq::{Chains, WaitList};
 use std::alloc::{Allocator, Global};
 use std::marker::Model;
 
 /// The tables, with the queues of the calls that wait and the deadlines that are set.
 ///
-/// Contracts see the tables.
+/// `touched` is the one object at which a call may be served now, if one may, and `entering` the
+/// client whose call came last. Contracts see the tables.
 #[derive(Drop)]
 pub struct Body<Q: WaitList, A: Allocator + Copy = Global> {
     pub(crate) state: State<A>,
     pub(crate) queues: Q,
     pub(crate) timers: Timers<A>,
+    pub(crate) touched: Option<ObjectId>,
+    pub(crate) entering: Option<ClientId>,
 }
 
 impl<Q: WaitList, A: Allocator + Copy> Model for Body<Q, A> {
@@ -35,6 +38,7 @@ impl<Q: WaitList, A: Allocator + Copy> Model for Body<Q, A> {
     ghost use Rattle.pt_state.specs.Adds.{past};
     ghost use Rattle.pt_machine.specs.Queued.{IsQueued};
     ghost use Rattle.pt_machine.specs.Timed.{AreTimed};
+    ghost use Rattle.pt_machine.specs.LastTouched.{IsTouched};
 
     ghost Value = { State A };
 
@@ -42,18 +46,11 @@ impl<Q: WaitList, A: Allocator + Copy> Model for Body<Q, A> {
 
     ghost invariant = { λ b. IsQueued (past b.state)
         (Q.queue b.queues) (Q.admitted b.queues) (Q.made b.queues)
-        × AreTimed (past b.state) b.timers };
+        × AreTimed (past b.state) b.timers
+        × IsTouched (past b.state) b.touched b.entering };
 }
 
 impl<Q: WaitList, A: Allocator + Copy> Body<Q, A> {
-    /// How many rows the table of clients has.
-    pub(crate) fn rows(&self) -> usize
-        ensures len { result ≡ length self.now.clients }
-        ensures within { length self.now.clients ≤ most_clients }
-    {
-        self.state.clients.len()
-    }
-
     /// Any outer entry. ENOMEM if a growth is refused: then nothing is pushed. An entry that
     /// needs no memory, as a Death and a Moment, is never refused, and no forced entry comes here.
     pub fn push_outer(&mut self, entry: &Entry) -> Result<(), Refusal>
@@ -64,7 +61,11 @@ impl<Q: WaitList, A: Allocator + Copy> Body<Q, A> {
         ensures reason { IfErr result (λ refusal. refusal ≡ Refusal.Enomem) }
         ensures enough { needs_memory entry.now ≡ false → IsOk result }
     {
-        clock::push_outer(&mut self.state, &mut self.queues, &mut self.timers, entry)
+        let touched = self.touched_by(entry);
+        clock::push_outer(&mut self.state, &mut self.queues, &mut self.timers, entry)?;
+        self.touched = touched;
+        self.entering = caller_of(entry);
+        Ok(())
     }
 
     /// What must follow is pushed.
@@ -74,7 +75,9 @@ impl<Q: WaitList, A: Allocator + Copy> Body<Q, A> {
         requires known { IsFor (opens_of self.old.clients) forced.now }
         ensures { Adds self.old (entry_of (past self.old) forced.now) self.new }
     {
-        clock::push_forced(&mut self.state, &mut self.queues, &mut self.timers, forced)
+        let touched = self.touched_by_forced(forced);
+        clock::push_forced(&mut self.state, &mut self.queues, &mut self.timers, forced);
+        self.touched = touched;
     }
 
     /// The place of a client's open call.
@@ -97,6 +100,8 @@ impl<A: Allocator + Copy> Body<Chains<A>, A> {
             state: State::new(alloc, limit),
             queues: Chains::new(alloc),
             timers: Timers::new(alloc),
+            touched: None,
+            entering: None,
         }
     }
 }

@@ -1,7 +1,8 @@
 //! Calls: the verdict of each, and how those that are answered at once and those that wait come in.
 
 ghost use Rattle.std.specs.Prelude.{IfErr, IsOk, None, OnErr, OnOk, Some, ◌≡◌, false, true};
-ghost use Rattle.pt_types.specs.Operations.{Acquires, Awaits, Broadcasts, Ends, Makes, ReadLock, Restores, Rwunlocks, Signals, Unlocks, WriteLock, operation};
+ghost use Rattle.pt_types.specs.Operations.{Acquires, Awaits, Broadcasts, Ends, Makes, Restores, Rwunlocks, Signals, Unlocks, operation};
+ghost use Rattle.pt_types.specs.declared.operations.LockKind.TheVariants.{ReadLock, WriteLock};
 ghost use Rattle.pt_model.specs.declared.entry.Entry.TheVariants as entry;
 ghost use Rattle.pt_state.specs.Adds.{Adds, IsReadyFor, Stays, past};
 ghost use Rattle.pt_state.specs.Outer.{asks_to_read, makes_object};
@@ -9,7 +10,6 @@ ghost use Rattle.pt_machine.specs.Queued.{IsQueued};
 ghost use Rattle.pt_state.specs.Calling.{is_plain as is_plain_operation};
 ghost use Rattle.pt_types.specs.declared.outcome.Outcome.TheVariants as told;
 ghost use Rattle.pt_model.specs.Verdicts.{operation_verdict as said_of, verdict as verdict_in};
-ghost use Rattle.pt_types.specs.Shown.{shown_lock_kind};
 ghost use Rattle.pt_state.specs.Reads.{AreTables};
 
 use crate::body::Body;
@@ -136,7 +136,7 @@ impl<Q: WaitList, A: Allocator + Copy> Body<Q, A> {
     fn acquires_verdict(&self, c: ClientId, n: &Name, lock_kind: LockKind, how: &How) -> Verdict
         requires { AreTables self.now }
         ensures { result
-            ≡ said_of (past self.now) c (Acquires n.now (shown_lock_kind lock_kind) how.now) }
+            ≡ said_of (past self.now) c (Acquires n.now lock_kind how.now) }
     {
         match lock_kind {
             LockKind::MutexLock => self.state.mutex_verdict(c, n, how),

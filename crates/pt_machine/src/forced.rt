@@ -6,23 +6,19 @@ ghost use Rattle.pt_model.specs.WaitingCall.{is_arrival as is_arrival_role, is_w
 ghost use Rattle.pt_model.specs.Forced.{forced as forced_in, is_served as is_served_in, is_served_before as is_served_before_in, service};
 ghost use Rattle.pt_state.specs.Adds.{Adds, IsReadyFor, past};
 ghost use Rattle.pt_records.specs.Callers.{opens_of};
-ghost use Rattle.pt_state.specs.Serving.{IsFor, best_of, called, entry_of, goes_first as goes_first_by, open_nth as open_nth_in, served_first as served_first_by};
+ghost use Rattle.pt_state.specs.Serving.{IsFor, called, entry_of};
 ghost use Rattle.pt_machine.specs.Queued.{IsQueued};
 ghost use Rattle.pt_model.specs.declared.entry.Entry.TheVariants as entry;
-ghost use Rattle.pt_state.specs.Granting.{may_kept as may_kept_in};
 ghost use Rattle.pt_state.specs.Reads.{AreTables};
-ghost use Rattle.pt_model.specs.Grants.{may as may_in};
-ghost use Rattle.pt_model.specs.Found.{keep};
 ghost use Rattle.pt_model.specs.Answers.{open_calls};
 
 use crate::barrier::push_tripped;
 use crate::body::Body;
 use crate::cond::push_late_wait;
-use pt_model::waiting_call::{Role, goes_before, is_arrival, is_wait, key_with};
+use pt_model::waiting_call::{is_arrival, is_wait};
 use pt_records::Open;
-use pt_records::calls::at_object;
 use pt_state::{Forced, State};
-use pt_types::{ClientId, ObjectId};
+use pt_types::ClientId;
 use pt_waitq::WaitList;
 use std::alloc::Allocator;
 
@@ -129,75 +125,7 @@ pub(crate) fn push_forced<Q: WaitList, A: Allocator + Copy>(
     }
 }
 
-// Whether a call goes before another.  [XSH 2.8.4, pthread_rwlock_unlock]
-fn goes_first(a: &Open, b: &Open) -> bool
-    ensures { result ≡ goes_first_by a.now b.now }
-{
-    goes_before(key_with(&a.call, a.moved), key_with(&b.call, b.moved))
-}
-
-// The lower object first, and there the order of its calls.
-fn served_first(a: &Open, b: &Open) -> bool
-    ensures { result ≡ served_first_by a.now b.now }
-{
-    let one = at_object(a).0;
-    let other = at_object(b).0;
-    one < other || one == other && goes_first(a, b)
-}
-
-// The one to serve first, of a call and the first after it.
-fn better_served(one: Option<Open>, best: Option<Open>) -> Option<Open>
-    ensures { result ≡ best_of served_first_by one best }
-{
-    match (one, best) {
-        (Some(one), Some(other)) if !served_first(&other, &one) => Some(one),
-        (Some(one), None) => Some(one),
-        _ => best,
-    }
-}
-
 impl<Q: WaitList, A: Allocator + Copy> Body<Q, A> {
-    // Whether nothing but the order of calls can hold it back, by its role.  [XSH, its page]
-    fn may_kept(&self, kept: &Open) -> bool
-        requires read { AreTables self.now }
-        requires known { In kept.now (opens_of self.now.clients) }
-        ensures { result
-            ≡ may_kept_in (past self.now) self.now.objects kept.now }
-    {
-        let o = ObjectId(kept.call.object);
-        let c = ClientId(kept.call.client);
-        match kept.call.role {
-            Role::ForMutex => self.state.may_lock(o),
-            Role::ForCond(m) => kept.moved.is_some() && self.state.may_return(ObjectId(m), c),
-            Role::ForRead => self.state.may_read(o, c, self.is_blocked(o, c)),
-            Role::ForWrite => self.state.may_write(o),
-            Role::ForBarrier => self.state.is_full(o, self.arrivals(o)),
-        }
-    }
-
-    /// Whether nothing but the order of calls can hold an open call back.
-    /// [XSH pthread_mutex_unlock, pthread_rwlock_unlock, pthread_barrier_wait]
-    pub fn may(&self, kept: &Open) -> bool
-        requires read { AreTables self.now }
-        requires known { In kept.now (opens_of self.now.clients) }
-        ensures { result ≡ may_in (past self.now) (called kept.now) }
-    {
-        self.may_kept(kept)
-    }
-
-    // The open call in the row at an index, if nothing but the order of calls can hold it back.
-    fn served_nth(&self, i: usize) -> Option<Open>
-        requires { AreTables self.now }
-        ensures { result
-            ≡ keep (λ o. may_in (past self.now) (called o))
-            (open_nth_in self.now.clients i) }
-    {
-        match self.state.open_nth(i) {
-            Some(found) if self.may(&found) => Some(found),
-            _ => None,
-        }
-    }
-
     /// The call to serve first.  [XSH pthread_mutex_unlock, the lowest first is profile]
     pub fn first_served(&self) -> Option<Open>
         requires { AreTables self.now }
@@ -207,13 +135,7 @@ impl<Q: WaitList, A: Allocator + Copy> Body<Q, A> {
             (open_calls (past self.now))) }
         ensures known { IfSome result (λ found. In found (opens_of self.now.clients)) }
     {
-        let mut best = None;
-        let mut i = self.rows();
-        while i > 0 {
-            i -= 1;
-            best = better_served(self.served_nth(i), best);
-        }
-        best
+        self.candidate(self.touched?)
     }
 
     /// What must follow, if anything: service, then yields, then deadlines.

@@ -6,7 +6,6 @@ ghost use Rattle.pt_types.specs.Operations.{Ends, Makes, class_of, operation};
 ghost use Rattle.pt_model.specs.declared.entry.Entry.TheVariants as entry;
 ghost use Rattle.pt_state.specs.Adds.{Adds, IsReadyFor, Stays, past};
 ghost use Rattle.pt_machine.specs.Queued.{IsQueued};
-ghost use Rattle.pt_types.specs.Shown.{shown_class};
 ghost use Rattle.pt_types.specs.ObjectTable.{destroy_verdict as destroy_table};
 ghost use Rattle.pt_model.specs.Objects.{find as find_in, kind_of};
 ghost use Rattle.pt_model.specs.Verdicts.{is_busy as is_busy_in, on};
@@ -65,7 +64,7 @@ pub(crate) fn push_ended<Q: WaitList, A: Allocator + Copy>(
     requires ready { IsReadyFor state.old (entry.Call c call.now (Some told.Done)) }
     requires queued { IsQueued (past state.old)
         (Q.queue queues.old) (Q.admitted queues.old) (Q.made queues.old) }
-    requires operation { operation call.now ≡ Ends n.now (shown_class class) }
+    requires operation { operation call.now ≡ Ends n.now class }
     ensures adds { Adds state.old (entry.Call c call.now (Some told.Done)) state.new }
     ensures queued { IsQueued (past state.new)
         (Q.queue queues.new) (Q.admitted queues.new) (Q.made queues.new) }
@@ -80,8 +79,8 @@ impl<Q: WaitList, A: Allocator + Copy> Body<Q, A> {
     fn end_verdict(&self, class: ObjectClass, o: ObjectId) -> Verdict
         requires read { AreTables self.now }
         requires class { option_map class_of (kind_of (past self.now) o)
-            ≡ Some (shown_class class) }
-        ensures { result ≡ destroy_table (is_busy_in (past self.now) (shown_class class) o) }
+            ≡ Some class }
+        ensures { result ≡ destroy_table (is_busy_in (past self.now) class o) }
     {
         let awaited = self.is_awaited(o);
         match class {
@@ -98,8 +97,8 @@ impl<Q: WaitList, A: Allocator + Copy> Body<Q, A> {
     pub(crate) fn ends_verdict(&self, n: &Name, class: ObjectClass) -> Verdict
         requires { AreTables self.now }
         ensures { result
-            ≡ on (find_in (past self.now) n.now (shown_class class))
-            (λ o. destroy_table (is_busy_in (past self.now) (shown_class class) o)) }
+            ≡ on (find_in (past self.now) n.now class)
+            (λ o. destroy_table (is_busy_in (past self.now) class o)) }
     {
         match self.state.find(n, class) {
             Some(o) => self.end_verdict(class, o),

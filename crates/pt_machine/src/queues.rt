@@ -1,10 +1,9 @@
 //! The queues of waiting calls: who takes a place, and who leaves it.
 
-ghost use Rattle.std.specs.Prelude.{Some, [], ℕ, ◌==◌, ◌≡◌, if◌then◌else◌, option_map};
-ghost use Rattle.pt_model.specs.Shown.{shown, shown_move};
+ghost use Rattle.std.specs.Prelude.{Some, [], ℕ, ◌==◌, ◌≡◌, if◌then◌else◌};
 ghost use Rattle.pt_machine.specs.Queued.{CanStand, waiter, waiter_by};
 ghost use Rattle.pt_model.specs.Searches.{In};
-ghost use Rattle.pt_model.specs.Records.{WaitingCall};
+ghost use Rattle.pt_model.specs.declared.waiting_call.WaitingCall.{WaitingCall};
 ghost use Rattle.pt_model.specs.Answers.{open_calls};
 ghost use Rattle.pt_model.specs.Moves.{at_object};
 ghost use Rattle.pt_waitq.specs.Queues.{insert_in_order};
@@ -24,7 +23,7 @@ use std::alloc::Allocator;
 // An open call as it waits, with its client's priority.  [XSH 2.8.4]
 fn waiter_of(open: &Open, prio: Priority) -> Waiter
     ensures { result
-        ≡ record (waiter_by (option_map shown_move «open».now.moved) (shown «open».now.call)) {
+        ≡ record (waiter_by «open».now.moved «open».now.call) {
           prio = prio;
         } }
 {

@@ -96,7 +96,7 @@ impl<Q: WaitList, A: Allocator + Copy> Body<Q, A> {
         ensures small { result ≤ 1024 }
     {
         match entry {
-            Entry::Death(c) => self.state.kept_of(*c) + 1,
+            Entry::Death(c) => self.state.reserved_of(*c) + 1,
             Entry::Call(c, call, None) => self.state.used_to_wait(*c, call),
             Entry::Call(c, call, Some(Outcome::Done)) => self.used_by_call(*c, call),
             _ => 0,

@@ -5,7 +5,8 @@ ghost use Rattle.pt_model.specs.Clients.{client};
 ghost use Rattle.pt_model.specs.Grants.{is_blocked as is_blocked_in};
 ghost use Rattle.pt_state.specs.Adds.{past};
 ghost use Rattle.pt_state.specs.Reads.{AreTables};
-ghost use Rattle.pt_types.specs.Operations.{Acquires, ReadLock};
+ghost use Rattle.pt_types.specs.Operations.{Acquires};
+ghost use Rattle.pt_types.specs.declared.operations.LockKind.TheVariants.{ReadLock};
 ghost use Rattle.pt_model.specs.Verdicts.{operation_verdict as said_of};
 
 use crate::body::Body;

@@ -2,7 +2,7 @@
 use Rattle.std.proofs.Common.{ℕ, suc, ◌<◌, List, [], ◌∷◌, arith}
 use Rattle.pt_model.specs.Histories.{History, place}
 use Rattle.pt_model.specs.Searches.{Each}
-use Rattle.pt_model.specs.Records.{WaitingCall}
+use Rattle.pt_model.specs.declared.waiting_call.WaitingCall.{WaitingCall}
 use Rattle.pt_model.specs.WaitingCall.{stood}
 use Rattle.pt_model.specs.Answers.{outcome, open_calls, is_open_by}
 use Rattle.pt_model.proofs.Rising.{Rising, stood-below, stood-rising}

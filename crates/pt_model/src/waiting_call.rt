@@ -1,15 +1,13 @@
 //! Waiting calls: what each is for, when it was moved, and which goes before another.
 
-ghost use Rattle.std.specs.Prelude.{◌≡◌, option_map};
+ghost use Rattle.std.specs.Prelude.{◌≡◌};
 ghost use Rattle.pt_model.specs.WaitingCall.{role_needed as role_meant, is_arrival as is_arrival_role, is_wait as is_wait_role, is_write as is_write_role, mutex_of as mutex_meant};
-ghost use Rattle.pt_model.specs.Shown.{shown, shown_role, shown_key, shown_move};
-ghost use Rattle.pt_types.specs.Shown.{shown_lock_kind};
-ghost use Rattle.pt_types.specs.KeyOrder.{goes_before as goes_before_key};
 ghost use Rattle.pt_model.specs.Moves.{key_by};
 ghost use Rattle.pt_model.specs.Grants.{is_expired as is_expired_by};
 ghost use Rattle.pt_model.specs.Verdicts.{mutex_awaited as mutex_awaited_by};
 
 use crate::entry::Cause;
+use pt_types::key_order::Key;
 use pt_types::operations::LockKind;
 use pt_types::{Clock, ObjectId};
 
@@ -49,17 +47,9 @@ pub struct Move {
     pub cause: Cause,
 }
 
-/// What decides between calls: priority, whether for a write lock, arrival.  [XSH 2.8.4]
-#[derive(Clone, Copy)]
-pub struct Key {
-    pub priority: u64,
-    pub writes: bool,
-    pub arrival: (u64, u64),
-}
-
 /// The role of a call for a lock.
 pub fn role_needed(lock_kind: LockKind) -> Role
-    ensures { shown_role result ≡ role_meant (shown_lock_kind lock_kind) }
+    ensures { result ≡ role_meant lock_kind }
 {
     match lock_kind {
         LockKind::MutexLock => Role::ForMutex,
@@ -70,28 +60,28 @@ pub fn role_needed(lock_kind: LockKind) -> Role
 
 /// Whether a call is for a barrier.  [XSH pthread_barrier_wait]
 pub fn is_arrival(role: Role) -> bool
-    ensures { result ≡ is_arrival_role (shown_role role) }
+    ensures { result ≡ is_arrival_role role }
 {
     matches!(role, Role::ForBarrier)
 }
 
 /// Whether the role is that of a wait.  [XSH pthread_cond_wait]
 pub fn is_wait(role: Role) -> bool
-    ensures { result ≡ is_wait_role (shown_role role) }
+    ensures { result ≡ is_wait_role role }
 {
     matches!(role, Role::ForCond(_))
 }
 
 /// Whether the role is that of a call for a write lock.  [XSH pthread_rwlock_wrlock]
 pub fn is_write(role: Role) -> bool
-    ensures { result ≡ is_write_role (shown_role role) }
+    ensures { result ≡ is_write_role role }
 {
     matches!(role, Role::ForWrite)
 }
 
 /// The mutex that a call is for, in the end.  [XSH pthread_mutex_lock, pthread_cond_wait]
 pub fn mutex_of(w: &WaitingCall) -> Option<ObjectId>
-    ensures { result ≡ mutex_meant (shown_role w.now.role) w.now.object }
+    ensures { result ≡ mutex_meant w.now.role w.now.object }
 {
     match w.role {
         Role::ForMutex => Some(ObjectId(w.object)),
@@ -102,7 +92,7 @@ pub fn mutex_of(w: &WaitingCall) -> Option<ObjectId>
 
 /// The mutex of a wait.  [XSH pthread_cond_wait]
 pub fn mutex_awaited(role: Role) -> Option<ObjectId>
-    ensures { result ≡ mutex_awaited_by (shown_role role) }
+    ensures { result ≡ mutex_awaited_by role }
 {
     match role {
         Role::ForCond(m) => Some(ObjectId(m)),
@@ -112,7 +102,7 @@ pub fn mutex_awaited(role: Role) -> Option<ObjectId>
 
 /// Whether a wait was moved by its deadline.  [XSH pthread_cond_timedwait]
 pub fn is_expired(moved: Option<Move>) -> bool
-    ensures { result ≡ is_expired_by (option_map shown_move moved) }
+    ensures { result ≡ is_expired_by moved }
 {
     match moved {
         Some(moved) => matches!(moved.cause, Cause::Expired),
@@ -122,7 +112,7 @@ pub fn is_expired(moved: Option<Move>) -> bool
 
 /// By what a call goes before another, if this is its move.  [XSH 2.8.4]
 pub fn key_with(w: &WaitingCall, moved: Option<Move>) -> Key
-    ensures { shown_key result ≡ key_by (λ j. option_map shown_move moved) (shown w.now) }
+    ensures { result ≡ key_by (λ j. moved) w.now }
 {
     Key {
         priority: w.priority,
@@ -132,17 +122,4 @@ pub fn key_with(w: &WaitingCall, moved: Option<Move>) -> Key
             None => (w.place, w.place),
         },
     }
-}
-
-/// Higher priority, then writers, then lesser arrival.  [XSH pthread_rwlock_unlock, 2.8.4]
-pub fn goes_before(a: Key, b: Key) -> bool
-    ensures { result ≡ goes_before_key (shown_key a) (shown_key b) }
-{
-    if a.priority != b.priority {
-        return b.priority < a.priority;
-    }
-    if a.writes != b.writes {
-        return a.writes;
-    }
-    a.arrival.0 < b.arrival.0 || a.arrival.0 == b.arrival.0 && a.arrival.1 < b.arrival.1
 }

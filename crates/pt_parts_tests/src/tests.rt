@@ -1,3 +1,5 @@
+ghost use Rattle.std.specs.Prelude.{◌≤◌};
+
 mod history;
 mod lanes;
 mod model;
@@ -8,10 +10,12 @@ mod types;
 mod wait_lists;
 mod waitq;
 
-// A test plays on a thing that it borrows. Each early end of a function that owns one has to drop
-// it, and each such drop is proved; so this function owns it.
-fn lend<T: Drop, R, F: FnOnce(&mut T) -> R>(mut owned: T, play: F) -> R
-    requires { F.IsAlwaysCallable play }
+use pt_types::Priority;
+
+// A priority by its level.
+fn priority(level: u64) -> Priority
+    requires least { 1 ≤ level }
+    requires most { level ≤ 99 }
 {
-    play(&mut owned)
+    Priority::new(level).unwrap()
 }

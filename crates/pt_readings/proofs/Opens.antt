@@ -7,7 +7,7 @@ use Rattle.pt_types.specs.declared.outcome.Outcome.TheVariants.{Done, Serial}
 use Rattle.pt_model.specs.declared.entry.Entry.{Entry}
 use Rattle.pt_model.specs.Histories.{History, place, history}
 use Rattle.pt_model.specs.Searches.{Each, listed}
-use Rattle.pt_model.specs.Records.{WaitingCall}
+use Rattle.pt_model.specs.declared.waiting_call.WaitingCall.{WaitingCall}
 use Rattle.std.specs.Prelude.{◌==◌, not}
 use Rattle.pt_model.specs.Clients.{is_alive}
 use Rattle.pt_model.specs.WaitingCall.{stood, at_place, is_arrival}

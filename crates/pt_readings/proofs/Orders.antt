@@ -5,7 +5,8 @@ use Rattle.std.proofs.lemmas.Bool.{eq-eqb, ne_eqb, cases_eq, cases_lt, false≢t
 use Rattle.std.proofs.lemmas.Bool.Decides.{nat_tests}
 use Rattle.pt_types.specs.KeyOrder.{rank}
 use Rattle.pt_model.specs.Searches.{least, least_with, listed}
-use Rattle.pt_model.specs.Records.{WaitingCall, Move}
+use Rattle.pt_model.specs.declared.waiting_call.WaitingCall.{WaitingCall}
+use Rattle.pt_model.specs.declared.waiting_call.Move.{Move}
 use Rattle.pt_model.specs.WaitingCall.{at_place, is_write}
 use Rattle.pt_model.specs.Moves.{has_place, precedes_by, arrival_by}
 use Rattle.pt_model.specs.Found.{passes}

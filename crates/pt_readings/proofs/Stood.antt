@@ -8,7 +8,7 @@ use Rattle.pt_model.specs.declared.entry.Entry.TheVariants.{Join, Call, Death, M
 use Rattle.pt_model.specs.Starts.{nothing}
 use Rattle.pt_model.specs.Histories.{History, Begin, ◌▷◌, place, onto, history}
 use Rattle.pt_model.specs.Searches.{Each, listed}
-use Rattle.pt_model.specs.Records.{WaitingCall}
+use Rattle.pt_model.specs.declared.waiting_call.WaitingCall.{WaitingCall}
 use Rattle.pt_model.specs.WaitingCall.{stood, stood_by, stood_by_operation, at_place}
 use Rattle.pt_model.proofs.Rising.{Rising, stood-below as below, stood-rising}
 use Rattle.pt_model.proofs.Ascending.{Ascends, Ascends-push, Each-weaker, at_place-append, at_place-append_right, at_place-below, at_place-before}

@@ -1,11 +1,10 @@
-ghost use Rattle.std.specs.Prelude.{◌≡◌, ◌<◌, ◌&&◌, ◌==◌, nat_lt, option_map};
+ghost use Rattle.std.specs.Prelude.{◌≡◌, ◌<◌, ◌&&◌, ◌==◌, nat_lt};
 ghost use Rattle.std.specs.List.{list_any};
 ghost use Rattle.pt_model.specs.Histories.{history};
 ghost use Rattle.pt_model.specs.WaitingCall.{at_place, stood, is_arrival as is_arrival_role};
 ghost use Rattle.pt_model.specs.Answers.{outcome as said, open_calls as opens, open_place as open_place_in, is_open_by, at_barrier as waiting, told_by_trip, told, outcome_in};
 ghost use Rattle.pt_model.specs.Found.{passes};
 ghost use Rattle.pt_readings.specs.Found.{place_or, is_alive_at};
-ghost use Rattle.pt_model.specs.Shown.{shown};
 
 use crate::clients::is_alive;
 use crate::waiting::{is_wait_at, waiting_call_at};
@@ -16,7 +15,7 @@ use pt_types::{ClientId, ObjectId, Outcome};
 /// Whether a waiting call is open: it has no answer, and its client lives.
 #[cycle(answers)]
 pub fn is_open(entries: &[Entry], w: &WaitingCall) -> bool
-    ensures { result ≡ is_open_by (history entries.now) (said (history entries.now)) (shown w.now) }
+    ensures { result ≡ is_open_by (history entries.now) (said (history entries.now)) w.now }
 {
     is_alive(entries, ClientId(w.client)) && outcome(entries, w.place).is_none()
 }
@@ -132,7 +131,7 @@ pub fn outcome(entries: &[Entry], j: u64) -> Option<Outcome>
 /// The call at a place, if it is open.
 #[tactic(auto, using(crate::proofs::Opens::at_place_open))]
 pub fn open_at(entries: &[Entry], i: u64) -> Option<WaitingCall>
-    ensures { option_map shown result ≡ at_place i (opens (history entries.now)) }
+    ensures { result ≡ at_place i (opens (history entries.now)) }
 {
     match waiting_call_at(entries, i) {
         Some(w) if is_open(entries, &w) => Some(w),
@@ -155,7 +154,7 @@ pub fn open_place(entries: &[Entry], c: ClientId) -> Option<u64>
 
 /// The place of a call, if it is the client's, before a place that was found.
 pub fn place_if(w: Option<WaitingCall>, c: ClientId, found: Option<u64>) -> Option<u64>
-    ensures { result ≡ place_or (option_map shown w) c found }
+    ensures { result ≡ place_or w c found }
 {
     match w {
         Some(w) if w.client == c.0 => Some(w.place),

@@ -1,6 +1,6 @@
-ghost use Rattle.std.specs.Prelude.{◌≡◌, ◌<◌, ◌&&◌, ◌==◌, option_map};
+ghost use Rattle.std.specs.Prelude.{◌≡◌, ◌<◌, ◌&&◌, ◌==◌};
 ghost use Rattle.std.specs.List.{list_any};
-ghost use Rattle.pt_types.specs.Operations.{CondClass};
+ghost use Rattle.pt_types.specs.declared.operations.ObjectClass.TheVariants.{Cond as CondClass};
 ghost use Rattle.pt_model.specs.Histories.{history};
 ghost use Rattle.pt_model.specs.Objects.{means as means_in};
 ghost use Rattle.pt_model.specs.WaitingCall.{at_place, is_wait as is_wait_role};
@@ -8,13 +8,13 @@ ghost use Rattle.pt_model.specs.Answers.{open_calls};
 ghost use Rattle.pt_model.specs.Moves.{moved as moved_in, precedes_by, waits_at, cond_waits, first_waiting, has_place, cause_by as cause, move_or as move_after, is_moved as is_moved_in, at_object as at_object_in, precedes as precedes_in, is_least as is_least_in};
 ghost use Rattle.pt_model.specs.Found.{passes};
 ghost use Rattle.pt_readings.specs.Found.{unmoved};
-ghost use Rattle.pt_model.specs.Shown.{shown, shown_move};
 
 use crate::answers::{is_open, open_at};
 use crate::objects::means;
 use crate::waiting::{is_wait_at, waiting_call_at};
-use pt_model::waiting_call::{Move, Role, WaitingCall, goes_before, is_wait, key_with};
+use pt_model::waiting_call::{Move, Role, WaitingCall, is_wait, key_with};
 use pt_model::{Cause, Entry};
+use pt_types::key_order::goes_before;
 use pt_types::operations::{ObjectClass, Operation, operation_of};
 use pt_types::{Name, ObjectId, Outcome};
 
@@ -45,7 +45,7 @@ pub fn waits_before(entries: &[Entry], n: &Name, w: &WaitingCall, i: u64) -> boo
     ensures { result
         ≡ passes
         (λ v. waits_at (history entries.now) (moved_in (history entries.now)) n.now v &&
-        precedes_by unmoved v (shown w.now))
+        precedes_by unmoved v w.now)
         (at_place i (open_calls (history entries.now))) }
 {
     let Some(v) = waiting_call_at(entries, i) else {
@@ -64,7 +64,7 @@ pub fn waits_before(entries: &[Entry], n: &Name, w: &WaitingCall, i: u64) -> boo
 #[cycle(moves)]
 pub fn is_preceded(entries: &[Entry], n: &Name, w: &WaitingCall) -> bool
     ensures { result
-        ≡ list_any (λ v. precedes_by unmoved v (shown w.now))
+        ≡ list_any (λ v. precedes_by unmoved v w.now)
         (cond_waits (history entries.now) (moved_in (history entries.now)) n.now) }
 {
     for i in 0..entries.len() {
@@ -80,7 +80,7 @@ pub fn is_preceded(entries: &[Entry], n: &Name, w: &WaitingCall) -> bool
 #[cycle(moves)]
 #[tactic(auto, using(crate::proofs::Waits::first_is))]
 pub fn is_first_waiting(entries: &[Entry], n: &Name, before: Option<Move>, j: u64) -> bool
-    requires { option_map shown_move before ≡ moved_in (history entries.now) j }
+    requires { before ≡ moved_in (history entries.now) j }
     ensures { result
         ≡ has_place (first_waiting (history entries.now) (moved_in (history entries.now)) n.now)
         j }
@@ -98,7 +98,7 @@ pub fn is_first_waiting(entries: &[Entry], n: &Name, before: Option<Move>, j: u6
 #[cycle(moves)]
 #[tactic(auto, using(crate::proofs::Waits::waiting_is))]
 pub fn cause_by(entries: &[Entry], entry: &Entry, before: Option<Move>, j: u64) -> Option<Cause>
-    requires { option_map shown_move before ≡ moved_in (history entries.now) j }
+    requires { before ≡ moved_in (history entries.now) j }
     ensures { result ≡ cause (history entries.now) (moved_in (history entries.now)) entry.now j }
 {
     match entry {
@@ -118,7 +118,7 @@ pub fn cause_by(entries: &[Entry], entry: &Entry, before: Option<Move>, j: u64) 
 
 /// A move at this place if there is a cause, else the one before.
 pub fn move_or(at: u64, cause: Option<Cause>, before: Option<Move>) -> Option<Move>
-    ensures { option_map shown_move result ≡ move_after at cause (option_map shown_move before) }
+    ensures { result ≡ move_after at cause before }
 {
     match cause {
         Some(cause) => Some(Move { at, cause }),
@@ -130,7 +130,7 @@ pub fn move_or(at: u64, cause: Option<Cause>, before: Option<Move>) -> Option<Mo
 #[cycle(moves)]
 #[tactic(auto, using(crate::proofs::Past::history_more, crate::proofs::Past::place_below))]
 pub fn moved(entries: &[Entry], j: u64) -> Option<Move>
-    ensures { option_map shown_move result ≡ moved_in (history entries.now) j }
+    ensures { result ≡ moved_in (history entries.now) j }
 {
     let mut found = None;
     for (i, entry) in entries.iter().enumerate() {
@@ -141,14 +141,14 @@ pub fn moved(entries: &[Entry], j: u64) -> Option<Move>
 
 /// Whether a call is a wait that was moved.
 pub fn is_moved(entries: &[Entry], w: &WaitingCall) -> bool
-    ensures { result ≡ is_moved_in (history entries.now) (shown w.now) }
+    ensures { result ≡ is_moved_in (history entries.now) w.now }
 {
     moved(entries, w.place).is_some()
 }
 
 /// The object at which a call waits.  [XSH pthread_cond_broadcast]
 pub fn at_object(entries: &[Entry], w: &WaitingCall) -> ObjectId
-    ensures { result ≡ at_object_in (history entries.now) (shown w.now) }
+    ensures { result ≡ at_object_in (history entries.now) w.now }
 {
     match w.role {
         Role::ForCond(m) if moved(entries, w.place).is_some() => ObjectId(m),
@@ -158,7 +158,7 @@ pub fn at_object(entries: &[Entry], w: &WaitingCall) -> ObjectId
 
 /// Whether a call goes before another.  [XSH 2.8.4, pthread_rwlock_unlock]
 pub fn precedes(entries: &[Entry], v: &WaitingCall, w: &WaitingCall) -> bool
-    ensures { result ≡ precedes_in (history entries.now) (shown v.now) (shown w.now) }
+    ensures { result ≡ precedes_in (history entries.now) v.now w.now }
 {
     let one = key_with(v, moved(entries, v.place));
     let other = key_with(w, moved(entries, w.place));
@@ -170,7 +170,7 @@ pub fn is_ahead(entries: &[Entry], o: ObjectId, w: &WaitingCall, i: u64) -> bool
     ensures { result
         ≡ passes
         (λ v. (at_object_in (history entries.now) v == o) && precedes_in
-        (history entries.now) v (shown w.now))
+        (history entries.now) v w.now)
         (at_place i (open_calls (history entries.now))) }
 {
     match open_at(entries, i) {
@@ -181,7 +181,7 @@ pub fn is_ahead(entries: &[Entry], o: ObjectId, w: &WaitingCall, i: u64) -> bool
 
 /// Whether no call that waits at the same object goes before it.  [XSH 2.8.4]
 pub fn is_least(entries: &[Entry], w: &WaitingCall) -> bool
-    ensures { result ≡ is_least_in (history entries.now) (shown w.now) }
+    ensures { result ≡ is_least_in (history entries.now) w.now }
 {
     let o = at_object(entries, w);
     for i in 0..entries.len() {

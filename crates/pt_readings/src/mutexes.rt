@@ -3,7 +3,6 @@ ghost use Rattle.pt_types.specs.Operations.{operation};
 ghost use Rattle.pt_model.specs.Histories.{history};
 ghost use Rattle.pt_model.specs.WaitingCall.{at_place, stood};
 ghost use Rattle.pt_model.specs.Mutexes.{relocks as relocks_in, unlocks as unlocks_in, unlocks_to_wait as unlocks_to_wait_in, restores as restores_in, is_for as is_for_it, gained as gained_in, gained_by as gained_after, lost as lost_in, lost_by as lost_after, count as count_in, owner as owner_in, consistency as consistency_in, consistency_by as consistency_after, mutex_view as view_in};
-ghost use Rattle.pt_types.specs.Shown.{shown_mutex};
 
 use crate::objects::{is_robust, kind_of, means, mutex_kind};
 use crate::waiting::waiting_call_at;
@@ -177,7 +176,7 @@ pub fn consistency(entries: &[Entry], m: ObjectId) -> Consistency
 
 /// A mutex as its table sees it.  [XSH 2.9.3]
 pub fn mutex_view(entries: &[Entry], m: ObjectId) -> MutexView
-    ensures { shown_mutex result ≡ view_in (history entries.now) m }
+    ensures { result ≡ view_in (history entries.now) m }
 {
     let kind = kind_of(entries, m);
     let owner = owner(entries, m);

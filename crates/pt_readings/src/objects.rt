@@ -3,7 +3,6 @@ ghost use Rattle.pt_types.specs.Names.{same_name};
 ghost use Rattle.pt_model.specs.Histories.{history};
 ghost use Rattle.pt_model.specs.Objects.{object_named as object_with, named_by as named_after, find as find_in, means as means_in, kind_of as kind_in, kind_by as kind_after, objects as objects_in, objects_by as objects_after, mutex_kind as kind_as_mutex, is_robust as is_robust_kind, barrier_count as count_of_barrier, number_of as number_if};
 ghost use Rattle.pt_readings.specs.Shown.{shown_object};
-ghost use Rattle.pt_types.specs.Shown.{shown_class};
 
 use pt_model::Entry;
 use pt_types::operations::{ObjectClass, Operation, class_of, is_same, operation_of};
@@ -52,7 +51,7 @@ pub fn object_named(entries: &[Entry], n: &Name) -> Option<Object>
 
 /// The number of an object, if it is of this class.
 pub fn number_of(object: Option<Object>, class: ObjectClass) -> Option<ObjectId>
-    ensures { result ≡ number_if (option_map shown_object object) (shown_class class) }
+    ensures { result ≡ number_if (option_map shown_object object) class }
 {
     match object {
         Some(object) if is_same(class_of(object.kind), class) => Some(ObjectId(object.number)),
@@ -62,14 +61,14 @@ pub fn number_of(object: Option<Object>, class: ObjectClass) -> Option<ObjectId>
 
 /// The object of this class that bears the name, if one does.
 pub fn find(entries: &[Entry], n: &Name, class: ObjectClass) -> Option<ObjectId>
-    ensures { result ≡ find_in (history entries.now) n.now (shown_class class) }
+    ensures { result ≡ find_in (history entries.now) n.now class }
 {
     number_of(object_named(entries, n), class)
 }
 
 /// Whether a name means the object with this number.
 pub fn means(entries: &[Entry], n: &Name, class: ObjectClass, o: ObjectId) -> bool
-    ensures { result ≡ means_in (history entries.now) n.now (shown_class class) o }
+    ensures { result ≡ means_in (history entries.now) n.now class o }
 {
     match find(entries, n, class) {
         Some(p) => p == o,

@@ -5,7 +5,6 @@ ghost use Rattle.pt_types.specs.Operations.{operation};
 ghost use Rattle.pt_model.specs.Histories.{history};
 ghost use Rattle.pt_model.specs.WaitingCall.{at_place, stood};
 ghost use Rattle.pt_model.specs.Rwlocks.{rwunlocks as rwunlocks_in, is_for_read as is_reader, is_for_write as is_writer, writes as writes_in, writes_by as writes_after, reads as reads_in, reads_by as reads_after, writer as writer_in, reader as reader_in, rwlock_view as view, is_held_alive as is_held_alive_in};
-ghost use Rattle.pt_types.specs.Shown.{shown_rwlock};
 
 use crate::clients::is_alive;
 use crate::objects::means;
@@ -128,7 +127,7 @@ pub fn reader(entries: &[Entry], r: ObjectId) -> Option<ClientId>
 
 /// A read-write lock as its tables see it, for one caller.  [XSH 2.9]
 pub fn rwlock_view(entries: &[Entry], r: ObjectId, c: ClientId) -> RwlockView
-    ensures { shown_rwlock result ≡ view (history entries.now) r c }
+    ensures { result ≡ view (history entries.now) r c }
 {
     RwlockView {
         writes: writes(entries, r, c),

@@ -1,9 +1,7 @@
-ghost use Rattle.std.specs.Prelude.{◌≡◌, option_map};
+ghost use Rattle.std.specs.Prelude.{◌≡◌};
 ghost use Rattle.pt_model.specs.Histories.{history};
 ghost use Rattle.pt_model.specs.Searches.{listed};
 ghost use Rattle.pt_model.specs.WaitingCall.{meant as meant_in, entered as entered_in, stood_by as stood_after, stood, at_place, is_wait_if};
-ghost use Rattle.pt_model.specs.Shown.{shown, shown_role};
-ghost use Rattle.pt_types.specs.Shown.{shown_class};
 
 use crate::clients::client;
 use crate::objects::find;
@@ -16,7 +14,7 @@ use pt_types::{ClientId, Clock, Deadline, Name};
 
 /// The object that a name means as the call comes; 0 if it means none.
 pub fn meant(entries: &[Entry], n: &Name, class: ObjectClass) -> u64
-    ensures { result ≡ meant_in (history entries.now) n.now (shown_class class) }
+    ensures { result ≡ meant_in (history entries.now) n.now class }
 {
     match find(entries, n, class) {
         Some(object) => object.0,
@@ -34,8 +32,8 @@ pub fn entered(
     clock: Clock,
     deadline: Option<Deadline>,
 ) -> WaitingCall
-    ensures { shown result
-        ≡ entered_in (history entries.now) c object (shown_role role) clock deadline }
+    ensures { result
+        ≡ entered_in (history entries.now) c object role clock deadline }
 {
     WaitingCall {
         place: entries.len() as u64,
@@ -56,7 +54,7 @@ pub fn entered(
 
 /// What an entry leaves waiting.
 pub fn stood_by(entries: &[Entry], entry: &Entry) -> Option<WaitingCall>
-    ensures { listed (option_map shown result) ≡ stood_after (history entries.now) entry.now }
+    ensures { listed result ≡ stood_after (history entries.now) entry.now }
 {
     let Entry::Call(c, call, None) = entry else {
         return None;
@@ -89,7 +87,7 @@ pub fn stood_by(entries: &[Entry], entry: &Entry) -> Option<WaitingCall>
 
 /// The call that came without a reply at a place.
 pub fn waiting_call_at(entries: &[Entry], j: u64) -> Option<WaitingCall>
-    ensures { option_map shown result ≡ at_place j (stood (history entries.now)) }
+    ensures { result ≡ at_place j (stood (history entries.now)) }
 {
     if j >= entries.len() as u64 {
         return None;

@@ -7,7 +7,7 @@ use Rattle.pt_table.specs.declared.clients.ClientRow.{ClientRow}
 use Rattle.pt_table.specs.ClientRows.{nth_value}
 use Rattle.pt_model.specs.Searches.{In}
 use Rattle.pt_model.specs.Histories.{History}
-use Rattle.pt_model.specs.Records.{WaitingCall}
+use Rattle.pt_model.specs.declared.waiting_call.WaitingCall.{WaitingCall}
 use Rattle.pt_model.specs.WaitingCall.{is_arrival}
 use Rattle.pt_model.specs.Answers.{at_barrier, open_calls}
 use Rattle.pt_model.specs.Steps.{Follows}
@@ -15,7 +15,6 @@ use Rattle.pt_model.proofs.Leasts.{least-in, least-none}
 use Rattle.pt_model.proofs.Lists.{In-filter, filter-in}
 use Rattle.pt_model.proofs.Orders.{order-key, least-first}
 use Rattle.pt_model.specs.Found.{keep}
-use Rattle.pt_model.specs.Shown.{shown}
 use Rattle.pt_model.proofs.Ascending.{Ascends, Ascends-filter, from}
 use Rattle.pt_model.proofs.OpenOrder.{open-ascends}
 use Rattle.pt_records.specs.declared.clients.Caller.{Caller}
@@ -24,29 +23,29 @@ use Rattle.pt_records.specs.Arrivals.{calls_of, arrives_from, came_before, first
 use Rattle.pt_records.specs.Callers.{AreCallers, open_in, opens_of}
 use Rattle.pt_records.proofs.OpenRows.{found-open, open-found}
 
--- the call that a row keeps
-abbrev pub kept_call : Option Open → Option WaitingCall
-kept_call kept = option_map (λ o. shown o.call) kept
+-- the call in a row
+abbrev pub call_in_row : Option Open → Option WaitingCall
+call_in_row row = option_map (λ o. o.call) row
 
 -- one row more in front
 first-row : (p : WaitingCall → Bool) (rows : List (ClientRow Caller)) (i : ℕ) → i < length rows
     → first_of (filter p (calls_of (drop i rows)))
-    ≡ first_with (keep p (kept_call (open_in (nth_value rows i))))
+    ≡ first_with (keep p (call_in_row (open_in (nth_value rows i))))
     (first_of (filter p (calls_of (drop (suc i) rows))))
 first-row p [] i lt = absurd (omega (arith, lt))
 first-row p (x ∷ rows) zero lt = kept x.value.open
   where
     passed : (o : Open) (b : Bool)
-        → first_of (cond b (shown o.call ∷ filter p (calls_of rows)) (filter p (calls_of rows)))
-        ≡ first_with (cond b (Some (shown o.call)) None) (first_of (filter p (calls_of rows)))
+        → first_of (cond b (o.call ∷ filter p (calls_of rows)) (filter p (calls_of rows)))
+        ≡ first_with (cond b (Some o.call) None) (first_of (filter p (calls_of rows)))
     passed o true = refl
     passed o false = refl
 
     kept : (first : Option Open)
-        → first_of (filter p (map (λ o. shown o.call) (cons_option first (opens_of rows))))
-        ≡ first_with (keep p (kept_call first)) (first_of (filter p (calls_of rows)))
+        → first_of (filter p (map (λ o. o.call) (cons_option first (opens_of rows))))
+        ≡ first_with (keep p (call_in_row first)) (first_of (filter p (calls_of rows)))
     kept None = refl
-    kept (Some o) = passed o (p (shown o.call))
+    kept (Some o) = passed o (p o.call)
 first-row p (x ∷ rows) (suc i) lt = first-row p rows i (omega (arith, lt))
 
 -- the first of the rows from an index on, found from the end
@@ -56,12 +55,12 @@ FirstFrom p rows i best = best ≡ first_of (filter p (calls_of (drop i rows)))
 
 pub first-more : (p : WaitingCall → Bool) (rows : List (ClientRow Caller)) (i : ℕ)
     (call best next : Option WaitingCall) → 0 < i → i ≤ length rows
-    → call ≡ keep p (kept_call (open_in (nth_value rows (i - 1))))
+    → call ≡ keep p (call_in_row (open_in (nth_value rows (i - 1))))
     → FirstFrom p rows i best → next ≡ first_with call best → FirstFrom p rows (i - 1) next
 first-more p rows i call best next pos le found so en =
     en
     ∙ (ap (λ c. first_with c best) found
-    ∙ (ap (first_with (keep p (kept_call (open_in (nth_value rows (i - 1))))))
+    ∙ (ap (first_with (keep p (call_in_row (open_in (nth_value rows (i - 1))))))
     (subst (λ j. FirstFrom p rows j best) same so)
     ∙ sym (first-row p rows (i - 1) (omega (arith, pos, le)))))
   where
@@ -105,16 +104,16 @@ first-head n xs (w ∷ ws) a there back = go (first_of xs) refl
     go (Some m) e = ahead m e (there m (least-in came_before xs m e))
 
 -- a stored call is one of those in the rows
-shown-in : (os : List Open) (o : Open) → In o os → In (shown o.call) (map (λ x. shown x.call) os)
-shown-in [] o i = absurd i
-shown-in (x ∷ xs) o (inl e) = inl (ap (λ (y : Open). shown y.call) e)
-shown-in (x ∷ xs) o (inr i) = inr (shown-in xs o i)
+call-in : (os : List Open) (o : Open) → In o os → In o.call (map (λ x. x.call) os)
+call-in [] o i = absurd i
+call-in (x ∷ xs) o (inl e) = inl (ap (λ (y : Open). y.call) e)
+call-in (x ∷ xs) o (inr i) = inr (call-in xs o i)
 
-in-shown : (os : List Open) (w : WaitingCall) → In w (map (λ x. shown x.call) os)
-    → (o : Open) × (In o os × (w ≡ shown o.call))
-in-shown [] w i = absurd i
-in-shown (x ∷ xs) w (inl e) = (x, (inl refl, e))
-in-shown (x ∷ xs) w (inr i) = let found = in-shown xs w i in (found.0, (inr found.1.0, found.1.1))
+in-calls : (os : List Open) (w : WaitingCall) → In w (map (λ x. x.call) os)
+    → (o : Open) × (In o os × (w ≡ o.call))
+in-calls [] w i = absurd i
+in-calls (x ∷ xs) w (inl e) = (x, (inl refl, e))
+in-calls (x ∷ xs) w (inr i) = let found = in-calls xs w i in (found.0, (inr found.1.0, found.1.1))
 
 -- those at the barrier in order of places
 abbrev pub waits_from : History → ℕ → ℕ → List WaitingCall
@@ -139,7 +138,7 @@ next-head h rows b k f a =
         → In w (waits_from h b k)
     there w i =
         let part = In-filter (arrives_from b k) (calls_of rows) w i in
-        let found = in-shown (opens_of rows) w part.0 in
+        let found = in-calls (opens_of rows) w part.0 in
         let kept = open-found h rows a found.0 found.1.0 in
         let tests = and_parts (at w) (nat_le k w.place) part.1 in
         filter-in (λ (v : WaitingCall). leb k v.place) (at_barrier b (open_calls h)) w
@@ -156,5 +155,5 @@ next-head h rows b k f a =
         let found = found-open h rows f a w part.0 in
         filter-in (arrives_from b k) (calls_of rows) w
         (subst (λ v. In v (calls_of rows)) found.1.1
-        (shown-in (opens_of rows) found.0 found.1.0))
+        (call-in (opens_of rows) found.0 found.1.0))
         (and_from (at w) (nat_le k w.place) part.1 late.1)

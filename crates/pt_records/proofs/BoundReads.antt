@@ -9,7 +9,9 @@ use Rattle.pt_types.specs.declared.outcome.Outcome.TheVariants.{Einval, Ebusy, E
 use Rattle.pt_types.specs.declared.outcome.Verdict.TheVariants.{Reply, Stands}
 use Rattle.pt_types.specs.Times.{has_bad_deadline}
 use Rattle.pt_types.specs.declared.time.Clock.{Clock}
-use Rattle.pt_types.specs.Operations.{Operation, Makes, Ends, Acquires, Unlocks, Restores, Rwunlocks, Awaits, Signals, Broadcasts, Arrives, operation, clock_of, MutexLock, ReadLock, WriteLock, MutexClass, RwlockClass, is_try, deadline_of}
+use Rattle.pt_types.specs.Operations.{Operation, Makes, Ends, Acquires, Unlocks, Restores, Rwunlocks, Awaits, Signals, Broadcasts, Arrives, operation, clock_of, is_try, deadline_of}
+use Rattle.pt_types.specs.declared.operations.ObjectClass.TheVariants.{Mutex as MutexClass, Rwlock as RwlockClass}
+use Rattle.pt_types.specs.declared.operations.LockKind.TheVariants.{MutexLock, ReadLock, WriteLock}
 use Rattle.pt_types.specs.Limits.{most_reads}
 use Rattle.pt_types.specs.MutexTable.{is_number}
 use Rattle.pt_types.specs.RwlockTable.{is_free, relock_outcome}
@@ -22,7 +24,9 @@ use Rattle.pt_model.specs.Searches.{In}
 use Rattle.pt_model.specs.Histories.{History, ◌▷◌, place}
 use Rattle.pt_model.specs.Clients.{client}
 use Rattle.pt_model.specs.Objects.{find}
-use Rattle.pt_model.specs.Records.{Role, ForMutex, ForRead, ForWrite, ForBarrier, ForCond, WaitingCall}
+use Rattle.pt_model.specs.declared.waiting_call.WaitingCall.{WaitingCall}
+use Rattle.pt_model.specs.declared.waiting_call.Role.{Role}
+use Rattle.pt_model.specs.declared.waiting_call.Role.TheVariants.{ForMutex, ForRead, ForWrite, ForBarrier, ForCond}
 use Rattle.pt_model.specs.WaitingCall.{stood_by_operation, stood_by, meant}
 use Rattle.pt_model.specs.Answers.{open_calls}
 use Rattle.pt_model.specs.Moves.{is_least}

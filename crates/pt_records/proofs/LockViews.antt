@@ -3,7 +3,9 @@ use Rattle.std.proofs.Common.{◌≡◌, ℕ, true, Option, Some, None, List, re
 use Rattle.std.specs.Prelude.{option_map}
 use Rattle.pt_types.specs.declared.call.ObjectKind.{ObjectKind}
 use Rattle.pt_types.specs.declared.call.ObjectKind.TheVariants as kind
-use Rattle.pt_types.specs.Operations.{ObjectClass, MutexClass, RwlockClass, CondClass, BarrierClass, class_of, same_class}
+use Rattle.pt_types.specs.Operations.{class_of, same_class}
+use Rattle.pt_types.specs.declared.operations.ObjectClass.{ObjectClass}
+use Rattle.pt_types.specs.declared.operations.ObjectClass.TheVariants.{Mutex as MutexClass, Rwlock as RwlockClass, Cond as CondClass, Barrier as BarrierClass}
 use Rattle.pt_rwlock.specs.RwlockState.{RwlockState, seen_by}
 use Rattle.pt_model.specs.Histories.{History}
 use Rattle.pt_model.specs.Objects.{is_class, kind_of, find}
@@ -12,7 +14,7 @@ use Rattle.pt_model.specs.Steps.{Follows}
 use Rattle.pt_model.proofs.Named.{known_exists}
 use Rattle.pt_records.specs.declared.objects.Object.{Object}
 use Rattle.pt_records.specs.declared.objects.Object.TheVariants.{Mutex, Rwlock, Cond, Barrier}
-use Rattle.pt_records.specs.Kept.{rwlock_in}
+use Rattle.pt_records.specs.LocksInRows.{rwlock_in}
 use Rattle.pt_records.specs.Objects.{IsRwlock, ObjectsLook}
 use Rattle.pt_records.proofs.BoundReads.{view-by}
 

@@ -12,7 +12,8 @@ use Rattle.pt_model.specs.Searches.{Each}
 use Rattle.pt_types.specs.declared.outcome.Outcome.{Outcome}
 use Rattle.pt_model.specs.Starts.{Start}
 use Rattle.pt_model.specs.Histories.{History, Begin, ◌▷◌, place, onto, behind}
-use Rattle.pt_model.specs.Records.{WaitingCall, Told}
+use Rattle.pt_model.specs.Records.{Told}
+use Rattle.pt_model.specs.declared.waiting_call.WaitingCall.{WaitingCall}
 use Rattle.pt_model.specs.WaitingCall.{stood, at_place, is_arrival, is_wait_if}
 use Rattle.pt_model.specs.Answers.{told, told_by_trip, told_by_expiry, at_barrier, open_calls, outcome_in, outcome, replies_from}
 use Rattle.pt_model.specs.Queries.{answers_behind}

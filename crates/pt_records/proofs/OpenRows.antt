@@ -7,13 +7,12 @@ use Rattle.pt_table.specs.declared.clients.ClientRow.{ClientRow}
 use Rattle.pt_table.specs.ClientRows.{client_at, client_value}
 use Rattle.pt_model.specs.Searches.{In}
 use Rattle.pt_model.specs.Histories.{History}
-use Rattle.pt_model.specs.Records.{WaitingCall}
+use Rattle.pt_model.specs.declared.waiting_call.WaitingCall.{WaitingCall}
 use Rattle.pt_model.specs.Answers.{open_calls}
 use Rattle.pt_model.specs.Moves.{moved}
 use Rattle.pt_model.specs.Steps.{Follows}
 use Rattle.pt_model.proofs.Lists.{any-in, in-any, any-false}
 use Rattle.pt_model.proofs.OneEach.{one_each}
-use Rattle.pt_model.specs.Shown.{shown, shown_move}
 use Rattle.pt_records.specs.declared.clients.Caller.{Caller}
 use Rattle.pt_records.specs.declared.clients.Open.{Open}
 use Rattle.pt_records.specs.Callers.{AreCallers, Once, call_of, call_in, move_in, opens_of}
@@ -116,51 +115,51 @@ call_of-open h f w i = in-call_of (open_calls h) w i (λ v j e. one_each h f v w
 
 -- a call that a row shows is that of the row's open call
 pub call_in-some : (kept : Option Caller) (w : WaitingCall) → call_in kept ≡ Some w → (v : Caller)
-    × ((o : Open) × ((kept ≡ Some v) × (v.open ≡ Some o) × (shown o.call ≡ w)))
+    × ((o : Open) × ((kept ≡ Some v) × (v.open ≡ Some o) × (o.call ≡ w)))
 call_in-some None w e = absurd cc
 call_in-some (Some v) w e = go v.open refl e
   where
-    go : (call : Option Open) → v.open ≡ call → option_map (λ (o : Open). shown o.call) call
+    go : (call : Option Open) → v.open ≡ call → option_map (λ (o : Open). o.call) call
         ≡ Some w
         → (u : Caller)
-        × ((o : Open) × ((Some v ≡ Some u) × (u.open ≡ Some o) × (shown o.call ≡ w)))
+        × ((o : Open) × ((Some v ≡ Some u) × (u.open ≡ Some o) × (o.call ≡ w)))
     go None at e = absurd cc
-    go (Some o) at e = let same : shown o.call ≡ w = cc in (v, (o, (refl, at, same)))
+    go (Some o) at e = let same : o.call ≡ w = cc in (v, (o, (refl, at, same)))
 
 -- each open call stands in a row
 pub found-open : (h : History) (rows : List (ClientRow Caller)) → Follows h → AreCallers h rows
     → (w : WaitingCall) → In w (open_calls h)
-    → (o : Open) × (In o (opens_of rows) × (shown o.call ≡ w))
+    → (o : Open) × (In o (opens_of rows) × (o.call ≡ w))
 found-open h rows f a w i =
     let kept = call_in-some (client_value rows w.client) w
     (a.look.calls w.client ∙ call_of-open h f w i) in
     let v = kept.0 in
     let o = kept.1.0 in
     let row = look-row rows w.client v kept.1.1.0 in
-    let kept_open : row.0.value.open ≡ Some o = ap (λ (u : Caller). u.open) row.1.2 ∙ kept.1.1.1 in
-    (o, (row-open rows row.0 o row.1.0 kept_open, kept.1.1.2))
+    let its_open : row.0.value.open ≡ Some o = ap (λ (u : Caller). u.open) row.1.2 ∙ kept.1.1.1 in
+    (o, (row-open rows row.0 o row.1.0 its_open, kept.1.1.2))
 
 -- what is stored of an open call in the rows: its client's call, and its move
 pub open-kept : (h : History) (rows : List (ClientRow Caller)) → AreCallers h rows
     → (row : ClientRow Caller) (o : Open) → In row rows → row.value.open ≡ Some o
-    → (call_of (open_calls h) row.number ≡ Some (shown o.call))
-    × (option_map shown_move o.moved ≡ moved h o.call.place)
+    → (call_of (open_calls h) row.number ≡ Some o.call)
+    × (o.moved ≡ moved h o.call.place)
 open-kept h rows a row o i e =
     let look = row-look rows a.once row i in
-    let call : call_in (client_value rows row.number) ≡ Some (shown o.call) = rw (look, e) refl in
+    let call : call_in (client_value rows row.number) ≡ Some o.call = rw (look, e) refl in
     let first = sym (a.look.calls row.number) ∙ call in
-    let move : move_in (client_value rows row.number) ≡ option_map shown_move o.moved =
+    let move : move_in (client_value rows row.number) ≡ o.moved =
     rw (look, e) refl in
-    (first, sym move ∙ a.look.moves row.number (shown o.call) first)
+    (first, sym move ∙ a.look.moves row.number o.call first)
 
 -- each open call in the rows is open, and is stored with its move
 pub open-found : (h : History) (rows : List (ClientRow Caller)) → AreCallers h rows → (o : Open)
     → In o (opens_of rows)
-    → In (shown o.call) (open_calls h) × (option_map shown_move o.moved ≡ moved h o.call.place)
+    → In o.call (open_calls h) × (o.moved ≡ moved h o.call.place)
 open-found h rows a o i =
     let row = open-row rows o i in
     let kept = open-kept h rows a row.0 o row.1.0 row.1.1 in
-    ((call_of-in (open_calls h) row.0.number (shown o.call) kept.0).0, kept.1)
+    ((call_of-in (open_calls h) row.0.number o.call kept.0).0, kept.1)
 
 -- tests that pass alike are the same
 bool_same : (a b : Bool) → (a ≡ true → b ≡ true) → (b ≡ true → a ≡ true) → a ≡ b
@@ -171,8 +170,8 @@ bool_same false false f g = refl
 -- a test of open calls passes in the rows where it passes in the history
 pub any-opens : (h : History) (rows : List (ClientRow Caller)) → Follows h → AreCallers h rows
     → (p : WaitingCall → Bool) (q : Open → Bool)
-    → ((o : Open) → In (shown o.call) (open_calls h)
-    → option_map shown_move o.moved ≡ moved h o.call.place → q o ≡ p (shown o.call))
+    → ((o : Open) → In o.call (open_calls h)
+    → o.moved ≡ moved h o.call.place → q o ≡ p o.call)
     → list_any q (opens_of rows) ≡ list_any p (open_calls h)
 any-opens h rows f a p q same = bool_same (list_any q (opens_of rows)) (list_any p (open_calls h))
     there back
@@ -181,7 +180,7 @@ any-opens h rows f a p q same = bool_same (list_any q (opens_of rows)) (list_any
     there e =
         let one = any-in q (opens_of rows) e in
         let kept = open-found h rows a one.0 one.1.0 in
-        in-any p (open_calls h) (shown one.0.call) kept.0
+        in-any p (open_calls h) one.0.call kept.0
         (sym (same one.0 kept.0 kept.1) ∙ one.1.1)
 
     back : list_any p (open_calls h) ≡ true → list_any q (opens_of rows) ≡ true

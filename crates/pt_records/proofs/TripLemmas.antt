@@ -5,7 +5,8 @@ use Rattle.std.proofs.lemmas.Bool.{cases_lt, le-leb, lt-leb, leb-true}
 use Rattle.pt_types.specs.declared.outcome.Outcome.{Outcome}
 use Rattle.pt_model.specs.Searches.{In}
 use Rattle.pt_model.specs.Histories.{History, place}
-use Rattle.pt_model.specs.Records.{WaitingCall, Told}
+use Rattle.pt_model.specs.Records.{Told}
+use Rattle.pt_model.specs.declared.waiting_call.WaitingCall.{WaitingCall}
 use Rattle.pt_model.specs.WaitingCall.{is_arrival}
 use Rattle.pt_model.specs.Answers.{at_barrier, open_calls, told_by_trip, trip_outcome}
 use Rattle.pt_model.proofs.Lists.{Each-in, In-filter}

@@ -5,15 +5,14 @@ use Rattle.pt_table.specs.declared.clients.ClientRow.{ClientRow}
 use Rattle.pt_types.specs.declared.outcome.Outcome.{Outcome}
 use Rattle.pt_types.specs.declared.outcome.Outcome.TheVariants.{Done, Serial}
 use Rattle.pt_model.specs.Searches.{least, least_with}
-use Rattle.pt_model.specs.Records.{WaitingCall}
+use Rattle.pt_model.specs.declared.waiting_call.WaitingCall.{WaitingCall}
 use Rattle.pt_model.specs.WaitingCall.{is_arrival}
-use Rattle.pt_model.specs.Shown.{shown}
 use Rattle.pt_records.specs.declared.clients.Caller.{Caller}
 use Rattle.pt_records.specs.Callers.{opens_of}
 
 -- the open calls in all rows, as the definitions know them
 abbrev pub calls_of : List (ClientRow Caller) → List WaitingCall
-calls_of rows = map (λ o. shown o.call) (opens_of rows)
+calls_of rows = map (λ o. o.call) (opens_of rows)
 
 -- whether a call waits at the barrier and came at place k or after it
 abbrev pub arrives_from : ℕ → ℕ → WaitingCall → Bool

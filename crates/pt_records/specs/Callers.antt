@@ -1,5 +1,6 @@
 -- Callers: the rows of living clients, as they are read off a history.
 use Rattle.std.specs.Prelude.{ℕ, ◌≡◌, ◌==◌, Bool, false, List, [], ◌∷◌, Option, Some, None, length, option_map, if◌then◌else◌}
+use Rattle.pt_types.specs.declared.outcome.Outcome.{Outcome}
 use Rattle.std.specs.Option.{option_and_then}
 use Rattle.std.specs.List.{list_any, filter_map}
 use Rattle.pt_table.specs.declared.clients.ClientRow.{ClientRow}
@@ -7,12 +8,12 @@ use Rattle.pt_table.specs.ClientRows.{client_value}
 use Rattle.pt_model.specs.declared.entry.Cause.{Cause}
 use Rattle.pt_model.specs.Histories.{History}
 use Rattle.pt_model.specs.Clients.{client, living}
-use Rattle.pt_model.specs.Records.{WaitingCall, Move}
-use Rattle.pt_model.specs.Answers.{open_calls}
+use Rattle.pt_model.specs.declared.waiting_call.WaitingCall.{WaitingCall}
+use Rattle.pt_model.specs.declared.waiting_call.Move.{Move}
+use Rattle.pt_model.specs.Answers.{open_calls, outcome}
 use Rattle.pt_model.specs.Moves.{moved}
 use Rattle.pt_model.specs.Queries.{latest}
 use Rattle.pt_model.specs.Found.{passes}
-use Rattle.pt_model.specs.Shown.{shown, shown_move}
 use Rattle.pt_records.specs.declared.clients.Caller.{Caller}
 use Rattle.pt_records.specs.declared.clients.Open.{Open}
 
@@ -27,11 +28,11 @@ open_in kept = option_and_then (λ v. v.open) kept
 
 -- the open call in a client's row, as the definitions know it
 abbrev pub call_in : Option Caller → Option WaitingCall
-call_in kept = option_map (λ o. shown o.call) (open_in kept)
+call_in kept = option_map (λ o. o.call) (open_in kept)
 
 -- the move of the open call in a client's row, if it was moved  [XSH pthread_cond_broadcast]
 abbrev pub move_in : Option Caller → Option Move
-move_in kept = option_and_then (λ o. option_map shown_move o.moved) (open_in kept)
+move_in kept = option_and_then (λ o. o.moved) (open_in kept)
 
 -- the open calls in all rows, in order of the rows
 abbrev pub opens_of : List (ClientRow Caller) → List Open
@@ -39,7 +40,7 @@ opens_of rows = filter_map (λ row. row.value.open) rows
 
 -- the row of a client that has just joined
 abbrev pub joined : ℕ → Caller
-joined p = record { priority = p; «open» = None; latest = None }
+joined p = record { priority = p; «open» = None; latest = None; answer = None }
 
 -- an open call that the entry at place k moves  [XSH pthread_cond_broadcast]
 abbrev pub open_moved_at : ℕ → Cause → Open → Open
@@ -49,17 +50,21 @@ open_moved_at k cause o = record o { moved = Some (record { at = k; cause = caus
 abbrev pub moved_at : ℕ → Cause → Caller → Caller
 moved_at k cause v = record v { «open» = option_map (open_moved_at k cause) v.open }
 
--- a row whose client has no open call any more
-abbrev pub closed : Caller → Caller
-closed v = record v { «open» = None }
+-- a row whose client's open call got this answer
+abbrev pub closed : Option Outcome → Caller → Caller
+closed x v = record v { «open» = None; answer = x }
 
 -- whether a row has an open call that passes
 abbrev pub has_open : (Open → Bool) → Caller → Bool
 has_open test v = passes test v.open
 
--- a row whose client's latest call came at place k
-abbrev pub called_at : ℕ → Caller → Caller
-called_at k v = record v { latest = Some k }
+-- a row whose client's latest call came at place k, with its answer if it has one
+abbrev pub called_at : ℕ → Option Outcome → Caller → Caller
+called_at k x v = record v { latest = Some k; answer = x }
+
+-- the answer to a client's latest call
+abbrev pub latest_answer : History → ℕ → Option Outcome
+latest_answer h c = option_and_then (outcome h) (latest h c)
 
 -- no two rows have one number
 abbrev pub Once : List (ClientRow Caller) → Type 0
@@ -73,6 +78,7 @@ pub record CallersLook (h : History) (look : ℕ → Option Caller) : Type 0 whe
   pub moves : (c : ℕ) (w : WaitingCall) → call_of (open_calls h) c ≡ Some w
       → move_in (look c) ≡ moved h w.place
   pub latest : (c : ℕ) (v : Caller) → look c ≡ Some v → v.latest ≡ latest h c
+  pub answers : (c : ℕ) (v : Caller) → look c ≡ Some v → v.answer ≡ latest_answer h c
 
 -- the rows are those of the living clients
 pub record AreCallers (h : History) (rows : List (ClientRow Caller)) : Type 0 where

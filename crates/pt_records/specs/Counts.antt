@@ -15,8 +15,8 @@ abbrev pub one_if : Bool → ℕ
 one_if passed = if passed then 1 else 0
 
 -- the entries reserved for it: three, of which a moved wait has used one
-abbrev pub kept_open : Open → ℕ
-kept_open o = if is_some o.moved then 2 else 3
+abbrev pub reserved_open : Open → ℕ
+reserved_open o = if is_some o.moved then 2 else 3
 
 -- whether an object is a robust mutex with an owner, for whose Yield one is reserved
 abbrev pub is_robust_held : {A : Type 0} → Object A → Bool

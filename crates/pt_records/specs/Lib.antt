@@ -1,7 +1,7 @@
 pub mod Arrivals
 pub mod Callers
 pub mod Counts
-pub mod Kept
+pub mod LocksInRows
 pub mod Logs
 pub mod OpenRows
 pub mod Objects

@@ -9,7 +9,8 @@ use Rattle.pt_mutex.specs.MutexState.{MutexState, made as made_mutex}
 use Rattle.pt_rwlock.specs.RwlockState.{RwlockState, made as made_rwlock, reads_of, row_of}
 use Rattle.pt_model.specs.Histories.{History, place}
 use Rattle.pt_model.specs.Objects.{kind_of, object_named, objects}
-use Rattle.pt_model.specs.Records.{WaitingCall, ForRead}
+use Rattle.pt_model.specs.declared.waiting_call.WaitingCall.{WaitingCall}
+use Rattle.pt_model.specs.declared.waiting_call.Role.TheVariants.{ForRead}
 use Rattle.pt_model.specs.Searches.{In}
 use Rattle.pt_model.specs.Answers.{open_calls}
 use Rattle.pt_model.specs.Mutexes.{mutex_view}
@@ -30,11 +31,11 @@ pub record IsRwlock (h : History) (o : ℕ) (r : RwlockState) : Type 0 where
 
 module _ {A : Type 0} where
   -- what an object was made as  [XSH 2.9]
-  abbrev pub kind_kept : Object A → ObjectKind
-  kind_kept (Mutex m) = kind.Mutex m.seen.kind m.seen.robust
-  kind_kept (Rwlock r) = kind.Rwlock
-  kind_kept (Cond q) = kind.Cond
-  kind_kept (Barrier count) = kind.Barrier count
+  abbrev pub kind_in_row : Object A → ObjectKind
+  kind_in_row (Mutex m) = kind.Mutex m.seen.kind m.seen.robust
+  kind_in_row (Rwlock r) = kind.Rwlock
+  kind_in_row (Cond q) = kind.Cond
+  kind_in_row (Barrier count) = kind.Barrier count
 
   -- an object of this kind, as it is made  [XSH pthread_mutex_init, pthread_cond_init]
   abbrev pub IsNew : Object A → ObjectKind → Type 0
@@ -52,7 +53,7 @@ module _ {A : Type 0} where
 
   -- what is found of each object is what is read off the history
   pub record ObjectsLook (h : History) (look : ℕ → Option (Object A)) : Type 0 where
-    pub kinds : (o : ℕ) → option_map kind_kept (look o) ≡ kind_of h o
+    pub kinds : (o : ℕ) → option_map kind_in_row (look o) ≡ kind_of h o
     pub mutexes : (o : ℕ) (m : MutexState) → look o ≡ Some (Mutex m) → IsMutex h o m
     pub rwlocks : (o : ℕ) (r : RwlockState) → look o ≡ Some (Rwlock r) → IsRwlock h o r
 

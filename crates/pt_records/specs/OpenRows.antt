@@ -1,16 +1,15 @@
 -- OpenRows: tests of a stored open call.
-use Rattle.std.specs.Prelude.{ℕ, Bool, not, ◌&&◌, is_some, option_map}
+use Rattle.std.specs.Prelude.{ℕ, Bool, not, ◌&&◌, is_some}
 use Rattle.pt_types.specs.MutexTable.{is_number}
 use Rattle.pt_model.specs.Moves.{object_by}
 use Rattle.pt_model.specs.Verdicts.{mutex_awaited}
-use Rattle.pt_model.specs.Shown.{shown_move, shown_role}
 use Rattle.pt_records.specs.declared.clients.Open.{Open}
 
 -- the object at which an open call waits  [XSH pthread_cond_broadcast]
 abbrev pub object_of : Open → ℕ
-object_of o = object_by (shown_role o.call.role) (option_map shown_move o.moved) o.call.object
+object_of o = object_by o.call.role o.moved o.call.object
 
 -- whether it is a wait that isn't moved and will come back to this mutex
 -- [XSH pthread_mutex_destroy]
 abbrev pub returns_to : ℕ → Open → Bool
-returns_to m o = is_number (mutex_awaited (shown_role o.call.role)) m && not (is_some o.moved)
+returns_to m o = is_number (mutex_awaited o.call.role) m && not (is_some o.moved)

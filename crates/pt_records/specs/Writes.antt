@@ -1,5 +1,7 @@
 -- Writes: rows of the tables before and after some of them are written.
-use Rattle.std.specs.Prelude.{ℕ, zero, suc, ◌+◌, ◌≡◌, ◌==◌, ◌&&◌, Bool, List, [], ◌∷◌, Some, None, is_none, length, option_map, if◌then◌else◌}
+use Rattle.std.specs.Prelude.{ℕ, zero, suc, ◌+◌, ◌≡◌, ◌==◌, ◌&&◌, Bool, List, [], ◌∷◌, Option, Some, None, is_none, length, option_map, if◌then◌else◌}
+use Rattle.std.specs.Option.{option_and_then}
+use Rattle.pt_types.specs.declared.outcome.Outcome.{Outcome}
 use Rattle.pt_table.specs.declared.clients.ClientRow.{ClientRow}
 use Rattle.pt_table.specs.declared.objects.ObjectRow.{ObjectRow}
 use Rattle.pt_table.specs.ClientRows.{client_value}
@@ -11,13 +13,14 @@ use Rattle.pt_table.specs.ObjectRows.{object_value, object_named, number_of}
 use Rattle.pt_mutex.specs.MutexState.{made as new_mutex}
 use Rattle.pt_rwlock.specs.RwlockState.{made as new_rwlock}
 use Rattle.pt_model.specs.declared.entry.Cause.{Cause}
+use Rattle.pt_model.specs.Records.{Told}
 use Rattle.pt_model.specs.WaitingCall.{is_arrival, is_wait}
-use Rattle.pt_model.specs.Shown.{shown}
 use Rattle.pt_records.specs.declared.clients.Caller.{Caller}
 use Rattle.pt_records.specs.declared.clients.Open.{Open}
 use Rattle.pt_records.specs.declared.objects.Object.{Object}
 use Rattle.pt_records.specs.declared.objects.Object.TheVariants.{Mutex, Rwlock, Cond, Barrier}
 use Rattle.pt_records.specs.Callers.{Once, has_open, closed, moved_at}
+use Rattle.pt_records.specs.Logs.{outcome_in_log}
 use Rattle.pt_records.specs.Objects.{Rising}
 
 -- one row is written, and the others stay
@@ -52,16 +55,20 @@ rewritten_nth g (row ∷ rows) (suc i) = row ∷ rewritten_nth g rows i
 
 -- whether an open call waits at the barrier  [XSH pthread_barrier_wait]
 abbrev pub arrived_at : ℕ → Open → Bool
-arrived_at b o = is_arrival (shown o.call).role && ((shown o.call).object == b)
+arrived_at b o = is_arrival o.call.role && (o.call.object == b)
 
 -- whether an open call waits at the condition, and isn't moved  [XSH pthread_cond_wait]
 abbrev pub still_waits_at : ℕ → Open → Bool
 still_waits_at q o =
-    is_wait (shown o.call).role && (is_none o.moved && (q == o.call.object))
+    is_wait o.call.role && (is_none o.moved && (q == o.call.object))
 
--- a row after the barrier let its calls go on  [XSH pthread_barrier_wait]
-abbrev pub closed_at : ℕ → Caller → Caller
-closed_at b v = if has_open (arrived_at b) v then closed v else v
+-- what these answers say to the open call in a row
+abbrev pub answer_to_open : List (ℕ × Told) → Caller → Option Outcome
+answer_to_open log v = option_and_then (λ o. outcome_in_log log o.call.place) v.open
+
+-- a row after the barrier let its calls go on with these answers  [XSH pthread_barrier_wait]
+abbrev pub closed_at : ℕ → List (ℕ × Told) → Caller → Caller
+closed_at b log v = if has_open (arrived_at b) v then closed (answer_to_open log v) v else v
 
 -- a row after a broadcast at the condition, by the entry at place k  [XSH pthread_cond_broadcast]
 abbrev pub woken_at : ℕ → ℕ → Cause → Caller → Caller

@@ -2,10 +2,9 @@
 
 ghost use Rattle.std.specs.Prelude.{None, Some, ◌++◌, ◌+◌, ◌<◌, ◌≡◌, ◌≤◌, false, length, map, option_map, vec_capacity, vec_len};
 ghost use Rattle.pt_records.specs.Callers.{AreCallers, Once, has_open, open_in};
-ghost use Rattle.pt_records.specs.Writes.{RewritesCallers, arrived_at, closed_at, rewritten_nth};
+ghost use Rattle.pt_records.specs.Writes.{RewritesCallers, answer_to_open as answer_in, arrived_at, closed_at, rewritten_nth};
 ghost use Rattle.pt_model.specs.Histories.{place};
 ghost use Rattle.pt_model.specs.Found.{keep};
-ghost use Rattle.pt_model.specs.Shown.{shown};
 ghost use Rattle.pt_records.specs.Arrivals.{arrives_from, first_with, next_of, outcome_before};
 ghost use Rattle.pt_table.specs.ClientRows.{nth_value};
 ghost use Rattle.pt_records.specs.Logs.{logged, told_at};
@@ -14,7 +13,7 @@ ghost use Rattle.pt_model.specs.Answers.{at_barrier, open_calls, told};
 ghost use Rattle.pt_model.specs.Steps.{Follows};
 ghost use Rattle.pt_history.specs.Stored.{past_of};
 
-use crate::answers::{Answered, tell};
+use crate::answers::{Answered, last_outcome, tell};
 use crate::clients::{Caller, Open};
 use pt_history::History;
 use pt_model::waiting_call::{WaitingCall, is_arrival};
@@ -32,10 +31,27 @@ fn has_arrived(caller: &Caller, b: ObjectId) -> bool
     }
 }
 
-// Closes the client's open call in the row at this index, if it is an arrival at the barrier.
-fn close_nth<A: Allocator + Copy>(clients: &mut Clients<Caller, A>, index: usize, b: ObjectId)
+// What these answers say to the client's open call.
+fn answer_to_open(caller: &Caller, answers: &[Answered]) -> Option<Outcome>
+    ensures { result ≡ answer_in (map logged answers.now) caller.now }
+{
+    match &caller.open {
+        Some(open) => last_outcome(answers, open.call.place),
+        None => None,
+    }
+}
+
+// Closes the client's open call in the row at this index with its answer, if it is an arrival at
+// the barrier.
+fn close_nth<A: Allocator + Copy>(
+    clients: &mut Clients<Caller, A>,
+    answers: &[Answered],
+    index: usize,
+    b: ObjectId,
+)
     requires { Once clients.old }
-    ensures { clients.new ≡ rewritten_nth (closed_at b) clients.old index }
+    ensures { clients.new
+        ≡ rewritten_nth (closed_at b (map logged answers.now)) clients.old index }
 {
     let Some((c, caller)) = clients.nth(index) else {
         return;
@@ -43,27 +59,33 @@ fn close_nth<A: Allocator + Copy>(clients: &mut Clients<Caller, A>, index: usize
     if !has_arrived(caller, b) {
         return;
     }
+    let answer = answer_to_open(caller, answers);
     if let Some(row) = clients.at_mut(c) {
         row.open = None;
+        row.answer = answer;
     }
 }
 
-/// The calls at the barrier are open no more.
-pub fn close_arrivals<A: Allocator + Copy>(clients: &mut Clients<Caller, A>, b: ObjectId)
+/// The calls at the barrier are open no more: each has the last of these answers to it.
+pub fn close_arrivals<A: Allocator + Copy>(
+    clients: &mut Clients<Caller, A>,
+    answers: &[Answered],
+    b: ObjectId,
+)
     requires { Once clients.old }
-    ensures { RewritesCallers clients.old clients.new (closed_at b) }
+    ensures { RewritesCallers clients.old clients.new (closed_at b (map logged answers.now)) }
 {
     for i in 0..clients.len() {
-        close_nth(clients, i, b);
+        close_nth(clients, answers, i, b);
     }
 }
 
 // The open call, if it waits at the barrier and came at this place or after it.
-fn arrival(kept: Option<Open>, b: ObjectId, from: u64) -> Option<WaitingCall>
-    ensures { option_map shown result
-        ≡ keep (arrives_from b from) (option_map (λ o. shown o.call) kept) }
+fn arrival(open: Option<Open>, b: ObjectId, from: u64) -> Option<WaitingCall>
+    ensures { result
+        ≡ keep (arrives_from b from) (option_map (λ o. o.call) «open») }
 {
-    match kept {
+    match open {
         Some(open) => {
             let call = open.call;
             if is_arrival(call.role) && call.object == b.0 && from <= call.place {
@@ -83,9 +105,9 @@ fn arrival_nth<A: Allocator + Copy>(
     b: ObjectId,
     from: u64,
 ) -> Option<WaitingCall>
-    ensures { option_map shown result
+    ensures { result
         ≡ keep (arrives_from b from)
-        (option_map (λ o. shown o.call) (open_in (nth_value clients.now index))) }
+        (option_map (λ o. o.call) (open_in (nth_value clients.now index))) }
 {
     match clients.nth(index) {
         Some((_, caller)) => arrival(caller.open, b, from),
@@ -95,7 +117,7 @@ fn arrival_nth<A: Allocator + Copy>(
 
 // The one that came first, of a call and the first of others.
 fn sooner(call: Option<WaitingCall>, best: Option<WaitingCall>) -> Option<WaitingCall>
-    ensures { option_map shown result ≡ first_with (option_map shown call) (option_map shown best) }
+    ensures { result ≡ first_with call best }
 {
     match (call, best) {
         (Some(w), Some(v)) if w.place <= v.place => Some(w),
@@ -110,7 +132,7 @@ fn next_arrival<A: Allocator + Copy>(
     b: ObjectId,
     from: u64,
 ) -> Option<WaitingCall>
-    ensures { option_map shown result ≡ next_of clients.now b from }
+    ensures { result ≡ next_of clients.now b from }
 {
     let mut best = None;
     let mut i = clients.len();
@@ -129,7 +151,7 @@ fn told_in_trip(at: u64, call: &WaitingCall, next: &Option<WaitingCall>) -> Answ
           record {
             client = call.now.client;
             place = call.now.place;
-            outcome = outcome_before (option_map shown next.now);
+            outcome = outcome_before next.now;
           },
         ) }
 {

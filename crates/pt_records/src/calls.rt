@@ -4,13 +4,13 @@ ghost use Rattle.std.specs.Prelude.{None, Some, ◌<◌, ◌≡◌, ◌≤◌, i
 ghost use Rattle.pt_table.specs.ClientRows.{client_value, has_client, nth_value};
 ghost use Rattle.pt_records.specs.Writes.{WritesCaller};
 ghost use Rattle.pt_records.specs.Callers.{closed, open_in};
-ghost use Rattle.pt_records.specs.Counts.{counted, kept_open};
+ghost use Rattle.pt_records.specs.Counts.{counted, reserved_open};
 ghost use Rattle.pt_records.specs.OpenRows.{object_of};
 
 use crate::clients::{Caller, Open};
 use pt_model::waiting_call::Role;
 use pt_table::Clients;
-use pt_types::ObjectId;
+use pt_types::{ObjectId, Outcome};
 use std::alloc::Allocator;
 
 /// The client's latest call came at this place, and is open.
@@ -18,31 +18,33 @@ pub fn stand<A: Allocator + Copy>(clients: &mut Clients<Caller, A>, c: u64, open
     requires { has_client clients.old c ≡ true }
     ensures { (v : Caller) → client_value clients.old c ≡ Some v
         → WritesCaller clients.old clients.new c
-        (record v { «open» = Some «open»; latest = Some place }) }
+        (record v { «open» = Some «open»; latest = Some place; answer = None }) }
 {
     if let Some(row) = clients.at_mut(c) {
         row.open = Some(open);
         row.latest = Some(place);
+        row.answer = None;
     }
 }
 
-/// The client has no open call any more.
-pub fn close<A: Allocator + Copy>(clients: &mut Clients<Caller, A>, c: u64)
+/// The client's open call is answered.
+pub fn close<A: Allocator + Copy>(clients: &mut Clients<Caller, A>, c: u64, answer: Outcome)
     requires { has_client clients.old c ≡ true }
     ensures { (v : Caller) → client_value clients.old c ≡ Some v
-        → WritesCaller clients.old clients.new c (closed v) }
+        → WritesCaller clients.old clients.new c (closed (Some answer) v) }
 {
     if let Some(row) = clients.at_mut(c) {
         row.open = None;
+        row.answer = Some(answer);
     }
 }
 
 /// The entries reserved for an open call.
-pub fn kept_by(kept: Option<Open>) -> u64
-    ensures value { result ≡ counted kept_open kept }
+pub fn reserved_by(open: Option<Open>) -> u64
+    ensures value { result ≡ counted reserved_open «open» }
     ensures small { result ≤ 3 }
 {
-    match kept {
+    match open {
         Some(o) => match o.moved {
             Some(_) => 2,
             None => 3,
@@ -62,18 +64,18 @@ pub fn open_at<A: Allocator + Copy>(clients: &Clients<Caller, A>, i: usize) -> O
 }
 
 /// Whether an open call is a wait that was moved.  [XSH pthread_cond_broadcast]
-pub fn is_moved(kept: &Open) -> bool
-    ensures { result ≡ is_some kept.now.moved }
+pub fn is_moved(open: &Open) -> bool
+    ensures { result ≡ is_some «open».now.moved }
 {
-    kept.moved.is_some()
+    open.moved.is_some()
 }
 
 /// The object at which an open call waits.  [XSH pthread_cond_broadcast]
-pub fn at_object(kept: &Open) -> ObjectId
-    ensures { result ≡ object_of kept.now }
+pub fn at_object(open: &Open) -> ObjectId
+    ensures { result ≡ object_of «open».now }
 {
-    match kept.call.role {
-        Role::ForCond(m) if is_moved(kept) => ObjectId(m),
-        _ => ObjectId(kept.call.object),
+    match open.call.role {
+        Role::ForCond(m) if is_moved(open) => ObjectId(m),
+        _ => ObjectId(open.call.object),
     }
 }

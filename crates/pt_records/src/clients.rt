@@ -1,4 +1,4 @@
-//! The row of a living client: its priority, its latest call and its open call.
+//! The row of a living client: its priority, its open call, and its latest call with the answer.
 
 ghost use Rattle.std.specs.Prelude.{IfErr, OnErr, OnOk, Some, ◌<◌, ◌≡◌, false, length, true};
 ghost use Rattle.pt_table.specs.ClientRows.{client_value, has_client};
@@ -8,17 +8,23 @@ ghost use Rattle.pt_types.specs.Limits.{most_clients};
 
 use pt_model::waiting_call::{Move, WaitingCall};
 use pt_table::Clients;
-use pt_types::{Priority, Refusal};
+use pt_types::{Outcome, Priority, Refusal};
 use std::alloc::Allocator;
 
-/// The client's latest call came at this place.
-pub fn note_call<A: Allocator + Copy>(clients: &mut Clients<Caller, A>, c: u64, place: u64)
+/// The client's latest call came at this place, and was answered at once.
+pub fn note_call<A: Allocator + Copy>(
+    clients: &mut Clients<Caller, A>,
+    c: u64,
+    place: u64,
+    answer: Outcome,
+)
     requires { has_client clients.old c ≡ true }
     ensures { (v : Caller) → client_value clients.old c ≡ Some v
-        → WritesCaller clients.old clients.new c (called_at place v) }
+        → WritesCaller clients.old clients.new c (called_at place (Some answer) v) }
 {
     if let Some(row) = clients.at_mut(c) {
         row.latest = Some(place);
+        row.answer = Some(answer);
     }
 }
 
@@ -55,10 +61,12 @@ pub struct Open {
     pub moved: Option<Move>,
 }
 
-/// The row of a living client: its priority, its open call, and the place of its latest call.
+/// The row of a living client: its priority, its open call, and the place of its latest call, with
+/// the answer if it has one.
 #[derive(Clone, Copy, Debug, PartialEq, Eq)]
 pub struct Caller {
     pub priority: Priority,
     pub open: Option<Open>,
     pub latest: Option<u64>,
+    pub answer: Option<Outcome>,
 }

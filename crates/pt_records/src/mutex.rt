@@ -2,17 +2,17 @@
 
 ghost use Rattle.std.specs.Prelude.{IsSome, IsTrue, Some, ◌+◌, ◌<◌, ◌≡◌, true};
 ghost use Rattle.pt_records.specs.Counts.{is_last_lock, is_robust_held};
-ghost use Rattle.pt_types.specs.MutexTable.{lock_verdict as lock_table, may_lock as may_lock_it, may_relock as may_relock_it, owns};
+ghost use Rattle.pt_types.specs.MutexTable.{lock_verdict as lock_table, may_lock as may_lock_it, owns};
 ghost use Rattle.pt_mutex.specs.MutexState.{MutexState, acquired, can_acquire, released, restored, yielded};
 ghost use Rattle.pt_table.specs.ObjectRows.{object_value};
-ghost use Rattle.pt_records.specs.Kept.{mutex_in};
+ghost use Rattle.pt_records.specs.LocksInRows.{mutex_in};
 ghost use Rattle.pt_records.specs.declared.objects.Object.TheVariants.{Mutex};
 ghost use Rattle.pt_records.specs.Writes.{WritesObject};
 
 use crate::objects::Object;
 use pt_mutex::MutexObj;
 use pt_table::Objects;
-use pt_types::{ClientId, Consistency, How, MutexKind, Verdict};
+use pt_types::{ClientId, Consistency, How, Verdict};
 use std::alloc::Allocator;
 
 /// Whether an object is a robust mutex with an owner.
@@ -52,13 +52,6 @@ pub fn may_lock(mutex: &MutexObj) -> bool
     ensures { result ≡ may_lock_it mutex.now.seen true }
 {
     mutex.consistency() == Consistency::NotRecoverable || mutex.owner().is_none()
-}
-
-/// Whether a moved wait can have it back from its own client.
-pub fn may_relock(mutex: &MutexObj, c: ClientId) -> bool
-    ensures { result ≡ may_relock_it mutex.now.seen c }
-{
-    mutex.kind() == MutexKind::Recursive && mutex.is_owned_by(c)
 }
 
 /// The client has the mutex once more.  [XSH pthread_mutex_lock]

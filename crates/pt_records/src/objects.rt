@@ -2,8 +2,7 @@
 
 ghost use Rattle.std.specs.Prelude.{IfErr, OnErr, OnOk, ◌+◌, ◌-◌, ◌<◌, ◌≡◌, false, length, true};
 ghost use Rattle.pt_types.specs.Operations.{class_of as class_meant};
-ghost use Rattle.pt_types.specs.Shown.{shown_class};
-ghost use Rattle.pt_records.specs.Objects.{Rising, kind_kept};
+ghost use Rattle.pt_records.specs.Objects.{Rising, kind_in_row};
 ghost use Rattle.pt_types.specs.ObjectTable.{is_bad_kind};
 ghost use Rattle.pt_records.specs.declared.objects.Object.TheVariants.{Mutex, Rwlock};
 ghost use Rattle.pt_records.specs.Writes.{AddsObject, RemovesObject, new_object};
@@ -20,8 +19,8 @@ use pt_types::{Name, ObjectKind, Refusal};
 use std::alloc::{Allocator, Global};
 
 /// The class of an object.  [XSH 2.9]
-pub fn class_kept<A: Allocator + Copy>(object: &Object<A>) -> ObjectClass
-    ensures { shown_class result ≡ class_meant (kind_kept object.now) }
+pub fn class_in_row<A: Allocator + Copy>(object: &Object<A>) -> ObjectClass
+    ensures { result ≡ class_meant (kind_in_row object.now) }
 {
     match object {
         Object::Mutex(_) => ObjectClass::Mutex,

@@ -4,7 +4,7 @@ ghost use Rattle.std.specs.Prelude.{IfErr, IsOk, IsSome, IsTrue, OnErr, OnOk, So
 ghost use Rattle.pt_types.specs.RwlockTable.{holds, may_read as may_read_it};
 ghost use Rattle.pt_rwlock.specs.RwlockState.{ChangesRow, RwlockState, can_acquire_read, nobody_holds, reads_of, released as released_lock, row_of, seen_by, with_reads, with_row};
 ghost use Rattle.pt_table.specs.ObjectRows.{object_value};
-ghost use Rattle.pt_records.specs.Kept.{rwlock_in};
+ghost use Rattle.pt_records.specs.LocksInRows.{rwlock_in};
 ghost use Rattle.pt_records.specs.declared.objects.Object.TheVariants.{Rwlock};
 ghost use Rattle.pt_records.specs.Writes.{WritesObject};
 ghost use Rattle.pt_types.specs.MutexTable.{is_number};

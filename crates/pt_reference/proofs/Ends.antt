@@ -5,7 +5,7 @@ use Rattle.std.proofs.lemmas.List.Elements.{filter-append}
 use Rattle.std.proofs.lemmas.Bool.{cases_order}
 use Rattle.pt_model.specs.Histories.{History, ◌▷◌, place, history}
 use Rattle.pt_model.specs.Searches.{least, listed}
-use Rattle.pt_model.specs.Records.{WaitingCall}
+use Rattle.pt_model.specs.declared.waiting_call.WaitingCall.{WaitingCall}
 use Rattle.pt_model.specs.WaitingCall.{at_place, stood, stood_by}
 use Rattle.pt_model.specs.Answers.{open_calls, outcome, is_open_by}
 use Rattle.pt_model.specs.Verdicts.{bound_by}

@@ -5,52 +5,53 @@ use Rattle.std.specs.List.{sum_by}
 use Rattle.pt_model.specs.declared.entry.Entry.{Entry}
 use Rattle.pt_model.specs.Histories.{History, ◌▷◌, place, history}
 use Rattle.pt_model.specs.Searches.{listed, count_below}
-use Rattle.pt_model.specs.Records.{WaitingCall}
+use Rattle.pt_model.specs.declared.waiting_call.WaitingCall.{WaitingCall}
 use Rattle.pt_model.specs.WaitingCall.{at_place}
 use Rattle.pt_model.specs.Answers.{open_calls}
-use Rattle.pt_model.specs.Room.{kept_for}
+use Rattle.pt_model.specs.Room.{reserved_for}
 use Rattle.pt_model.proofs.Ascending.{upto, upto_more, upto-before, upto_all, Each-weaker}
 use Rattle.pt_model.proofs.OpenOrder.{open-ascends, open-below}
 use Rattle.pt_readings.proofs.Past.{place_all, history_more}
 use Rattle.pt_reference.proofs.Ends.{both}
-use Rattle.pt_reference.specs.Best.{kept_of}
+use Rattle.pt_reference.specs.Best.{reserved_of}
 
 -- what is reserved for these calls
-abbrev pub kept_for_all : History → List WaitingCall → ℕ
-kept_for_all h ws = sum (map (kept_for h) ws)
+abbrev pub reserved_for_all : History → List WaitingCall → ℕ
+reserved_for_all h ws = sum (map (reserved_for h) ws)
 
-kept-append :
+reserved-append :
     (h : History) (vs : List WaitingCall) (o : Option WaitingCall)
-    → kept_for_all h (vs ++ listed o) ≡ kept_for_all h vs + kept_of h o
-kept-append h vs o =
-    sum-map (kept_for h) (vs ++ listed o) ∙ sum_by-append (kept_for h) vs (listed o)
-    ∙ both ◌+◌ (sym (sum-map (kept_for h) vs)) (go o)
+    → reserved_for_all h (vs ++ listed o) ≡ reserved_for_all h vs + reserved_of h o
+reserved-append h vs o =
+    sum-map (reserved_for h) (vs ++ listed o) ∙ sum_by-append (reserved_for h) vs (listed o)
+    ∙ both ◌+◌ (sym (sum-map (reserved_for h) vs)) (go o)
   where
-    go : (o : Option WaitingCall) → sum_by (kept_for h) (listed o) ≡ kept_of h o
+    go : (o : Option WaitingCall) → sum_by (reserved_for h) (listed o) ≡ reserved_of h o
     go None = refl
     go (Some w) = omega arith
 
 -- one call more
-pub kept_more :
+pub reserved_more :
     (h : History) (i : ℕ)
-    → sum (map (kept_for h) (upto (i + 1) (open_calls h)))
-    ≡ sum (map (kept_for h) (upto i (open_calls h))) + kept_of h (at_place i (open_calls h))
-kept_more h i =
-    ap (kept_for_all h) (upto_more i 0 (open_calls h) (open-ascends h))
-    ∙ kept-append h (upto i (open_calls h)) (at_place i (open_calls h))
+    → sum (map (reserved_for h) (upto (i + 1) (open_calls h)))
+    ≡ sum (map (reserved_for h) (upto i (open_calls h))) + reserved_of h (at_place i (open_calls h))
+reserved_more h i =
+    ap (reserved_for_all h) (upto_more i 0 (open_calls h) (open-ascends h))
+    ∙ reserved-append h (upto i (open_calls h)) (at_place i (open_calls h))
 
 -- none
-pub kept_none : (h : History) → sum (map (kept_for h) (upto 0 (open_calls h))) ≡ 0
-kept_none h = ap (kept_for_all h) (upto-before 0 0 (open_calls h) (open-ascends h) (omega arith))
+pub reserved_none : (h : History) → sum (map (reserved_for h) (upto 0 (open_calls h))) ≡ 0
+reserved_none h =
+    ap (reserved_for_all h) (upto-before 0 0 (open_calls h) (open-ascends h) (omega arith))
 
 -- all, after one more entry
-pub kept_end :
+pub reserved_end :
     (es : List Entry) (e : Entry) (n : ℕ) → n ≡ length es + 1
-    → sum (map (kept_for (history es ▷ e)) (upto n (open_calls (history es ▷ e))))
-    ≡ sum (map (kept_for (history es ▷ e)) (open_calls (history es ▷ e)))
-kept_end es e n is =
+    → sum (map (reserved_for (history es ▷ e)) (upto n (open_calls (history es ▷ e))))
+    ≡ sum (map (reserved_for (history es ▷ e)) (open_calls (history es ▷ e)))
+reserved_end es e n is =
     let h = history es ▷ e in
-    ap (kept_for_all h)
+    ap (reserved_for_all h)
     (upto_all n (open_calls h)
     (Each-weaker (λ w. w.place < place h) (λ w. w.place < n)
     (λ w lt. omega (arith, place_all es)) (open_calls h) (open-below h)))

@@ -8,7 +8,8 @@ use Rattle.pt_model.specs.declared.entry.Entry.{Entry}
 use Rattle.pt_model.specs.declared.entry.Entry.TheVariants.{Join, Call, Death, Moment, Grant, Trip, Yield, Expire}
 use Rattle.pt_model.specs.Histories.{History, place}
 use Rattle.pt_model.specs.Searches.{listed}
-use Rattle.pt_model.specs.Records.{WaitingCall, Told}
+use Rattle.pt_model.specs.Records.{Told}
+use Rattle.pt_model.specs.declared.waiting_call.WaitingCall.{WaitingCall}
 use Rattle.pt_model.specs.WaitingCall.{stood, at_place, is_arrival, is_wait_if}
 use Rattle.pt_model.specs.Answers.{told, told_by_trip, told_by_expiry, at_barrier, trip_outcome, outcome_in, open_calls, client_if, is_open_by, outcome}
 use Rattle.pt_model.specs.Queries.{told_if}

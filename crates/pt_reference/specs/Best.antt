@@ -1,10 +1,10 @@
 -- Best: the least of a list whose calls are looked at one by one, from its end.
 use Rattle.std.specs.Prelude.{ℕ, Bool, Option, Some, None}
-use Rattle.pt_model.specs.Records.{WaitingCall}
+use Rattle.pt_model.specs.declared.waiting_call.WaitingCall.{WaitingCall}
 use Rattle.pt_model.specs.Searches.{least_with}
 use Rattle.pt_model.specs.Histories.{History}
 use Rattle.pt_model.specs.Verdicts.{mutex_awaited}
-use Rattle.pt_model.specs.Room.{kept_for}
+use Rattle.pt_model.specs.Room.{reserved_for}
 
 -- the least, if one more call may come before those whose least is known
 abbrev pub best_of :
@@ -19,6 +19,6 @@ awaited_or None found = found
 awaited_or (Some w) found = mutex_awaited w.role
 
 -- the entries reserved for a call, if there is one
-abbrev pub kept_of : History → Option WaitingCall → ℕ
-kept_of h None = 0
-kept_of h (Some w) = kept_for h w
+abbrev pub reserved_of : History → Option WaitingCall → ℕ
+reserved_of h None = 0
+reserved_of h (Some w) = reserved_for h w

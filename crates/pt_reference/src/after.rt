@@ -1,4 +1,4 @@
-ghost use Rattle.std.specs.Prelude.{◌≡◌, ◌≤◌, ◌+◌, ◌*◌, ◌<◌, length, map, sum, is_some, option_map};
+ghost use Rattle.std.specs.Prelude.{◌≡◌, ◌≤◌, ◌+◌, ◌*◌, ◌<◌, length, map, sum, is_some};
 ghost use Rattle.pt_model.specs.Histories.{history, place, ◌▷◌};
 ghost use Rattle.pt_model.specs.Searches.{count_below};
 ghost use Rattle.pt_model.specs.Clients.{is_alive as is_alive_in};
@@ -7,9 +7,8 @@ ghost use Rattle.pt_model.specs.WaitingCall.{at_place, stood};
 ghost use Rattle.pt_model.specs.Answers.{is_open_by, open_calls, outcome as outcome_in};
 ghost use Rattle.pt_model.specs.Moves.{moved as moved_in};
 ghost use Rattle.pt_model.specs.Mutexes.{count as count_in, owner as owner_in};
-ghost use Rattle.pt_model.specs.Room.{kept_for, is_robust_owned as is_robust_owned_in, need as need_in};
-ghost use Rattle.pt_model.specs.Shown.{shown, shown_move};
-ghost use Rattle.pt_reference.specs.Best.{kept_of};
+ghost use Rattle.pt_model.specs.Room.{reserved_for, is_robust_owned as is_robust_owned_in, need as need_in};
+ghost use Rattle.pt_reference.specs.Best.{reserved_of};
 
 use pt_model::Entry;
 use pt_model::waiting_call::{Move, WaitingCall};
@@ -30,7 +29,7 @@ pub fn is_alive(entries: &[Entry], entry: &Entry, c: ClientId) -> bool
 
 /// The call that came without a reply at a place, after one more entry.
 pub fn stood_at(entries: &[Entry], entry: &Entry, i: u64) -> Option<WaitingCall>
-    ensures { option_map shown result ≡ at_place i (stood (history entries.now ▷ entry.now)) }
+    ensures { result ≡ at_place i (stood (history entries.now ▷ entry.now)) }
 {
     if i == entries.len() as u64 {
         stood_by(entries, entry)
@@ -51,14 +50,14 @@ pub fn answer(entries: &[Entry], entry: &Entry, j: u64) -> Option<Outcome>
 pub fn is_open(entries: &[Entry], entry: &Entry, w: &WaitingCall) -> bool
     ensures { result
         ≡ is_open_by (history entries.now ▷ entry.now)
-        (outcome_in (history entries.now ▷ entry.now)) (shown w.now) }
+        (outcome_in (history entries.now ▷ entry.now)) w.now }
 {
     is_alive(entries, entry, ClientId(w.client)) && answer(entries, entry, w.place).is_none()
 }
 
 /// The call at a place, if it is open after one more entry.
 pub fn open_at(entries: &[Entry], entry: &Entry, i: u64) -> Option<WaitingCall>
-    ensures { option_map shown result ≡ at_place i (open_calls (history entries.now ▷ entry.now)) }
+    ensures { result ≡ at_place i (open_calls (history entries.now ▷ entry.now)) }
 {
     match stood_at(entries, entry, i) {
         Some(w) => {
@@ -75,7 +74,7 @@ pub fn open_at(entries: &[Entry], entry: &Entry, i: u64) -> Option<WaitingCall>
 /// The move of the wait at a place, after one more entry.  [XSH pthread_cond_broadcast]
 #[tactic(auto, using(crate::proofs::Ends::place_of_all))]
 pub fn move_of(entries: &[Entry], entry: &Entry, j: u64) -> Option<Move>
-    ensures { option_map shown_move result ≡ moved_in (history entries.now ▷ entry.now) j }
+    ensures { result ≡ moved_in (history entries.now ▷ entry.now) j }
 {
     let before = moved(entries, j);
     move_or(
@@ -86,9 +85,9 @@ pub fn move_of(entries: &[Entry], entry: &Entry, j: u64) -> Option<Move>
 }
 
 /// The entries reserved for the open call at a place, after one more entry.
-pub fn kept_at(entries: &[Entry], entry: &Entry, i: u64) -> u64
+pub fn reserved_at(entries: &[Entry], entry: &Entry, i: u64) -> u64
     ensures value { result
-        ≡ kept_of (history entries.now ▷ entry.now)
+        ≡ reserved_of (history entries.now ▷ entry.now)
         (at_place i (open_calls (history entries.now ▷ entry.now))) }
     ensures small { result ≤ 3 }
 {
@@ -100,16 +99,16 @@ pub fn kept_at(entries: &[Entry], entry: &Entry, i: u64) -> u64
 }
 
 /// The entries reserved for all open calls, after one more entry.
-pub fn kept(entries: &[Entry], entry: &Entry) -> u64
+pub fn reserved(entries: &[Entry], entry: &Entry) -> u64
     ensures value { result
         ≡ sum
-        (map (kept_for (history entries.now ▷ entry.now))
+        (map (reserved_for (history entries.now ▷ entry.now))
         (open_calls (history entries.now ▷ entry.now))) }
     ensures small { result ≤ 3 * length entries.now + 3 }
 {
     let mut total = 0;
     for i in 0..entries.len() + 1 {
-        total += kept_at(entries, entry, i as u64);
+        total += reserved_at(entries, entry, i as u64);
     }
     total
 }
@@ -172,5 +171,5 @@ pub fn need(entries: &[Entry], entry: &Entry) -> u64
     ensures value { result ≡ need_in (history entries.now ▷ entry.now) }
     ensures small { result ≤ 5 * length entries.now + 5 }
 {
-    living_by(entry, living(entries)) + kept(entries, entry) + robust_owned(entries, entry)
+    living_by(entry, living(entries)) + reserved(entries, entry) + robust_owned(entries, entry)
 }

@@ -1,11 +1,10 @@
-ghost use Rattle.std.specs.Prelude.{◌≡◌, option_map, filter};
+ghost use Rattle.std.specs.Prelude.{◌≡◌, filter};
 ghost use Rattle.pt_model.specs.Histories.{history};
 ghost use Rattle.pt_model.specs.Searches.{least};
 ghost use Rattle.pt_model.specs.WaitingCall.{at_place};
 ghost use Rattle.pt_model.specs.Answers.{open_calls};
 ghost use Rattle.pt_model.specs.Forced.{is_served_before as is_served_before_in, is_served as is_served_in, service as service_in, forced_service as forced_service_in, is_orphan as is_orphan_in, forced_yield as forced_yield_in, is_overdue as is_overdue_in, expires_before as expires_before_it, forced_expire as forced_expire_in, forced as forced_in};
 ghost use Rattle.pt_model.specs.Found.{keep};
-ghost use Rattle.pt_model.specs.Shown.{shown};
 ghost use Rattle.pt_reference.specs.Best.{best_of};
 
 use crate::grants::{grant_outcome, is_complete, is_grantable};
@@ -20,7 +19,7 @@ use pt_types::ObjectId;
 
 /// The lower object first, and there the order of its calls.
 pub fn is_served_before(entries: &[Entry], v: &WaitingCall, w: &WaitingCall) -> bool
-    ensures { result ≡ is_served_before_in (history entries.now) (shown v.now) (shown w.now) }
+    ensures { result ≡ is_served_before_in (history entries.now) v.now w.now }
 {
     let one = at_object(entries, v).0;
     let other = at_object(entries, w).0;
@@ -29,14 +28,14 @@ pub fn is_served_before(entries: &[Entry], v: &WaitingCall, w: &WaitingCall) -> 
 
 /// Whether a call may be granted, or is one at a full barrier.  [XSH pthread_barrier_wait]
 pub fn is_served(entries: &[Entry], w: &WaitingCall) -> bool
-    ensures { result ≡ is_served_in (history entries.now) (shown w.now) }
+    ensures { result ≡ is_served_in (history entries.now) w.now }
 {
     is_grantable(entries, w) || is_complete(entries, w)
 }
 
 /// The open call at a place, if it may be served.
 pub fn served_at(entries: &[Entry], i: u64) -> Option<WaitingCall>
-    ensures { option_map shown result
+    ensures { result
         ≡ keep (is_served_in (history entries.now))
         (at_place i (open_calls (history entries.now))) }
 {
@@ -52,9 +51,9 @@ pub fn better_served(
     w: Option<WaitingCall>,
     best: Option<WaitingCall>,
 ) -> Option<WaitingCall>
-    ensures { option_map shown result
-        ≡ best_of (is_served_before_in (history entries.now)) (option_map shown w)
-        (option_map shown best) }
+    ensures { result
+        ≡ best_of (is_served_before_in (history entries.now)) w
+        best }
 {
     match (w, best) {
         (Some(w), Some(v)) if !is_served_before(entries, &v, &w) => Some(w),
@@ -65,7 +64,7 @@ pub fn better_served(
 
 /// The call to serve first.
 pub fn first_served(entries: &[Entry]) -> Option<WaitingCall>
-    ensures { option_map shown result
+    ensures { result
         ≡ least (is_served_before_in (history entries.now))
         (filter (is_served_in (history entries.now)) (open_calls (history entries.now))) }
 {
@@ -80,7 +79,7 @@ pub fn first_served(entries: &[Entry]) -> Option<WaitingCall>
 
 /// A full barrier trips, another call is granted.  [XSH pthread_barrier_wait]
 pub fn service(entries: &[Entry], w: &WaitingCall) -> Entry
-    ensures { result ≡ service_in (history entries.now) (shown w.now) }
+    ensures { result ≡ service_in (history entries.now) w.now }
 {
     if is_arrival(w.role) {
         Entry::Trip(ObjectId(w.object))
@@ -126,14 +125,14 @@ pub fn forced_yield(entries: &[Entry]) -> Option<Entry>
 /// Whether a call's deadline is due by its clock; a moved wait has none.
 /// [XSH pthread_mutex_timedlock]
 pub fn is_overdue(entries: &[Entry], w: &WaitingCall) -> bool
-    ensures { result ≡ is_overdue_in (history entries.now) (shown w.now) }
+    ensures { result ≡ is_overdue_in (history entries.now) w.now }
 {
     is_due(clock(entries, w.clock), w.deadline) && !is_moved(entries, w)
 }
 
 /// The open call at a place, if it is overdue.
 pub fn overdue_at(entries: &[Entry], i: u64) -> Option<WaitingCall>
-    ensures { option_map shown result
+    ensures { result
         ≡ keep (is_overdue_in (history entries.now))
         (at_place i (open_calls (history entries.now))) }
 {
@@ -145,7 +144,7 @@ pub fn overdue_at(entries: &[Entry], i: u64) -> Option<WaitingCall>
 
 /// The lesser deadline first, then the lesser place.
 pub fn expires_before(v: &WaitingCall, w: &WaitingCall) -> bool
-    ensures { result ≡ expires_before_it (shown v.now) (shown w.now) }
+    ensures { result ≡ expires_before_it v.now w.now }
 {
     let one = v.deadline.unwrap_or(0);
     let other = w.deadline.unwrap_or(0);
@@ -154,8 +153,8 @@ pub fn expires_before(v: &WaitingCall, w: &WaitingCall) -> bool
 
 /// The one to expire first, of a call and the first after it.
 pub fn sooner(w: Option<WaitingCall>, best: Option<WaitingCall>) -> Option<WaitingCall>
-    ensures { option_map shown result
-        ≡ best_of expires_before_it (option_map shown w) (option_map shown best) }
+    ensures { result
+        ≡ best_of expires_before_it w best }
 {
     match (w, best) {
         (Some(w), Some(v)) if !expires_before(&v, &w) => Some(w),
@@ -166,7 +165,7 @@ pub fn sooner(w: Option<WaitingCall>, best: Option<WaitingCall>) -> Option<Waiti
 
 /// The call to expire first.
 pub fn first_overdue(entries: &[Entry]) -> Option<WaitingCall>
-    ensures { option_map shown result
+    ensures { result
         ≡ least expires_before_it
         (filter (is_overdue_in (history entries.now)) (open_calls (history entries.now))) }
 {

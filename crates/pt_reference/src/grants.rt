@@ -7,7 +7,6 @@ ghost use Rattle.pt_model.specs.Moves.{at_object as at_object_in, is_least as is
 ghost use Rattle.pt_model.specs.Mutexes.{mutex_view as mutex_view_in};
 ghost use Rattle.pt_model.specs.Grants.{holds_back as holds_back_at, is_blocked as is_blocked_in, is_grantable as is_grantable_in, is_complete as is_complete_in, mutex_outcome as mutex_outcome_in, grant_outcome as grant_outcome_in};
 ghost use Rattle.pt_model.specs.Found.{passes};
-ghost use Rattle.pt_model.specs.Shown.{shown};
 
 use pt_model::Entry;
 use pt_model::waiting_call::{Role, WaitingCall, is_arrival, is_expired, is_write};
@@ -48,7 +47,7 @@ pub fn is_blocked(entries: &[Entry], r: ObjectId, priority: u64) -> bool
 pub fn may_lock(entries: &[Entry], m: ObjectId, w: &WaitingCall) -> bool
     ensures { result
         ≡ may_lock_it (mutex_view_in (history entries.now) m)
-        (is_least_in (history entries.now) (shown w.now)) }
+        (is_least_in (history entries.now) w.now) }
 {
     let view = mutex_view(entries, m);
     is_lost(view.consistency) || view.owner.is_none() && is_least(entries, w)
@@ -56,7 +55,7 @@ pub fn may_lock(entries: &[Entry], m: ObjectId, w: &WaitingCall) -> bool
 
 /// Whether an open call may be granted now.  [XSH pthread_mutex_unlock, pthread_rwlock_unlock]
 pub fn is_grantable(entries: &[Entry], w: &WaitingCall) -> bool
-    ensures { result ≡ is_grantable_in (history entries.now) (shown w.now) }
+    ensures { result ≡ is_grantable_in (history entries.now) w.now }
 {
     let o = ObjectId(w.object);
     let c = ClientId(w.client);
@@ -95,7 +94,7 @@ pub fn arrivals(entries: &[Entry], b: ObjectId) -> u64
 
 /// Whether a call waits at a barrier with as many as its count.  [XSH pthread_barrier_wait]
 pub fn is_complete(entries: &[Entry], w: &WaitingCall) -> bool
-    ensures { result ≡ is_complete_in (history entries.now) (shown w.now) }
+    ensures { result ≡ is_complete_in (history entries.now) w.now }
 {
     let b = ObjectId(w.object);
     is_arrival(w.role) && arrivals(entries, b) == barrier_count(kind_of(entries, b))
@@ -103,14 +102,14 @@ pub fn is_complete(entries: &[Entry], w: &WaitingCall) -> bool
 
 /// What a mutex answers to a call.  [XSH pthread_mutex_lock, pthread_cond_timedwait]
 pub fn mutex_outcome(entries: &[Entry], w: &WaitingCall, m: ObjectId) -> Outcome
-    ensures { result ≡ mutex_outcome_in (history entries.now) (shown w.now) m }
+    ensures { result ≡ mutex_outcome_in (history entries.now) w.now m }
 {
     lock_outcome(consistency(entries, m), is_expired(moved(entries, w.place)))
 }
 
 /// What an open call is answered when it is granted.  [XSH, the call's page]
 pub fn grant_outcome(entries: &[Entry], w: &WaitingCall) -> Outcome
-    ensures { result ≡ grant_outcome_in (history entries.now) (shown w.now) }
+    ensures { result ≡ grant_outcome_in (history entries.now) w.now }
 {
     match w.role {
         Role::ForMutex => mutex_outcome(entries, w, ObjectId(w.object)),

@@ -6,7 +6,6 @@ ghost use Rattle.pt_model.specs.Answers.{client_if, open_calls, told as told_in}
 ghost use Rattle.pt_model.specs.Forced.{expires_before as expires_before_it};
 ghost use Rattle.pt_model.specs.Queries.{caller as caller_in, caller_by as caller_after, latest as latest_in, latest_by as latest_after, told_if as told_meant, answer_of as answer_of_in, has_deadline as has_deadline_in, least_deadline as least_deadline_in};
 ghost use Rattle.pt_model.specs.Found.{keep};
-ghost use Rattle.pt_model.specs.Shown.{shown};
 ghost use Rattle.pt_reference.specs.Telling.{client_told, shown_told, told_to};
 
 use crate::forced::sooner;
@@ -143,14 +142,14 @@ pub fn told_at(entries: &[Entry], entry: &Entry, j: u64) -> Option<Told>
 /// Whether a call has a deadline by this clock; a moved wait has none.
 /// [XSH pthread_cond_timedwait]
 pub fn has_deadline(entries: &[Entry], which: Clock, w: &WaitingCall) -> bool
-    ensures { result ≡ has_deadline_in (history entries.now) which (shown w.now) }
+    ensures { result ≡ has_deadline_in (history entries.now) which w.now }
 {
     w.deadline.is_some() && is_same_clock(w.clock, which) && !is_moved(entries, w)
 }
 
 /// The open call at a place, if it has a deadline by this clock.
 pub fn timed_at(entries: &[Entry], which: Clock, i: u64) -> Option<WaitingCall>
-    ensures { option_map shown result
+    ensures { result
         ≡ keep (has_deadline_in (history entries.now) which)
         (at_place i (open_calls (history entries.now))) }
 {
@@ -162,7 +161,7 @@ pub fn timed_at(entries: &[Entry], which: Clock, i: u64) -> Option<WaitingCall>
 
 /// The call with the least deadline by this clock.
 pub fn first_timed(entries: &[Entry], which: Clock) -> Option<WaitingCall>
-    ensures { option_map shown result
+    ensures { result
         ≡ least expires_before_it
         (filter (has_deadline_in (history entries.now) which) (open_calls (history entries.now))) }
 {

@@ -10,7 +10,6 @@ ghost use Rattle.pt_model.specs.Objects.{find as find_in};
 ghost use Rattle.pt_reference.specs.Best.{awaited_or};
 ghost use Rattle.pt_model.specs.Verdicts.{on, bound_by, is_awaited as is_awaited_in, will_return as will_return_in, is_busy as is_busy_in, lock_kind_verdict as lock_kind_verdict_in, operation_verdict as said_of, verdict as verdict_in, is_alive_if as is_alive_if_in};
 ghost use Rattle.pt_model.specs.Found.{keep, passes};
-ghost use Rattle.pt_types.specs.Shown.{shown_class, shown_lock_kind};
 
 use crate::grants::is_blocked;
 use pt_model::Entry;
@@ -123,7 +122,7 @@ pub fn is_alive_if(entries: &[Entry], owner: Option<ClientId>) -> bool
 
 /// Whether an object can't be ended now.  [XSH pthread_mutex_destroy, the answer is profile]
 pub fn is_busy(entries: &[Entry], class: ObjectClass, o: ObjectId) -> bool
-    ensures { result ≡ is_busy_in (history entries.now) (shown_class class) o }
+    ensures { result ≡ is_busy_in (history entries.now) class o }
 {
     match class {
         ObjectClass::Mutex => {
@@ -155,7 +154,7 @@ pub fn lock_kind_verdict(
     how: &How,
 ) -> Verdict
     ensures { result ≡ lock_kind_verdict_in (history entries.now) c o
-        (shown_lock_kind lock_kind) how.now }
+        lock_kind how.now }
 {
     match lock_kind {
         LockKind::MutexLock => lock_verdict(&mutex_view(entries, o), c, how),
@@ -176,7 +175,7 @@ pub fn acquires_verdict(
     how: &How,
 ) -> Verdict
     ensures { result ≡ said_of (history entries.now) c
-        (Acquires n.now (shown_lock_kind lock_kind) how.now) }
+        (Acquires n.now lock_kind how.now) }
 {
     match find(entries, n, class_needed(lock_kind)) {
         Some(o) => lock_kind_verdict(entries, c, o, lock_kind, how),
@@ -206,7 +205,7 @@ pub fn awaits_verdict(
 
 /// A client's call that ends an object.  [XSH pthread_mutex_destroy]
 pub fn ends_verdict(entries: &[Entry], c: ClientId, n: &Name, class: ObjectClass) -> Verdict
-    ensures { result ≡ said_of (history entries.now) c (Ends n.now (shown_class class)) }
+    ensures { result ≡ said_of (history entries.now) c (Ends n.now class) }
 {
     match find(entries, n, class) {
         Some(o) => destroy_verdict(is_busy(entries, class, o)),
@@ -247,7 +246,7 @@ pub fn rwunlocks_verdict(entries: &[Entry], c: ClientId, n: &Name) -> Verdict
 /// A call that looks at nothing but its object, which is of this class.
 /// [XSH pthread_cond_signal, pthread_barrier_wait]
 pub fn known_verdict(entries: &[Entry], n: &Name, class: ObjectClass, known: Verdict) -> Verdict
-    ensures { result ≡ on (find_in (history entries.now) n.now (shown_class class)) (λ o. known) }
+    ensures { result ≡ on (find_in (history entries.now) n.now class) (λ o. known) }
 {
     match find(entries, n, class) {
         Some(_) => known,

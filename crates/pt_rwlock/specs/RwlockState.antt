@@ -7,7 +7,8 @@ use Rattle.std.specs.BTreeMap.{is_at, insert_entry}
 use Rattle.pt_lanes.specs.Counts.{AnyFrom}
 use Rattle.pt_types.specs.Limits.{most_priority, most_reads}
 use Rattle.pt_types.specs.MutexTable.{is_number}
-use Rattle.pt_types.specs.RwlockTable.{RwlockView, may_read, may_write}
+use Rattle.pt_types.specs.RwlockTable.{may_read, may_write}
+use Rattle.pt_types.specs.declared.views.RwlockView.{RwlockView}
 use Rattle.pt_waitq.specs.declared.waiter.Waiter.{Waiter}
 use Rattle.pt_rwlock.specs.declared.object.Held.{Held}
 use Rattle.pt_rwlock.specs.declared.object.Held.TheVariants.{Nothing, Read, Write}

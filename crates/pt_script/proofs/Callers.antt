@@ -8,7 +8,8 @@ use Rattle.pt_model.specs.declared.entry.Entry.{Entry}
 use Rattle.pt_model.specs.declared.entry.Entry.TheVariants.{Call, Grant, Trip, Expire}
 use Rattle.pt_model.specs.Searches.{In, Each}
 use Rattle.pt_model.specs.Histories.{History, Begin, ◌▷◌, onto, place}
-use Rattle.pt_model.specs.Records.{WaitingCall, Told}
+use Rattle.pt_model.specs.Records.{Told}
+use Rattle.pt_model.specs.declared.waiting_call.WaitingCall.{WaitingCall}
 use Rattle.pt_model.specs.WaitingCall.{at_place, stood, stood_by, is_arrival, is_wait_if}
 use Rattle.pt_model.specs.Answers.{at_barrier, client_if, told, told_by_trip, told_by_expiry, told_by, open_calls, replies_from}
 use Rattle.pt_model.specs.Grants.{grant_outcome}

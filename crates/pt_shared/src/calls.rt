@@ -7,7 +7,7 @@ ghost use Rattle.pt_model.specs.Queries.{least_deadline as least_deadline_in};
 ghost use Rattle.pt_model.specs.Room.{refusal_within};
 ghost use Rattle.pt_core.specs.Cores.{past};
 ghost use Rattle.pt_hub.specs.Desks.{kept, IsRefusedAs, call_refusal};
-ghost use Rattle.pt_hub.specs.Hubs.{Joins, Sends, Takes, Ticks, answered, has_ended, takeable};
+ghost use Rattle.pt_hub.specs.Hubs.{Joins, Leaves, Sends, Takes, Ticks, answered, has_ended, takeable};
 ghost use Rattle.pt_shared.specs.Stays.{Found, Made};
 
 use crate::shared::Shared;
@@ -114,11 +114,14 @@ impl<L: Ledger> Shared<L> {
 
     /// A client dies.
     pub fn die<R: Wait>(&self, rt: &R, pass: Pass<L>) -> Left<L>
-        ensures { (result.client ≡ pass.client) × (result.priority ≡ pass.priority)
+        ensures left { (result.client ≡ pass.client) × (result.priority ≡ pass.priority)
             × (result.receipts ≡ pass.receipts) }
+        ensures dies { Made (λ old new. Leaves old new pass result) }
     {
         let mut room = self.room.lock(rt);
+        room.law_fits();
         let left = room.hub.die(pass);
+        room.law_fits();
         self.ring();
         left
     }

@@ -67,9 +67,12 @@ impl<L: Ledger> Shared<L> {
     }
 
     /// The hub, which is shared no more.
-    pub fn into_hub(self) -> Hub<L> {
+    pub fn into_hub(self) -> Hub<L>
+        ensures { Fits result }
+    {
         let Shared { room, bell: _ } = self;
         let Room { hub, done: _ } = room.into_inner();
+        hub.law_fits();
         hub
     }
 }

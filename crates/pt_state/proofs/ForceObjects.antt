@@ -1,7 +1,7 @@
 -- The rows of objects after a forced entry, and what the writes of its object ask.
 use Rattle.std.proofs.Common.{◌≡◌, ℕ, ◌+◌, true, false, List, Option, Some, None, IsSome, option_map, refl, sym, ap, ◌∙◌}
 use Rattle.std.proofs.lemmas.Bool.{and_parts}
-use Rattle.pt_types.specs.Operations.{MutexClass, RwlockClass}
+use Rattle.pt_types.specs.declared.operations.ObjectClass.TheVariants.{Mutex as MutexClass, Rwlock as RwlockClass}
 use Rattle.pt_types.specs.MutexTable.{is_acquired}
 use Rattle.pt_types.specs.declared.call.ObjectKind.{ObjectKind}
 use Rattle.pt_types.specs.declared.call.ObjectKind.TheVariants as kind
@@ -14,7 +14,10 @@ use Rattle.pt_model.specs.declared.entry.Entry.TheVariants.{Grant, Yield, Expire
 use Rattle.pt_model.specs.Searches.{In}
 use Rattle.pt_model.specs.Histories.{History, ◌▷◌}
 use Rattle.pt_model.specs.Objects.{is_class, kind_of, is_robust}
-use Rattle.pt_model.specs.Records.{Role, ForMutex, ForRead, ForWrite, ForBarrier, ForCond, WaitingCall, Move}
+use Rattle.pt_model.specs.declared.waiting_call.WaitingCall.{WaitingCall}
+use Rattle.pt_model.specs.declared.waiting_call.Move.{Move}
+use Rattle.pt_model.specs.declared.waiting_call.Role.{Role}
+use Rattle.pt_model.specs.declared.waiting_call.Role.TheVariants.{ForMutex, ForRead, ForWrite, ForBarrier, ForCond}
 use Rattle.pt_model.specs.Answers.{open_calls}
 use Rattle.pt_model.specs.WaitingCall.{mutex_of}
 use Rattle.pt_model.specs.Moves.{moved}
@@ -25,8 +28,8 @@ use Rattle.pt_model.specs.Steps.{Step, joins, calls, dies, ticks, grants, trips,
 use Rattle.pt_model.proofs.Seats.{exists_as, HousedBy, housed}
 use Rattle.pt_records.specs.declared.objects.Object.{Object}
 use Rattle.pt_records.specs.declared.objects.Object.TheVariants.{Mutex, Rwlock, Cond, Barrier}
-use Rattle.pt_records.specs.Kept.{mutex_in, rwlock_in}
-use Rattle.pt_records.specs.Objects.{kind_kept, ObjectsLook, AreObjects}
+use Rattle.pt_records.specs.LocksInRows.{mutex_in, rwlock_in}
+use Rattle.pt_records.specs.Objects.{kind_in_row, ObjectsLook, AreObjects}
 use Rattle.pt_records.specs.Writes.{WritesObject}
 use Rattle.pt_state.proofs.BoundCounts.{grant-can}
 use Rattle.pt_records.proofs.BoundReads.{read-acquire, write-acquire}
@@ -84,7 +87,7 @@ module _ {A : Type 0} (h : History) (look : ℕ → Option (Object A)) (t : Obje
   kept-mutex m e = go (look m) refl (ap (λ k. is_class k MutexClass) (t.kinds m) ∙ e)
     where
       go : (o : Option (Object A)) → look m ≡ o
-          → is_class (option_map kind_kept o) MutexClass ≡ true
+          → is_class (option_map kind_in_row o) MutexClass ≡ true
           → (x : MutexState) × (look m ≡ Some (Mutex x))
       go None eo s = absurd cc
       go (Some (Mutex x)) eo s = (x, eo)
@@ -98,7 +101,7 @@ module _ {A : Type 0} (h : History) (look : ℕ → Option (Object A)) (t : Obje
   kept-rwlock o e = go (look o) refl (ap (λ k. is_class k RwlockClass) (t.kinds o) ∙ e)
     where
       go : (x : Option (Object A)) → look o ≡ x
-          → is_class (option_map kind_kept x) RwlockClass ≡ true
+          → is_class (option_map kind_in_row x) RwlockClass ≡ true
           → (r : RwlockState) × (look o ≡ Some (Rwlock r))
       go None ex s = absurd cc
       go (Some (Mutex m)) ex s = absurd cc

@@ -8,7 +8,9 @@ use Rattle.pt_rwlock.specs.RwlockState.{RwlockState, row_of, reads_of, with_row,
 use Rattle.pt_model.specs.declared.entry.Entry.TheVariants.{Call}
 use Rattle.pt_model.specs.Histories.{History, ◌▷◌, place}
 use Rattle.pt_model.specs.Objects.{kind_of}
-use Rattle.pt_model.specs.Records.{Role, ForMutex, ForRead, ForWrite, ForBarrier, ForCond, WaitingCall}
+use Rattle.pt_model.specs.declared.waiting_call.WaitingCall.{WaitingCall}
+use Rattle.pt_model.specs.declared.waiting_call.Role.{Role}
+use Rattle.pt_model.specs.declared.waiting_call.Role.TheVariants.{ForMutex, ForRead, ForWrite, ForBarrier, ForCond}
 use Rattle.pt_model.specs.Searches.{In}
 use Rattle.pt_model.specs.Answers.{open_calls}
 use Rattle.pt_model.specs.Mutexes.{consistency}
@@ -24,7 +26,7 @@ use Rattle.pt_model.proofs.Counts.{Balanced-follows, count-call}
 use Rattle.pt_records.specs.declared.objects.Object.{Object}
 use Rattle.pt_records.specs.declared.objects.Object.TheVariants.{Rwlock}
 use Rattle.pt_records.specs.Objects.{ObjectsLook}
-use Rattle.pt_state.proofs.ObjectKept.{HasRows, OldReaders, Quiet, object_rows-still, object_rows-quiet, object_rows-one, rwlock-changed}
+use Rattle.pt_state.proofs.OneObject.{HasRows, OldReaders, Quiet, object_rows-still, object_rows-quiet, object_rows-one, rwlock-changed}
 use Rattle.pt_state.proofs.ObjectEntries.{quiet-parts, old-readers}
 
 -- the effect of a client's call with its own answer

@@ -5,14 +5,15 @@ use Rattle.std.proofs.lemmas.Bool.{ltb-true}
 use Rattle.pt_types.specs.declared.call.Call.{Call as Asked}
 use Rattle.pt_types.specs.declared.call.ObjectKind.{ObjectKind}
 use Rattle.pt_types.specs.declared.outcome.Consistency.{Consistency}
-use Rattle.pt_types.specs.Operations.{ObjectClass}
+use Rattle.pt_types.specs.declared.operations.ObjectClass.{ObjectClass}
 use Rattle.pt_types.specs.Tables.{reply}
 use Rattle.pt_types.specs.MutexTable.{after_release, after_consistent}
 use Rattle.pt_mutex.specs.MutexState.{MutexState, acquired, released, restored}
 use Rattle.pt_model.specs.declared.entry.Entry.TheVariants.{Call}
 use Rattle.pt_model.specs.Histories.{History, place}
 use Rattle.pt_model.specs.Objects.{kind_of, mutex_kind, is_robust}
-use Rattle.pt_model.specs.Records.{ForRead, ForCond, WaitingCall}
+use Rattle.pt_model.specs.declared.waiting_call.WaitingCall.{WaitingCall}
+use Rattle.pt_model.specs.declared.waiting_call.Role.TheVariants.{ForRead, ForCond}
 use Rattle.pt_model.specs.Searches.{In}
 use Rattle.pt_model.specs.Mutexes.{consistency, owner, count, count_if, mutex_view}
 use Rattle.pt_model.specs.Verdicts.{verdict}
@@ -27,7 +28,7 @@ use Rattle.pt_model.proofs.Holders.{owner-call}
 use Rattle.pt_records.specs.declared.objects.Object.{Object}
 use Rattle.pt_records.specs.declared.objects.Object.TheVariants.{Mutex}
 use Rattle.pt_records.specs.Objects.{ObjectsLook}
-use Rattle.pt_state.proofs.ObjectKept.{IsKept, object_rows-one, mutex-changed}
+use Rattle.pt_state.proofs.OneObject.{IsKept, object_rows-one, mutex-changed}
 use Rattle.pt_state.proofs.ObjectCalls.{does, behind, Spares, quiet-call, call-readers}
 
 -- a mutex is seen by its parts

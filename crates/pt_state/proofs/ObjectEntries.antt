@@ -8,7 +8,8 @@ use Rattle.pt_model.specs.declared.entry.Entry.{Entry}
 use Rattle.pt_model.specs.declared.entry.Entry.TheVariants.{Join, Death, Moment, Trip, Yield, Expire}
 use Rattle.pt_model.specs.Histories.{History, ◌▷◌, place}
 use Rattle.pt_model.specs.Objects.{kind_of}
-use Rattle.pt_model.specs.Records.{WaitingCall, ForRead}
+use Rattle.pt_model.specs.declared.waiting_call.WaitingCall.{WaitingCall}
+use Rattle.pt_model.specs.declared.waiting_call.Role.TheVariants.{ForRead}
 use Rattle.pt_model.specs.Searches.{In}
 use Rattle.pt_model.specs.Answers.{open_calls}
 use Rattle.pt_model.specs.Mutexes.{consistency, owner, count, mutex_view}
@@ -22,7 +23,7 @@ use Rattle.pt_model.proofs.Holders.{owner-same, owner-yield}
 use Rattle.pt_records.specs.declared.objects.Object.{Object}
 use Rattle.pt_records.specs.declared.objects.Object.TheVariants.{Mutex}
 use Rattle.pt_records.specs.Objects.{ObjectsLook}
-use Rattle.pt_state.proofs.ObjectKept.{OldReaders, Quiet, view-same, object_rows-quiet, object_rows-one, mutex-changed}
+use Rattle.pt_state.proofs.OneObject.{OldReaders, Quiet, view-same, object_rows-quiet, object_rows-one, mutex-changed}
 
 -- an entry that changes no client's write lock leaves it to its writer
 pub writer-same : (h : History) (e : Entry) (r : ℕ) → Follows h

@@ -7,7 +7,9 @@ use Rattle.pt_rwlock.specs.RwlockState.{RwlockState, reads_of, with_reads, Chang
 use Rattle.pt_model.specs.declared.entry.Entry.TheVariants.{Grant}
 use Rattle.pt_model.specs.Histories.{History, ◌▷◌}
 use Rattle.pt_model.specs.Objects.{kind_of}
-use Rattle.pt_model.specs.Records.{Role, ForMutex, ForRead, ForWrite, ForBarrier, ForCond, WaitingCall}
+use Rattle.pt_model.specs.declared.waiting_call.WaitingCall.{WaitingCall}
+use Rattle.pt_model.specs.declared.waiting_call.Role.{Role}
+use Rattle.pt_model.specs.declared.waiting_call.Role.TheVariants.{ForMutex, ForRead, ForWrite, ForBarrier, ForCond}
 use Rattle.pt_model.specs.Searches.{In}
 use Rattle.pt_model.specs.WaitingCall.{mutex_of}
 use Rattle.pt_model.specs.Answers.{open_calls}
@@ -25,7 +27,7 @@ use Rattle.pt_model.proofs.Rwlocks.{writes-grant, reads-grant, writes-writer}
 use Rattle.pt_records.specs.declared.objects.Object.{Object}
 use Rattle.pt_records.specs.declared.objects.Object.TheVariants.{Mutex, Rwlock}
 use Rattle.pt_records.specs.Objects.{IsRwlock, ObjectsLook}
-use Rattle.pt_state.proofs.ObjectKept.{OldReaders, Quiet, object_rows-quiet, object_rows-one, mutex-changed, rwlock-changed}
+use Rattle.pt_state.proofs.OneObject.{OldReaders, Quiet, object_rows-quiet, object_rows-one, mutex-changed, rwlock-changed}
 use Rattle.pt_state.proofs.ObjectEntries.{writer-same, quiet-parts, old-readers}
 use Rattle.pt_state.proofs.ObjectCalls.{reads-changed, rows-changed}
 use Rattle.pt_state.proofs.ObjectChanges.{view-parts}

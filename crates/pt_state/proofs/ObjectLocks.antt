@@ -13,7 +13,9 @@ use Rattle.pt_rwlock.specs.RwlockState.{RwlockState, reads_of, released, Changes
 use Rattle.pt_model.specs.declared.entry.Entry.TheVariants.{Call}
 use Rattle.pt_model.specs.Histories.{History, place}
 use Rattle.pt_model.specs.Objects.{kind_of}
-use Rattle.pt_model.specs.Records.{Role, ForRead, WaitingCall}
+use Rattle.pt_model.specs.declared.waiting_call.WaitingCall.{WaitingCall}
+use Rattle.pt_model.specs.declared.waiting_call.Role.{Role}
+use Rattle.pt_model.specs.declared.waiting_call.Role.TheVariants.{ForRead}
 use Rattle.pt_model.specs.Searches.{In}
 use Rattle.pt_model.specs.Answers.{open_calls}
 use Rattle.pt_model.specs.Moves.{moved}
@@ -32,7 +34,7 @@ use Rattle.pt_model.proofs.Holders.{owner-call}
 use Rattle.pt_records.specs.declared.objects.Object.{Object}
 use Rattle.pt_records.specs.declared.objects.Object.TheVariants.{Mutex, Rwlock, Cond, Barrier}
 use Rattle.pt_records.specs.Objects.{IsRwlock, IsNew, ObjectsLook}
-use Rattle.pt_state.proofs.ObjectKept.{number-is, OldReaders, IsKept, kept-mutex, kept-rwlock, rwlock-changed}
+use Rattle.pt_state.proofs.OneObject.{number-is, OldReaders, IsKept, kept-mutex, kept-rwlock, rwlock-changed}
 use Rattle.pt_state.proofs.ObjectEntries.{writer-same}
 use Rattle.pt_state.proofs.ObjectUnmade.{unmade-all, writer-unmade, lock-below}
 use Rattle.pt_state.proofs.ObjectCalls.{does, behind, call-readers, reads-changed, rows-changed}

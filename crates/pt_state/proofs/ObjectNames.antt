@@ -6,7 +6,10 @@ use Rattle.pt_types.specs.declared.call.ObjectKind.{ObjectKind}
 use Rattle.pt_types.specs.declared.outcome.Outcome.{Outcome}
 use Rattle.pt_types.specs.declared.outcome.Outcome.TheVariants.{Done, Serial, Eperm, Einval, Ebusy, Eagain, Edeadlk, Etimedout, Eownerdead, Enotrecoverable}
 use Rattle.pt_types.specs.Names.{same_name}
-use Rattle.pt_types.specs.Operations.{Operation, Makes, Ends, Acquires, Unlocks, Restores, Rwunlocks, Awaits, Signals, Broadcasts, Arrives, operation, clock_of, MutexLock, ReadLock, WriteLock, ObjectClass, MutexClass, RwlockClass}
+use Rattle.pt_types.specs.Operations.{Operation, Makes, Ends, Acquires, Unlocks, Restores, Rwunlocks, Awaits, Signals, Broadcasts, Arrives, operation, clock_of}
+use Rattle.pt_types.specs.declared.operations.ObjectClass.{ObjectClass}
+use Rattle.pt_types.specs.declared.operations.ObjectClass.TheVariants.{Mutex as MutexClass, Rwlock as RwlockClass}
+use Rattle.pt_types.specs.declared.operations.LockKind.TheVariants.{MutexLock, ReadLock, WriteLock}
 use Rattle.pt_types.specs.MutexTable.{is_number}
 use Rattle.pt_types.specs.Tables.{reply}
 use Rattle.pt_model.specs.declared.entry.Entry.TheVariants.{Call}
@@ -20,7 +23,7 @@ use Rattle.pt_model.proofs.Allowances.{allowed}
 use Rattle.pt_model.proofs.Changes.{found_or, stays_same, named_effect, Resolved, resolved}
 use Rattle.pt_model.proofs.Readings.{named-call}
 use Rattle.pt_model.proofs.Named.{Named-follows, found_object, same_named, named_same}
-use Rattle.pt_state.proofs.ObjectKept.{number-is}
+use Rattle.pt_state.proofs.OneObject.{number-is}
 use Rattle.pt_state.proofs.ObjectCalls.{does, behind}
 
 -- the number of the object that bears a name

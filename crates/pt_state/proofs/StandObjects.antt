@@ -11,10 +11,10 @@ use Rattle.pt_mutex.specs.MutexState.{MutexState, released}
 use Rattle.pt_rwlock.specs.RwlockState.{RwlockState, row_of, reads_of, with_row, ChangesRow}
 use Rattle.pt_model.specs.declared.entry.Entry.TheVariants.{Call}
 use Rattle.pt_model.specs.Histories.{History, ◌▷◌, place}
-use Rattle.pt_model.specs.Records.{Role, ForMutex, ForRead, ForWrite, ForBarrier, ForCond}
+use Rattle.pt_model.specs.declared.waiting_call.Role.{Role}
+use Rattle.pt_model.specs.declared.waiting_call.Role.TheVariants.{ForMutex, ForRead, ForWrite, ForBarrier, ForCond}
 use Rattle.pt_model.specs.Verdicts.{verdict}
 use Rattle.pt_model.proofs.Effects.{Seated}
-use Rattle.pt_model.specs.Shown.{shown}
 use Rattle.pt_records.specs.declared.clients.Open.{Open}
 use Rattle.pt_records.specs.declared.objects.Object.{Object}
 use Rattle.pt_records.specs.declared.objects.Object.TheVariants.{Mutex, Rwlock}
@@ -28,7 +28,7 @@ use Rattle.pt_state.proofs.JudgeLemmas.{found-mutex, found-rwlock}
 use Rattle.pt_state.proofs.TableLemmas.{object_rows-kept, object_rows-written}
 use Rattle.pt_state.proofs.ObjectCalls.{is_plain, is_idle, object_rows-idle, object_rows-read, object_rows-row}
 use Rattle.pt_state.proofs.ObjectChanges.{object_rows-awaits}
-use Rattle.pt_state.proofs.ObjectKept.{object_rows-one, kept-at, IsKept}
+use Rattle.pt_state.proofs.OneObject.{object_rows-one, kept-at, IsKept}
 use Rattle.pt_state.proofs.StandLemmas.{unanswered, step-told, does-waits, seated}
 
 -- a call that only stands changes no object
@@ -93,18 +93,18 @@ module _ {A : Type 0} (s : State A) (c : ℕ) (call : Asked)
       (sym (unanswered s c call ready)) t
 
   -- a call that only stands
-  pub object_rows-waiting : only_stands (shown o.call).role ≡ true
+  pub object_rows-waiting : only_stands o.call.role ≡ true
       → AreObjects (past s ▷ Call c call None) s.objects
   object_rows-waiting e =
       object_rows-kept (past s) (Call c call None) s.objects ready.read.object_rows
       (without (object_value s.objects)
       (object_rows-idle (past s) (object_value s.objects) c call ready.read.follows
       (step-told s c call ready) ready.read.object_rows.look
-      (ap is_idle (does-waits s c call ready o l) ∙ stands-plain (shown o.call).role e)))
+      (ap is_idle (does-waits s c call ready o l) ∙ stands-plain o.call.role e)))
       (λ n. refl) refl
 
   -- who waits for a read lock does so at one
-  pub lock-there : (shown o.call).role ≡ ForRead
+  pub lock-there : o.call.role ≡ ForRead
       → (x : RwlockState) × (object_value s.objects o.call.object ≡ Some (Rwlock x))
   lock-there e =
       let seat : Seated (past s) c ForRead o.call.object =
@@ -114,7 +114,7 @@ module _ {A : Type 0} (s : State A) (c : ℕ) (call : Asked)
 
   -- and has a row there
   pub object_rows-reading : (new : List (ObjectRow (Object A))) (x : RwlockState)
-      → (shown o.call).role ≡ ForRead
+      → o.call.role ≡ ForRead
       → object_value s.objects o.call.object ≡ Some (Rwlock x)
       → WritesObject s.objects new o.call.object (Rwlock (with_row x c))
       → ChangesRow x (with_row x c) c (Some (reads_of x c))
@@ -123,7 +123,7 @@ module _ {A : Type 0} (s : State A) (c : ℕ) (call : Asked)
       object_rows-written (past s) (Call c call None) s.objects new o.call.object
       (Rwlock (with_row x c)) ready.read.object_rows w
       (without (object_value new)
-      (object_rows-read (past s) (object_value new) c call (shown o.call) ready.read.follows
+      (object_rows-read (past s) (object_value new) c call o.call ready.read.follows
       (step-told s c call ready)
       (object_rows-row (past s) (object_value s.objects) (object_value new) o.call.object c x
       (with_row x c) ready.read.object_rows.look at refl row w.look)
@@ -141,7 +141,7 @@ module _ {A : Type 0} (s : State A) (c : ℕ) (call : Asked)
           (row-there x (with_row x c) c (reads_of x c) row)
 
   -- who begins to wait owns the mutex
-  pub mutex-there : (m : ℕ) → (shown o.call).role ≡ ForCond m
+  pub mutex-there : (m : ℕ) → o.call.role ≡ ForCond m
       → (x : MutexState) × (object_value s.objects m ≡ Some (Mutex x))
   mutex-there m e =
       let seat : Seated (past s) c (ForCond m) o.call.object =
@@ -149,7 +149,7 @@ module _ {A : Type 0} (s : State A) (c : ℕ) (call : Asked)
       found-mutex (past s) ready.read.follows (object_value s.objects) ready.read.object_rows.look
       seat.1.0.0 m seat.1.0.1
 
-  pub mutex-owned : (m : ℕ) → (shown o.call).role ≡ ForCond m → (x : MutexState)
+  pub mutex-owned : (m : ℕ) → o.call.role ≡ ForCond m → (x : MutexState)
       → object_value s.objects m ≡ Some (Mutex x) → owns x.seen c ≡ true
   mutex-owned m e x at =
       let seat : Seated (past s) c (ForCond m) o.call.object =
@@ -158,7 +158,7 @@ module _ {A : Type 0} (s : State A) (c : ℕ) (call : Asked)
 
   -- and gives one lock of it back
   pub object_rows-waited : (new : List (ObjectRow (Object A))) (m : ℕ) (x : MutexState)
-      → (shown o.call).role ≡ ForCond m → object_value s.objects m ≡ Some (Mutex x)
+      → o.call.role ≡ ForCond m → object_value s.objects m ≡ Some (Mutex x)
       → WritesObject s.objects new m (Mutex (record x { seen = released x.seen }))
       → AreObjects (past s ▷ Call c call None) new
   object_rows-waited new m x e at w =
@@ -166,6 +166,6 @@ module _ {A : Type 0} (s : State A) (c : ℕ) (call : Asked)
       (Mutex (record x { seen = released x.seen })) ready.read.object_rows w
       (without (object_value new)
       (object_rows-awaits (past s) (object_value s.objects) (object_value new) c call
-      ready.read.follows (step-told s c call ready) ready.read.object_rows.look (shown o.call) m x
+      ready.read.follows (step-told s c call ready) ready.read.object_rows.look o.call m x
       (does-waits s c call ready o l) e at w.look))
       (λ n. refl) refl

@@ -26,7 +26,7 @@ impl<A: Allocator + Copy> State<A> {
     {
         let call = found.call;
         let at = self.stored.len();
-        close(&mut self.clients, call.client);
+        close(&mut self.clients, call.client, outcome);
         let client = ClientId(call.client);
         let place = call.place;
         tell(
@@ -58,7 +58,7 @@ impl<A: Allocator + Copy> State<A> {
     {
         let caller = self.clients.at(c.0)?;
         let place = caller.latest?;
-        match self.outcome(place) {
+        match caller.answer {
             Some(outcome) => Some((place, outcome)),
             None => None,
         }

@@ -1,11 +1,9 @@
 //! Barriers: arrivals and trips.
 
-ghost use Rattle.std.specs.Prelude.{None, ◌++◌, ◌+◌, ◌<◌, ◌==◌, ◌≡◌, ◌≤◌, length, map, vec_capacity, vec_len};
+ghost use Rattle.std.specs.Prelude.{None, ◌++◌, ◌+◌, ◌<◌, ◌≡◌, ◌≤◌, length, map, vec_capacity, vec_len};
 ghost use Rattle.pt_model.specs.declared.entry.Entry.TheVariants as entry;
 ghost use Rattle.pt_model.specs.declared.entry.Entry.{Entry as AnyEntry};
 ghost use Rattle.pt_state.specs.Adds.{Adds, IsReadyFor, past};
-ghost use Rattle.pt_table.specs.ObjectRows.{object_value};
-ghost use Rattle.pt_state.specs.Granting.{count_kept};
 ghost use Rattle.pt_model.specs.Histories.{place};
 ghost use Rattle.pt_model.specs.Answers.{at_barrier, open_calls, told};
 ghost use Rattle.pt_records.specs.Logs.{logged, told_at};
@@ -15,7 +13,6 @@ ghost use Rattle.pt_types.specs.Operations.{Arrives, operation};
 use crate::state::State;
 use pt_model::Entry;
 use pt_model::waiting_call::Role;
-use pt_records::Object;
 use pt_records::barrier::{close_arrivals, tell_trip};
 use pt_types::operations::{ObjectClass, clock_of};
 use pt_types::{Call, ClientId, Name, ObjectId};
@@ -28,19 +25,8 @@ impl<A: Allocator + Copy> State<A> {
         ensures { Adds self.old (entry.Trip b) self.new }
     {
         self.tell_trip(b);
-        close_arrivals(&mut self.clients, b);
+        close_arrivals(&mut self.clients, self.answers.as_slice(), b);
         self.stored.push(Entry::Trip(b));
-    }
-
-    /// Whether a barrier is full with this many waiting calls.
-    /// [XSH pthread_barrier_wait]
-    pub fn is_full(&self, b: ObjectId, waiting: usize) -> bool
-        ensures { result ≡ (waiting == count_kept (object_value self.now.objects b)) }
-    {
-        match self.objects.at(b.0) {
-            Some(Object::Barrier(barrier)) => barrier.full(waiting),
-            _ => waiting == 0,
-        }
     }
 
     /// Adds what the barrier's Trip answers, and changes nothing else.

@@ -6,11 +6,9 @@ ghost use Rattle.pt_state.specs.Adds.{Adds, IsNearly, IsReadyFor, Stays, past};
 ghost use Rattle.pt_state.specs.Calling.{is_done, is_plain};
 ghost use Rattle.pt_types.specs.declared.outcome.Outcome.TheVariants as told;
 ghost use Rattle.pt_types.specs.Operations.{Acquires, Arrives, Awaits, operation};
-ghost use Rattle.pt_types.specs.Shown.{shown_lock_kind};
 ghost use Rattle.pt_table.specs.ClientRows.{nth_value};
 ghost use Rattle.pt_records.specs.Callers.{open_in};
 ghost use Rattle.pt_model.specs.WaitingCall.{entered as entered_in};
-ghost use Rattle.pt_model.specs.Shown.{shown, shown_role};
 ghost use Rattle.pt_state.specs.Reads.{AreTables};
 ghost use Rattle.pt_state.specs.Left.{IsLeft, IsNearlyLeft, only_stands};
 ghost use Rattle.pt_state.specs.Outer.{asks_to_read};
@@ -42,7 +40,7 @@ impl<A: Allocator + Copy> State<A> {
     fn push_locked(&mut self, c: ClientId, call: &Call, n: &Name, lock_kind: LockKind, how: &How)
         requires ready { IsReadyFor self.old (entry.Call c call.now (Some told.Done)) }
         requires operation { operation call.now
-            ≡ Acquires n.now (shown_lock_kind lock_kind) how.now }
+            ≡ Acquires n.now lock_kind how.now }
         ensures { Adds self.old (entry.Call c call.now (Some told.Done)) self.new }
     {
         match lock_kind {
@@ -83,7 +81,7 @@ impl<A: Allocator + Copy> State<A> {
         ensures { Adds self.old (entry.Call c call.now (Some outcome)) self.new }
     {
         let place = self.stored.len();
-        note_call(&mut self.clients, c.0, place);
+        note_call(&mut self.clients, c.0, place, outcome);
         self.answers.push_reserved(Answered {
             at: place,
             client: c,
@@ -104,8 +102,8 @@ impl<A: Allocator + Copy> State<A> {
         deadline: Option<Deadline>,
     ) -> Open
         requires { AreTables self.now }
-        ensures call { shown result.call
-            ≡ entered_in (past self.now) c object (shown_role role) clock deadline }
+        ensures call { result.call
+            ≡ entered_in (past self.now) c object role clock deadline }
         ensures unmoved { result.moved ≡ None }
     {
         let call = WaitingCall {
@@ -138,7 +136,7 @@ impl<A: Allocator + Copy> State<A> {
     pub fn push_waiting(&mut self, c: ClientId, call: &Call, open: Open)
         requires ready { IsReadyFor self.old (entry.Call c call.now None) }
         requires left { IsLeft (past self.old) c call.now «open» }
-        requires plain { only_stands (shown_role «open».call.role) ≡ true }
+        requires plain { only_stands «open».call.role ≡ true }
         ensures { Adds self.old (entry.Call c call.now None) self.new }
     {
         self.leave(c, call, open);
@@ -154,7 +152,7 @@ impl<A: Allocator + Copy> State<A> {
         how: How,
     ) -> Result<(), Refusal>
         requires ready { IsReadyFor self.old (entry.Call c call.now None) }
-        requires operation { operation call.now ≡ Acquires n.now (shown_lock_kind lock_kind) how }
+        requires operation { operation call.now ≡ Acquires n.now lock_kind how }
         ensures ok { OnOk result (Adds self.old (entry.Call c call.now None) self.new) }
         ensures err { OnErr result (Stays self.old self.new) }
         ensures refusal { IfErr result (λ r. r ≡ Refusal.Enomem) }

@@ -104,6 +104,7 @@ impl<A: Allocator + Copy> State<A> {
             priority,
             open: None,
             latest: None,
+            answer: None,
         };
         admit(&mut self.clients, place, caller)?;
         self.stored.push(Entry::Join(ClientId(place), priority));

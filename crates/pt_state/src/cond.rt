@@ -1,6 +1,6 @@
 //! Condition variables: waits, signals and broadcasts.
 
-ghost use Rattle.std.specs.Prelude.{None, Some, ◌||◌, ◌≡◌, option_map};
+ghost use Rattle.std.specs.Prelude.{None, Some, ◌≡◌, option_map};
 ghost use Rattle.pt_types.specs.declared.outcome.Outcome.TheVariants as told;
 ghost use Rattle.pt_types.specs.Operations.{Awaits, Broadcasts, Signals, operation};
 ghost use Rattle.pt_model.specs.declared.entry.Entry.TheVariants as entry;
@@ -8,19 +8,15 @@ ghost use Rattle.pt_model.specs.Searches.{least};
 ghost use Rattle.pt_model.specs.Moves.{cond_waits, moved, precedes_by};
 ghost use Rattle.pt_state.specs.Adds.{Adds, IsReadyFor, past};
 ghost use Rattle.pt_state.specs.Serving.{called};
-ghost use Rattle.pt_table.specs.ObjectRows.{object_value};
-ghost use Rattle.pt_model.specs.Found.{passes};
-ghost use Rattle.pt_state.specs.Granting.{is_open_to};
-ghost use Rattle.pt_model.specs.Records.{ForCond};
-ghost use Rattle.pt_model.specs.Shown.{shown_role};
+ghost use Rattle.pt_model.specs.declared.waiting_call.Role.TheVariants.{ForCond};
 ghost use Rattle.pt_state.specs.Left.{IsLeft};
 
 use crate::state::State;
 use pt_model::Cause;
 use pt_model::waiting_call::Role;
+use pt_records::Open;
 use pt_records::cond::{wake, wake_waits};
-use pt_records::mutex::{may_lock, may_relock, release};
-use pt_records::{Object, Open};
+use pt_records::mutex::release;
 use pt_types::operations::{ObjectClass, clock_of};
 use pt_types::{Call, ClientId, Deadline, Name, ObjectId, Outcome};
 use std::alloc::Allocator;
@@ -57,21 +53,11 @@ impl<A: Allocator + Copy> State<A> {
         self.finish(c, call, Outcome::Done);
     }
 
-    /// Whether nothing but that keeps a moved wait of this client from it.  [XSH pthread_cond_wait]
-    pub fn may_return(&self, m: ObjectId, c: ClientId) -> bool
-        ensures { result ≡ passes (is_open_to c) (object_value self.now.objects m) }
-    {
-        match self.objects.at(m.0) {
-            Some(Object::Mutex(mutex)) => may_lock(mutex) || may_relock(mutex, c),
-            _ => false,
-        }
-    }
-
     /// A wait: its client gives one lock on the mutex back.  [XSH pthread_cond_wait]
     pub fn push_wait(&mut self, c: ClientId, call: &Call, m: ObjectId, open: Open)
         requires ready { IsReadyFor self.old (entry.Call c call.now None) }
         requires left { IsLeft (past self.old) c call.now «open» }
-        requires role { shown_role «open».call.role ≡ ForCond m }
+        requires role { «open».call.role ≡ ForCond m }
         ensures { Adds self.old (entry.Call c call.now None) self.new }
     {
         release(&mut self.objects, m.0, c);

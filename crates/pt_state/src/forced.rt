@@ -6,10 +6,10 @@ ghost use Rattle.pt_model.specs.Searches.{In};
 ghost use Rattle.pt_state.specs.Adds.{Adds, IsReadyFor, past};
 ghost use Rattle.pt_records.specs.Callers.{opens_of};
 ghost use Rattle.pt_state.specs.Forcing.{IsGranted};
-ghost use Rattle.pt_model.specs.Records.{ForRead, ForWrite};
+ghost use Rattle.pt_model.specs.declared.waiting_call.Role.TheVariants.{ForRead, ForWrite};
 ghost use Rattle.pt_model.specs.Forced.{service};
 ghost use Rattle.pt_state.specs.Serving.{IsFor, called, entry_of};
-ghost use Rattle.pt_state.specs.Granting.{outcome_kept as outcome_kept_in};
+ghost use Rattle.pt_state.specs.Granting.{outcome_by_role as outcome_by_role_in};
 ghost use Rattle.pt_model.specs.Grants.{grant_outcome as grant_outcome_in};
 ghost use Rattle.pt_state.specs.Reads.{AreTables};
 
@@ -90,23 +90,23 @@ impl<A: Allocator + Copy> State<A> {
     }
 
     // What a call is answered when it is granted, by its role.  [XSH, its page]
-    fn outcome_kept(&self, kept: &Open) -> Outcome
-        ensures { result ≡ outcome_kept_in self.now.objects kept.now }
+    fn outcome_by_role(&self, open: &Open) -> Outcome
+        ensures { result ≡ outcome_by_role_in self.now.objects «open».now }
     {
-        match kept.call.role {
-            Role::ForMutex => self.told_at(ObjectId(kept.call.object), kept.moved),
-            Role::ForCond(m) => self.told_at(ObjectId(m), kept.moved),
+        match open.call.role {
+            Role::ForMutex => self.told_at(ObjectId(open.call.object), open.moved),
+            Role::ForCond(m) => self.told_at(ObjectId(m), open.moved),
             _ => Outcome::Done,
         }
     }
 
     /// What an open call is answered when it is granted.  [XSH, the call's page]
-    pub fn grant_outcome(&self, kept: &Open) -> Outcome
+    pub fn grant_outcome(&self, open: &Open) -> Outcome
         requires read { AreTables self.now }
-        requires known { In kept.now (opens_of self.now.clients) }
+        requires known { In «open».now (opens_of self.now.clients) }
         ensures { result
-            ≡ grant_outcome_in (past self.now) (called kept.now) }
+            ≡ grant_outcome_in (past self.now) (called «open».now) }
     {
-        self.outcome_kept(kept)
+        self.outcome_by_role(open)
     }
 }

@@ -7,7 +7,9 @@ ghost use Rattle.pt_model.specs.Answers.{open_calls};
 ghost use Rattle.pt_model.specs.Verdicts.{is_alive_if as is_alive_if_in, on, operation_verdict as said_of, will_return as will_return_in};
 ghost use Rattle.pt_state.specs.Reads.{AreTables};
 ghost use Rattle.pt_types.specs.declared.outcome.Outcome.TheVariants as told;
-ghost use Rattle.pt_types.specs.Operations.{Acquires, MutexClass, MutexLock, Restores, Unlocks, class_of, operation};
+ghost use Rattle.pt_types.specs.Operations.{Acquires, Restores, Unlocks, class_of, operation};
+ghost use Rattle.pt_types.specs.declared.operations.ObjectClass.TheVariants.{Mutex as MutexClass};
+ghost use Rattle.pt_types.specs.declared.operations.LockKind.TheVariants.{MutexLock};
 ghost use Rattle.pt_model.specs.declared.entry.Entry.TheVariants as entry;
 ghost use Rattle.pt_state.specs.Adds.{Adds, IsReadyFor, past};
 ghost use Rattle.pt_table.specs.ObjectRows.{nth_value as nth_object, object_value};
@@ -18,12 +20,10 @@ ghost use Rattle.pt_model.specs.WaitingCall.{mutex_of};
 ghost use Rattle.pt_model.specs.Grants.{grant_outcome as grant_outcome_in};
 ghost use Rattle.pt_records.specs.Callers.{opens_of};
 ghost use Rattle.pt_state.specs.Serving.{called, is_orphaned as is_orphaned_in, orphan_nth as orphan_nth_in};
-ghost use Rattle.pt_model.specs.Found.{passes};
-ghost use Rattle.pt_state.specs.Granting.{consistency_kept, is_lockable, told_at as told_at_in};
-ghost use Rattle.pt_model.specs.Shown.{shown_move};
+ghost use Rattle.pt_state.specs.Granting.{consistency_in_row, told_at as told_at_in};
 ghost use Rattle.pt_model.specs.Objects.{find as find_in, kind_of, objects};
 ghost use Rattle.std.specs.Option.{option_copied};
-ghost use Rattle.pt_records.specs.Kept.{mutex_in};
+ghost use Rattle.pt_records.specs.LocksInRows.{mutex_in};
 ghost use Rattle.pt_model.specs.Mutexes.{mutex_view, owner as owner_in};
 ghost use Rattle.pt_types.specs.MutexTable.{lock_verdict as lock_table};
 ghost use Rattle.pt_types.specs.ObjectTable.{destroy_verdict as destroy_table};
@@ -34,9 +34,7 @@ use pt_model::Entry;
 use pt_model::waiting_call::{Move, is_expired};
 use pt_mutex::MutexObj;
 use pt_records::cond::any_returns;
-use pt_records::mutex::{
-    acquire, is_robust_mutex, lock_verdict, may_lock, release, restore, yield_dead,
-};
+use pt_records::mutex::{acquire, is_robust_mutex, lock_verdict, release, restore, yield_dead};
 use pt_records::{Object, Open};
 use pt_types::operations::ObjectClass;
 use pt_types::tables::lock_outcome;
@@ -141,19 +139,9 @@ impl<A: Allocator + Copy> State<A> {
         }
     }
 
-    /// Whether nothing but the order of calls keeps a call from it.  [XSH pthread_mutex_unlock]
-    pub fn may_lock(&self, m: ObjectId) -> bool
-        ensures { result ≡ passes is_lockable (object_value self.now.objects m) }
-    {
-        match self.objects.at(m.0) {
-            Some(Object::Mutex(mutex)) => may_lock(mutex),
-            _ => false,
-        }
-    }
-
     // Its consistency.  [XSH pthread_mutex_consistent]
     fn consistency_at(&self, m: ObjectId) -> Consistency
-        ensures { result ≡ consistency_kept (object_value self.now.objects m) }
+        ensures { result ≡ consistency_in_row (object_value self.now.objects m) }
     {
         match self.objects.at(m.0) {
             Some(Object::Mutex(mutex)) => mutex.consistency(),
@@ -163,7 +151,7 @@ impl<A: Allocator + Copy> State<A> {
 
     // What a mutex answers to a call with this move.  [XSH pthread_mutex_lock]
     pub(crate) fn told_at(&self, m: ObjectId, moved: Option<Move>) -> Outcome
-        ensures { result ≡ told_at_in self.now.objects m (option_map shown_move moved) }
+        ensures { result ≡ told_at_in self.now.objects m moved }
     {
         lock_outcome(self.consistency_at(m), is_expired(moved))
     }

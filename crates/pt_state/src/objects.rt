@@ -6,10 +6,9 @@ ghost use Rattle.pt_types.specs.declared.outcome.Outcome.TheVariants as told;
 ghost use Rattle.pt_types.specs.Operations.{Ends, Makes, class_of as class_meant, operation, same_class};
 ghost use Rattle.pt_model.specs.declared.entry.Entry.TheVariants as entry;
 ghost use Rattle.pt_state.specs.Adds.{Adds, IsReadyFor, Stays, past};
-ghost use Rattle.pt_types.specs.Shown.{shown_class};
 ghost use Rattle.pt_table.specs.ObjectRows.{object_value};
 ghost use Rattle.pt_model.specs.Found.{passes};
-ghost use Rattle.pt_records.specs.Objects.{kind_kept};
+ghost use Rattle.pt_records.specs.Objects.{kind_in_row};
 ghost use Rattle.pt_model.specs.Objects.{find as find_in, object_named, objects};
 ghost use Rattle.pt_state.specs.Reads.{AreTables};
 ghost use Rattle.pt_model.specs.Verdicts.{on};
@@ -17,7 +16,7 @@ ghost use Rattle.pt_model.specs.WaitingCall.{meant as meant_in};
 
 use crate::state::State;
 use pt_barrier::verdict_init;
-use pt_records::objects::{add, class_kept, make, remove};
+use pt_records::objects::{add, class_in_row, make, remove};
 use pt_types::operations::{ObjectClass, is_same};
 use pt_types::{
     Call, ClientId, MOST_OBJECTS, Name, ObjectId, ObjectKind, Outcome, Refusal, Verdict,
@@ -65,7 +64,7 @@ impl<A: Allocator + Copy> State<A> {
     /// An object is ended.
     pub fn push_ended(&mut self, c: ClientId, call: &Call, n: &Name, class: ObjectClass)
         requires ready { IsReadyFor self.old (entry.Call c call.now (Some told.Done)) }
-        requires operation { operation call.now ≡ Ends n.now (shown_class class) }
+        requires operation { operation call.now ≡ Ends n.now class }
         ensures { Adds self.old (entry.Call c call.now (Some told.Done)) self.new }
     {
         let o = self.find(n, class).unwrap();
@@ -76,11 +75,11 @@ impl<A: Allocator + Copy> State<A> {
     /// Whether the number is that of an object of this class.  [XSH 2.9]
     pub fn is_of_class(&self, number: u64, class: ObjectClass) -> bool
         ensures { result
-            ≡ passes (λ x. same_class (class_meant (kind_kept x)) (shown_class class))
+            ≡ passes (λ x. same_class (class_meant (kind_in_row x)) class)
             (object_value self.now.objects number) }
     {
         match self.objects.at(number) {
-            Some(object) => is_same(class_kept(object), class),
+            Some(object) => is_same(class_in_row(object), class),
             None => false,
         }
     }
@@ -88,7 +87,7 @@ impl<A: Allocator + Copy> State<A> {
     /// The object of this class that bears the name, if one does.
     pub fn find(&self, n: &Name, class: ObjectClass) -> Option<ObjectId>
         requires { AreTables self.now }
-        ensures { result ≡ find_in (past self.now) n.now (shown_class class) }
+        ensures { result ≡ find_in (past self.now) n.now class }
     {
         match self.objects.find(n) {
             Some(number) => {
@@ -107,7 +106,7 @@ impl<A: Allocator + Copy> State<A> {
     pub fn known_verdict(&self, n: &Name, class: ObjectClass, known: Verdict) -> Verdict
         requires { AreTables self.now }
         ensures { result
-            ≡ on (find_in (past self.now) n.now (shown_class class)) (λ o. known) }
+            ≡ on (find_in (past self.now) n.now class) (λ o. known) }
     {
         match self.find(n, class) {
             Some(_) => known,
@@ -135,7 +134,7 @@ impl<A: Allocator + Copy> State<A> {
     // The object that a name means as the call comes; 0 if it means none.
     pub(crate) fn meant(&self, n: &Name, class: ObjectClass) -> ObjectId
         requires { AreTables self.now }
-        ensures { result ≡ meant_in (past self.now) n.now (shown_class class) }
+        ensures { result ≡ meant_in (past self.now) n.now class }
     {
         match self.find(n, class) {
             Some(object) => object,

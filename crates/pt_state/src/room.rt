@@ -1,38 +1,26 @@
 //! Room: how many entries must follow, and which events are refused.
 
 ghost use Rattle.std.specs.Prelude.{None, ◌*◌, ◌≡◌, ◌≤◌, map, sum};
-ghost use Rattle.pt_types.specs.Operations.{MutexClass, operation};
-ghost use Rattle.pt_state.specs.Needed.{added_by, added_by_operation, last_lock, last_lock_if, used_to_wait};
+ghost use Rattle.pt_types.specs.Operations.{operation};
+ghost use Rattle.pt_types.specs.declared.operations.ObjectClass.TheVariants.{Mutex as MutexClass};
+ghost use Rattle.pt_state.specs.Needed.{added_by, last_lock, last_lock_if, used_to_wait};
 ghost use Rattle.pt_model.specs.Answers.{open_calls};
-ghost use Rattle.pt_model.specs.Room.{kept_for, need as need_in, refusal as refusal_in, refusal_of_stranger as refusal_of_stranger_in};
+ghost use Rattle.pt_model.specs.Room.{reserved_for, need as need_in, refusal as refusal_in, refusal_of_stranger as refusal_of_stranger_in};
 ghost use Rattle.pt_state.specs.Reads.{AreTables};
 ghost use Rattle.pt_model.specs.Objects.{find};
 ghost use Rattle.pt_model.specs.WaitingCall.{meant};
 ghost use Rattle.pt_table.specs.ClientRows.{client_value};
 ghost use Rattle.pt_records.specs.Callers.{open_in};
-ghost use Rattle.pt_records.specs.Counts.{counted, kept_open};
+ghost use Rattle.pt_records.specs.Counts.{counted, reserved_open};
 ghost use Rattle.pt_state.specs.Adds.{past};
 
 use crate::state::State;
 use pt_model::{Entry, Event};
-use pt_records::calls::kept_by;
+use pt_records::calls::reserved_by;
 use pt_records::mutex::is_last;
 use pt_types::operations::{ObjectClass, Operation, operation_of};
 use pt_types::{Call, ClientId, MOST_CLIENTS, Name, ObjectId, Refusal};
 use std::alloc::Allocator;
-
-// The entries reserved for a call that is left waiting.
-fn added_by_call(call: &Call) -> u64
-    ensures value { result ≡ added_by_operation (operation call.now) }
-    ensures small { result ≤ 3 }
-{
-    match operation_of(call) {
-        Operation::Acquires(..) => 3,
-        Operation::Awaits(..) => 3,
-        Operation::Arrives(_) => 3,
-        _ => 0,
-    }
-}
 
 /// The entries that are reserved from an outer entry on.
 pub fn added(entry: &Entry) -> u64
@@ -41,22 +29,25 @@ pub fn added(entry: &Entry) -> u64
 {
     match entry {
         Entry::Join(..) => 1,
-        Entry::Call(_, call, None) => added_by_call(call),
+        Entry::Call(_, call, None) => match operation_of(call) {
+            Operation::Acquires(..) | Operation::Awaits(..) | Operation::Arrives(_) => 3,
+            _ => 0,
+        },
         _ => 0,
     }
 }
 
 impl<A: Allocator + Copy> State<A> {
     /// The entries reserved for all open calls.
-    pub fn kept(&self) -> u64
+    pub fn reserved(&self) -> u64
         requires { AreTables self.now }
         ensures value { let h = past self.now in
-            result ≡ sum (map (kept_for h) (open_calls h)) }
+            result ≡ sum (map (reserved_for h) (open_calls h)) }
         ensures small { result ≤ 3 * 1024 }
     {
         let mut count = 0;
         for i in 0..self.clients.len() {
-            count += kept_by(self.open_nth(i));
+            count += reserved_by(self.open_nth(i));
         }
         count
     }
@@ -113,12 +104,12 @@ impl<A: Allocator + Copy> State<A> {
     }
 
     /// The entries reserved for a client's open call, if it has one.
-    pub fn kept_of(&self, c: ClientId) -> u64
-        ensures value { result ≡ counted kept_open (open_in (client_value self.now.clients c)) }
+    pub fn reserved_of(&self, c: ClientId) -> u64
+        ensures value { result ≡ counted reserved_open (open_in (client_value self.now.clients c)) }
         ensures small { result ≤ 3 }
     {
         match self.clients.at(c.0) {
-            Some(caller) => kept_by(caller.open),
+            Some(caller) => reserved_by(caller.open),
             None => 0,
         }
     }
@@ -129,7 +120,7 @@ impl<A: Allocator + Copy> State<A> {
         ensures value { result ≡ need_in (past self.now) }
         ensures small { result ≤ 8192 }
     {
-        self.clients.len() as u64 + self.kept() + self.robust_owned()
+        self.clients.len() as u64 + self.reserved() + self.robust_owned()
     }
 
     /// A client that doesn't live: DEAD if a place has its number, else NOHELLO.

@@ -5,29 +5,26 @@ ghost use Rattle.pt_model.specs.Objects.{find as find_in, kind_of, objects};
 ghost use Rattle.pt_model.specs.Rwlocks.{is_held_alive as is_held_alive_in, rwlock_view as rwlock_seen};
 ghost use Rattle.pt_state.specs.Reads.{AreTables};
 ghost use Rattle.pt_types.specs.declared.outcome.Outcome.TheVariants as told;
-ghost use Rattle.pt_types.specs.Operations.{Acquires, RwlockClass, Rwunlocks, WriteLock, operation};
+ghost use Rattle.pt_types.specs.Operations.{Acquires, Rwunlocks, operation};
+ghost use Rattle.pt_types.specs.declared.operations.ObjectClass.TheVariants.{Rwlock as RwlockClass};
+ghost use Rattle.pt_types.specs.declared.operations.LockKind.TheVariants.{WriteLock};
 ghost use Rattle.pt_model.specs.declared.entry.Entry.TheVariants as entry;
 ghost use Rattle.pt_state.specs.Adds.{Adds, IsReadyFor, Stays, past};
 ghost use Rattle.pt_model.specs.Searches.{In};
-ghost use Rattle.pt_model.specs.Records.{ForRead, ForWrite};
+ghost use Rattle.pt_model.specs.declared.waiting_call.Role.TheVariants.{ForRead, ForWrite};
 ghost use Rattle.pt_model.specs.Grants.{grant_outcome as grant_outcome_in};
 ghost use Rattle.pt_records.specs.Callers.{opens_of};
 ghost use Rattle.pt_state.specs.Serving.{called};
 ghost use Rattle.pt_table.specs.ObjectRows.{object_value};
-ghost use Rattle.pt_model.specs.Found.{passes};
-ghost use Rattle.pt_state.specs.Granting.{is_readable as is_readable_kept, is_unheld};
 ghost use Rattle.std.specs.Option.{option_copied};
-ghost use Rattle.pt_records.specs.Kept.{rwlock_in};
+ghost use Rattle.pt_records.specs.LocksInRows.{rwlock_in};
 ghost use Rattle.pt_records.specs.Objects.{IsRwlock};
 ghost use Rattle.pt_types.specs.RwlockTable.{read_verdict as read_table};
 ghost use Rattle.pt_model.specs.Verdicts.{operation_verdict as said_of};
-ghost use Rattle.pt_model.specs.Shown.{shown_role};
 ghost use Rattle.pt_state.specs.Left.{IsLeft};
 
 use crate::state::State;
-use pt_records::rwlock::{
-    acquire_read, acquire_write, any_holds, make_row, may_read, release_lock,
-};
+use pt_records::rwlock::{acquire_read, acquire_write, any_holds, make_row, release_lock};
 use pt_records::{Object, Open};
 use pt_rwlock::RwObj;
 use pt_types::operations::ObjectClass;
@@ -84,27 +81,6 @@ impl<A: Allocator + Copy> State<A> {
         let call = found.call;
         acquire_write(&mut self.objects, call.object, ClientId(call.client));
         self.grant(found, Outcome::Done);
-    }
-
-    /// Whether a client may read there, with writers ahead or none.  [XSH pthread_rwlock_rdlock]
-    pub fn may_read(&self, r: ObjectId, c: ClientId, blocked: bool) -> bool
-        ensures { result
-            ≡ passes (is_readable_kept c blocked) (object_value self.now.objects r) }
-    {
-        match self.objects.at(r.0) {
-            Some(Object::Rwlock(lock)) => may_read(lock, c, blocked),
-            _ => false,
-        }
-    }
-
-    /// Whether nobody holds it.  [XSH pthread_rwlock_wrlock]
-    pub fn may_write(&self, r: ObjectId) -> bool
-        ensures { result ≡ passes is_unheld (object_value self.now.objects r) }
-    {
-        match self.objects.at(r.0) {
-            Some(Object::Rwlock(lock)) => lock.is_free(),
-            _ => false,
-        }
     }
 
     /// The read-write lock with this number, if it is one.
@@ -170,7 +146,7 @@ impl<A: Allocator + Copy> State<A> {
     pub fn push_reading(&mut self, c: ClientId, call: &Call, open: Open) -> Result<(), Refusal>
         requires ready { IsReadyFor self.old (entry.Call c call.now None) }
         requires left { IsLeft (past self.old) c call.now «open» }
-        requires role { shown_role «open».call.role ≡ ForRead }
+        requires role { «open».call.role ≡ ForRead }
         ensures ok { OnOk result (Adds self.old (entry.Call c call.now None) self.new) }
         ensures err { OnErr result (Stays self.old self.new) }
         ensures refusal { IfErr result (λ r. r ≡ Refusal.Enomem) }

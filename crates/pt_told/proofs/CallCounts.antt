@@ -3,7 +3,8 @@ use Rattle.std.proofs.Common.{◌≡◌, ℕ, ◌+◌, ◌==◌, Bool, true, fal
 use Rattle.std.proofs.lemmas.Bool.Decides.{nat_tests}
 use Rattle.std.proofs.lemmas.Bool.{false≢true}
 use Rattle.pt_model.specs.Searches.{In}
-use Rattle.pt_model.specs.Records.{WaitingCall, Told}
+use Rattle.pt_model.specs.Records.{Told}
+use Rattle.pt_model.specs.declared.waiting_call.WaitingCall.{WaitingCall}
 use Rattle.pt_model.specs.Histories.{History}
 use Rattle.pt_model.specs.Answers.{trip_outcome, told_by_trip, replies_to, place_of, open_calls}
 use Rattle.pt_model.specs.Steps.{Follows}

@@ -7,7 +7,10 @@ use Rattle.pt_model.specs.declared.entry.Entry.TheVariants.{Expire}
 use Rattle.pt_model.specs.Searches.{In}
 use Rattle.pt_model.specs.Histories.{History, ◌▷◌, place}
 use Rattle.pt_model.specs.Clients.{clock, is_due}
-use Rattle.pt_model.specs.Records.{Role, ForMutex, ForRead, ForWrite, ForBarrier, ForCond, WaitingCall, Move}
+use Rattle.pt_model.specs.declared.waiting_call.WaitingCall.{WaitingCall}
+use Rattle.pt_model.specs.declared.waiting_call.Move.{Move}
+use Rattle.pt_model.specs.declared.waiting_call.Role.{Role}
+use Rattle.pt_model.specs.declared.waiting_call.Role.TheVariants.{ForMutex, ForRead, ForWrite, ForBarrier, ForCond}
 use Rattle.pt_model.specs.WaitingCall.{is_wait}
 use Rattle.pt_model.specs.Answers.{open_calls}
 use Rattle.pt_model.specs.Moves.{cause_by_expiry, move_or, moved, is_moved, object_by, at_object}

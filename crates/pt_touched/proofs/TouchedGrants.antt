@@ -6,7 +6,10 @@ use Rattle.pt_types.specs.MutexTable.{is_number, is_acquired, may_lock, may_relo
 use Rattle.pt_model.specs.declared.entry.Entry.TheVariants.{Grant}
 use Rattle.pt_model.specs.Searches.{In}
 use Rattle.pt_model.specs.Histories.{History, ◌▷◌}
-use Rattle.pt_model.specs.Records.{Role, ForMutex, ForRead, ForWrite, ForBarrier, ForCond, WaitingCall, Move}
+use Rattle.pt_model.specs.declared.waiting_call.WaitingCall.{WaitingCall}
+use Rattle.pt_model.specs.declared.waiting_call.Move.{Move}
+use Rattle.pt_model.specs.declared.waiting_call.Role.{Role}
+use Rattle.pt_model.specs.declared.waiting_call.Role.TheVariants.{ForMutex, ForRead, ForWrite, ForBarrier, ForCond}
 use Rattle.pt_model.specs.WaitingCall.{mutex_of}
 use Rattle.pt_model.specs.Answers.{open_calls}
 use Rattle.pt_model.specs.Moves.{moved, is_moved, object_by, at_object, is_least}

@@ -7,7 +7,7 @@ use Rattle.pt_model.specs.declared.entry.Entry.{Entry}
 use Rattle.pt_model.specs.declared.entry.Entry.TheVariants.{Join, Death, Moment, Grant, Trip, Yield, Expire}
 use Rattle.pt_model.specs.Searches.{In, least, least_with}
 use Rattle.pt_model.specs.Histories.{History, Begin, ◌▷◌, place}
-use Rattle.pt_model.specs.Records.{WaitingCall}
+use Rattle.pt_model.specs.declared.waiting_call.WaitingCall.{WaitingCall}
 use Rattle.pt_model.specs.WaitingCall.{is_arrival}
 use Rattle.pt_model.specs.Answers.{open_calls}
 use Rattle.pt_model.specs.Moves.{at_object, precedes, waiting_at}

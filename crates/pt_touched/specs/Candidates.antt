@@ -9,7 +9,9 @@ use Rattle.pt_model.specs.declared.entry.Entry.TheVariants.{Call}
 use Rattle.pt_model.specs.Searches.{least}
 use Rattle.pt_model.specs.Histories.{History, Begin, ◌▷◌, is_forced}
 use Rattle.pt_model.specs.Objects.{kind_of, mutex_kind}
-use Rattle.pt_model.specs.Records.{Role, ForRead, WaitingCall}
+use Rattle.pt_model.specs.declared.waiting_call.WaitingCall.{WaitingCall}
+use Rattle.pt_model.specs.declared.waiting_call.Role.{Role}
+use Rattle.pt_model.specs.declared.waiting_call.Role.TheVariants.{ForRead}
 use Rattle.pt_model.specs.WaitingCall.{is_wait, is_write}
 use Rattle.pt_model.specs.Answers.{open_calls, at_barrier}
 use Rattle.pt_model.specs.Moves.{is_moved, waiting_at, at_object, precedes}

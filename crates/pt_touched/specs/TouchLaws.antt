@@ -4,7 +4,7 @@ use Rattle.pt_model.specs.declared.entry.Entry.{Entry}
 use Rattle.pt_model.specs.Searches.{In}
 use Rattle.pt_model.specs.Starts.{Start}
 use Rattle.pt_model.specs.Histories.{History, Begin, ◌▷◌}
-use Rattle.pt_model.specs.Records.{WaitingCall}
+use Rattle.pt_model.specs.declared.waiting_call.WaitingCall.{WaitingCall}
 use Rattle.pt_model.specs.Answers.{open_calls}
 use Rattle.pt_model.specs.Moves.{at_object}
 use Rattle.pt_model.specs.Forced.{is_served, service_if, forced_service, forced}

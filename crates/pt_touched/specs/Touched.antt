@@ -2,13 +2,16 @@
 use Rattle.std.specs.Prelude.{ℕ, Option, Some, None}
 use Rattle.std.specs.List.{filter}
 use Rattle.pt_types.specs.declared.outcome.Outcome.TheVariants.{Done}
-use Rattle.pt_types.specs.Operations.{Operation, Acquires, Unlocks, Rwunlocks, Awaits, Signals, Broadcasts, Arrives, operation, class_needed, MutexClass, RwlockClass, CondClass, BarrierClass}
+use Rattle.pt_types.specs.Operations.{Operation, Acquires, Unlocks, Rwunlocks, Awaits, Signals, Broadcasts, Arrives, operation, class_needed}
+use Rattle.pt_types.specs.declared.operations.ObjectClass.TheVariants.{Mutex as MutexClass, Rwlock as RwlockClass, Cond as CondClass, Barrier as BarrierClass}
 use Rattle.pt_model.specs.declared.entry.Entry.{Entry}
 use Rattle.pt_model.specs.declared.entry.Entry.TheVariants.{Call, Death, Grant, Trip, Yield, Expire}
 use Rattle.pt_model.specs.Searches.{least}
 use Rattle.pt_model.specs.Histories.{History, Begin, ◌▷◌}
 use Rattle.pt_model.specs.Objects.{find}
-use Rattle.pt_model.specs.Records.{Role, ForCond, WaitingCall}
+use Rattle.pt_model.specs.declared.waiting_call.WaitingCall.{WaitingCall}
+use Rattle.pt_model.specs.declared.waiting_call.Role.{Role}
+use Rattle.pt_model.specs.declared.waiting_call.Role.TheVariants.{ForCond}
 use Rattle.pt_model.specs.WaitingCall.{meant, stood, at_place}
 use Rattle.pt_model.specs.Answers.{open_calls, open_place}
 use Rattle.pt_model.specs.Moves.{waiting_at, at_object}

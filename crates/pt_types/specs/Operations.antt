@@ -9,13 +9,10 @@ use Rattle.pt_types.specs.declared.call.How.{How}
 use Rattle.pt_types.specs.declared.call.How.TheVariants.{Plain, Try, Timed}
 use Rattle.pt_types.specs.declared.call.ObjectKind.{ObjectKind}
 use Rattle.pt_types.specs.declared.call.ObjectKind.TheVariants.{Mutex, Rwlock, Cond, Barrier}
-
--- the four classes of objects  [XSH 2.9]
-pub data ObjectClass : Type 0 where
-  MutexClass : ObjectClass
-  RwlockClass : ObjectClass
-  CondClass : ObjectClass
-  BarrierClass : ObjectClass
+use Rattle.pt_types.specs.declared.operations.LockKind.{LockKind}
+use Rattle.pt_types.specs.declared.operations.LockKind.TheVariants.{MutexLock, ReadLock, WriteLock}
+use Rattle.pt_types.specs.declared.operations.ObjectClass.{ObjectClass}
+use Rattle.pt_types.specs.declared.operations.ObjectClass.TheVariants.{Mutex as MutexClass, Rwlock as RwlockClass, Cond as CondClass, Barrier as BarrierClass}
 
 -- the class of an object, whatever else is known of it  [XSH 2.9]
 abbrev pub class_of : ObjectKind → ObjectClass
@@ -31,12 +28,6 @@ same_class RwlockClass RwlockClass = true
 same_class CondClass CondClass = true
 same_class BarrierClass BarrierClass = true
 same_class _ _ = false
-
--- the three locks that can be asked for  [XSH 2.9.3, pthread_rwlock_rdlock, pthread_rwlock_wrlock]
-pub data LockKind : Type 0 where
-  MutexLock : LockKind
-  ReadLock : LockKind
-  WriteLock : LockKind
 
 -- the class of object that has such a lock  [XSH 2.9]
 abbrev pub class_needed : LockKind → ObjectClass

@@ -6,6 +6,7 @@
 #![tactic(auto)]
 
 mod call;
+pub mod key_order;
 mod limits;
 mod name;
 mod number;

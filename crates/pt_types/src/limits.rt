@@ -21,5 +21,14 @@ pub const MOST_AT_BARRIER: u32 = 1024;
 /// Bytes of the longest line, without its newline.  [profile]
 pub const MOST_IN_LINE: usize = 128;
 
+/// Seconds of a moment or a deadline.  [profile]
+pub const MOST_SECONDS: u64 = 9_999_999_999;
+
+/// Nanoseconds that a deadline may be written with.  [profile]
+pub const MOST_NANOSECONDS: u64 = 9_999_999_999;
+
+/// Nanoseconds of a second: a moment or a good deadline has fewer.  [XBD time.h]
+pub const NANOSECONDS_IN_SECOND: u64 = 1_000_000_000;
+
 /// Entries of a history, with the room reserved for what must follow.  [profile]
 pub const MOST_ENTRIES: u32 = 1_048_576;

@@ -2,7 +2,7 @@
 
 ghost use Rattle.std.specs.Prelude.{◌≡◌};
 ghost use Rattle.pt_types.specs.Operations.{operation as operation_meant, clock_of as clock_meant, same_class, class_of as class_meant, class_needed as class_meant_by, deadline_of as deadline_meant};
-ghost use Rattle.pt_types.specs.Shown.{shown_operation, shown_class, shown_lock_kind};
+ghost use Rattle.pt_types.specs.Shown.{shown_operation};
 
 use crate::{Call, Clock, Deadline, How, Name, ObjectKind};
 
@@ -91,7 +91,7 @@ pub fn clock_of(call: &Call) -> Clock
 
 /// The class of an object, whatever else is known of it.  [XSH 2.9]
 pub fn class_of(kind: ObjectKind) -> ObjectClass
-    ensures { shown_class result ≡ class_meant kind }
+    ensures { result ≡ class_meant kind }
 {
     match kind {
         ObjectKind::Mutex(..) => ObjectClass::Mutex,
@@ -103,7 +103,7 @@ pub fn class_of(kind: ObjectKind) -> ObjectClass
 
 /// The class of object that has such a lock.  [XSH 2.9]
 pub fn class_needed(lock_kind: LockKind) -> ObjectClass
-    ensures { shown_class result ≡ class_meant_by (shown_lock_kind lock_kind) }
+    ensures { result ≡ class_meant_by lock_kind }
 {
     match lock_kind {
         LockKind::MutexLock => ObjectClass::Mutex,
@@ -113,7 +113,7 @@ pub fn class_needed(lock_kind: LockKind) -> ObjectClass
 
 /// Whether two classes are one.
 pub fn is_same(one: ObjectClass, other: ObjectClass) -> bool
-    ensures { result ≡ same_class (shown_class one) (shown_class other) }
+    ensures { result ≡ same_class one other }
 {
     matches!(
         (one, other),

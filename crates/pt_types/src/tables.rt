@@ -8,7 +8,6 @@ ghost use Rattle.pt_types.specs.Times.{has_bad_deadline as has_bad};
 ghost use Rattle.pt_types.specs.MutexTable.{owns as owns_it, lock_verdict as lock_table, unlock_verdict as unlock_table, consistent_verdict as consistent_table, is_lost as is_lost_consistency, may_relock as may_relock_it, lock_outcome as outcome_of_lock};
 ghost use Rattle.pt_types.specs.RwlockTable.{holds as holds_it, is_free as is_free_lock, relock_outcome as outcome_of_relock, read_verdict as read_table, write_verdict as write_table, rwunlock_verdict as rwunlock_table, may_read as may_read_it, may_write as may_write_it};
 ghost use Rattle.pt_types.specs.CondTable.{wait_verdict as wait_table};
-ghost use Rattle.pt_types.specs.Shown.{shown_mutex, shown_rwlock};
 
 use crate::views::{MutexView, RwlockView};
 use crate::{
@@ -91,7 +90,7 @@ pub fn is_bad_how(how: &How) -> bool
 
 /// Whether the client is the owner.  [XSH pthread_mutex_lock]
 pub fn owns(m: &MutexView, c: ClientId) -> bool
-    ensures { result ≡ owns_it (shown_mutex m.now) c }
+    ensures { result ≡ owns_it m.now c }
 {
     match m.owner {
         Some(owner) => owner == c,
@@ -101,7 +100,7 @@ pub fn owns(m: &MutexView, c: ClientId) -> bool
 
 /// `lock`, `trylock`, `timedlock`.  [XSH pthread_mutex_lock, pthread_mutex_timedlock]
 pub fn lock_verdict(m: &MutexView, c: ClientId, how: &How) -> Verdict
-    ensures { result ≡ lock_table (shown_mutex m.now) c how.now }
+    ensures { result ≡ lock_table m.now c how.now }
 {
     if is_lost(m.consistency) || m.owner.is_none() {
         return Verdict::Stands;
@@ -125,7 +124,7 @@ pub fn lock_verdict(m: &MutexView, c: ClientId, how: &How) -> Verdict
 
 /// `unlock`; EPERM is profile if the standard leaves it open.  [XSH pthread_mutex_unlock]
 pub fn unlock_verdict(m: &MutexView, c: ClientId) -> Verdict
-    ensures { result ≡ unlock_table (shown_mutex m.now) c }
+    ensures { result ≡ unlock_table m.now c }
 {
     if owns(m, c) {
         Verdict::Reply(Outcome::Done)
@@ -136,7 +135,7 @@ pub fn unlock_verdict(m: &MutexView, c: ClientId) -> Verdict
 
 /// `consistent`; EPERM is profile.  [XSH pthread_mutex_consistent]
 pub fn consistent_verdict(m: &MutexView, c: ClientId) -> Verdict
-    ensures { result ≡ consistent_table (shown_mutex m.now) c }
+    ensures { result ≡ consistent_table m.now c }
 {
     if !m.robust || m.consistency != Consistency::Inconsistent {
         Verdict::Reply(Outcome::Einval)
@@ -156,7 +155,7 @@ pub fn is_lost(consistency: Consistency) -> bool
 
 /// Whether a moved wait can have it back from its own client.
 pub fn may_relock(m: &MutexView, c: ClientId) -> bool
-    ensures { result ≡ may_relock_it (shown_mutex m.now) c }
+    ensures { result ≡ may_relock_it m.now c }
 {
     m.kind == MutexKind::Recursive && owns(m, c)
 }
@@ -176,14 +175,14 @@ pub fn lock_outcome(consistency: Consistency, expired: bool) -> Outcome
 
 /// Whether the caller holds the lock in either way.  [XSH pthread_rwlock_unlock]
 pub fn holds(r: RwlockView) -> bool
-    ensures { result ≡ holds_it (shown_rwlock r) }
+    ensures { result ≡ holds_it r }
 {
     r.writes || 0 < r.reads
 }
 
 /// Whether nobody holds it.  [XSH pthread_rwlock_wrlock]
 pub fn is_free(r: RwlockView) -> bool
-    ensures { result ≡ is_free_lock (shown_rwlock r) }
+    ensures { result ≡ is_free_lock r }
 {
     !r.is_written && !r.is_read
 }
@@ -202,7 +201,7 @@ pub fn relock_outcome(tries: bool) -> Outcome
 /// `rdlock`, `tryrdlock`, `timedrdlock`; a reader who holds a read lock isn't held back, which is
 /// a deviation.  [XSH pthread_rwlock_rdlock]
 pub fn read_verdict(r: RwlockView, blocked: bool, how: &How) -> Verdict
-    ensures { result ≡ read_table (shown_rwlock r) blocked how.now }
+    ensures { result ≡ read_table r blocked how.now }
 {
     if r.writes {
         return Verdict::Reply(relock_outcome(is_try(how)));
@@ -224,7 +223,7 @@ pub fn read_verdict(r: RwlockView, blocked: bool, how: &How) -> Verdict
 
 /// `wrlock`, `trywrlock`, `timedwrlock`.  [XSH pthread_rwlock_wrlock, pthread_rwlock_timedwrlock]
 pub fn write_verdict(r: RwlockView, how: &How) -> Verdict
-    ensures { result ≡ write_table (shown_rwlock r) how.now }
+    ensures { result ≡ write_table r how.now }
 {
     if holds(r) {
         return Verdict::Reply(relock_outcome(is_try(how)));
@@ -243,7 +242,7 @@ pub fn write_verdict(r: RwlockView, how: &How) -> Verdict
 
 /// `rwunlock`; EPERM is profile.  [XSH pthread_rwlock_unlock]
 pub fn rwunlock_verdict(r: RwlockView) -> Verdict
-    ensures { result ≡ rwunlock_table (shown_rwlock r) }
+    ensures { result ≡ rwunlock_table r }
 {
     if holds(r) {
         Verdict::Reply(Outcome::Done)
@@ -254,14 +253,14 @@ pub fn rwunlock_verdict(r: RwlockView) -> Verdict
 
 /// Whether a reader can have it; its way past writers is a deviation.  [XSH pthread_rwlock_rdlock]
 pub fn may_read(r: RwlockView, blocked: bool) -> bool
-    ensures { result ≡ may_read_it (shown_rwlock r) blocked }
+    ensures { result ≡ may_read_it r blocked }
 {
     !r.is_written && (!blocked || 0 < r.reads)
 }
 
 /// Whether a writer can have it: nobody holds it and it is least.  [XSH pthread_rwlock_unlock]
 pub fn may_write(r: RwlockView, is_least: bool) -> bool
-    ensures { result ≡ may_write_it (shown_rwlock r) is_least }
+    ensures { result ≡ may_write_it r is_least }
 {
     is_free(r) && is_least
 }

@@ -2,7 +2,6 @@ ghost use Rattle.std.specs.Prelude.{◌≡◌};
 ghost use Rattle.std.specs.Bool.{OnTrue};
 ghost use Rattle.pt_table.specs.ObjectRows.{has_object, with_object};
 
-use super::lend;
 use pt_failing_alloc::{Refusing, refuse_each};
 use pt_table::{Clients, Objects, TableFault};
 use pt_types::Name;
@@ -53,14 +52,17 @@ fn add_client(
     Ok(true)
 }
 
+fn add_20_clients(clients: &mut Clients<u64, &Refusing<Global>>) -> Result<bool, &'static str> {
+    let mut met = false;
+    for number in 0..20 {
+        met = add_client(clients, number)? || met;
+    }
+    Ok(met)
+}
+
 fn add_clients(heap: &Refusing<Global>) -> Result<bool, &'static str> {
-    lend(Clients::new(heap), |clients| {
-        let mut met = false;
-        for number in 0..20 {
-            met = add_client(clients, number)? || met;
-        }
-        Ok(met)
-    })
+    let mut clients = Clients::new(heap);
+    add_20_clients(&mut clients)
 }
 
 fn add_object(
@@ -85,14 +87,17 @@ fn add_object(
     Ok(true)
 }
 
+fn add_20_objects(objects: &mut Objects<u64, &Refusing<Global>>) -> Result<bool, &'static str> {
+    let mut met = false;
+    for number in 0..20 {
+        met = add_object(objects, number)? || met;
+    }
+    Ok(met)
+}
+
 fn add_objects(heap: &Refusing<Global>) -> Result<bool, &'static str> {
-    lend(Objects::new(heap), |objects| {
-        let mut met = false;
-        for number in 0..20 {
-            met = add_object(objects, number)? || met;
-        }
-        Ok(met)
-    })
+    let mut objects = Objects::new(heap);
+    add_20_objects(&mut objects)
 }
 
 // Writes to the row of a number, if there is one.
@@ -168,18 +173,18 @@ fn is_name_free_again(objects: &mut Objects<u32>, m: &Name, n: &Name) -> bool {
         && objects.len() == 2
 }
 
-// A name of one letter.
-fn letter(byte: u8) -> Result<Name, Fail> {
-    Ok(Name::new(&[byte]).ok_or("name")?)
+// Whether objects are found by their numbers and their names.
+fn are_found(alloc: Global) -> bool {
+    let (Some(m), Some(n), Some(o)) = (Name::new(b"m"), Name::new(b"n"), Name::new(b"o")) else {
+        return false;
+    };
+    let mut objects = Objects::new(alloc);
+    are_taken_seen(&mut objects, &m, &n, &o) && is_name_free_again(&mut objects, &m, &n)
 }
 
 #[test]
-fn objects_by_number_and_name(rt: HostRuntime) -> Result<(), Fail> {
-    let (m, n, o) = (letter(b'm')?, letter(b'n')?, letter(b'o')?);
-    let mut objects = Objects::new(rt.alloc());
-    assert!(rt; are_taken_seen(&mut objects, &m, &n, &o));
-    assert!(rt; is_name_free_again(&mut objects, &m, &n));
-    Ok(())
+fn objects_by_number_and_name(rt: HostRuntime) {
+    assert!(rt; are_found(rt.alloc()));
 }
 
 // Whether a table of 1,023 clients takes one more, and no other until one is gone.
@@ -221,13 +226,18 @@ fn is_full_at_4096(objects: &mut Objects<u64>, last: &Name, more: &Name) -> bool
     len == 4096 && removed == Some(0) && objects.add(4096, more.copied(), 8).is_ok()
 }
 
+// Whether a table takes 4,096 objects and no more.
+fn are_objects_limited(alloc: Global) -> bool {
+    let (Some(last), Some(more)) = (name_of(4095), name_of(4096)) else {
+        return false;
+    };
+    let mut objects = Objects::new(alloc);
+    fill_objects(&mut objects, 4095) && is_full_at_4096(&mut objects, &last, &more)
+}
+
 #[test]
-fn at_most_4096_objects(rt: HostRuntime) -> Result<(), Fail> {
-    let last = name_of(4095).ok_or("name")?;
-    let more = name_of(4096).ok_or("name")?;
-    let mut objects = Objects::new(rt.alloc());
-    assert!(rt; fill_objects(&mut objects, 4095) && is_full_at_4096(&mut objects, &last, &more));
-    Ok(())
+fn at_most_4096_objects(rt: HostRuntime) {
+    assert!(rt; are_objects_limited(rt.alloc()));
 }
 
 #[test]
@@ -237,31 +247,27 @@ fn each_growth_is_refused_in_turn(rt: HostRuntime) -> Result<(), Fail> {
     Ok(())
 }
 
+// Whether new tables ask for no memory of a heap that refuses the first growth.
+fn take_no_memory(heap: &Refusing<Global>) -> bool {
+    let clients: Clients<u64, &Refusing<Global>> = Clients::new(heap);
+    let objects: Objects<u64, &Refusing<Global>> = Objects::new(heap);
+    clients.len() == 0 && objects.len() == 0 && !heap.has_refused()
+}
+
 #[test]
 fn new_tables_take_no_memory(rt: HostRuntime) {
     let heap = Refusing::new(rt.alloc(), 1);
-    let clients: Clients<u64, &Refusing<Global>> = Clients::new(&heap);
-    let objects: Objects<u64, &Refusing<Global>> = Objects::new(&heap);
-    assert!(rt; clients.len() == 0 && objects.len() == 0);
-    assert!(rt; !heap.has_refused());
-}
-
-// Whether these texts are printed for the faults.
-fn are_faults_printed(alloc: Global) -> Result<bool, Fail> {
-    for (fault, text) in [
-        (TableFault::Taken, "taken"),
-        (TableFault::AtLimit, "at the limit"),
-        (TableFault::Memory, "out of memory"),
-    ] {
-        if format!(in alloc; "{fault}")?.as_str() != text {
-            return Ok(false);
-        }
-    }
-    Ok(true)
+    let is_empty = take_no_memory(&heap);
+    assert!(rt; is_empty);
 }
 
 #[test]
-fn faults_print_their_texts(rt: HostRuntime) -> Result<(), Fail> {
-    assert!(rt; are_faults_printed(rt.alloc())?);
-    Ok(())
+fn faults_print_their_texts(rt: HostRuntime) {
+    let printed = format!(in rt.alloc();
+        "{}, {}, {}",
+        TableFault::Taken,
+        TableFault::AtLimit,
+        TableFault::Memory
+    );
+    assert!(rt; printed.is_ok_and(|text| text.as_str() == "taken, at the limit, out of memory"));
 }

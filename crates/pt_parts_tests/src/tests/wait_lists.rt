@@ -4,9 +4,10 @@ ghost use Rattle.std.specs.Prelude.{ℕ, ◌≡◌, ◌+◌, ◌<◌, true, fals
 ghost use Rattle.std.specs.List.{AllByRecursion as Each};
 ghost use Rattle.pt_parts_tests.specs.Playing.{IsInPlay, clients_in_play, queues_in_play};
 
+use super::priority;
 use pt_types::{ClientId, ObjectId, Priority, Refusal};
 use pt_waitq::{Chains, PlainList, WaitList, Waiter};
-use std::test::Fail;
+use std::alloc::Global;
 
 const CLIENTS: u64 = 40;
 
@@ -80,15 +81,15 @@ impl Draws {
         }
     }
 
-    fn step(&mut self, fills: bool) -> Option<Step> {
-        Some(Step {
+    fn step(&mut self, fills: bool) -> Step {
+        Step {
             change: self.change(fills),
             client: self.below(CLIENTS),
             other: self.below(CLIENTS),
             object: self.below(QUEUES),
-            prio: Priority::new(1 + 49 * self.below(3))?,
+            prio: priority(1 + 49 * self.below(3)),
             writer: self.below(2) == 0,
-        })
+        }
     }
 }
 
@@ -299,7 +300,7 @@ fn play_one_chain<P: WaitList, C: WaitList>(
     ensures chains { OnOk result
         (IsInPlay (C.queue chains.new) (C.admitted chains.new) (C.made chains.new) 10) }
 {
-    let prio = Priority::new(50).ok_or("priority")?;
+    let prio = priority(50);
     for place in 0..10 {
         let (change, client) = ONE_CHAIN[place];
         let step = Step {
@@ -324,7 +325,7 @@ fn play_2000<P: WaitList, C: WaitList>(plain: &mut P, chains: &mut C) -> Result<
     let mut draws = Draws { last: 1 };
     for place in 10..2010 {
         let fills = place / 250 % 2 == 0;
-        let step = draws.step(fills).ok_or("priority")?;
+        let step = draws.step(fills);
         play_on_both(plain, chains, &step, place)?;
     }
     Ok(())
@@ -344,9 +345,14 @@ fn play_all<P: WaitList, C: WaitList>(plain: &mut P, chains: &mut C) -> Result<(
     play_2000(plain, chains)
 }
 
+// Whether both lists, empty at first, answer all calls alike.
+fn answer_alike(alloc: Global) -> bool {
+    let mut plain = PlainList::new(alloc);
+    let mut chains = Chains::new(alloc);
+    play_all(&mut plain, &mut chains).is_ok()
+}
+
 #[test]
 fn both_lists_answer_2000_calls_alike(rt: HostRuntime) {
-    let mut plain = PlainList::new(rt.alloc());
-    let mut chains = Chains::new(rt.alloc());
-    assert_eq!(rt; play_all(&mut plain, &mut chains), Ok(()));
+    assert!(rt; answer_alike(rt.alloc()));
 }

@@ -3,40 +3,39 @@ use pt_lines::{CallLine, Cut, read_call};
 use pt_types::{Call, Clock, Deadline, Moment, MutexKind, Name, Priority, Refusal};
 use std::test::Fail;
 
-fn object(name: &[u8]) -> Result<Name, Fail> {
-    Ok(Name::new(name).ok_or("name")?)
-}
-
 fn asks(text: &[u8], call: Call) -> bool {
     read_call(text) == Ok(CallLine::Ask(call))
 }
 
-#[test]
-fn calls_on_mutexes(rt: HostRuntime) -> Result<(), Fail> {
-    let m = object(b"m")?;
-    let late = Deadline::new(5, 9_999_999_999).ok_or("deadline")?;
-    assert!(rt; asks(b"lock m", Call::Lock(m.copied())));
-    assert!(rt; asks(b"trylock m", Call::Trylock(m.copied())));
-    assert!(rt;
-        asks(
+// Whether each call on a mutex is read.
+fn are_mutex_calls_read() -> bool {
+    let (Some(m), Some(late)) = (Name::new(b"m"), Deadline::new(5, 9_999_999_999)) else {
+        return false;
+    };
+    asks(b"lock m", Call::Lock(m.copied()))
+        && asks(b"trylock m", Call::Trylock(m.copied()))
+        && asks(
             b"timedlock m 5 9999999999",
-            Call::Timedlock(m.copied(), late)
+            Call::Timedlock(m.copied(), late),
         )
-    );
-    for (text, clock) in [
-        (b"clocklock m real 5 9999999999".as_slice(), Clock::Real),
-        (b"clocklock m mono 5 9999999999".as_slice(), Clock::Mono),
-    ] {
-        assert!(rt; asks(text, Call::Clocklock(m.copied(), clock, late)));
-    }
-    assert!(rt; asks(b"unlock m", Call::Unlock(m.copied())));
-    assert!(rt; asks(b"consistent m", Call::Consistent(m.copied())));
-    assert!(rt; asks(b"mutex-destroy m", Call::MutexDestroy(m.copied())));
-    Ok(())
+        && asks(
+            b"clocklock m real 5 9999999999",
+            Call::Clocklock(m.copied(), Clock::Real, late),
+        )
+        && asks(
+            b"clocklock m mono 5 9999999999",
+            Call::Clocklock(m.copied(), Clock::Mono, late),
+        )
+        && asks(b"unlock m", Call::Unlock(m.copied()))
+        && asks(b"consistent m", Call::Consistent(m.copied()))
+        && asks(b"mutex-destroy m", Call::MutexDestroy(m.copied()))
 }
 
-#[test]
-fn new_mutexes(rt: HostRuntime) -> Result<(), Fail> {
+// Whether the inits of a mutex are read.
+fn are_inits_read() -> bool {
+    let Some(m) = Name::new(b"m") else {
+        return false;
+    };
     let table: [(&[u8], MutexKind, bool); 5] = [
         (b"mutex-init m normal stalled", MutexKind::Normal, false),
         (b"mutex-init m default stalled", MutexKind::Normal, false),
@@ -53,126 +52,162 @@ fn new_mutexes(rt: HostRuntime) -> Result<(), Fail> {
         ),
     ];
     for (text, kind, robust) in table {
-        assert!(rt; asks(text, Call::MutexInit(object(b"m")?, kind, robust)));
+        if !asks(text, Call::MutexInit(m.copied(), kind, robust)) {
+            return false;
+        }
     }
-    Ok(())
+    true
 }
 
-#[test]
-fn calls_on_read_write_locks(rt: HostRuntime) -> Result<(), Fail> {
-    let r = object(b"r")?;
-    let due = Deadline::new(0, 1_000_000_000).ok_or("deadline")?;
-    assert!(rt; asks(b"rwlock-init r", Call::RwlockInit(r.copied())));
-    assert!(rt; asks(b"rdlock r", Call::Rdlock(r.copied())));
-    assert!(rt; asks(b"tryrdlock r", Call::Tryrdlock(r.copied())));
-    assert!(rt;
-        asks(
+// Whether each call on a read-write lock is read.
+fn are_rwlock_calls_read() -> bool {
+    let (Some(r), Some(due)) = (Name::new(b"r"), Deadline::new(0, 1_000_000_000)) else {
+        return false;
+    };
+    asks(b"rwlock-init r", Call::RwlockInit(r.copied()))
+        && asks(b"rdlock r", Call::Rdlock(r.copied()))
+        && asks(b"tryrdlock r", Call::Tryrdlock(r.copied()))
+        && asks(
             b"timedrdlock r 0 1000000000",
-            Call::Timedrdlock(r.copied(), due)
+            Call::Timedrdlock(r.copied(), due),
         )
-    );
-    assert!(rt;
-        asks(
+        && asks(
             b"clockrdlock r mono 0 1000000000",
-            Call::Clockrdlock(r.copied(), Clock::Mono, due)
+            Call::Clockrdlock(r.copied(), Clock::Mono, due),
         )
-    );
-    assert!(rt; asks(b"wrlock r", Call::Wrlock(r.copied())));
-    assert!(rt; asks(b"trywrlock r", Call::Trywrlock(r.copied())));
-    assert!(rt;
-        asks(
+        && asks(b"wrlock r", Call::Wrlock(r.copied()))
+        && asks(b"trywrlock r", Call::Trywrlock(r.copied()))
+        && asks(
             b"timedwrlock r 0 1000000000",
-            Call::Timedwrlock(r.copied(), due)
+            Call::Timedwrlock(r.copied(), due),
         )
-    );
-    assert!(rt;
-        asks(
+        && asks(
             b"clockwrlock r real 0 1000000000",
-            Call::Clockwrlock(r.copied(), Clock::Real, due)
+            Call::Clockwrlock(r.copied(), Clock::Real, due),
         )
-    );
-    assert!(rt; asks(b"rwunlock r", Call::Rwunlock(r.copied())));
-    assert!(rt; asks(b"rwlock-destroy r", Call::RwlockDestroy(r.copied())));
-    Ok(())
+        && asks(b"rwunlock r", Call::Rwunlock(r.copied()))
+        && asks(b"rwlock-destroy r", Call::RwlockDestroy(r.copied()))
 }
 
-#[test]
-fn calls_on_conditions_and_barriers(rt: HostRuntime) -> Result<(), Fail> {
-    let c = object(b"c")?;
-    let m = object(b"m")?;
-    let due = Deadline::new(9_999_999_999, 7).ok_or("deadline")?;
-    assert!(rt; asks(b"cond-init c", Call::CondInit(c.copied())));
-    assert!(rt; asks(b"cond-destroy c", Call::CondDestroy(c.copied())));
-    assert!(rt; asks(b"wait c m", Call::Wait(c.copied(), m.copied())));
-    assert!(rt;
-        asks(
+// Whether each wait at a condition is read.
+fn are_waits_read(c: &Name, m: &Name) -> bool {
+    let Some(due) = Deadline::new(9_999_999_999, 7) else {
+        return false;
+    };
+    asks(b"wait c m", Call::Wait(c.copied(), m.copied()))
+        && asks(
             b"timedwait c m 9999999999 7",
-            Call::Timedwait(c.copied(), m.copied(), due)
+            Call::Timedwait(c.copied(), m.copied(), due),
         )
-    );
-    for (text, clock) in [
-        (b"clockwait c m real 9999999999 7".as_slice(), Clock::Real),
-        (b"clockwait c m mono 9999999999 7".as_slice(), Clock::Mono),
-    ] {
-        assert!(rt; asks(text, Call::Clockwait(c.copied(), m.copied(), clock, due)));
-    }
-    assert!(rt; asks(b"signal c", Call::Signal(c.copied())));
-    assert!(rt; asks(b"broadcast c", Call::Broadcast(c.copied())));
-    assert!(rt;
-        asks(
+        && asks(
+            b"clockwait c m real 9999999999 7",
+            Call::Clockwait(c.copied(), m.copied(), Clock::Real, due),
+        )
+        && asks(
+            b"clockwait c m mono 9999999999 7",
+            Call::Clockwait(c.copied(), m.copied(), Clock::Mono, due),
+        )
+}
+
+// Whether each call on a condition or a barrier is read.
+fn are_other_calls_read() -> bool {
+    let (Some(c), Some(m)) = (Name::new(b"c"), Name::new(b"m")) else {
+        return false;
+    };
+    are_waits_read(&c, &m)
+        && asks(b"cond-init c", Call::CondInit(c.copied()))
+        && asks(b"cond-destroy c", Call::CondDestroy(c.copied()))
+        && asks(b"signal c", Call::Signal(c.copied()))
+        && asks(b"broadcast c", Call::Broadcast(c.copied()))
+        && asks(
             b"barrier-init c 9999999999",
-            Call::BarrierInit(c.copied(), 9_999_999_999)
+            Call::BarrierInit(c.copied(), 9_999_999_999),
         )
+        && asks(b"barrier-init c 0", Call::BarrierInit(c.copied(), 0))
+        && asks(b"bwait c", Call::Bwait(c.copied()))
+        && asks(b"barrier-destroy c", Call::BarrierDestroy(c.copied()))
+}
+
+#[test]
+fn calls_on_each_kind_of_object(rt: HostRuntime) {
+    assert!(rt;
+        are_mutex_calls_read()
+            && are_inits_read()
+            && are_rwlock_calls_read()
+            && are_other_calls_read()
     );
-    assert!(rt; asks(b"barrier-init c 0", Call::BarrierInit(c.copied(), 0)));
-    assert!(rt; asks(b"bwait c", Call::Bwait(c.copied())));
-    assert!(rt; asks(b"barrier-destroy c", Call::BarrierDestroy(c.copied())));
-    Ok(())
 }
 
-#[test]
-fn hellos_and_moments(rt: HostRuntime) -> Result<(), Fail> {
-    for level in [1, 33, 99] {
-        let priority = Priority::new(level).ok_or("priority")?;
-        let text = format!(in rt.alloc(); "hello {level}")?;
-        assert!(rt; read_call(text.as_str().as_bytes()) == Ok(CallLine::Hello(priority)));
+// Whether a hello of the lowest, a middle and the highest priority is read.
+fn are_hellos_read() -> bool {
+    let table: [(&[u8], u64); 3] = [(b"hello 1", 1), (b"hello 33", 33), (b"hello 99", 99)];
+    for (text, level) in table {
+        let hello = Priority::new(level).map(CallLine::Hello);
+        if hello.is_none() || read_call(text).ok() != hello {
+            return false;
+        }
     }
-    let moment = Moment::new(9_999_999_999, 999_999_999).ok_or("moment")?;
-    for (text, clock) in [
-        (b"moment 9999999999 999999999".as_slice(), Clock::Real),
-        (b"mono-moment 9999999999 999999999".as_slice(), Clock::Mono),
-    ] {
-        assert!(rt; read_call(text) == Ok(CallLine::Tick(clock, moment)));
-    }
-    Ok(())
+    true
 }
 
-// The name of an object, as long as one may be.
-const LONGEST: [u8; 32] = [b'x'; 32];
-
-#[test]
-fn the_longest_line(rt: HostRuntime) -> Result<(), Fail> {
-    let alloc = rt.alloc();
-    let mut text = Vec::from_slice(alloc, b"clockwait ")?;
-    text.extend_from_slice(&LONGEST)?;
-    text.extend_from_slice(b" ")?;
-    text.extend_from_slice(&LONGEST)?;
-    text.extend_from_slice(b" mono 9999999999 9999999999")?;
-    assert_eq!(rt; text.len(), 102);
-    let name = object(&LONGEST)?;
-    let due = Deadline::new(9_999_999_999, 9_999_999_999).ok_or("deadline")?;
-    let call = Call::Clockwait(name.copied(), name.copied(), Clock::Mono, due);
-    assert!(rt; asks(text.as_slice(), call));
-    Ok(())
+// Whether the last moment of each clock is read.
+fn are_moments_read() -> bool {
+    let Some(last) = Moment::new(9_999_999_999, 999_999_999) else {
+        return false;
+    };
+    read_call(b"moment 9999999999 999999999") == Ok(CallLine::Tick(Clock::Real, last))
+        && read_call(b"mono-moment 9999999999 999999999") == Ok(CallLine::Tick(Clock::Mono, last))
 }
 
 #[test]
-fn names_of_1_to_32_bytes(rt: HostRuntime) {
+fn hellos_and_moments(rt: HostRuntime) {
+    assert!(rt; are_hellos_read() && are_moments_read());
+}
+
+// The longest line, of 102 bytes.
+const LONGEST: &[u8] = b"clockwait xxxxxxxxxxxxxxxxxxxxxxxxxxxxxxxx \
+    xxxxxxxxxxxxxxxxxxxxxxxxxxxxxxxx mono 9999999999 9999999999";
+
+// Whether the longest line is read.
+fn is_longest_read() -> bool {
+    let due = Deadline::new(9_999_999_999, 9_999_999_999);
+    let (Some(name), Some(due)) = (Name::new(&[b'x'; 32]), due) else {
+        return false;
+    };
+    let call = Call::Clockwait(name.copied(), name, Clock::Mono, due);
+    LONGEST.len() == 102 && asks(LONGEST, call)
+}
+
+// Whether names of 1 to 32 bytes are read, and no others.
+fn are_names_limited() -> bool {
     let mut text = [b'x'; 38];
     text[..5].copy_from_slice(b"lock ");
     for (count, known) in [(0, false), (1, true), (32, true), (33, false)] {
-        assert_eq!(rt; read_call(&text[..5 + count]).is_ok(), known, "{count}");
+        if read_call(&text[..5 + count]).is_ok() != known {
+            return false;
+        }
     }
+    true
+}
+
+// Whether lines from 129 bytes on are too long.
+fn are_lines_limited() -> bool {
+    let bytes = [b'x'; 200];
+    for (count, refusal) in [
+        (128, Refusal::Syntax),
+        (129, Refusal::Long),
+        (200, Refusal::Long),
+    ] {
+        if read_call(&bytes[..count]).err() != Some(refusal) {
+            return false;
+        }
+    }
+    true
+}
+
+#[test]
+fn names_and_lines_within_their_limits(rt: HostRuntime) {
+    assert!(rt; is_longest_read() && are_names_limited() && are_lines_limited());
 }
 
 const NO_LINES: [&[u8]; 69] = [
@@ -247,30 +282,32 @@ const NO_LINES: [&[u8]; 69] = [
     b"moment mono 1 0",
 ];
 
+// Whether none of these lines is read.
+fn are_refused() -> bool {
+    for text in NO_LINES {
+        if read_call(text).err() != Some(Refusal::Syntax) {
+            return false;
+        }
+    }
+    true
+}
+
 #[test]
 fn lines_that_no_connection_may_send(rt: HostRuntime) {
-    for text in NO_LINES {
-        assert!(rt; read_call(text) == Err(Refusal::Syntax), "{text:?}");
-    }
+    assert!(rt; are_refused());
+}
+
+// Whether a line that was cut is read, and one that is too long is refused.
+fn is_cut_read(cut: &Cut) -> bool {
+    let hello = Priority::new(5).map(CallLine::Hello);
+    hello.is_some()
+        && CallLine::of(cut).ok() == hello
+        && CallLine::of(&Cut::Long).err() == Some(Refusal::Long)
 }
 
 #[test]
 fn a_cut_line_is_read(rt: HostRuntime) -> Result<(), Fail> {
-    let priority = Priority::new(5).ok_or("priority")?;
     let cut = first_cut(rt.alloc(), b"hello 5\n")?;
-    assert!(rt; CallLine::of(&cut) == Ok(CallLine::Hello(priority)));
-    assert!(rt; CallLine::of(&Cut::Long) == Err(Refusal::Long));
+    assert!(rt; is_cut_read(&cut));
     Ok(())
-}
-
-#[test]
-fn lines_past_128_bytes_are_long(rt: HostRuntime) {
-    for (count, refusal) in [
-        (128, Refusal::Syntax),
-        (129, Refusal::Long),
-        (200, Refusal::Long),
-    ] {
-        let bytes = [b'x'; 200];
-        assert!(rt; read_call(&bytes[..count]) == Err(refusal), "{count}");
-    }
 }

@@ -1,3 +1,5 @@
+ghost use Rattle.std.specs.Prelude.{◌≤◌};
+
 use super::lend;
 use linked_list_allocator::LocalHeap;
 use pt_lines::{Cut, Cutter, cut_all};
@@ -16,16 +18,16 @@ fn show(text: &mut Vec<u8>, cuts: &[Cut]) -> Result<(), Fail> {
     Ok(())
 }
 
-// The lines of the pieces, each with a bar after it.
-fn shown(alloc: Global, pieces: &[&[u8]]) -> Result<Vec<u8>, Fail> {
+// Whether the lines of the pieces are these, each with a bar after it.
+fn are_lines(alloc: Global, pieces: &[&[u8]], expected: &[u8]) -> Result<bool, Fail> {
     let cuts = cut_all(alloc, pieces)?;
     let mut text = Vec::new(alloc);
     show(&mut text, &cuts)?;
-    Ok(text)
+    Ok(text.as_slice() == expected)
 }
 
-#[test]
-fn cuts_at_newlines(rt: HostRuntime) -> Result<(), Fail> {
+// Whether these pieces are cut at their newlines.
+fn are_cut_at_newlines(alloc: Global) -> Result<bool, Fail> {
     let table: [(&[&[u8]], &[u8]); 9] = [
         (&[b"hel", b"lo 5\nlo", b"ck m\n"], b"hello 5|lock m|"),
         (&[], b""),
@@ -37,51 +39,61 @@ fn cuts_at_newlines(rt: HostRuntime) -> Result<(), Fail> {
         (&[b"a\r\n\x00b\n"], b"a\r|\x00b|"),
         (&[b"a\n", b"\n", b""], b"a||"),
     ];
-    for (pieces, wanted) in table {
-        assert_eq!(rt; shown(rt.alloc(), pieces)?.as_slice(), wanted);
-    }
-    Ok(())
-}
-
-// So many bytes and this text.
-fn bytes_and(alloc: Global, count: usize, text: &[u8]) -> Result<Vec<u8>, Fail> {
-    let mut bytes = vec![in alloc; b'x'; count]?;
-    bytes.extend_from_slice(text)?;
-    Ok(bytes)
-}
-
-// Whether these lines are given, wherever the bytes are cut in two.
-fn is_given_at_each_cut(alloc: Global, bytes: &[u8], wanted: &[u8]) -> Result<bool, Fail> {
-    for at in 0..bytes.len() {
-        let (front, back) = bytes.split_at(at);
-        if shown(alloc, &[front, back])?.as_slice() != wanted {
+    for (pieces, expected) in table {
+        if !are_lines(alloc, pieces, expected)? {
             return Ok(false);
         }
     }
     Ok(true)
 }
 
-// The same of a line of so many bytes and one more line.
-fn is_line_given(alloc: Global, count: usize, wanted: &[u8]) -> Result<bool, Fail> {
-    lend(
-        bytes_and(alloc, count, b"\nlock m\n")?,
-        |bytes| is_given_at_each_cut(alloc, bytes.as_slice(), wanted),
+#[test]
+fn cuts_at_newlines(rt: HostRuntime) -> Result<(), Fail> {
+    assert!(rt; are_cut_at_newlines(rt.alloc())?);
+    Ok(())
+}
+
+// Whether these lines are given, wherever the bytes are cut in two.
+fn is_given_at_each_cut(alloc: Global, bytes: &[u8], expected: &[u8]) -> Result<bool, Fail> {
+    for at in 0..bytes.len() {
+        let (front, back) = bytes.split_at(at);
+        if !are_lines(alloc, &[front, back], expected)? {
+            return Ok(false);
+        }
+    }
+    Ok(true)
+}
+
+// Whether a line of so many bytes and one more line are given, the first one as these bytes or as
+// too long.
+fn is_line_given(alloc: Global, count: usize, is_long: bool) -> Result<bool, Fail>
+    requires { count ≤ 10000 }
+{
+    let mut bytes = [b'x'; 10_008];
+    bytes[count..count + 8].copy_from_slice(b"\nlock m\n");
+    let mut shown = [b'x'; 10_008];
+    shown[count..count + 8].copy_from_slice(b"|lock m|");
+    let expected = if is_long {
+        b"LONG|lock m|".as_slice()
+    } else {
+        &shown[..count + 8]
+    };
+    is_given_at_each_cut(alloc, &bytes[..count + 8], expected)
+}
+
+// Whether lines of up to 128 bytes are given, and longer ones are too long.
+fn are_lines_limited(alloc: Global) -> Result<bool, Fail> {
+    Ok(
+        is_line_given(alloc, 127, false)?
+            && is_line_given(alloc, 128, false)?
+            && is_line_given(alloc, 129, true)?
+            && is_line_given(alloc, 10_000, true)?,
     )
 }
 
 #[test]
 fn a_line_has_up_to_128_bytes(rt: HostRuntime) -> Result<(), Fail> {
-    let alloc = rt.alloc();
-    for count in [127, 128] {
-        let is_given = lend(
-            bytes_and(alloc, count, b"|lock m|")?,
-            |wanted| is_line_given(alloc, count, wanted.as_slice()),
-        );
-        assert!(rt; is_given?, "{count}");
-    }
-    for count in [129, 10_000] {
-        assert!(rt; is_line_given(alloc, count, b"LONG|lock m|")?, "{count}");
-    }
+    assert!(rt; are_lines_limited(rt.alloc())?);
     Ok(())
 }
 
@@ -106,29 +118,50 @@ fn count_long_by_bytes(cutter: &mut Cutter, count: usize) -> Result<usize, Fail>
     Ok(long)
 }
 
-// A cutter that was fed all of a line of 128 bytes but its newline.
-fn fed_with_128_bytes(alloc: Global) -> Result<Cutter, Fail> {
-    let mut cutter = Cutter::new(alloc);
-    cutter.feed(&[b'x'; 128])?;
-    Ok(cutter)
-}
-
-#[test]
-fn long_comes_once_with_the_129th_byte(rt: HostRuntime) -> Result<(), Fail> {
-    let alloc = rt.alloc();
+// How often lines of these bytes are reported as too long, when they are fed byte by byte.
+fn are_long_counted(alloc: Global) -> Result<bool, Fail> {
     for (count, long) in [(128, 0), (129, 1), (130, 1), (10_000, 1)] {
         let told = lend(
             Cutter::new(alloc),
             |cutter| count_long_by_bytes(cutter, count),
         );
-        assert_eq!(rt; told?, long, "{count}");
+        if told? != long {
+            return Ok(false);
+        }
     }
-    let mut cutter = fed_with_128_bytes(alloc)?;
-    assert!(rt; cutter.next_line().is_none());
-    assert!(rt; cutter.feed(b"x").is_ok());
-    assert!(rt; cutter.next_line() == Some(Cut::Long));
-    assert!(rt; cutter.next_line().is_none());
-    assert!(rt; cutter.finish().is_none());
+    Ok(true)
+}
+
+// Whether a line is too long as soon as its 129th byte comes, and once.
+fn is_long_told_once(cutter: &mut Cutter) -> Result<bool, Fail> {
+    cutter.feed(&[b'x'; 128])?;
+    let early = cutter.next_line();
+    cutter.feed(b"x")?;
+    let long = cutter.next_line();
+    let again = cutter.next_line();
+    Ok(early.is_none() && long == Some(Cut::Long) && again.is_none())
+}
+
+// Whether nothing is left of a line that was too long when the input ends.
+fn is_nothing_left(alloc: Global) -> Result<bool, Fail> {
+    let mut cutter = Cutter::new(alloc);
+    cutter.feed(&[b'x'; 129])?;
+    let long = cutter.next_line();
+    if cutter.next_line().is_some() {
+        return Ok(false);
+    }
+    let rest = cutter.finish();
+    Ok(long == Some(Cut::Long) && rest.is_none())
+}
+
+#[test]
+fn long_comes_once_with_the_129th_byte(rt: HostRuntime) -> Result<(), Fail> {
+    let alloc = rt.alloc();
+    assert!(rt;
+        are_long_counted(alloc)?
+            && lend(Cutter::new(alloc), is_long_told_once)?
+            && is_nothing_left(alloc)?
+    );
     Ok(())
 }
 
@@ -153,14 +186,12 @@ fn takes_little_memory(alloc: Global, piece: &[u8], times: usize) -> Result<bool
 }
 
 #[test]
-fn a_line_without_end_takes_little_memory(rt: HostRuntime) -> Result<(), Fail> {
-    assert!(rt; takes_little_memory(rt.alloc(), &[b'x'; 4096], 25_600)?);
-    Ok(())
-}
-
-#[test]
-fn many_lines_take_little_memory(rt: HostRuntime) -> Result<(), Fail> {
-    let piece = b"lock m\ntimedlock some_name 1 2\nunl";
-    assert!(rt; takes_little_memory(rt.alloc(), piece, 100_000)?);
+fn lines_take_little_memory(rt: HostRuntime) -> Result<(), Fail> {
+    let alloc = rt.alloc();
+    let lines = b"lock m\ntimedlock some_name 1 2\nunl";
+    assert!(rt;
+        takes_little_memory(alloc, &[b'x'; 4096], 25_600)?
+            && takes_little_memory(alloc, lines, 100_000)?
+    );
     Ok(())
 }

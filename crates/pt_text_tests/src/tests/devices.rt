@@ -2,11 +2,11 @@ ghost use Rattle.std.specs.Prelude.{◌≡◌, ◌++◌, [], true, false, OnOk, 
 ghost use mathlib.Core.List.{IsPrefix};
 
 use pt_io::{Counted, Faulty, Sink, Source};
+use std::alloc::Global;
 use std::collections::VecDeque;
 use std::io;
 use std::io::{ErrorKind, Read, Write};
 use std::os::unix::net::UnixStream;
-use std::process::Abort;
 use std::test::Fail;
 
 mod faults;
@@ -95,91 +95,122 @@ impl Write for Unready {
     }
 }
 
+// Whether all bytes of a reader come in pieces of four, and then its end.
+fn come_in_pieces(reader: &mut Counted<VecDeque<u8>>) -> io::Result<bool>
+    requires { reader.old.has_failed ≡ false }
+{
+    let mut first = [0u8; 4];
+    let mut second = *b"lock";
+    let none = reader.read(&mut [])?;
+    let four = reader.read(&mut first)?;
+    let three = reader.read(&mut second)?;
+    let is_early = reader.has_ended();
+    let end = reader.read(&mut [0; 4])?;
+    Ok(
+        [none, four, three, end] == [0, 4, 3, 0]
+            && (first, second) == (*b"lock", *b" m\nk")
+            && (is_early, reader.has_ended(), reader.has_failed()) == (false, true, false)
+            && reader.device().is_empty(),
+    )
+}
+
 #[test]
 fn all_bytes_of_a_reader_come_in_pieces(rt: HostRuntime) -> Result<(), Fail> {
     let mut reader = Counted::new(VecDeque::from_array(rt.alloc(), *b"lock m\n")?);
-    play_all_bytes_of_a_reader(&rt, &mut reader)
+    assert!(rt; come_in_pieces(&mut reader)?);
+    Ok(())
 }
 
-fn play_all_bytes_of_a_reader(
-    rt: &impl Abort,
-    reader: &mut Counted<VecDeque<u8>>,
-) -> Result<(), Fail>
-    requires { reader.old.has_failed ≡ false }
-{
-    let mut piece = [0u8; 4];
-    assert_eq!(rt; reader.read(&mut [])?, 0);
-    assert!(rt; !reader.has_ended());
-    assert_eq!(rt; reader.read(&mut piece)?, 4);
-    assert_eq!(rt; piece, *b"lock");
-    assert_eq!(rt; reader.read(&mut piece)?, 3);
-    assert_eq!(rt; piece, *b" m\nk");
-    assert!(rt; !reader.has_ended());
-    assert_eq!(rt; reader.read(&mut piece)?, 0);
-    assert!(rt; reader.has_ended());
-    assert!(rt; !reader.has_failed());
-    assert!(rt; reader.device().is_empty());
-    Ok(())
+// Whether a writer takes all bytes and is given back.
+fn is_given_back(alloc: Global) -> bool {
+    let mut writer = Counted::new(VecDeque::new(alloc));
+    let is_put = put(&mut writer, b"1 0\n").is_ok() && put(&mut writer, b"2 0\n").is_ok();
+    let has_failed = writer.has_failed();
+    let mut bytes = writer.into_inner();
+    is_put && !has_failed && &*bytes.make_contiguous() == b"1 0\n2 0\n".as_slice()
 }
 
 #[test]
 fn a_writer_takes_all_bytes_and_is_given_back(rt: HostRuntime) {
-    let mut writer = Counted::new(VecDeque::new(rt.alloc()));
-    assert!(rt; put(&mut writer, b"1 0\n").is_ok());
-    assert!(rt; put(&mut writer, b"2 0\n").is_ok());
-    assert!(rt; !writer.has_failed());
-    let mut bytes = writer.into_inner();
-    assert_eq!(rt; &*bytes.make_contiguous(), b"1 0\n2 0\n".as_slice());
+    assert!(rt; is_given_back(rt.alloc()));
+}
+
+// Whether a reader that fails at this call, or at none, has given these bytes in pieces of three.
+fn has_given(
+    alloc: Global,
+    fails_at: u64,
+    has_failed: bool,
+    given: &[u8],
+    left: &[u8],
+) -> Result<bool, Fail> {
+    let mut reader = Faulty::new(Vec::from_slice(alloc, b"abcdefg")?, 3, fails_at);
+    let mut writer = Faulty::new(Vec::new(alloc), 100, 0);
+    let is_copied = copy(&mut reader, &mut writer).is_ok();
+    Ok(
+        (is_copied, reader.has_failed()) == (!has_failed, has_failed)
+            && writer.written() == given
+            && reader.left() == left,
+    )
+}
+
+// Whether each reader has given what came before its failure.
+fn have_given(alloc: Global) -> Result<bool, Fail> {
+    let table: [(u64, bool, &[u8], &[u8]); 6] = [
+        (1, true, b"", b"abcdefg"),
+        (2, true, b"abc", b"defg"),
+        (3, true, b"abcdef", b"g"),
+        (4, true, b"abcdefg", b""),
+        (0, false, b"abcdefg", b""),
+        (5, false, b"abcdefg", b""),
+    ];
+    for (fails_at, has_failed, given, left) in table {
+        if !has_given(alloc, fails_at, has_failed, given, left)? {
+            return Ok(false);
+        }
+    }
+    Ok(true)
+}
+
+// Whether a writer that fails at this call has taken these bytes, two at a time.
+fn has_taken(alloc: Global, fails_at: u64, taken: &[u8]) -> bool {
+    let mut writer = Faulty::new(Vec::new(alloc), 2, fails_at);
+    let is_put = put(&mut writer, b"1 0\n2").is_ok();
+    !is_put && writer.has_failed() && writer.written() == taken
 }
 
 #[test]
-fn a_failing_reader_has_given_what_came_before(rt: HostRuntime) -> Result<(), Fail> {
+fn a_failing_device_has_moved_what_came_before(rt: HostRuntime) -> Result<(), Fail> {
     let alloc = rt.alloc();
-    for (fails_at, given) in [(1, 0), (2, 3), (3, 6), (4, 7)] {
-        let bytes = Vec::from_slice(alloc, b"abcdefg")?;
-        let mut reader = Faulty::new(bytes, 3, fails_at);
-        let mut writer = Faulty::new(Vec::new(alloc), 100, 0);
-        assert!(rt; copy(&mut reader, &mut writer).is_err(), "at {fails_at}");
-        assert!(rt; reader.has_failed(), "at {fails_at}");
-        assert_eq!(rt; writer.written().len(), given, "at {fails_at}");
-        assert_eq!(rt; reader.left().len(), 7 - given, "at {fails_at}");
-    }
+    assert!(rt;
+        have_given(alloc)?
+            && has_taken(alloc, 1, b"")
+            && has_taken(alloc, 2, b"1 ")
+            && has_taken(alloc, 3, b"1 0\n")
+    );
     Ok(())
 }
 
-#[test]
-fn a_failing_writer_has_taken_what_came_before(rt: HostRuntime) -> Result<(), Fail> {
-    let alloc = rt.alloc();
-    for (fails_at, taken) in [
-        (1, b"".as_slice()),
-        (2, b"1 ".as_slice()),
-        (3, b"1 0\n".as_slice()),
-    ] {
-        let mut writer = Faulty::new(Vec::new(&alloc), 2, fails_at);
-        assert!(rt; put(&mut writer, b"1 0\n2").is_err(), "at {fails_at}");
-        assert!(rt; writer.has_failed(), "at {fails_at}");
-        assert_eq!(rt; writer.written(), taken, "at {fails_at}");
-    }
-    Ok(())
+// Whether a read of a device that is so often unready fails, or gives its bytes.
+fn is_read(alloc: Global, times: u32, kind: ErrorKind, fails: bool) -> Result<bool, Fail> {
+    let bytes = VecDeque::from_array(alloc, *b"abc")?;
+    let mut reader = Counted::new(Unready { bytes, times, kind });
+    let has_erred = reader.read(&mut [0; 8]).is_err();
+    Ok(
+        (has_erred, reader.has_failed()) == (fails, fails)
+            && reader.device().bytes.is_empty() != fails,
+    )
 }
 
-#[test]
-fn a_call_that_never_comes_does_not_fail(rt: HostRuntime) -> Result<(), Fail> {
-    let alloc = rt.alloc();
-    for fails_at in [0, 5] {
-        let bytes = Vec::from_slice(alloc, b"abcdefg")?;
-        let mut reader = Faulty::new(bytes, 3, fails_at);
-        let mut writer = Faulty::new(Vec::new(alloc), 100, 0);
-        assert!(rt; copy(&mut reader, &mut writer).is_ok());
-        assert!(rt; !reader.has_failed());
-        assert_eq!(rt; writer.written(), b"abcdefg".as_slice());
-    }
-    Ok(())
+// Whether a write to a device that is so often unready fails, or leaves its bytes there.
+fn is_written(alloc: Global, times: u32, kind: ErrorKind, fails: bool) -> bool {
+    let bytes = VecDeque::new(alloc);
+    let mut writer = Counted::new(Unready { bytes, times, kind });
+    let has_erred = writer.write(b"abc").is_err();
+    (has_erred, writer.has_failed()) == (fails, fails) && writer.device().bytes.is_empty() == fails
 }
 
-#[test]
-fn only_interruptions_are_tried_again_and_sixteen_times(rt: HostRuntime) -> Result<(), Fail> {
-    let alloc = rt.alloc();
+// Whether interruptions alone are tried again, up to sixteen times.
+fn are_tried_again(alloc: Global) -> Result<bool, Fail> {
     for (kind, times, fails) in [
         (ErrorKind::Interrupted, 0, false),
         (ErrorKind::Interrupted, 1, false),
@@ -187,20 +218,16 @@ fn only_interruptions_are_tried_again_and_sixteen_times(rt: HostRuntime) -> Resu
         (ErrorKind::Interrupted, 17, true),
         (ErrorKind::WouldBlock, 1, true),
     ] {
-        let bytes = VecDeque::from_array(alloc, *b"abc")?;
-        let mut reader = Counted::new(Unready { bytes, times, kind });
-        let read = reader.read(&mut [0; 8]);
-        assert_eq!(rt; read.is_err(), fails, "at {times}");
-        assert_eq!(rt; reader.has_failed(), fails, "at {times}");
-        assert_eq!(rt; reader.device().bytes.is_empty(), !fails, "at {times}");
-
-        let bytes = VecDeque::new(alloc);
-        let mut writer = Counted::new(Unready { bytes, times, kind });
-        let wrote = writer.write(b"abc");
-        assert_eq!(rt; wrote.is_err(), fails, "at {times}");
-        assert_eq!(rt; writer.has_failed(), fails, "at {times}");
-        assert_eq!(rt; writer.device().bytes.is_empty(), fails, "at {times}");
+        if !is_read(alloc, times, kind, fails)? || !is_written(alloc, times, kind, fails) {
+            return Ok(false);
+        }
     }
+    Ok(true)
+}
+
+#[test]
+fn only_interruptions_are_tried_again_and_sixteen_times(rt: HostRuntime) -> Result<(), Fail> {
+    assert!(rt; are_tried_again(rt.alloc())?);
     Ok(())
 }
 
@@ -212,12 +239,12 @@ fn a_socket_carries_bytes_until_it_is_closed(rt: HostRuntime) -> Result<(), Fail
     let mut writer = Counted::new(near);
     let mut reader = Counted::new(far);
     moves_to_a_thread(&writer);
-    assert!(rt; put(&mut writer, b"lock m\n").is_ok());
+    let is_put = put(&mut writer, b"lock m\n").is_ok();
     drop(writer);
     let mut copied = Faulty::new(Vec::new(rt.alloc()), 100, 0);
     moves_to_a_thread(&copied);
-    assert!(rt; copy(&mut reader, &mut copied).is_ok());
-    assert!(rt; reader.has_ended());
-    assert_eq!(rt; copied.written(), b"lock m\n".as_slice());
+    let is_copied = copy(&mut reader, &mut copied).is_ok();
+    let is_whole = copied.written() == b"lock m\n".as_slice();
+    assert!(rt; is_put && is_copied && is_whole && reader.has_ended());
     Ok(())
 }

@@ -9,8 +9,8 @@ fn is_refused(text: &[u8], who: &[u8], refusal: Refusal) -> bool {
     line.who.as_bytes() == who && line.body == Err(refusal)
 }
 
-#[test]
-fn script_lines_with_faults(rt: HostRuntime) {
+// Whether each of these lines is its client's, and is refused.
+fn are_refused() -> bool {
     let table: [(&[u8], &[u8]); 26] = [
         (b"", b"?"),
         (b" ", b"?"),
@@ -40,53 +40,64 @@ fn script_lines_with_faults(rt: HostRuntime) {
         (b"? lock m", b"?"),
     ];
     for (text, who) in table {
-        assert!(rt; is_refused(text, who, Refusal::Syntax), "{text:?}");
+        if !is_refused(text, who, Refusal::Syntax) {
+            return false;
+        }
     }
-    assert!(rt; is_refused(&[b'A'; 128], b"?", Refusal::Syntax));
-    assert!(rt; is_refused(&[b'A'; 129], b"?", Refusal::Long));
-    assert!(rt; ScriptLine::of(&Cut::Long) == ScriptLine::long());
+    is_refused(&[b'A'; 128], b"?", Refusal::Syntax)
+        && is_refused(&[b'A'; 129], b"?", Refusal::Long)
+        && ScriptLine::of(&Cut::Long) == ScriptLine::long()
 }
 
 #[test]
-fn script_lines_of_clients_and_the_clocks(rt: HostRuntime) -> Result<(), Fail> {
-    let line = read_script_line(b"abcdEF90 lock m");
-    assert!(rt; line.who.as_bytes() == b"abcdEF90".as_slice());
-    assert!(rt; line.body == Ok(ScriptBody::Ask(Call::Lock(Name::new(b"m").ok_or("name")?))));
-    let line = read_script_line(b"0 hello 99");
-    assert!(rt; line.who == Who::Named(ClientName::new(b"0").ok_or("client")?));
-    assert!(rt; line.body == Ok(ScriptBody::Hello(Priority::new(99).ok_or("priority")?)));
-    assert!(rt; read_script_line(b"A die").body == Ok(ScriptBody::Die));
-    for (text, clock) in [
-        (b"* moment 1 0".as_slice(), Clock::Real),
-        (b"* mono-moment 1 0".as_slice(), Clock::Mono),
-    ] {
-        let line = read_script_line(text);
-        assert!(rt; line.who.copied() == Who::Star);
-        assert!(rt; line.body == Ok(ScriptBody::Tick(clock, Moment::new(1, 0).ok_or("moment")?)));
-    }
-    Ok(())
+fn script_lines_with_faults(rt: HostRuntime) {
+    assert!(rt; are_refused());
 }
 
+// Whether a line is this client's, and has this body.
+fn is_read(text: &[u8], who: &[u8], body: ScriptBody) -> bool {
+    let line = read_script_line(text);
+    line.who.as_bytes() == who && line.body == Ok(body)
+}
+
+// Whether a call, a hello and a die are read with their clients.
+fn are_client_lines_read() -> bool {
+    let (Some(m), Some(most)) = (Name::new(b"m"), Priority::new(99)) else {
+        return false;
+    };
+    is_read(
+        b"abcdEF90 lock m",
+        b"abcdEF90",
+        ScriptBody::Ask(Call::Lock(m)),
+    ) && is_read(b"0 hello 99", b"0", ScriptBody::Hello(most))
+        && ClientName::new(b"0").map(Who::Named) == Some(read_script_line(b"0 hello 99").who)
+        && is_read(b"A die", b"A", ScriptBody::Die)
+}
+
+// Whether this line is a tick of this clock to the first second.
+fn is_tick(text: &[u8], clock: Clock) -> bool {
+    let line = read_script_line(text);
+    let tick = Moment::new(1, 0).map(|moment| ScriptBody::Tick(clock, moment));
+    line.who == Who::Star && tick.is_some() && line.body.ok() == tick
+}
+
+// The longest line, of 111 bytes.
+const LONGEST: &[u8] = b"abcdefgh clockwait xxxxxxxxxxxxxxxxxxxxxxxxxxxxxxxx \
+    yyyyyyyyyyyyyyyyyyyyyyyyyyyyyyyy real 9999999999 9999999999";
+
 #[test]
-fn the_longest_line_has_111_bytes(rt: HostRuntime) -> Result<(), Fail> {
-    let alloc = rt.alloc();
-    let mut text = Vec::from_slice(alloc, b"abcdefgh clockwait ")?;
-    text.extend_from_slice(&[b'x'; 32])?;
-    text.extend_from_slice(b" ")?;
-    text.extend_from_slice(&[b'y'; 32])?;
-    text.extend_from_slice(b" real 9999999999 9999999999")?;
-    assert_eq!(rt; text.len(), 111);
+fn script_lines_of_clients_and_the_clocks(rt: HostRuntime) {
     assert!(rt;
-        matches!(
-            read_script_line(text.as_slice()).body,
-            Ok(ScriptBody::Ask(_))
-        )
+        are_client_lines_read()
+            && is_tick(b"* moment 1 0", Clock::Real)
+            && is_tick(b"* mono-moment 1 0", Clock::Mono)
+            && LONGEST.len() == 111
+            && matches!(read_script_line(LONGEST).body, Ok(ScriptBody::Ask(_)))
     );
-    Ok(())
 }
 
-#[test]
-fn clients_of_1_to_8_letters_or_digits(rt: HostRuntime) {
+// Whether these are names of clients, or not.
+fn are_client_names_known() -> bool {
     let table: [(&[u8], bool); 8] = [
         (b"", false),
         (b"Z", true),
@@ -98,8 +109,16 @@ fn clients_of_1_to_8_letters_or_digits(rt: HostRuntime) {
         (b"\xc3\xa4", false),
     ];
     for (name, known) in table {
-        assert_eq!(rt; ClientName::new(name).is_some(), known, "{name:?}");
+        if ClientName::new(name).is_some() != known {
+            return false;
+        }
     }
+    true
+}
+
+#[test]
+fn clients_of_1_to_8_letters_or_digits(rt: HostRuntime) {
+    assert!(rt; are_client_names_known());
 }
 
 #[test]

@@ -1,4 +1,6 @@
 use Rattle.pt_state.specs.Adds.{past}
+use Rattle.pt_state.specs.Serving.{waits_in}
+use Rattle.pt_machine.proofs.QueueClasses.{at-cond}
 use Rattle.pt_machine.proofs.QueueFirsts.{first-called, none-called, found-known}
 use Rattle.pt_machine.proofs.cond.first_waiting.Goals as goal
 
@@ -6,8 +8,10 @@ pub returns-in-Some-clause-value : goal.returns-in-Some-clause-value
 returns-in-Some-clause-value g c =
     let s = c.args.state.now in
     first-called (past s) (g.Q.WaitList.queue c.args.queues.now) c.requires.queued.members
-    c.requires.read.follows c.args.q c.requires.cond s.clients c.requires.read.callers
-    c.first.result c.in-Some.first c.open_of.result c.first.ensures c.in-Some.is c.open_of.ensures
+    c.requires.read.follows c.args.q (waits_in (past s) c.args.q)
+    (at-cond (past s) c.requires.read.follows c.args.q c.requires.cond) s.clients
+    c.requires.read.callers c.first.result c.in-Some.first c.open_of.result c.first.ensures
+    c.in-Some.is c.open_of.ensures
 
 pub returns-in-Some-clause-known : goal.returns-in-Some-clause-known
 returns-in-Some-clause-known g c =
@@ -15,6 +19,8 @@ returns-in-Some-clause-known g c =
 
 pub returns-in-None-clause-value : goal.returns-in-None-clause-value
 returns-in-None-clause-value g c =
-    none-called (past c.args.state.now) (g.Q.WaitList.queue c.args.queues.now)
-    c.requires.queued.members c.requires.read.follows c.args.q c.requires.cond c.first.result
+    let h = past c.args.state.now in
+    none-called h (g.Q.WaitList.queue c.args.queues.now) c.requires.queued.members
+    c.requires.read.follows c.args.q (waits_in h c.args.q)
+    (at-cond h c.requires.read.follows c.args.q c.requires.cond) c.first.result
     c.first.ensures c.in-None.is

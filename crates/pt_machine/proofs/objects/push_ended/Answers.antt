@@ -1,5 +1,4 @@
 use Rattle.std.proofs.Common.{sym, ◌∙◌}
-use Rattle.pt_types.specs.Shown.{shown_class}
 use Rattle.pt_machine.proofs.QueuedObjects.{end-made, end-empty, end-queued}
 use Rattle.pt_machine.proofs.objects.push_ended.Goals as goal
 
@@ -8,14 +7,14 @@ discard-requires-clause-made g c =
     end-made c.args.state.now c.args.c c.args.call.now c.requires.ready
     (g.Q.WaitList.queue c.args.queues.now) (g.Q.WaitList.admitted c.args.queues.now)
     (g.Q.WaitList.made c.args.queues.now) c.requires.queued c.args.n.now
-    (shown_class c.args.class) c.unwrap-o.result (sym c.find.ensures ∙ c.unwrap-o.ensures)
+    c.args.class c.unwrap-o.result (sym c.find.ensures ∙ c.unwrap-o.ensures)
 
 pub discard-requires-clause-empty : goal.discard-requires-clause-empty
 discard-requires-clause-empty g c =
     end-empty c.args.state.now c.args.c c.args.call.now c.requires.ready
     (g.Q.WaitList.queue c.args.queues.now) (g.Q.WaitList.admitted c.args.queues.now)
     (g.Q.WaitList.made c.args.queues.now) c.requires.queued c.args.n.now
-    (shown_class c.args.class) c.unwrap-o.result (sym c.find.ensures ∙ c.unwrap-o.ensures)
+    c.args.class c.unwrap-o.result (sym c.find.ensures ∙ c.unwrap-o.ensures)
     c.requires.operation
 
 pub returns-clause-queued : goal.returns-clause-queued
@@ -23,7 +22,7 @@ returns-clause-queued g c =
     end-queued c.args.state.now c.args.c c.args.call.now c.requires.ready
     (g.Q.WaitList.queue c.args.queues.now) (g.Q.WaitList.admitted c.args.queues.now)
     (g.Q.WaitList.made c.args.queues.now) c.requires.queued c.args.n.now
-    (shown_class c.args.class) c.unwrap-o.result (sym c.find.ensures ∙ c.unwrap-o.ensures)
+    c.args.class c.unwrap-o.result (sym c.find.ensures ∙ c.unwrap-o.ensures)
     c.requires.operation c.push_ended.new.self (g.Q.WaitList.queue c.discard.new.self)
     (g.Q.WaitList.admitted c.discard.new.self) (g.Q.WaitList.made c.discard.new.self)
     c.discard.ensures.queues c.discard.ensures.admitted c.discard.ensures.made

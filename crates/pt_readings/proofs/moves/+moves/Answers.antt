@@ -2,14 +2,13 @@ use Rattle.std.proofs.Common.{sym, ◌∙◌, below_more}
 use Rattle.pt_model.specs.Histories.{history}
 use Rattle.pt_model.specs.Moves.{moved, waits_at, precedes_by}
 use Rattle.pt_readings.specs.Found.{unmoved}
-use Rattle.pt_model.specs.Shown.{shown}
 use Rattle.pt_readings.proofs.Opens.{open-found, open-nowhere}
 use Rattle.pt_readings.proofs.moves.+moves.Goals as goal
 
 pub is_preceded-returns-then-waits_before : goal.is_preceded-returns-then-waits_before
 is_preceded-returns-then-waits_before t c =
     let h = history c.args.entries.now in
-    sym (open-found c.args.entries.now (λ v. precedes_by unmoved v (shown c.args.w.now))
+    sym (open-found c.args.entries.now (λ v. precedes_by unmoved v c.args.w.now)
     (waits_at h (moved h) c.args.n.now) c.loop-i.i
     (sym c.waits_before.ensures ∙ c.if-waits_before.true))
 
@@ -20,5 +19,5 @@ is_preceded-loop-i-preserved t c =
 pub is_preceded-returns : goal.is_preceded-returns
 is_preceded-returns t c =
     let h = history c.args.entries.now in
-    sym (open-nowhere c.args.entries.now (λ v. precedes_by unmoved v (shown c.args.w.now))
+    sym (open-nowhere c.args.entries.now (λ v. precedes_by unmoved v c.args.w.now)
     (waits_at h (moved h) c.args.n.now) c.loop-i.i c.loop-i-test.false c.loop-i.invariant)

@@ -1,12 +1,11 @@
 use Rattle.std.proofs.Common.{◌≡◌, ℕ, ◌+◌, ◌*◌, ◌<◌, false, length, take}
-use Rattle.std.specs.Prelude.{◌&&◌, option_map}
+use Rattle.std.specs.Prelude.{◌&&◌}
 use Rattle.pt_model.specs.Histories.{history}
 use Rattle.pt_model.specs.WaitingCall.{at_place}
 use Rattle.pt_model.specs.Answers.{open_calls}
 use Rattle.pt_model.specs.Moves.{moved, waits_at, precedes_by}
 use Rattle.pt_model.specs.Found.{passes}
 use Rattle.pt_readings.specs.Found.{unmoved}
-use Rattle.pt_model.specs.Shown.{shown, shown_move}
 use Rattle.pt_readings.proofs.moves.+moves.Given as goal
 
 abbrev pub decreases-moved : goal.decreases-moved
@@ -28,10 +27,10 @@ abbrev pub invariant-is_preceded-loop-i : goal.invariant-is_preceded-loop-i
 invariant-is_preceded-loop-i l =
     let h = history l.entries in
     (k : ℕ) → k < l.i
-    → passes (λ v. waits_at h (moved h) l.n v && precedes_by unmoved v (shown l.w))
+    → passes (λ v. waits_at h (moved h) l.n v && precedes_by unmoved v l.w)
     (at_place k (open_calls h))
     ≡ false
 
 abbrev pub invariant-moved-loop-i : goal.invariant-moved-loop-i
 invariant-moved-loop-i l =
-    option_map shown_move l.found ≡ moved (history (take l.i l.entries)) l.j
+    l.found ≡ moved (history (take l.i l.entries)) l.j

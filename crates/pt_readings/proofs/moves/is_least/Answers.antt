@@ -4,14 +4,13 @@ use Rattle.std.specs.List.{list_all}
 use Rattle.pt_model.specs.Histories.{history}
 use Rattle.pt_model.specs.Answers.{open_calls}
 use Rattle.pt_model.specs.Moves.{at_object, precedes}
-use Rattle.pt_model.specs.Shown.{shown}
 use Rattle.pt_readings.proofs.Opens.{all-found, all-nowhere}
 use Rattle.pt_readings.proofs.moves.is_least.Goals as goal
 
 pub returns-then-is_ahead : goal.returns-then-is_ahead
 returns-then-is_ahead c =
     let h = history c.args.entries.now in
-    let w = shown c.args.w.now in
+    let w = c.args.w.now in
     sym (ap
     (λ o. list_all (λ v. not (precedes h v w)) (filter (λ v. at_object h v == o) (open_calls h)))
     (sym c.at_object-o.ensures)
@@ -26,7 +25,7 @@ loop-i-preserved c =
 pub returns : goal.returns
 returns c =
     let h = history c.args.entries.now in
-    let w = shown c.args.w.now in
+    let w = c.args.w.now in
     sym (ap
     (λ o. list_all (λ v. not (precedes h v w)) (filter (λ v. at_object h v == o) (open_calls h)))
     (sym c.at_object-o.ensures)

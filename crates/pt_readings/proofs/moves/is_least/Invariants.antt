@@ -5,13 +5,12 @@ use Rattle.pt_model.specs.WaitingCall.{at_place}
 use Rattle.pt_model.specs.Answers.{open_calls}
 use Rattle.pt_model.specs.Moves.{at_object, precedes}
 use Rattle.pt_model.specs.Found.{passes}
-use Rattle.pt_model.specs.Shown.{shown}
 use Rattle.pt_readings.proofs.moves.is_least.Given as goal
 
 abbrev pub invariant-loop-i : goal.invariant-loop-i
 invariant-loop-i l =
     let h = history l.entries in
     (k : ℕ) → k < l.i
-    → passes (λ v. (at_object h v == l.o) && precedes h v (shown l.w))
+    → passes (λ v. (at_object h v == l.o) && precedes h v l.w)
     (at_place k (open_calls h))
     ≡ false

@@ -1,6 +1,4 @@
 use Rattle.std.proofs.Common.{sym}
-use Rattle.std.specs.Prelude.{option_map}
-use Rattle.pt_model.specs.Shown.{shown}
 use Rattle.pt_readings.proofs.Stood.{waiting_here, waiting_past}
 use Rattle.pt_readings.proofs.waiting.waiting_call_at.Goals as goal
 
@@ -10,5 +8,5 @@ returns-then-j-entries c = sym (waiting_past c.args.entries.now c.args.j c.if-j-
 pub returns : goal.returns
 returns c =
     waiting_here c.args.entries.now c.args.j c.index-entries-i.result
-    (option_map shown c.stood_by.result) c.if-j-entries.false c.index-entries-i.is
+    c.stood_by.result c.if-j-entries.false c.index-entries-i.is
     c.stood_by.ensures

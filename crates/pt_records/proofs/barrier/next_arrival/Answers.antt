@@ -1,6 +1,4 @@
 use Rattle.std.proofs.Common.{arith}
-use Rattle.std.specs.Prelude.{option_map}
-use Rattle.pt_model.specs.Shown.{shown}
 use Rattle.pt_records.specs.Arrivals.{arrives_from}
 use Rattle.pt_records.proofs.ArrivalLemmas.{first-more}
 use Rattle.pt_records.proofs.barrier.next_arrival.Goals as goal
@@ -10,7 +8,7 @@ loop-i-preserved g c =
     record {
       within = omega (arith, c.loop-i.invariant.within);
       first = first-more (arrives_from c.args.b c.args.from) c.args.clients.now c.loop-i.i
-          (option_map shown c.arrival_nth.result) (option_map shown c.loop-i.best)
-          (option_map shown c.sooner-best.result) c.loop-i-test.true c.loop-i.invariant.within
+          c.arrival_nth.result c.loop-i.best
+          c.sooner-best.result c.loop-i-test.true c.loop-i.invariant.within
           c.arrival_nth.ensures c.loop-i.invariant.first c.sooner-best.ensures;
     }

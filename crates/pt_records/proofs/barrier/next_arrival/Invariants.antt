@@ -1,6 +1,4 @@
 use Rattle.std.proofs.Common.{◌≤◌, length}
-use Rattle.std.specs.Prelude.{option_map}
-use Rattle.pt_model.specs.Shown.{shown}
 use Rattle.pt_records.specs.Arrivals.{arrives_from}
 use Rattle.pt_records.proofs.ArrivalLemmas.{FirstFrom}
 use Rattle.pt_records.proofs.barrier.next_arrival.Given as goal
@@ -9,7 +7,7 @@ abbrev pub invariant-loop-i : goal.invariant-loop-i
 invariant-loop-i g l =
     record {
       within : l.i ≤ length l.clients;
-      first : FirstFrom (arrives_from l.b l.from) l.clients l.i (option_map shown l.best);
+      first : FirstFrom (arrives_from l.b l.from) l.clients l.i l.best;
     }
 
 abbrev pub decreases-loop-i : goal.decreases-loop-i

@@ -1,10 +1,8 @@
-use Rattle.std.proofs.Common.{◌+◌, ◌∷◌, ◌++◌, [], length, map, vec_len, vec_capacity, refl, sym, ap, ◌∙◌, arith}
-use Rattle.std.specs.Prelude.{option_map}
+use Rattle.std.proofs.Common.{◌+◌, ◌∷◌, ◌++◌, [], map, vec_len, vec_capacity, refl, sym, ap, ◌∙◌, arith}
 use Rattle.pt_history.specs.Stored.{past_of}
 use Rattle.pt_model.specs.Histories.{place}
 use Rattle.pt_model.specs.Answers.{at_barrier, open_calls}
 use Rattle.pt_model.specs.Records.{Told}
-use Rattle.pt_model.specs.Shown.{shown}
 use Rattle.pt_history.proofs.Places.{place_of_next}
 use Rattle.pt_records.specs.Arrivals.{outcome_before}
 use Rattle.pt_records.specs.Logs.{logged}
@@ -17,7 +15,7 @@ loop-next-init g c =
     record {
       so_far = trip-start (at_barrier c.args.b (open_calls (past_of c.args.history.now)))
           (place (past_of c.args.history.now))
-          c.args.answers.now.items (option_map shown c.next_arrival-next.result)
+          c.args.answers.now.items c.next_arrival-next.result
           (vec_len c.args.answers.now) (vec_capacity c.args.answers.now)
           (arrivals-ascend (past_of c.args.history.now) c.args.b)
           (c.next_arrival-next.ensures
@@ -32,12 +30,12 @@ overflow_add-call g c =
     let s = so-far-at (at_barrier c.args.b (open_calls (past_of c.args.history.now)))
     (place (past_of c.args.history.now))
     (map logged c.args.answers.now.items) c.loop-next.answers.items
-    (option_map shown c.loop-next.next) (shown c.in-Some.call) (vec_len c.loop-next.answers)
+    c.loop-next.next c.in-Some.call (vec_len c.loop-next.answers)
     (vec_capacity c.loop-next.answers) c.loop-next.invariant.so_far
-    (ap (option_map shown) c.in-Some.is) in
+    c.in-Some.is in
     omega (
       arith,
-      trip-below (past_of c.args.history.now) c.args.b (shown c.in-Some.call) s.first,
+      trip-below (past_of c.args.history.now) c.args.b c.in-Some.call s.first,
       place_of_next c.args.history.now,
       c.len-at.ensures,
       c.len-at.auto,
@@ -46,14 +44,14 @@ overflow_add-call g c =
 pub loop-next-smaller : goal.loop-next-smaller
 loop-next-smaller g c =
     let ws = at_barrier c.args.b (open_calls (past_of c.args.history.now)) in
-    let is = ap (option_map shown) c.in-Some.is in
+    let is = c.in-Some.is in
     let s = so-far-at ws (place (past_of c.args.history.now))
     (map logged c.args.answers.now.items)
-    c.loop-next.answers.items (option_map shown c.loop-next.next) (shown c.in-Some.call)
+    c.loop-next.answers.items c.loop-next.next c.in-Some.call
     (vec_len c.loop-next.answers) (vec_capacity c.loop-next.answers)
     c.loop-next.invariant.so_far is in
-    trip-fewer ws (option_map shown c.loop-next.next) (shown c.in-Some.call)
-    (option_map shown c.next_arrival-next-in-Some.result) (c.in-Some.call.place + 1)
+    trip-fewer ws c.loop-next.next c.in-Some.call
+    c.next_arrival-next-in-Some.result (c.in-Some.call.place + 1)
     (arrivals-ascend (past_of c.args.history.now) c.args.b) is s.first (omega arith)
     (c.next_arrival-next-in-Some.ensures
     ∙ next-head (past_of c.args.history.now) c.args.clients.now c.args.b
@@ -65,19 +63,19 @@ loop-next-preserved g c =
     let said : Told = record {
       client = c.in-Some.call.client;
       place = c.in-Some.call.place;
-      outcome = outcome_before (option_map shown c.next_arrival-next-in-Some.result);
+      outcome = outcome_before c.next_arrival-next-in-Some.result;
     } in
     let ws = at_barrier c.args.b (open_calls (past_of c.args.history.now)) in
     let s = so-far-at ws (place (past_of c.args.history.now))
     (map logged c.args.answers.now.items)
-    c.loop-next.answers.items (option_map shown c.loop-next.next) (shown c.in-Some.call)
+    c.loop-next.answers.items c.loop-next.next c.in-Some.call
     (vec_len c.loop-next.answers) (vec_capacity c.loop-next.answers)
-    c.loop-next.invariant.so_far (ap (option_map shown) c.in-Some.is) in
+    c.loop-next.invariant.so_far c.in-Some.is in
     record {
       so_far = trip-more ws (place (past_of c.args.history.now))
           (map logged c.args.answers.now.items)
-          c.loop-next.answers.items c.tell.new.answers.items (shown c.in-Some.call)
-          (option_map shown c.next_arrival-next-in-Some.result) (c.in-Some.call.place + 1)
+          c.loop-next.answers.items c.tell.new.answers.items c.in-Some.call
+          c.next_arrival-next-in-Some.result (c.in-Some.call.place + 1)
           (vec_len c.loop-next.answers) (vec_len c.tell.new.answers)
           (vec_capacity c.loop-next.answers) (vec_capacity c.tell.new.answers)
           (arrivals-ascend (past_of c.args.history.now) c.args.b) s (omega arith)

@@ -1,8 +1,11 @@
-use Rattle.std.proofs.Common.{Some}
+use Rattle.std.proofs.Common.{Some, None}
 use Rattle.pt_records.proofs.CallerWrites.{writes-by}
 use Rattle.pt_records.proofs.calls.stand.Goals as goal
 
 pub returns-in-Some : goal.returns-in-Some
 returns-in-Some g c =
-    writes-by (λ v. record v { «open» = Some c.args.open; latest = Some c.args.place })
-    c.args.clients.now c.args.c c.in-Some.row.now c.in-Some.ensures.value
+    writes-by (λ v. record v {
+      «open» = Some c.args.open;
+      latest = Some c.args.place;
+      answer = None;
+    }) c.args.clients.now c.args.c c.in-Some.row.now c.in-Some.ensures.value

@@ -1,8 +1,9 @@
+use Rattle.std.proofs.Common.{Some}
 use Rattle.pt_records.specs.Callers.{called_at}
 use Rattle.pt_records.proofs.CallerWrites.{writes-by}
 use Rattle.pt_records.proofs.clients.note_call.Goals as goal
 
 pub returns-in-Some : goal.returns-in-Some
 returns-in-Some g c =
-    writes-by (called_at c.args.place) c.args.clients.now c.args.c c.in-Some.row.now
-    c.in-Some.ensures.value
+    writes-by (called_at c.args.place (Some c.args.answer)) c.args.clients.now c.args.c
+    c.in-Some.row.now c.in-Some.ensures.value

@@ -1,12 +1,10 @@
 use Rattle.std.proofs.Common.{◌∙◌}
-use Rattle.std.specs.Prelude.{option_map}
-use Rattle.pt_model.specs.Shown.{shown}
 use Rattle.pt_reference.proofs.Ends.{stood_new, stood_old}
 use Rattle.pt_reference.proofs.after.stood_at.Goals as goal
 
 pub returns-then-i-entries : goal.returns-then-i-entries
 returns-then-i-entries c =
-    stood_new c.args.entries.now c.args.entry.now (option_map shown c.stood_by.result) c.args.i
+    stood_new c.args.entries.now c.args.entry.now c.stood_by.result c.args.i
     c.stood_by.ensures c.if-i-entries.true
 
 pub returns-else-i-entries : goal.returns-else-i-entries

@@ -1,11 +1,9 @@
 use Rattle.std.proofs.Common.{◌≡◌, ◌≤◌, filter, length}
-use Rattle.std.specs.Prelude.{option_map}
 use Rattle.pt_model.specs.Searches.{least}
 use Rattle.pt_model.specs.Forced.{expires_before}
 use Rattle.pt_model.specs.Queries.{has_deadline}
 use Rattle.pt_model.specs.Histories.{history}
 use Rattle.pt_model.specs.Answers.{open_calls}
-use Rattle.pt_model.specs.Shown.{shown}
 use Rattle.pt_model.proofs.Ascending.{from}
 use Rattle.pt_reference.proofs.queries.first_timed.Given as goal
 
@@ -14,7 +12,7 @@ invariant-loop-i l =
     let h = history l.entries in
     record {
       within : l.i ≤ length l.entries;
-      value : option_map shown l.best
+      value : l.best
           ≡ least expires_before (filter (has_deadline h l.which) (from l.i (open_calls h)));
     }
 

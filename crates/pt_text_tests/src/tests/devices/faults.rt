@@ -66,73 +66,99 @@ fn kind_of<T: Drop>(answer: io::Result<T>) -> Option<ErrorKind> {
     answer.err().map(|error| error.kind())
 }
 
-#[test]
-fn the_error_is_the_one_of_the_device(rt: HostRuntime) -> Result<(), Fail> {
-    for kind in [
-        ErrorKind::BrokenPipe,
-        ErrorKind::PermissionDenied,
-        ErrorKind::StorageFull,
-        ErrorKind::WouldBlock,
+// What a read, a write and a flush report of a device whose first calls fail, and whether each has
+// failed.
+fn reported(times: u32, kind: ErrorKind) -> [(Option<ErrorKind>, bool); 3] {
+    let mut reader = counted_failing(times, kind);
+    let read = kind_of(reader.read(&mut [0; 8]));
+    let mut writer = counted_failing(times, kind);
+    let wrote = kind_of(writer.write(b"abc"));
+    let mut buffer = counted_failing(times, kind);
+    let flushed = kind_of(buffer.flush());
+    [
+        (read, reader.has_failed()),
+        (wrote, writer.has_failed()),
+        (flushed, buffer.has_failed()),
+    ]
+}
+
+// Whether these are the errors that are reported.
+fn are_reported() -> bool {
+    for (times, kind, reports) in [
+        (1, ErrorKind::BrokenPipe, true),
+        (1, ErrorKind::PermissionDenied, true),
+        (1, ErrorKind::StorageFull, true),
+        (1, ErrorKind::WouldBlock, true),
+        (0, ErrorKind::Interrupted, false),
+        (16, ErrorKind::Interrupted, false),
+        (17, ErrorKind::Interrupted, true),
     ] {
-        let mut reader = counted_failing(1, kind);
-        assert!(rt; kind_of(reader.read(&mut [0; 8])) == Some(kind));
-        assert!(rt; reader.has_failed());
-        let mut writer = counted_failing(1, kind);
-        assert!(rt; kind_of(writer.write(b"abc")) == Some(kind));
-        assert!(rt; writer.has_failed());
-        let mut writer = counted_failing(1, kind);
-        assert!(rt; kind_of(writer.flush()) == Some(kind));
-        assert!(rt; writer.has_failed());
+        let expected = if reports {
+            (Some(kind), true)
+        } else {
+            (None, false)
+        };
+        if reported(times, kind) != [expected; 3] {
+            return false;
+        }
     }
-    Ok(())
+    true
 }
 
 #[test]
-fn interruptions_are_tried_again_and_then_passed_on(rt: HostRuntime) -> Result<(), Fail> {
-    for (times, kind) in [(0, None), (16, None), (17, Some(ErrorKind::Interrupted))] {
-        let mut reader = counted_failing(times, ErrorKind::Interrupted);
-        assert!(rt; kind_of(reader.read(&mut [0; 8])) == kind, "at {times}");
-        let mut writer = counted_failing(times, ErrorKind::Interrupted);
-        assert!(rt; kind_of(writer.write(b"abc")) == kind, "at {times}");
-        let mut writer = counted_failing(times, ErrorKind::Interrupted);
-        assert!(rt; kind_of(writer.flush()) == kind, "at {times}");
-        assert_eq!(rt; writer.has_failed(), kind.is_some(), "at {times}");
-    }
-    Ok(())
+fn the_error_is_the_one_of_the_device(rt: HostRuntime) {
+    assert!(rt; are_reported());
+}
+
+// Whether a flush empties the buffer of the device.
+fn is_flushed(writer: &mut Counted<BufWriter<VecDeque<u8>>>) -> io::Result<bool>
+    requires fresh { writer.old.has_failed ≡ false }
+{
+    put(writer, b"1 0\n")?;
+    let is_held = writer.device().buffer() == b"1 0\n".as_slice()
+        && writer.device().get_ref().is_empty();
+    writer.flush()?;
+    Ok(is_held && writer.device().buffer().is_empty() && writer.device().get_ref().len() == 4)
 }
 
 #[test]
 fn a_flush_empties_the_buffer_of_the_device(rt: HostRuntime) -> Result<(), Fail> {
     let alloc = rt.alloc();
     let mut writer = Counted::new(BufWriter::new(alloc, VecDeque::new(alloc))?);
-    put(&mut writer, b"1 0\n")?;
-    assert_eq!(rt; writer.device().buffer(), b"1 0\n".as_slice());
-    assert!(rt; writer.device().get_ref().is_empty());
-    writer.flush()?;
-    assert!(rt; writer.device().buffer().is_empty());
-    assert_eq!(rt; writer.device().get_ref().len(), 4);
+    assert!(rt; is_flushed(&mut writer)?);
     Ok(())
 }
 
-#[test]
-fn a_full_writer_accepts_none(rt: HostRuntime) -> Result<(), Fail> {
+// Whether a writer accepts two bytes, and then none.
+fn is_full() -> io::Result<bool> {
     let mut writer = Counted::new(Filling { room: 2 });
-    assert_eq!(rt; writer.write(b"")?, 0);
-    assert_eq!(rt; writer.write(b"1 0\n")?, 2);
-    assert_eq!(rt; writer.write(b"0\n")?, 0);
-    assert!(rt; !writer.has_failed());
-    let mut writer = Counted::new(Filling { room: 2 });
-    assert!(rt; kind_of(put(&mut writer, b"1 0\n")) == Some(ErrorKind::WriteZero));
-    Ok(())
+    let none = writer.write(b"")?;
+    let two = writer.write(b"1 0\n")?;
+    let full = writer.write(b"0\n")?;
+    let mut other = Counted::new(Filling { room: 2 });
+    let refused = kind_of(put(&mut other, b"1 0\n"));
+    Ok(
+        [none, two, full] == [0, 2, 0]
+            && !writer.has_failed()
+            && refused == Some(ErrorKind::WriteZero),
+    )
+}
+
+// Whether the second flush fails, which is the third call.
+fn fails_at_its_call(alloc: Global) -> io::Result<bool> {
+    let mut writer = Faulty::new(Vec::new(alloc), 100, 3);
+    put(&mut writer, b"1 0\n")?;
+    writer.flush()?;
+    let second = kind_of(writer.flush());
+    Ok(
+        second == Some(ErrorKind::Other)
+            && writer.has_failed()
+            && writer.written() == b"1 0\n".as_slice(),
+    )
 }
 
 #[test]
-fn a_flush_fails_at_its_call(rt: HostRuntime) -> Result<(), Fail> {
-    let mut writer = Faulty::new(Vec::new(rt.alloc()), 100, 3);
-    put(&mut writer, b"1 0\n")?;
-    writer.flush()?;
-    assert!(rt; kind_of(writer.flush()) == Some(ErrorKind::Other));
-    assert!(rt; writer.has_failed());
-    assert_eq!(rt; writer.written(), b"1 0\n".as_slice());
+fn a_full_writer_accepts_none_and_a_flush_fails_at_its_call(rt: HostRuntime) -> Result<(), Fail> {
+    assert!(rt; is_full()? && fails_at_its_call(rt.alloc())?);
     Ok(())
 }

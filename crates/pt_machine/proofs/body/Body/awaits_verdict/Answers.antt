@@ -1,4 +1,4 @@
-use Rattle.pt_types.specs.Operations.{CondClass}
+use Rattle.pt_types.specs.declared.operations.ObjectClass.TheVariants.{Cond as CondClass}
 use Rattle.pt_state.specs.Adds.{past}
 use Rattle.pt_records.proofs.LockViews.{cond-found}
 use Rattle.pt_machine.proofs.TableViews.{found-in}

@@ -1,4 +1,4 @@
-use Rattle.std.proofs.Common.{◌≡◌, sym, ◌∙◌, arith}
+use Rattle.std.proofs.Common.{sym, ◌∙◌, arith}
 use Rattle.pt_model.specs.StartRows.{rows_of}
 use Rattle.pt_machine.proofs.OpenPlaces.{caller-begun}
 use Rattle.pt_machine.proofs.body.Body.caller_at.Goals as goal

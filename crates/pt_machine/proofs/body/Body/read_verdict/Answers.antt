@@ -1,4 +1,4 @@
-use Rattle.pt_types.specs.Operations.{RwlockClass}
+use Rattle.pt_types.specs.declared.operations.ObjectClass.TheVariants.{Rwlock as RwlockClass}
 use Rattle.pt_state.specs.Adds.{past}
 use Rattle.pt_records.proofs.LockViews.{lock-found}
 use Rattle.pt_machine.proofs.TableViews.{found-in}

@@ -1,7 +1,8 @@
 use Rattle.std.proofs.Common.{refl, sym, ap, ◌∙◌}
 use Rattle.std.specs.Option.{option_copied}
 use Rattle.pt_table.specs.ObjectRows.{object_value}
-use Rattle.pt_types.specs.RwlockTable.{RwlockView, read_verdict}
+use Rattle.pt_types.specs.RwlockTable.{read_verdict}
+use Rattle.pt_types.specs.declared.views.RwlockView.{RwlockView}
 use Rattle.pt_state.specs.Adds.{past}
 use Rattle.pt_records.proofs.LockViews.{lock-in, view-kept}
 use Rattle.pt_state.proofs.state.State.read_verdict.Goals as goal

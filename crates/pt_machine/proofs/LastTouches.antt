@@ -1,0 +1,93 @@
+-- LastTouches: what is touched, and whose call came last, as entries are pushed.
+use Rattle.std.proofs.Common.{◌≡◌, ℕ, Bool, true, false, cond, Option, None, refl, sym, ◌∙◌, subst}
+use Rattle.pt_model.specs.declared.entry.Entry.{Entry}
+use Rattle.pt_model.specs.declared.entry.Entry.TheVariants.{Join, Call, Death, Moment, Grant, Trip, Yield, Expire}
+use Rattle.pt_model.specs.Histories.{History, Begin, ◌▷◌, is_forced}
+use Rattle.pt_model.specs.declared.waiting_call.WaitingCall.{WaitingCall}
+use Rattle.pt_model.specs.WaitingCall.{is_arrival}
+use Rattle.pt_model.specs.Grants.{grant_outcome}
+use Rattle.pt_model.specs.Forced.{service}
+use Rattle.pt_model.specs.Starts.{nothing}
+use Rattle.pt_model.specs.Steps.{begins}
+use Rattle.pt_touched.specs.Candidates.{entering, entering_by}
+use Rattle.pt_touched.specs.Touched.{touched, touched_after, touched_by}
+use Rattle.pt_touched.proofs.Candidates.{begins_untouched}
+use Rattle.pt_state.specs.declared.forced.Forced.{Forced}
+use Rattle.pt_state.specs.declared.forced.Forced.TheVariants.{Serve, Yield as Yields, Expire as Expires}
+use Rattle.pt_state.specs.declared.state.State.{State}
+use Rattle.pt_state.specs.Adds.{Adds, Stays, past}
+use Rattle.pt_state.specs.Serving.{called, entry_of}
+use Rattle.pt_machine.specs.LastTouched.{IsTouched}
+use Rattle.pt_machine.proofs.QueuedSame.{past-adds, past-stays}
+
+-- an outer entry makes what is touched new
+outer-touches : (h : History) (e : Entry) → is_forced e ≡ false → (before : Option ℕ)
+    → touched_by h e ≡ touched_after h e before
+outer-touches h (Join c p) n before = refl
+outer-touches h (Call c call r) n before = refl
+outer-touches h (Death c) n before = refl
+outer-touches h (Moment k m) n before = refl
+outer-touches h (Grant j x) n before = absurd cc
+outer-touches h (Trip b) n before = absurd cc
+outer-touches h (Yield m) n before = refl
+outer-touches h (Expire j) n before = refl
+
+-- a forced entry is nobody's call
+forced-enters : (e : Entry) → is_forced e ≡ true → (before : Option ℕ)
+    → before ≡ entering_by e before
+forced-enters (Join c p) n before = absurd cc
+forced-enters (Call c call r) n before = absurd cc
+forced-enters (Death c) n before = absurd cc
+forced-enters (Moment k m) n before = absurd cc
+forced-enters (Grant j x) n before = refl
+forced-enters (Trip b) n before = refl
+forced-enters (Yield m) n before = refl
+forced-enters (Expire j) n before = refl
+
+service-forced : (h : History) (w : WaitingCall) → is_forced (service h w) ≡ true
+service-forced h w = go (is_arrival w.role)
+  where
+    go : (b : Bool) → is_forced (cond b (Trip w.object) (Grant w.place (grant_outcome h w))) ≡ true
+    go true = refl
+    go false = refl
+
+entry-forced : (h : History) (x : Forced) → is_forced (entry_of h x) ≡ true
+entry-forced h (Serve o) = service-forced h (called o)
+entry-forced h (Yields m) = refl
+entry-forced h (Expires o) = refl
+
+module _ {A : Type 0} (old new : State A) (o c : Option ℕ) where
+  -- after an outer entry
+  pub touched-outer : (e : Entry) → Adds old e new → is_forced e ≡ false
+      → o ≡ touched_by (past old) e → ((before : Option ℕ) → c ≡ entering_by e before)
+      → IsTouched (past new) o c
+  touched-outer e a n t k =
+      subst (λ (h : History). IsTouched h o c) (sym (past-adds old new e a))
+      (record {
+        touches = t ∙ outer-touches (past old) e n (touched (past old));
+        enters = k (entering (past old));
+      })
+
+  -- after a forced entry
+  pub touched-forced : (x : Forced) → Adds old (entry_of (past old) x) new
+      → o ≡ touched (past old ▷ entry_of (past old) x) → c ≡ entering (past old)
+      → IsTouched (past new) o c
+  touched-forced x a t k =
+      subst (λ (h : History). IsTouched h o c) (sym (past-adds old new (entry_of (past old) x) a))
+      (record {
+        touches = t;
+        enters = k ∙ forced-enters (entry_of (past old) x) (entry-forced (past old) x)
+            (entering (past old));
+      })
+
+  -- where no entry was pushed
+  pub touched-stays : Stays old new → IsTouched (past old) o c → IsTouched (past new) o c
+  touched-stays s k =
+      subst (λ (h : History). IsTouched h o c) (sym (past-stays old new s)) k
+
+-- before the first entry
+pub touched-begin : (h : History) → h ≡ Begin nothing → IsTouched h None None
+touched-begin h e =
+    let none = begins_untouched nothing begins refl in
+    subst (λ (g : History). IsTouched g None None) (sym e)
+    (record { touches = sym none.0; enters = sym none.1 })

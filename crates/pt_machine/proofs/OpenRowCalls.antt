@@ -1,0 +1,62 @@
+-- OpenRowCalls: the open call in a client's row, as it is found by its client.
+use Rattle.std.proofs.Common.{◌≡◌, ℕ, List, Option, Some, None, option_map, refl, sym, ap, ◌∙◌}
+use Rattle.pt_table.specs.declared.clients.ClientRow.{ClientRow}
+use Rattle.pt_table.specs.ClientRows.{client_value}
+use Rattle.pt_model.specs.Searches.{In}
+use Rattle.pt_model.specs.Histories.{History}
+use Rattle.pt_model.specs.declared.waiting_call.WaitingCall.{WaitingCall}
+use Rattle.pt_model.specs.WaitingCall.{at_place, stood}
+use Rattle.pt_model.specs.Answers.{open_calls}
+use Rattle.pt_model.specs.Moves.{at_object}
+use Rattle.pt_model.specs.Steps.{Follows}
+use Rattle.pt_model.proofs.Found.{found_open}
+use Rattle.pt_touched.specs.Touched.{goal, goal_if, object_if, open_call_of}
+use Rattle.pt_touched.proofs.ClientCalls.{open_call-found, open_call-is}
+use Rattle.pt_records.specs.declared.clients.Caller.{Caller}
+use Rattle.pt_records.specs.declared.clients.Open.{Open}
+use Rattle.pt_records.specs.Callers.{AreCallers, call_of, open_in, opens_of}
+use Rattle.pt_records.specs.OpenRows.{object_of}
+use Rattle.pt_state.specs.Serving.{called}
+use Rattle.pt_state.proofs.CallerFinds.{call_of-in, call_of-none}
+use Rattle.pt_state.proofs.ServingFinds.{are-open}
+use Rattle.pt_state.proofs.ServingOrders.{object-same}
+use Rattle.pt_machine.proofs.QueueFirsts.{found-known}
+
+module _ (h : History) (rows : List (ClientRow Caller)) (f : Follows h) (a : AreCallers h rows)
+  where
+    -- a client's first open call is the one that is found by its place
+    call-same : (c : ℕ) → call_of (open_calls h) c ≡ open_call_of h c
+    call-same c = go (call_of (open_calls h) c) refl
+      where
+        nothing : (x : Option WaitingCall) → open_call_of h c ≡ x
+            → call_of (open_calls h) c ≡ None → None ≡ x
+        nothing None e s = refl
+        nothing (Some w) e s =
+            let i = open_call-is h f w c e in absurd (call_of-none (open_calls h) c s w i.0 i.1)
+
+        go : (x : Option WaitingCall) → call_of (open_calls h) c ≡ x → x ≡ open_call_of h c
+        go None e = nothing (open_call_of h c) refl e
+        go (Some w) e =
+            let i = call_of-in (open_calls h) c w e in sym (open_call-found h f w c i.0 i.1)
+
+    -- what a client's row has is its open call
+    pub row-call : (c : ℕ) (found : Option Open) → found ≡ open_in (client_value rows c)
+        → option_map called found ≡ open_call_of h c
+    row-call c found e = ap (option_map called) e ∙ (a.look.calls c ∙ call-same c)
+
+    -- an open call waits at the object that its row says
+    pub row-object : (o : Open) → In o (opens_of rows) → object_of o ≡ at_object h (called o)
+    row-object o i = object-same h o ((are-open h rows f a).known o i).1
+
+    -- the object at which the call in a client's row waits
+    pub row-waits : (c : ℕ) (found : Option Open) → found ≡ open_in (client_value rows c)
+        → option_map object_of found ≡ object_if h (open_call_of h c)
+    row-waits c None e = ap (object_if h) (row-call c None e)
+    row-waits c (Some o) e =
+        ap Some (row-object o (found-known rows c (Some o) e))
+        ∙ ap (object_if h) (row-call c (Some o) e)
+
+    -- what a call in the rows is for in the end
+    pub row-goal : (o : Open) → In o (opens_of rows)
+        → Some (goal (called o).role o.call.object) ≡ goal_if (at_place o.call.place (stood h))
+    row-goal o i = sym (ap goal_if (found_open h f (called o) ((are-open h rows f a).known o i).0))

@@ -1,0 +1,21 @@
+use Rattle.std.proofs.Common.{◌≡◌, Some, None, sym, ap, ◌∙◌}
+use Rattle.pt_table.specs.ClientRows.{client_value}
+use Rattle.pt_records.specs.Callers.{open_in}
+use Rattle.pt_state.specs.Adds.{past}
+use Rattle.pt_machine.proofs.OpenRowCalls.{row-waits}
+use Rattle.pt_machine.proofs.body.Body.object_of.Goals as goal
+
+pub returns-in-Some : goal.returns-in-Some
+returns-in-Some g c =
+    let s = c.args.self.now in
+    let found : Some c.in-Some.open ≡ open_in (client_value s.clients c.args.c) =
+    rw (← c.self.view_is) (sym c.in-Some.is ∙ c.open_of.ensures) in
+    ap Some c.at_object.ensures
+    ∙ row-waits (past s) s.clients c.requires.follows c.requires.callers c.args.c _ found
+
+pub returns-in-None : goal.returns-in-None
+returns-in-None g c =
+    let s = c.args.self.now in
+    let found : None ≡ open_in (client_value s.clients c.args.c) =
+    rw (← c.self.view_is) (sym c.in-None.is ∙ c.open_of.ensures) in
+    row-waits (past s) s.clients c.requires.follows c.requires.callers c.args.c _ found

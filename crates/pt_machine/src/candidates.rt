@@ -1,0 +1,150 @@
+//! Which call is served at an object, found by one look at the object.
+
+ghost use Rattle.std.specs.Prelude.{IfSome, None, Some, ◌&&◌, ◌==◌, ◌≡◌, is_some, option_map, true};
+ghost use Rattle.pt_types.specs.MutexTable.{is_recursive};
+ghost use Rattle.pt_types.specs.RwlockTable.{may_read as may_read_it};
+ghost use Rattle.pt_rwlock.specs.RwlockState.{seen_by};
+ghost use Rattle.pt_model.specs.Searches.{In};
+ghost use Rattle.pt_model.specs.WaitingCall.{is_wait as is_wait_role};
+ghost use Rattle.pt_touched.specs.Candidates.{candidate as candidate_in, entering, first_at as first_at_in, if_passes, is_read, mutex_candidate as mutex_candidate_in, open_call_if, reads_again_at, rwlock_candidate as rwlock_candidate_in};
+ghost use Rattle.pt_table.specs.ObjectRows.{object_value};
+ghost use Rattle.pt_records.specs.declared.objects.Object.TheVariants as row;
+ghost use Rattle.pt_records.specs.Callers.{opens_of};
+ghost use Rattle.pt_records.specs.OpenRows.{object_of};
+ghost use Rattle.pt_state.specs.Adds.{past};
+ghost use Rattle.pt_state.specs.Reads.{AreTables};
+ghost use Rattle.pt_state.specs.Serving.{called, move_of};
+
+use crate::body::Body;
+use pt_barrier::BarrierObj;
+use pt_model::waiting_call::{Role, is_wait, is_write};
+use pt_mutex::MutexObj;
+use pt_records::calls::{at_object, is_moved};
+use pt_records::mutex::may_lock;
+use pt_records::rwlock::may_read;
+use pt_records::{Object, Open};
+use pt_rwlock::RwObj;
+use pt_types::{ClientId, MutexKind, ObjectId};
+use pt_waitq::WaitList;
+use std::alloc::Allocator;
+
+// Whether a call is a wait that has come back to its mutex, and a relock counts there.
+// [XSH pthread_cond_wait, pthread_mutex_lock RECURSIVE]
+fn comes_back(m: ObjectId, mutex: &MutexObj, open: &Open) -> bool
+    ensures { result
+        ≡ (object_of «open».now == m)
+        && (is_recursive mutex.now.seen.kind
+        && (is_wait_role (called «open».now).role && is_some (move_of «open».now))) }
+{
+    let back = is_wait(open.call.role) && is_moved(open);
+    at_object(open) == m && mutex.kind() == MutexKind::Recursive && back
+}
+
+// Whether a call at the lock is for a read lock, and its client holds one there already.
+// [XSH pthread_rwlock_rdlock]
+fn reads_more<A: Allocator + Copy>(r: ObjectId, lock: &RwObj<A>, open: &Open) -> bool
+    ensures { result
+        ≡ (object_of «open».now == r)
+        && (is_read (called «open».now).role
+        && may_read_it (seen_by lock.now «open».now.call.client) true) }
+{
+    let reads = matches!(open.call.role, Role::ForRead);
+    at_object(open) == r && reads && may_read(lock, ClientId(open.call.client), true)
+}
+
+impl<Q: WaitList, A: Allocator + Copy> Body<Q, A> {
+    // The first call that waits at an object.  [XSH 2.8.4]
+    fn first_at(&self, o: ObjectId) -> Option<Open>
+        requires { AreTables self.now }
+        ensures value { option_map called result ≡ first_at_in (past self.now) o }
+        ensures known { IfSome result (λ found. In found (opens_of self.now.clients)) }
+    {
+        match self.queues.first(o) {
+            Some(first) => self.state.open_of(first.client),
+            None => None,
+        }
+    }
+
+    // The call that is served at a mutex: the first, if nobody owns it or it is lost, and
+    // otherwise a wait of its owner that has come back.
+    // [XSH pthread_mutex_unlock, pthread_cond_wait]
+    fn mutex_candidate(&self, m: ObjectId, mutex: &MutexObj) -> Option<Open>
+        requires read { AreTables self.now }
+        requires stored { object_value self.now.objects m ≡ Some (row.Mutex mutex.now) }
+        ensures value { option_map called result ≡ mutex_candidate_in (past self.now) m }
+        ensures known { IfSome result (λ found. In found (opens_of self.now.clients)) }
+    {
+        if may_lock(mutex) {
+            return self.first_at(m);
+        }
+        match self.state.open_of(mutex.owner()?) {
+            Some(wait) if comes_back(m, mutex, &wait) => Some(wait),
+            _ => None,
+        }
+    }
+
+    // The call that came last, if it waits at the lock to read and its client reads there already.
+    // [XSH pthread_rwlock_rdlock]
+    fn reader_again(&self, r: ObjectId, lock: &RwObj<A>) -> Option<Open>
+        requires read { AreTables self.now }
+        requires stored { object_value self.now.objects r ≡ Some (row.Rwlock lock.now) }
+        requires unwritten { lock.now.writer ≡ None }
+        ensures value { let h = past self.now in
+            option_map called result
+            ≡ if_passes (reads_again_at h r) (open_call_if h (entering h)) }
+        ensures known { IfSome result (λ found. In found (opens_of self.now.clients)) }
+    {
+        match self.state.open_of(self.entering?) {
+            Some(open) if reads_more(r, lock, &open) => Some(open),
+            _ => None,
+        }
+    }
+
+    // The call that is served at a read-write lock: none if it is written; the first, unless that
+    // is a writer and others read; then the call that came last, if its client reads already.
+    // [XSH pthread_rwlock_unlock, pthread_rwlock_rdlock]
+    fn rwlock_candidate(&self, r: ObjectId, lock: &RwObj<A>) -> Option<Open>
+        requires read { AreTables self.now }
+        requires stored { object_value self.now.objects r ≡ Some (row.Rwlock lock.now) }
+        ensures value { option_map called result ≡ rwlock_candidate_in (past self.now) r }
+        ensures known { IfSome result (λ found. In found (opens_of self.now.clients)) }
+    {
+        if lock.writer().is_some() {
+            return None;
+        }
+        match self.first_at(r) {
+            Some(first) if is_write(first.call.role) && !lock.is_free() => {
+                self.reader_again(r, lock)
+            }
+            first => first,
+        }
+    }
+
+    // The call that is served at a barrier: the first, if it is full.  [XSH pthread_barrier_wait]
+    fn barrier_candidate(&self, b: ObjectId, barrier: &BarrierObj) -> Option<Open>
+        requires read { AreTables self.now }
+        requires stored { object_value self.now.objects b ≡ Some (row.Barrier barrier.now) }
+        ensures value { option_map called result ≡ candidate_in (past self.now) b }
+        ensures known { IfSome result (λ found. In found (opens_of self.now.clients)) }
+    {
+        if barrier.full(self.arrivals(b)) {
+            self.first_at(b)
+        } else {
+            None
+        }
+    }
+
+    /// The call that is served at an object.  [XSH, the object's pages]
+    pub(crate) fn candidate(&self, o: ObjectId) -> Option<Open>
+        requires { AreTables self.now }
+        ensures value { option_map called result ≡ candidate_in (past self.now) o }
+        ensures known { IfSome result (λ found. In found (opens_of self.now.clients)) }
+    {
+        match self.state.objects.at(o.0)? {
+            Object::Mutex(mutex) => self.mutex_candidate(o, mutex),
+            Object::Rwlock(lock) => self.rwlock_candidate(o, lock),
+            Object::Barrier(barrier) => self.barrier_candidate(o, barrier),
+            Object::Cond(_) => None,
+        }
+    }
+}

@@ -1,0 +1,165 @@
+-- OneObject: what is stored of one object, and of all objects where one of them changes.
+use Rattle.std.proofs.Common.{◌≡◌, ℕ, Bool, true, false, cond, ◌==◌, Option, Some, None, is_some, option_map, refl, sym, ap, ◌∙◌, subst, arith}
+use Rattle.std.proofs.lemmas.Bool.Decides.{nat_tests}
+use Rattle.pt_types.specs.MutexTable.{is_number}
+use Rattle.pt_types.specs.declared.views.MutexView.{MutexView}
+use Rattle.pt_types.specs.declared.call.MutexKind.{MutexKind}
+use Rattle.pt_types.specs.declared.call.ObjectKind.TheVariants as kind
+use Rattle.pt_mutex.specs.MutexState.{MutexState}
+use Rattle.pt_rwlock.specs.RwlockState.{RwlockState, row_of}
+use Rattle.pt_model.specs.Histories.{History}
+use Rattle.pt_model.specs.Objects.{kind_of}
+use Rattle.pt_model.specs.declared.waiting_call.WaitingCall.{WaitingCall}
+use Rattle.pt_model.specs.declared.waiting_call.Role.TheVariants.{ForRead}
+use Rattle.pt_model.specs.Searches.{In}
+use Rattle.pt_model.specs.Answers.{open_calls}
+use Rattle.pt_model.specs.Mutexes.{consistency, owner, count, count_if, mutex_view}
+use Rattle.pt_model.specs.Rwlocks.{writer, reads}
+use Rattle.pt_records.specs.declared.objects.Object.{Object}
+use Rattle.pt_records.specs.declared.objects.Object.TheVariants.{Mutex, Rwlock}
+use Rattle.pt_records.specs.Objects.{IsMutex, IsRwlock, kind_in_row, ObjectsLook}
+
+-- a number that is known to be this one
+pub number-is : (o : Option ℕ) (c : ℕ) → is_number o c ≡ true → o ≡ Some c
+number-is None c e = absurd cc
+number-is (Some d) c e = let same : d ≡ c = grind (arith, nat_tests) in ap Some same
+
+-- who reads at the lock has a row
+abbrev pub HasRows : History → ℕ → RwlockState → Type 0
+HasRows h o r =
+    (w : WaitingCall) → In w (open_calls h) → w.role ≡ ForRead → w.object ≡ o
+    → is_some (row_of r w.client) ≡ true
+
+-- whoever waits for a read lock did so before
+abbrev pub OldReaders : (h g : History) → Type 0
+OldReaders h g = (w : WaitingCall) → In w (open_calls g) → w.role ≡ ForRead → In w (open_calls h)
+
+-- nothing that is read off of this object has changed
+pub record Quiet (h g : History) (o : ℕ) : Type 0 where
+  pub kind : kind_of g o ≡ kind_of h o
+  pub view : mutex_view g o ≡ mutex_view h o
+  pub writer : writer g o ≡ writer h o
+  pub reads : (c : ℕ) → reads g o c ≡ reads h o c
+
+-- a mutex is seen as before where its parts are as before
+pub view-same : (h g : History) (m : ℕ) → kind_of g m ≡ kind_of h m
+    → consistency g m ≡ consistency h m → owner g m ≡ owner h m
+    → ((c : ℕ) → count g m c ≡ count h m c) → mutex_view g m ≡ mutex_view h m
+view-same h g m k d o n = rw (k, d, o, counted (owner h m)) refl
+  where
+    counted : (c : Option ℕ) → count_if g m c ≡ count_if h m c
+    counted None = refl
+    counted (Some c) = n c
+
+-- rows that all had are enough for those that still read
+pub rows-old : (h g : History) (o : ℕ) (r : RwlockState) → OldReaders h g → HasRows h o r
+    → HasRows g o r
+rows-old h g o r old rows = λ w i e a. rows w (old w i e) e a
+
+module _ {A : Type 0} where
+  -- what is found of one object is what is read off the history
+  pub record IsKept (h : History) (o : ℕ) (x : Option (Object A)) : Type 0 where
+    pub kind : option_map kind_in_row x ≡ kind_of h o
+    pub mutex : (m : MutexState) → x ≡ Some (Mutex m) → IsMutex h o m
+    pub rwlock : (r : RwlockState) → x ≡ Some (Rwlock r) → IsRwlock h o r
+
+  pub kept-at : (h : History) (look : ℕ → Option (Object A)) → ObjectsLook h look → (o : ℕ)
+      → IsKept h o (look o)
+  kept-at h look t o =
+      record { kind = t.kinds o; mutex = t.mutexes o; rwlock = t.rwlocks o }
+
+  pub object_rows-each : (h : History) (look : ℕ → Option (Object A))
+      → ((o : ℕ) → IsKept h o (look o))
+      → ObjectsLook h look
+  object_rows-each h look each =
+      record {
+        kinds = λ o. (each o).kind;
+        mutexes = λ o. (each o).mutex;
+        rwlocks = λ o. (each o).rwlock;
+      }
+
+  -- an object of which nothing changed is stored as it was
+  pub kept-quiet : (h g : History) (o : ℕ) (x : Option (Object A)) → Quiet h g o
+      → ((r : RwlockState) → x ≡ Some (Rwlock r) → HasRows h o r → HasRows g o r) → IsKept h o x
+      → IsKept g o x
+  kept-quiet h g o x q rows k =
+      record {
+        kind = k.kind ∙ sym q.kind;
+        mutex = λ m e. let old = k.mutex m e in (old.0 ∙ sym q.view, old.1);
+        rwlock = λ r e. let old = k.rwlock r e in
+            record {
+              writer = old.writer ∙ sym q.writer;
+              reads = λ c. old.reads c ∙ sym (q.reads c);
+              rows = rows r e old.rows;
+            };
+      }
+
+  -- where nothing changed but who reads
+  pub object_rows-still : (h g : History) (look : ℕ → Option (Object A)) → ObjectsLook h look
+      → ((o : ℕ) → Quiet h g o)
+      → ((o : ℕ) (r : RwlockState) → look o ≡ Some (Rwlock r) → HasRows h o r → HasRows g o r)
+      → ObjectsLook g look
+  object_rows-still h g look t quiet rows =
+      object_rows-each g look
+      (λ o. kept-quiet h g o (look o) (quiet o) (rows o) (kept-at h look t o))
+
+  -- where nothing changed at all
+  pub object_rows-quiet : (h g : History) (look : ℕ → Option (Object A)) → ObjectsLook h look
+      → ((o : ℕ) → Quiet h g o) → OldReaders h g → ObjectsLook g look
+  object_rows-quiet h g look t quiet old =
+      object_rows-still h g look t quiet (λ o r e rows. rows-old h g o r old rows)
+
+  -- where nothing changed but one object
+  pub object_rows-one : (h g : History) (look look' : ℕ → Option (Object A)) (q : ℕ)
+      (x : Option (Object A)) → ObjectsLook h look
+      → ((o : ℕ) → look' o ≡ cond (q == o) x (look o))
+      → ((o : ℕ) → (q == o) ≡ false → Quiet h g o) → OldReaders h g → IsKept g q x
+      → ObjectsLook g look'
+  object_rows-one h g look look' q x t change quiet old new =
+      object_rows-each g look' (λ o. rw (change o) (go o (q == o) refl))
+    where
+      go : (o : ℕ) (b : Bool) → (q == o) ≡ b → IsKept g o (cond b x (look o))
+      go o true e =
+          let same : q ≡ o = grind (arith, nat_tests) in
+          subst (λ k. IsKept g k x) same new
+      go o false e =
+          kept-quiet h g o (look o) (quiet o e) (λ r k rows. rows-old h g o r old rows)
+          (kept-at h look t o)
+
+  -- a mutex is stored right if it is as it is seen
+  pub kept-mutex : (g : History) (m : ℕ) (y : MutexState) (k : MutexKind) (robust : Bool)
+      → kind_of g m ≡ Some (kind.Mutex k robust) → y.seen ≡ mutex_view g m → y.bound_waits ≡ 0
+      → IsKept g m (Some (Mutex y))
+  kept-mutex g m y k robust e s b =
+      record {
+        kind = ap (λ (v : MutexView). Some (kind.Mutex v.kind v.robust)) s ∙ rw e refl;
+        mutex = λ z f. let same : y ≡ z = cc in (rw (← same) s, rw (← same) b);
+        rwlock = λ r f. absurd cc;
+      }
+
+  -- a mutex of which the sight has changed, and not the kind
+  pub mutex-changed : (h g : History) (look : ℕ → Option (Object A)) → ObjectsLook h look
+      → (m : ℕ) (x : MutexState) → look m ≡ Some (Mutex x) → kind_of g m ≡ kind_of h m
+      → (change : MutexView → MutexView) → mutex_view g m ≡ change (mutex_view h m)
+      → IsKept g m (Some (Mutex (record x { seen = change x.seen })))
+  mutex-changed h g look t m x e k change v =
+      let old = t.mutexes m x e in
+      kept-mutex g m (record x { seen = change x.seen }) x.seen.kind x.seen.robust
+      (k ∙ (sym (t.kinds m) ∙ ap (option_map kind_in_row) e)) (ap change old.0 ∙ sym v) old.1
+
+  -- a read-write lock is stored right if it is as it is read off
+  pub kept-rwlock : (g : History) (o : ℕ) (r : RwlockState) → kind_of g o ≡ Some kind.Rwlock
+      → IsRwlock g o r → IsKept g o (Some (Rwlock r))
+  kept-rwlock g o r e k =
+      record {
+        kind = sym e;
+        mutex = λ m f. absurd cc;
+        rwlock = λ z f. let same : r ≡ z = cc in subst (λ y. IsRwlock g o y) same k;
+      }
+
+  -- the same of one that was a read-write lock before
+  pub rwlock-changed : (h g : History) (look : ℕ → Option (Object A)) → ObjectsLook h look
+      → (o : ℕ) (r r' : RwlockState) → look o ≡ Some (Rwlock r) → kind_of g o ≡ kind_of h o
+      → IsRwlock g o r' → IsKept g o (Some (Rwlock r'))
+  rwlock-changed h g look t o r r' e k new =
+      kept-rwlock g o r' (k ∙ (sym (t.kinds o) ∙ ap (option_map kind_in_row) e)) new
