@@ -103,7 +103,7 @@ module _ {A : Type 0} (h : History) (clients : List (ClientRow Caller))
         (test ∙ back o (found-known clients c (Some o) e))
         ∙ (ap (if_passes (comes_back h m)) (row-call h clients f a c (Some o) e) ∙ owned c n own)
 
-    -- and where it has none
+    -- and if it has none
     pub mutex-idle : (c : ℕ) → may_lock x.seen true ≡ false → x.seen.owner ≡ Some c
         → None ≡ open_in (client_value clients c) → None ≡ mutex_candidate h m
     mutex-idle c n own e =

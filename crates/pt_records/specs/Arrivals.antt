@@ -10,7 +10,7 @@ use Rattle.pt_model.specs.WaitingCall.{is_arrival}
 use Rattle.pt_records.specs.declared.clients.Caller.{Caller}
 use Rattle.pt_records.specs.Callers.{opens_of}
 
--- the open calls in all rows, as the definitions know them
+-- the open calls in all rows
 abbrev pub calls_of : List (ClientRow Caller) → List WaitingCall
 calls_of rows = map (λ o. o.call) (opens_of rows)
 

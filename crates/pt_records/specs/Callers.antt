@@ -26,7 +26,7 @@ call_of (w ∷ ws) c = if w.client == c then Some w else call_of ws c
 abbrev pub open_in : Option Caller → Option Open
 open_in kept = option_and_then (λ v. v.open) kept
 
--- the open call in a client's row, as the definitions know it
+-- the open call in a client's row
 abbrev pub call_in : Option Caller → Option WaitingCall
 call_in kept = option_map (λ o. o.call) (open_in kept)
 
