@@ -10,7 +10,7 @@ use crate::claims::{claim, claim_count, claim_since, claimed_place};
 use crate::desk::Desk;
 use crate::pass::{Left, Receipt};
 use pt_model::Event;
-use pt_told::same_event;
+use pt_same_event::same_event;
 use std::alloc::Allocator;
 use std::sync::ledger::Ledger;
 

@@ -2,6 +2,7 @@
 //!
 //! The derived `==` has so many variants that a function which uses it is past the limits of the
 //! prover's search.
+#![tactic(auto)]
 
 ghost use Rattle.std.specs.Prelude.{◌≡◌, ◌≢◌, false, true};
 
