@@ -59,29 +59,39 @@ def weights(names, crates):
     return found
 
 
+def niceness(name, others, weight):
+    """A check beside the longest way to the program leaves the processors to those on it."""
+    return 10 if any(weight[it] > weight[name] for it in others) else 0
+
+
 def checks_at_once():
     """Some more than half the processors, and no more than memory allows."""
     free = os.sysconf("SC_AVPHYS_PAGES") * os.sysconf("SC_PAGE_SIZE")
     return max(1, min((PROCESSORS + 2) // 2, free // BYTES_A_CHECK))
 
 
-def run(words, folder, log):
+def run(words, folder, log, nice=0):
     """Whether a command of the toolchain succeeded."""
     with open(log, "ab") as out:
         done = subprocess.run(
-            words, cwd=folder, stdin=subprocess.DEVNULL, stdout=out, stderr=subprocess.STDOUT
+            ["nice", "-n", str(nice), *words],
+            cwd=folder,
+            stdin=subprocess.DEVNULL,
+            stdout=out,
+            stderr=subprocess.STDOUT,
         )
     return done.returncode == 0
 
 
-def prove_library(name, uses, scratch):
+def prove_library(name, uses, scratch, nice):
     """Whether a library was proved, in a copy of it and of all that it uses."""
     copy, lines = f"{scratch}/{name}", read_lines()
     for it in [*uses, name]:
         shutil.copytree(f"{TOP}/crates/{it}", f"{copy}/crates/{it}")
     with open(f"{copy}/crates.txt", "w", encoding="utf-8") as file:
         file.writelines(f"{lines[it]}\n" for it in [*uses, name])
-    proved = run(["rt", "lib", "--jobs", str(PROCESSORS)], f"{copy}/crates/{name}", f"{scratch}/{name}.log")
+    words = ["rt", "lib", "--jobs", str(PROCESSORS)]
+    proved = run(words, f"{copy}/crates/{name}", f"{scratch}/{name}.log", nice)
     if proved:
         shutil.rmtree(f"{TOP}/crates/{name}/out", ignore_errors=True)
         shutil.copytree(f"{copy}/crates/{name}/out", f"{TOP}/crates/{name}/out")
@@ -100,7 +110,9 @@ def prove_libraries(names, crates, scratch):
             for name in ready[: at_once - len(running)]:
                 waiting.remove(name)
                 say(f"proving {len(names) - len(waiting)} of {len(names) + 1}: {name}")
-                running[pool.submit(prove_library, name, below(name, crates), scratch)] = name
+                nice = niceness(name, running.values(), weight)
+                task = pool.submit(prove_library, name, below(name, crates), scratch, nice)
+                running[task] = name
             for ended in wait(running, return_when=FIRST_COMPLETED).done:
                 name = running.pop(ended)
                 if not ended.result():

@@ -27,8 +27,11 @@ module _ (k : Kept) (r : Receipt) where
     -- it isn't
     pub found-other : k.start.at ≤ r.place → (outcome (past k) r.place ≡ Some x → ⊥)
         → Finds (IsMistold k r) (IsAnswered k r) (Some r.place)
-    found-other le not =
-        ((refl, λ good. not (told good)), λ j p. let same : r.place ≡ j = p.0 in omega (arith, same))
+    found-other le not = (
+      (refl, λ good. not (told good)),
+      λ j p.
+          let same : r.place ≡ j = p.0 in omega (arith, same),
+    )
       where
         told : IsAnswered k r → outcome (past k) r.place ≡ Some x
         told good =

@@ -73,7 +73,8 @@ module _ (k : Kept) (l : LeftView) where
 
           -- the next claim is the same
           pub part_met : (j : ℕ) → Compares (p, v) o None
-              → placed_since first (drop j (claims l)) ≡ placed_since first (drop (i + 1) (claims l))
+              → placed_since first (drop j (claims l))
+              ≡ placed_since first (drop (i + 1) (claims l))
               → Goes (p + 1) j
           part_met j met rest = go o claim met
             where
@@ -85,7 +86,8 @@ module _ (k : Kept) (l : LeftView) where
                   let more : i + 1 ≡ suc i = omega arith in
                   subst (λ q. Goes q j) next
                   (walk-met k.start k.entries l.client (claims l) p i v le own w j x (sym e) m
-                  (subst (λ n. placed_since n (drop j (claims l)) ≡ placed_since n (drop (suc i) (claims l)))
+                  (subst (λ n. placed_since n (drop j (claims l))
+                  ≡ placed_since n (drop (suc i) (claims l)))
                   at
                   (rest ∙ ap (λ n. placed_since first (drop n (claims l))) more)))
 

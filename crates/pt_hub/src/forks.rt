@@ -40,9 +40,9 @@ fn compare(place: u64, event: &Event, claim: &Option<(u64, Event)>) -> Option<u6
 /// The first place at which the client's entries and what it says part.
 #[tactic(auto, using(crate::proofs::ForkLemmas::part_begin, crate::proofs::ForkLemmas::part_on, crate::proofs::ForkLemmas::part_met, crate::proofs::ForkLemmas::part_here, crate::proofs::ForkLemmas::part_end, crate::proofs::ForkLemmas::part_dead))]
 fn parting<L: Ledger, A: Allocator + Copy>(desk: &Desk<A>, left: &Left<L, A>) -> Option<u64>
-    ensures { Finds
-        (PartsAt (own_events (kept desk.now) left.now.client) (claims_since (kept desk.now) left.now))
-        (own_events (kept desk.now) left.now.client ≡ claims_since (kept desk.now) left.now) result }
+    ensures { let own = own_events (kept desk.now) left.now.client in
+        let claimed = claims_since (kept desk.now) left.now in
+        Finds (PartsAt own claimed) (own ≡ claimed) result }
 {
     let client = left.client();
     let first = desk.first();
@@ -105,8 +105,9 @@ pub(crate) fn least_fork<L: Ledger, A: Allocator + Copy>(
     desk: &Desk<A>,
     lefts: &[Left<L, A>],
 ) -> Option<u64>
-    ensures { Finds (AnyAt (DiffersAt (kept desk.now)) lefts.now) (Each (Holds (kept desk.now)) lefts.now)
-        result }
+    ensures { Finds
+        (AnyAt (DiffersAt (kept desk.now)) lefts.now)
+        (Each (Holds (kept desk.now)) lefts.now) result }
 {
     let mut found = None;
     let mut i = lefts.len();

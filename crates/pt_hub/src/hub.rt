@@ -312,7 +312,8 @@ impl<L: Ledger, A: Allocator + Copy> Hub<L, A> {
     /// Why the hub doesn't close on these.
     fn close_fault(&self, lefts: &[Left<L, A>], clocks: &[ClockPass<L, A>]) -> Option<CloseFault>
         ensures fault { IfSome result (IsCloseFault self.now.desk lefts.now clocks.now) }
-        ensures none { IfNone result ((outer_count self.now.desk ≡ events_found lefts.now clocks.now)
+        ensures none { IfNone result (
+            (outer_count self.now.desk ≡ events_found lefts.now clocks.now)
             × Each (Holds (kept self.now.desk)) lefts.now) }
     {
         let expected = self.tally.outer();
