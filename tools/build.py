@@ -83,18 +83,25 @@ def run(words, folder, log, nice=0):
     return done.returncode == 0
 
 
+def link_crate(crate, copy):
+    """Copies what is needed of a proved library: nothing writes to its files, so links will do."""
+    unneeded = shutil.ignore_patterns("incremental")
+    shutil.copytree(crate, copy, ignore=unneeded, copy_function=os.link)
+
+
 def prove_library(name, uses, scratch, nice):
     """Whether a library was proved, in a copy of it and of all that it uses."""
     copy, lines = f"{scratch}/{name}", read_lines()
-    for it in [*uses, name]:
-        shutil.copytree(f"{TOP}/crates/{it}", f"{copy}/crates/{it}")
+    shutil.copytree(f"{TOP}/crates/{name}", f"{copy}/crates/{name}")
+    for it in uses:
+        link_crate(f"{TOP}/crates/{it}", f"{copy}/crates/{it}")
     with open(f"{copy}/crates.txt", "w", encoding="utf-8") as file:
         file.writelines(f"{lines[it]}\n" for it in [*uses, name])
     words = ["rt", "lib", "--jobs", str(PROCESSORS)]
     proved = run(words, f"{copy}/crates/{name}", f"{scratch}/{name}.log", nice)
     if proved:
         shutil.rmtree(f"{TOP}/crates/{name}/out", ignore_errors=True)
-        shutil.copytree(f"{copy}/crates/{name}/out", f"{TOP}/crates/{name}/out")
+        os.rename(f"{copy}/crates/{name}/out", f"{TOP}/crates/{name}/out")
     shutil.rmtree(copy)
     return proved
 
@@ -128,7 +135,7 @@ def say(text):
 def main():
     program, crates = sys.argv[1], read_crates()
     names = below(program, crates)
-    scratch = tempfile.mkdtemp(prefix="ptserver-build-")
+    scratch = tempfile.mkdtemp(prefix=".build-", dir=TOP)
     failed = prove_libraries(names, crates, scratch)
     if not failed:
         say(f"proving {len(names) + 1} of {len(names) + 1}: {program}")
