@@ -90,6 +90,19 @@ pub mod TimerDrops
 -- Seals:
 -- SealedQueues: the queues and the deadlines are those of the seal too, where nothing must follow
 pub mod SealedQueues
+-- Room:
+-- ForcedNeeds: what must still be written after an entry that must follow: exactly
+pub mod ForcedNeeds
+-- NeedLimits: no more objects exist than may, and no more entries are reserved than all may need
+pub mod NeedLimits
+-- NeedSteps: the entries that are kept count of, as entries are pushed
+pub mod NeedSteps
+-- NeedUses: what an entry that must follow uses of what was reserved
+pub mod NeedUses
+-- OrphanSteps: no entry but a Death leaves a robust mutex with a dead owner
+pub mod OrphanSteps
+-- WaitMoves: no open call is moved but a wait
+pub mod WaitMoves
 -- Others:
 -- NeedsMemory: what follows where a call needs no memory to wait
 pub mod NeedsMemory

@@ -194,7 +194,7 @@ living-step h _ le (yields m s t) = le
 living-step h _ le (expires w s i t) = le
 
 -- no more live than may
-living-most : (h : History) → Follows h → living h ≤ most_clients
+pub living-most : (h : History) → Follows h → living h ≤ most_clients
 living-most h f =
     by_steps (λ h. living h ≤ most_clients) (omega arith) (λ h e f le s. living-step h e le s)
     (λ h f le. le) h f

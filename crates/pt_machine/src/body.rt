@@ -4,6 +4,7 @@ ghost use Rattle.pt_state.specs.Adds.{Adds, IsReadyFor, Stays, past};
 ghost use Rattle.std.specs.Prelude.{IfErr, IsOk, OnErr, OnOk, ◌+◌, ◌<◌, ◌≡◌, false, vec_len};
 ghost use Rattle.pt_model.specs.Histories.{is_forced};
 ghost use Rattle.pt_machine.specs.Memory.{needs_memory};
+ghost use Rattle.pt_machine.specs.Reserved.{is_death as is_death_in};
 ghost use Rattle.pt_records.specs.Callers.{opens_of};
 ghost use Rattle.pt_state.specs.Serving.{IsFor, entry_of};
 ghost use Rattle.pt_model.specs.Answers.{open_place as open_place_in};
@@ -13,7 +14,7 @@ ghost use Rattle.pt_history.specs.Stored.{begun};
 use crate::clock;
 use crate::touched::caller_of;
 use pt_model::Entry;
-use pt_state::{Forced, State};
+use pt_state::{Forced, State, added};
 use pt_timers::Timers;
 use pt_types::{ClientId, ObjectId, Refusal};
 use pt_waitq::{Chains, WaitList};
@@ -23,7 +24,9 @@ use std::marker::Model;
 /// The tables, with the queues of the calls that wait and the deadlines that are set.
 ///
 /// `touched` is the one object at which a call may be served now, if one may, and `entering` the
-/// client whose call came last. Contracts see the tables.
+/// client whose call came last. `need` is how many entries are reserved for what must follow.
+/// `dying` says whether the last event was a Death: only then may an owner be dead. Contracts see
+/// the tables.
 #[derive(Drop)]
 pub struct Body<Q: WaitList, A: Allocator + Copy = Global> {
     pub(crate) state: State<A>,
@@ -31,6 +34,8 @@ pub struct Body<Q: WaitList, A: Allocator + Copy = Global> {
     pub(crate) timers: Timers<A>,
     pub(crate) touched: Option<ObjectId>,
     pub(crate) entering: Option<ClientId>,
+    pub(crate) need: u64,
+    pub(crate) dying: bool,
 }
 
 impl<Q: WaitList, A: Allocator + Copy> Model for Body<Q, A> {
@@ -39,6 +44,7 @@ impl<Q: WaitList, A: Allocator + Copy> Model for Body<Q, A> {
     ghost use Rattle.pt_machine.specs.Queued.{IsQueued};
     ghost use Rattle.pt_machine.specs.Timed.{AreTimed};
     ghost use Rattle.pt_machine.specs.LastTouched.{IsTouched};
+    ghost use Rattle.pt_machine.specs.Reserved.{IsReserved};
 
     ghost Value = { State A };
 
@@ -47,7 +53,15 @@ impl<Q: WaitList, A: Allocator + Copy> Model for Body<Q, A> {
     ghost invariant = { λ b. IsQueued (past b.state)
         (Q.queue b.queues) (Q.admitted b.queues) (Q.made b.queues)
         × AreTimed (past b.state) b.timers
-        × IsTouched (past b.state) b.touched b.entering };
+        × IsTouched (past b.state) b.touched b.entering
+        × IsReserved (past b.state) b.need b.dying };
+}
+
+// Whether an entry is the death of a client.
+fn is_death(entry: &Entry) -> bool
+    ensures { result ≡ is_death_in entry.now }
+{
+    matches!(entry, Entry::Death(_))
 }
 
 impl<Q: WaitList, A: Allocator + Copy> Body<Q, A> {
@@ -62,9 +76,13 @@ impl<Q: WaitList, A: Allocator + Copy> Body<Q, A> {
         ensures enough { needs_memory entry.now ≡ false → IsOk result }
     {
         let touched = self.touched_by(entry);
+        let need = self.need + added(entry) - self.used(entry);
+        let dying = is_death(entry);
         clock::push_outer(&mut self.state, &mut self.queues, &mut self.timers, entry)?;
         self.touched = touched;
         self.entering = caller_of(entry);
+        self.need = need;
+        self.dying = dying;
         Ok(())
     }
 
@@ -76,8 +94,10 @@ impl<Q: WaitList, A: Allocator + Copy> Body<Q, A> {
         ensures { Adds self.old (entry_of (past self.old) forced.now) self.new }
     {
         let touched = self.touched_by_forced(forced);
+        let used = self.used_by_forced(forced);
         clock::push_forced(&mut self.state, &mut self.queues, &mut self.timers, forced);
         self.touched = touched;
+        self.need -= used;
     }
 
     /// The place of a client's open call.
@@ -102,6 +122,8 @@ impl<A: Allocator + Copy> Body<Chains<A>, A> {
             timers: Timers::new(alloc),
             touched: None,
             entering: None,
+            need: 0,
+            dying: false,
         }
     }
 }

@@ -1,20 +1,32 @@
 //! Room: what an event needs, and which events are refused.
 
 ghost use Rattle.std.specs.Prelude.{Err, IfErr, IsOk, None, OnErr, OnOk, ◌+◌, ◌<◌, ◌↔◌, ◌≡◌, ◌≢◌, ◌≤◌, length, vec_capacity, vec_len};
-ghost use Rattle.pt_model.specs.Room.{entry_for as entry_for_in, is_over as is_over_in, need as need_in, refusal as refusal_in, refusal_within as refusal_within_in};
+ghost use Rattle.pt_model.specs.Room.{entry_for as entry_for_in, is_over as is_over_in, need as need_in, refusal as refusal_in, refusal_within as refusal_within_in, reserved_for};
 ghost use Rattle.pt_state.specs.Adds.{past};
 ghost use Rattle.pt_state.specs.Reads.{AreTables};
 ghost use Rattle.pt_types.specs.Operations.{operation};
 ghost use Rattle.pt_model.specs.Histories.{◌▷◌};
 ghost use Rattle.pt_state.specs.Needed.{Admits, used_by, used_by_operation};
-ghost use Rattle.pt_model.specs.Forced.{forced};
+ghost use Rattle.pt_model.specs.Forced.{forced, service};
+ghost use Rattle.pt_model.specs.declared.entry.Entry.TheVariants as entry_is;
+ghost use Rattle.pt_model.specs.Searches.{In};
+ghost use Rattle.pt_model.specs.Steps.{Step};
+ghost use Rattle.pt_model.specs.WaitingCall.{mutex_of};
+ghost use Rattle.pt_records.specs.Callers.{opens_of};
+ghost use Rattle.pt_records.specs.Counts.{one_if};
+ghost use Rattle.pt_state.specs.Serving.{IsFor, called, entry_of};
+ghost use Rattle.pt_machine.specs.Reserved.{gives_owner};
 
 use crate::body::Body;
+use pt_model::waiting_call::{is_arrival, is_wait, mutex_of};
 use pt_model::{Entry, Event};
-use pt_state::added;
+use pt_records::Open;
+use pt_records::calls::reserved_by;
+use pt_state::{Forced, added};
 use pt_types::operations::{Operation, operation_of};
 use pt_types::tables::reply;
-use pt_types::{Call, ClientId, Outcome, Refusal};
+use pt_types::views::is_acquired;
+use pt_types::{Call, ClientId, ObjectId, Outcome, Refusal};
 use pt_waitq::WaitList;
 use std::alloc::Allocator;
 
@@ -90,7 +102,7 @@ impl<Q: WaitList, A: Allocator + Copy> Body<Q, A> {
     }
 
     // The entries that are no longer reserved from an outer entry on.
-    fn used(&self, entry: &Entry) -> u64
+    pub(crate) fn used(&self, entry: &Entry) -> u64
         requires { AreTables self.now }
         ensures value { result ≡ used_by (past self.now) entry.now }
         ensures small { result ≤ 1024 }
@@ -111,7 +123,76 @@ impl<Q: WaitList, A: Allocator + Copy> Body<Q, A> {
         ensures value { result ≡ need_in (past self.now ▷ entry.now) }
         ensures small { result ≤ 8195 }
     {
-        self.state.need() + added(entry) - self.used(entry)
+        self.need + added(entry) - self.used(entry)
+    }
+
+    // Whether the Grant of a call gives an owner to a robust mutex: one is reserved for its Yield.
+    fn gives_owner(&self, open: &Open) -> bool
+        requires read { AreTables self.now }
+        requires known { In «open».now (opens_of self.now.clients) }
+        ensures { let w = called «open».now in
+            result ≡ gives_owner (past self.now) w (mutex_of w.role w.object) }
+    {
+        match mutex_of(&open.call) {
+            Some(m) => self.state.is_robust_free(m) && is_acquired(self.state.grant_outcome(open)),
+            None => false,
+        }
+    }
+
+    // The entries that are no longer reserved as a call is granted.
+    fn used_by_grant(&self, open: &Open) -> u64
+        requires read { AreTables self.now }
+        requires known { In «open».now (opens_of self.now.clients) }
+        ensures { let w = called «open».now in
+            result + one_if (gives_owner (past self.now) w (mutex_of w.role w.object))
+            ≡ reserved_for (past self.now) w }
+    {
+        if self.gives_owner(open) {
+            reserved_by(Some(*open)) - 1
+        } else {
+            reserved_by(Some(*open))
+        }
+    }
+
+    // The entries that are no longer reserved as a full barrier trips, or a call is granted.
+    fn used_by_service(&self, open: &Open) -> u64
+        requires read { AreTables self.now }
+        requires step { Step (past self.now) (service (past self.now) (called «open».now)) }
+        requires known { In «open».now (opens_of self.now.clients) }
+        ensures { let h = past self.now in
+            need_in (h ▷ service h (called «open».now)) + result ≡ need_in h }
+    {
+        if is_arrival(open.call.role) {
+            3 * self.arrivals(ObjectId(open.call.object)) as u64
+        } else {
+            self.used_by_grant(open)
+        }
+    }
+
+    // The entries that are no longer reserved as a deadline moves a wait, or ends another call.
+    fn used_by_expiry(&self, late: &Open) -> u64
+        requires read { AreTables self.now }
+        requires step { Step (past self.now) (entry_is.Expire late.now.call.place) }
+        requires known { In late.now (opens_of self.now.clients) }
+        ensures { let h = past self.now in
+            need_in (h ▷ entry_is.Expire late.now.call.place) + result ≡ need_in h }
+    {
+        if is_wait(late.call.role) { 1 } else { 3 }
+    }
+
+    // The entries that are no longer reserved from an entry on that must follow.
+    pub(crate) fn used_by_forced(&self, forced: &Forced) -> u64
+        requires read { AreTables self.now }
+        requires step { Step (past self.now) (entry_of (past self.now) forced.now) }
+        requires known { IsFor (opens_of self.now.clients) forced.now }
+        ensures { let h = past self.now in
+            need_in (h ▷ entry_of h forced.now) + result ≡ need_in h }
+    {
+        match forced {
+            Forced::Serve(open) => self.used_by_service(open),
+            Forced::Yield(_) => 1,
+            Forced::Expire(late) => self.used_by_expiry(late),
+        }
     }
 
     /// The outer entry that an accepted event becomes.

@@ -1,6 +1,6 @@
 //! Mutexes: verdicts, locking, unlocking, and the robust ones of dead owners.
 
-ghost use Rattle.std.specs.Prelude.{IfSome, Some, ◌<◌, ◌||◌, ◌≡◌, ◌≤◌, option_map};
+ghost use Rattle.std.specs.Prelude.{IfSome, Some, ◌&&◌, ◌||◌, ◌≡◌, is_none, option_map};
 ghost use Rattle.std.specs.List.{list_any};
 ghost use Rattle.pt_model.specs.Histories.{place};
 ghost use Rattle.pt_model.specs.Answers.{open_calls};
@@ -12,16 +12,14 @@ ghost use Rattle.pt_types.specs.declared.operations.ObjectClass.TheVariants.{Mut
 ghost use Rattle.pt_types.specs.declared.operations.LockKind.TheVariants.{MutexLock};
 ghost use Rattle.pt_model.specs.declared.entry.Entry.TheVariants as entry;
 ghost use Rattle.pt_state.specs.Adds.{Adds, IsReadyFor, past};
-ghost use Rattle.pt_table.specs.ObjectRows.{nth_value as nth_object, object_value};
-ghost use Rattle.pt_records.specs.Counts.{counted, is_robust_held, one_if};
-ghost use Rattle.pt_model.specs.Searches.{In, count_below, first_below};
-ghost use Rattle.pt_model.specs.Room.{is_robust_owned};
+ghost use Rattle.pt_table.specs.ObjectRows.{object_value};
+ghost use Rattle.pt_model.specs.Searches.{In, first_below};
 ghost use Rattle.pt_model.specs.WaitingCall.{mutex_of};
 ghost use Rattle.pt_model.specs.Grants.{grant_outcome as grant_outcome_in};
 ghost use Rattle.pt_records.specs.Callers.{opens_of};
 ghost use Rattle.pt_state.specs.Serving.{called, is_orphaned as is_orphaned_in, orphan_nth as orphan_nth_in};
 ghost use Rattle.pt_state.specs.Granting.{consistency_in_row, told_at as told_at_in};
-ghost use Rattle.pt_model.specs.Objects.{find as find_in, kind_of, objects};
+ghost use Rattle.pt_model.specs.Objects.{find as find_in, is_robust, kind_of};
 ghost use Rattle.std.specs.Option.{option_copied};
 ghost use Rattle.pt_records.specs.LocksInRows.{mutex_in};
 ghost use Rattle.pt_model.specs.Mutexes.{mutex_view, owner as owner_in};
@@ -34,7 +32,7 @@ use pt_model::Entry;
 use pt_model::waiting_call::{Move, is_expired};
 use pt_mutex::MutexObj;
 use pt_records::cond::any_returns;
-use pt_records::mutex::{acquire, is_robust_mutex, lock_verdict, release, restore, yield_dead};
+use pt_records::mutex::{acquire, lock_verdict, release, restore, yield_dead};
 use pt_records::{Object, Open};
 use pt_types::operations::ObjectClass;
 use pt_types::tables::lock_outcome;
@@ -86,30 +84,16 @@ impl<A: Allocator + Copy> State<A> {
         self.finish(c, call, Outcome::Done);
     }
 
-    // One for the object at this index, if it is a robust mutex with an owner.
-    fn robust_nth(&self, index: usize) -> u64
-        ensures value { result
-            ≡ counted (λ x. one_if (is_robust_held x)) (nth_object self.now.objects index) }
-        ensures small { result ≤ 1 }
-    {
-        match self.objects.nth(index) {
-            Some((_, object)) => { if is_robust_mutex(object) { 1 } else { 0 } }
-            None => 0,
-        }
-    }
-
-    /// How many robust mutexes have an owner.
-    pub fn robust_owned(&self) -> u64
+    /// Whether the object is a robust mutex that nobody owns.  [XSH pthread_mutex_lock]
+    pub fn is_robust_free(&self, m: ObjectId) -> bool
         requires { AreTables self.now }
-        ensures value { let h = past self.now in
-            result ≡ count_below (place h) (is_robust_owned h) }
-        ensures small { result ≤ 4096 }
+        ensures { let h = past self.now in
+            result ≡ is_robust (kind_of h m) && is_none (owner_in h m) }
     {
-        let mut count = 0;
-        for i in 0..self.objects.len() {
-            count += self.robust_nth(i);
+        match self.mutex_at(m) {
+            Some(mutex) => mutex.is_robust() && mutex.owner().is_none(),
+            None => false,
         }
-        count
     }
 
     /// A robust mutex is taken from its dead owner.  [XSH pthread_mutex_lock, EOWNERDEAD]

@@ -1,11 +1,10 @@
 //! Room: how many entries must follow, and which events are refused.
 
-ghost use Rattle.std.specs.Prelude.{None, ◌*◌, ◌≡◌, ◌≤◌, map, sum};
+ghost use Rattle.std.specs.Prelude.{None, ◌≡◌, ◌≤◌};
 ghost use Rattle.pt_types.specs.Operations.{operation};
 ghost use Rattle.pt_types.specs.declared.operations.ObjectClass.TheVariants.{Mutex as MutexClass};
 ghost use Rattle.pt_state.specs.Needed.{added_by, last_lock, last_lock_if, used_to_wait};
-ghost use Rattle.pt_model.specs.Answers.{open_calls};
-ghost use Rattle.pt_model.specs.Room.{reserved_for, need as need_in, refusal as refusal_in, refusal_of_stranger as refusal_of_stranger_in};
+ghost use Rattle.pt_model.specs.Room.{refusal as refusal_in, refusal_of_stranger as refusal_of_stranger_in};
 ghost use Rattle.pt_state.specs.Reads.{AreTables};
 ghost use Rattle.pt_model.specs.Objects.{find};
 ghost use Rattle.pt_model.specs.WaitingCall.{meant};
@@ -38,20 +37,6 @@ pub fn added(entry: &Entry) -> u64
 }
 
 impl<A: Allocator + Copy> State<A> {
-    /// The entries reserved for all open calls.
-    pub fn reserved(&self) -> u64
-        requires { AreTables self.now }
-        ensures value { let h = past self.now in
-            result ≡ sum (map (reserved_for h) (open_calls h)) }
-        ensures small { result ≤ 3 * 1024 }
-    {
-        let mut count = 0;
-        for i in 0..self.clients.len() {
-            count += reserved_by(self.open_nth(i));
-        }
-        count
-    }
-
     // One if the client's lock is the last one on a robust mutex.
     fn last_lock(&self, c: ClientId, m: ObjectId) -> u64
         requires { AreTables self.now }
@@ -112,15 +97,6 @@ impl<A: Allocator + Copy> State<A> {
             Some(caller) => reserved_by(caller.open),
             None => 0,
         }
-    }
-
-    /// The entries reserved: for the Death of each living client, for open calls, for Yields.
-    pub fn need(&self) -> u64
-        requires { AreTables self.now }
-        ensures value { result ≡ need_in (past self.now) }
-        ensures small { result ≤ 8192 }
-    {
-        self.clients.len() as u64 + self.reserved() + self.robust_owned()
     }
 
     /// A client that doesn't live: DEAD if a place has its number, else NOHELLO.

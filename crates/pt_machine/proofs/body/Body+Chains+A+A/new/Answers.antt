@@ -6,6 +6,7 @@ use Rattle.pt_model.proofs.StartReadings.{rows-none}
 use Rattle.pt_state.specs.Adds.{past}
 use Rattle.pt_machine.specs.Timed.{set_at}
 use Rattle.pt_machine.proofs.LastTouches.{touched-begin}
+use Rattle.pt_machine.proofs.NeedSteps.{reserved-begin}
 use Rattle.pt_machine.proofs.QueuedArrivals.{queued-begin}
 use Rattle.pt_machine.proofs.body.Body+Chains+A+A.new.Goals as goal
 
@@ -16,4 +17,5 @@ invariant_of-result g c =
       queued-begin (past c.new.result) c.new-2.result begins c.new-2.ensures,
       λ p. c.new-3.ensures p ∙ ap (λ (h : History). set_at h p) (sym begins),
       touched-begin (past c.new.result) begins,
+      reserved-begin (past c.new.result) begins,
     )

@@ -2,13 +2,21 @@ use Rattle.std.proofs.Common.{◌≡◌, arith, ◌∙◌, ap}
 use Rattle.pt_model.specs.Room.{need}
 use Rattle.pt_state.specs.Adds.{past}
 use Rattle.pt_state.proofs.NeedLemmas.{need-admits}
+use Rattle.pt_machine.proofs.NeedLimits.{need-most}
 use Rattle.pt_machine.proofs.body.Body.need_after.Goals as goal
+
+pub overflow_add-result : goal.overflow_add-result
+overflow_add-result g c =
+    let s = c.args.self.now in
+    let before : c.self.inside.need ≡ need (past s) =
+    c.self.invariant.3.needs ∙ ap (λ s. need (past s)) c.self.view_is in
+    omega (arith, before, need-most s c.requires.read, c.added.ensures.small)
 
 pub overflow_sub-result : goal.overflow_sub-result
 overflow_sub-result g c =
     let h = past c.args.self.now in
-    let before : c.need.result ≡ need h =
-    c.need.ensures.value ∙ ap (λ s. need (past s)) c.self.view_is in
+    let before : c.self.inside.need ≡ need h =
+    c.self.invariant.3.needs ∙ ap (λ s. need (past s)) c.self.view_is in
     omega (
       arith,
       before,
@@ -20,8 +28,8 @@ overflow_sub-result g c =
 pub returns-clause-value : goal.returns-clause-value
 returns-clause-value g c =
     let h = past c.args.self.now in
-    let before : c.need.result ≡ need h =
-    c.need.ensures.value ∙ ap (λ s. need (past s)) c.self.view_is in
+    let before : c.self.inside.need ≡ need h =
+    c.self.invariant.3.needs ∙ ap (λ s. need (past s)) c.self.view_is in
     omega (
       arith,
       before,
@@ -29,3 +37,10 @@ returns-clause-value g c =
       c.used.ensures.value,
       need-admits h c.args.entry.now c.requires.read.follows c.requires.forced c.requires.admits,
     )
+
+pub returns-clause-small : goal.returns-clause-small
+returns-clause-small g c =
+    let s = c.args.self.now in
+    let before : c.self.inside.need ≡ need (past s) =
+    c.self.invariant.3.needs ∙ ap (λ s. need (past s)) c.self.view_is in
+    omega (arith, before, need-most s c.requires.read, c.added.ensures.small)

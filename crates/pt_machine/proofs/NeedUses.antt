@@ -1,0 +1,106 @@
+-- NeedUses: what an entry that must follow uses of what was reserved.
+use Rattle.std.proofs.Common.{◌≡◌, ℕ, ◌+◌, ◌*◌, ◌≤◌, Bool, true, false, cond, length, List, Option, Some, None, is_some, option_map, refl, sym, ap, subst, arith}
+use Rattle.pt_types.specs.declared.call.ObjectKind.{ObjectKind}
+use Rattle.pt_types.specs.declared.call.ObjectKind.TheVariants as kind
+use Rattle.pt_types.specs.Operations.{class_of}
+use Rattle.pt_types.specs.declared.operations.ObjectClass.TheVariants.{Barrier as BarrierClass}
+use Rattle.pt_model.specs.declared.entry.Entry.TheVariants.{Grant, Trip, Yield}
+use Rattle.pt_model.specs.Searches.{In}
+use Rattle.pt_model.specs.Histories.{History, ◌▷◌}
+use Rattle.pt_model.specs.Objects.{is_class, kind_of}
+use Rattle.pt_model.specs.declared.waiting_call.WaitingCall.{WaitingCall}
+use Rattle.pt_model.specs.declared.waiting_call.Move.{Move}
+use Rattle.pt_model.specs.declared.waiting_call.Role.{Role}
+use Rattle.pt_model.specs.declared.waiting_call.Role.TheVariants.{ForMutex, ForRead, ForWrite, ForBarrier, ForCond}
+use Rattle.pt_model.specs.WaitingCall.{is_arrival, is_wait, mutex_of}
+use Rattle.pt_model.specs.Answers.{at_barrier, open_calls}
+use Rattle.pt_model.specs.Moves.{is_moved, moved}
+use Rattle.pt_model.specs.Grants.{grant_outcome}
+use Rattle.pt_model.specs.Forced.{is_orphan, service}
+use Rattle.pt_model.specs.Room.{need, reserved_for}
+use Rattle.pt_model.specs.Steps.{Step, yields, Follows}
+use Rattle.pt_model.proofs.Seats.{HousedBy, housed}
+use Rattle.pt_table.specs.declared.clients.ClientRow.{ClientRow}
+use Rattle.pt_records.specs.declared.clients.Caller.{Caller}
+use Rattle.pt_records.specs.declared.clients.Open.{Open}
+use Rattle.pt_records.specs.Callers.{AreCallers, opens_of}
+use Rattle.pt_records.specs.Counts.{one_if, reserved_open}
+use Rattle.pt_state.specs.Serving.{called}
+use Rattle.pt_state.proofs.ServingFinds.{are-open}
+use Rattle.pt_machine.specs.Reserved.{gives_owner}
+use Rattle.pt_machine.proofs.ForcedNeeds.{need-grant, need-trip, need-yield}
+use Rattle.pt_machine.proofs.WaitMoves.{plain-stays}
+
+arrives : (role : Role) → is_arrival role ≡ true → is_wait role ≡ false
+arrives ForBarrier e = refl
+arrives ForMutex e = absurd cc
+arrives ForRead e = absurd cc
+arrives ForWrite e = absurd cc
+arrives (ForCond m) e = absurd cc
+
+-- as much is reserved for a call as its row says
+pub row-reserved : (h : History) (rows : List (ClientRow Caller)) → Follows h → AreCallers h rows
+    → (o : Open) → In o (opens_of rows) → reserved_open o ≡ reserved_for h (called o)
+row-reserved h rows f a o i =
+    ap (λ m. cond {A = ℕ} (is_some m) 2 3) ((are-open h rows f a).known o i).1
+
+-- it is two at least
+pub two-least : (h : History) (w : WaitingCall) → 2 ≤ reserved_for h w
+two-least h w = go (is_moved h w)
+  where
+    go : (b : Bool) → 2 ≤ cond {A = ℕ} b 2 3
+    go true = omega arith
+    go false = omega arith
+
+module _ (h : History) (w : WaitingCall) (f : Follows h) where
+  -- an arrival stands at a barrier
+  pub arrival-barrier : In w (open_calls h) → is_arrival w.role ≡ true
+      → option_map class_of (kind_of h w.object) ≡ Some BarrierClass
+  arrival-barrier i a = go w.role a (moved h w.place) (housed h f w i)
+    where
+      class : (o : Option ObjectKind) → is_class o BarrierClass ≡ true
+          → option_map class_of o ≡ Some BarrierClass
+      class None e = absurd cc
+      class (Some (kind.Mutex k robust)) e = absurd cc
+      class (Some kind.Rwlock) e = absurd cc
+      class (Some kind.Cond) e = absurd cc
+      class (Some (kind.Barrier n)) e = refl
+
+      go : (role : Role) → is_arrival role ≡ true → (move : Option Move)
+          → HousedBy h role move w.object
+          → option_map class_of (kind_of h w.object) ≡ Some BarrierClass
+      go ForBarrier e move s = class (kind_of h w.object) s.0
+      go ForMutex e move s = absurd cc
+      go ForRead e move s = absurd cc
+      go ForWrite e move s = absurd cc
+      go (ForCond m) e move s = absurd cc
+
+  -- a Trip uses what was reserved for the calls at its barrier
+  pub uses-trip : (n : ℕ) → is_arrival w.role ≡ true
+      → n ≡ length (at_barrier w.object (open_calls h))
+      → need (h ▷ service h w) + 3 * n ≡ need h
+  uses-trip n a e =
+      let trips : need (h ▷ Trip w.object) + 3 * length (at_barrier w.object (open_calls h))
+      ≡ need h =
+      need-trip h w.object f
+      (λ v i t. ap is_some (plain-stays h f v i (arrives v.role t))) in
+      rw a (omega (arith, trips, e))
+
+  -- a Grant uses what was reserved for its call, but for the Yield of a mutex that gets an owner
+  pub uses-grant : In w (open_calls h) → is_arrival w.role ≡ false → Step h (service h w)
+      → (used : ℕ)
+      → used + one_if (gives_owner h w (mutex_of w.role w.object)) ≡ reserved_for h w
+      → need (h ▷ service h w) + used ≡ need h
+  uses-grant i a s used e =
+      let is : service h w ≡ Grant w.place (grant_outcome h w) =
+      ap (λ b. cond b (Trip w.object) (Grant w.place (grant_outcome h w))) a in
+      let grants = need-grant h w f i (subst (λ x. Step h x) is s) in
+      subst (λ x. need (h ▷ x) + used ≡ need h) (sym is) (omega (arith, grants, e))
+
+orphan_taken : (h : History) (m : ℕ) → Step h (Yield m) → is_orphan h m ≡ true
+orphan_taken h _ (yields m s o) = o
+
+-- a Yield is what was reserved for its mutex
+pub uses-yield : (h : History) (m : ℕ) → Follows h → Step h (Yield m)
+    → need (h ▷ Yield m) + 1 ≡ need h
+uses-yield h m f s = need-yield h m f (orphan_taken h m s)

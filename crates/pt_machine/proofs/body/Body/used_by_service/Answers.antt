@@ -1,0 +1,43 @@
+use Rattle.std.proofs.Common.{true, false, sym, ◌∙◌, arith}
+use Rattle.pt_model.specs.WaitingCall.{is_arrival}
+use Rattle.pt_state.specs.Adds.{past}
+use Rattle.pt_state.specs.Serving.{called}
+use Rattle.pt_state.proofs.ForceCallers.{known-open}
+use Rattle.pt_machine.proofs.NeedUses.{arrival-barrier, uses-grant, uses-trip}
+use Rattle.pt_machine.proofs.QueueCounts.{open-most}
+use Rattle.pt_model.proofs.Opens.{stands_at_barrier}
+use Rattle.pt_machine.proofs.body.Body.used_by_service.Goals as goal
+
+pub arrivals-requires-clause-barrier : goal.arrivals-requires-clause-barrier
+arrivals-requires-clause-barrier g c =
+    let s = c.args.self.now in
+    let o = c.args.open.now in
+    let read = c.requires.read in
+    arrival-barrier (past s) (called o) read.follows
+    (known-open (past s) s.clients read.follows read.callers o c.requires.known)
+    (sym c.is_arrival.ensures ∙ c.if-is_arrival.true)
+
+pub overflow_mul-result : goal.overflow_mul-result
+overflow_mul-result g c =
+    let s = c.args.self.now in
+    let read = c.requires.read in
+    omega (
+      arith,
+      open-most (past s) s.clients read.follows read.callers
+          (stands_at_barrier c.args.open.now.call.object) c.arrivals.result c.arrivals.ensures,
+    )
+
+pub returns-then-is_arrival : goal.returns-then-is_arrival
+returns-then-is_arrival g c =
+    uses-trip (past c.args.self.now) (called c.args.open.now) c.requires.read.follows
+    c.arrivals.result (sym c.is_arrival.ensures ∙ c.if-is_arrival.true) c.arrivals.ensures
+
+pub returns-else-is_arrival : goal.returns-else-is_arrival
+returns-else-is_arrival g c =
+    let s = c.args.self.now in
+    let o = c.args.open.now in
+    let read = c.requires.read in
+    uses-grant (past s) (called o) read.follows
+    (known-open (past s) s.clients read.follows read.callers o c.requires.known)
+    (sym c.is_arrival.ensures ∙ c.if-is_arrival.false) c.requires.step c.used_by_grant.result
+    c.used_by_grant.ensures
