@@ -1,12 +1,13 @@
 -- Rows of clients after one is written, added or taken out.
-use Rattle.std.proofs.Common.{◌≡◌, ℕ, Bool, true, false, cond, ◌==◌, ◌||◌, nat_eq, List, [], ◌∷◌, Option, Some, None, is_some, refl, ap, ◌∙◌, arith}
+use Rattle.std.proofs.Common.{◌≡◌, ℕ, Bool, true, false, cond, ◌==◌, ◌||◌, nat_eq, List, [], ◌∷◌, Option, Some, None, is_some, option_map, refl, sym, ap, subst, ◌∙◌, arith, inl, inr}
 use Rattle.std.specs.List.{list_any}
 use Rattle.std.proofs.lemmas.Bool.Decides.{nat_tests}
+use Rattle.std.proofs.lemmas.Bool.{cases_eq, eq-eqb, ne_eqb}
 use Rattle.pt_table.specs.declared.clients.ClientRow.{ClientRow}
 use Rattle.pt_table.specs.ClientRows.{client_at, client_value, has_client, with_client, and_client, without_client}
 use Rattle.pt_records.specs.declared.clients.Caller.{Caller}
 use Rattle.pt_records.specs.Callers.{Once}
-use Rattle.pt_records.specs.Writes.{WritesCaller, AddsCaller, RemovesCaller}
+use Rattle.pt_records.specs.Writes.{AddsCaller, ChangesCaller, RemovesCaller, WritesCaller}
 use Rattle.pt_records.proofs.RowLemmas.{Apart, Apart-map, Apart-added, Apart-without, length-map, length-added, length-without, one_changed, one-kept, value-changed, value-added, value-without, value-there}
 
 abbrev pub number_in : ClientRow Caller → ℕ
@@ -77,6 +78,40 @@ pub writes-by : (f : Caller → Caller) (rows : List (ClientRow Caller)) (c : �
 writes-by f rows c u is v e =
     let same : v ≡ u = cc in
     rw same (writes-caller rows c (f u) (client-there rows c v e))
+
+-- the row of a client by a change of what was there, and no row at all
+pub changes-some : (g : Caller → Caller) (rows : List (ClientRow Caller)) (n c : ℕ) (u : Caller)
+    → n ≡ c → Some u ≡ client_value rows n → ChangesCaller rows (with_client rows n (g u)) c g
+changes-some g rows n c u same is =
+    subst (λ m. ChangesCaller rows (with_client rows n (g u)) m g) same
+    (record { look = λ d. written.look d ∙ found d; many = written.many; once = written.once })
+  where
+    written : WritesCaller rows (with_client rows n (g u)) n (g u)
+    written = writes-caller rows n (g u) (client-there rows n u (sym is))
+
+    found : (d : ℕ) → cond (n == d) (Some (g u)) (client_value rows d)
+        ≡ cond (n == d) (option_map g (client_value rows d)) (client_value rows d)
+    found d = elim (cases_eq n d) [
+      | inl e ↦
+          rw (eq-eqb n d e)
+          (subst (λ m. Some (g u) ≡ option_map g (client_value rows m)) e (ap (option_map g) is))
+      | inr ne ↦ rw (ne_eqb n d ne) refl
+    ]
+
+pub changes-none : (g : Caller → Caller) (rows : List (ClientRow Caller)) (c : ℕ)
+    → ◌≡◌ {A = Option Caller} None (client_value rows c) → ChangesCaller rows rows c g
+changes-none g rows c is =
+    record { look = λ d. found d; many = refl; once = λ once. once }
+  where
+    found : (d : ℕ) → client_value rows d
+        ≡ cond (c == d) (option_map g (client_value rows d)) (client_value rows d)
+    found d = elim (cases_eq c d) [
+      | inl e ↦
+          rw (eq-eqb c d e)
+          (subst (λ n. client_value rows n ≡ option_map g (client_value rows n)) e
+          (sym is ∙ ap (option_map g) is))
+      | inr ne ↦ rw (ne_eqb c d ne) refl
+    ]
 
 -- a client has no row where none is found
 unfound : (o : Option (ClientRow Caller)) → is_some o ≡ false → o ≡ None

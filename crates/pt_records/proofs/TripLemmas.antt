@@ -1,196 +1,379 @@
--- A Trip's answers, told one by one in order of the calls' places.
-use Rattle.std.proofs.Common.{◌≡◌, ◌⊎◌, ℕ, suc, ◌+◌, ◌<◌, ◌≤◌, leb, List, [], ◌∷◌, ◌++◌, Option, Some, None, map, length, refl, sym, ap, ◌∙◌, subst, arith, inl, inr, append_assoc}
-use Rattle.std.specs.Prelude.{◌==◌, ◌&&◌}
-use Rattle.std.proofs.lemmas.Bool.{cases_lt, le-leb, lt-leb, leb-true}
+-- What a Trip answers, and the rows that its answers close.
+use Rattle.std.proofs.Common.{◌≡◌, ℕ, zero, suc, ◌<◌, ◌≤◌, Bool, true, false, cond, ◌==◌, List, [], ◌∷◌, ◌++◌, Option, Some, None, map, length, drop, take, ◌-◌, length-drop, refl, sym, ap, ◌∙◌, subst, arith, inl, inr}
+use Rattle.std.specs.Prelude.{option_map, slice_index_or, slice_set}
 use Rattle.pt_types.specs.declared.outcome.Outcome.{Outcome}
+use Rattle.pt_types.specs.declared.outcome.Outcome.TheVariants.{Serial}
+use Rattle.std.specs.Option.{option_and_then, option_or}
+use Rattle.std.specs.List.Sorted.{IsPermutation, IsNonDecreasingBy}
+use Rattle.std.proofs.lemmas.List.{length-map}
+use Rattle.std.proofs.lemmas.Bool.{cases_eq, eq-eqb, ne_eqb, false≢true}
+use Rattle.pt_table.specs.declared.clients.ClientRow.{ClientRow}
+use Rattle.pt_table.specs.ClientRows.{client_value, with_client}
 use Rattle.pt_model.specs.Searches.{In}
 use Rattle.pt_model.specs.Histories.{History, place}
 use Rattle.pt_model.specs.Records.{Told}
+use Rattle.pt_model.specs.Steps.{Follows}
 use Rattle.pt_model.specs.declared.waiting_call.WaitingCall.{WaitingCall}
-use Rattle.pt_model.specs.WaitingCall.{is_arrival}
 use Rattle.pt_model.specs.Answers.{at_barrier, open_calls, told_by_trip, trip_outcome}
-use Rattle.pt_model.proofs.Lists.{Each-in, In-filter}
-use Rattle.pt_model.proofs.Ascending.{Ascends, from, from-before}
-use Rattle.pt_model.proofs.OpenOrder.{open-below}
+use Rattle.pt_model.specs.Found.{passes}
+use Rattle.pt_model.proofs.Ascending.{Ascends}
+use Rattle.pt_model.proofs.Lists.{In-filter, filter-in}
+use Rattle.pt_model.proofs.OneEach.{one_each}
 use Rattle.pt_records.specs.declared.answers.Answered.{Answered}
-use Rattle.pt_records.specs.Arrivals.{outcome_before}
-use Rattle.pt_records.specs.Logs.{logged, told_at}
-use Rattle.pt_records.proofs.ArrivalLemmas.{head_of}
+use Rattle.pt_records.specs.declared.clients.Caller.{Caller}
+use Rattle.pt_records.specs.declared.clients.Open.{Open}
+use Rattle.pt_records.specs.Arrivals.{ClosesBy, arrivals_in, arrives_at, closed_by, closed_by_all, passed_at, with_serial}
+use Rattle.pt_records.specs.Callers.{AreCallers, Once, call_in, call_of, closed}
+use Rattle.pt_records.specs.Logs.{last_to, logged, outcome_in_log, said_by, told_at}
+use Rattle.pt_records.specs.Writes.{ChangesCaller, RewritesCallers, arrived_at, closed_at}
+use Rattle.pt_records.proofs.ArrivalLemmas.{arrival-open, arrivals-ascend, arrivals-lone, one-place, open-arrival}
+use Rattle.pt_records.proofs.CallerWrites.{changes-some}
+use Rattle.pt_records.proofs.LogLemmas.{last_to-append}
+use Rattle.pt_records.proofs.OpenRows.{call_of-in, call_of-open}
+use Rattle.pt_records.proofs.TripOrder.{Climbs, lone-length, place_of, sorted-same}
 
--- the calls from this one on
-abbrev pub rest_of : Option WaitingCall → List WaitingCall → List WaitingCall
-rest_of None ws = []
-rest_of (Some w) ws = from w.place ws
+passed-climbs : (k n : ℕ) (ws : List WaitingCall) → Ascends n ws → Climbs n (map (passed_at k) ws)
+passed-climbs k n [] a = tt
+passed-climbs k n (w ∷ ws) a = (a.0, passed-climbs k (suc w.place) ws a.1)
 
-head-in : (ws : List WaitingCall) (w : WaitingCall) → head_of ws ≡ Some w → In w ws
-head-in [] w e = absurd cc
-head-in (v ∷ vs) w e = inl (the_same e)
+passed-in : (k : ℕ) (ws : List WaitingCall) (w : WaitingCall) → In w ws
+    → In (passed_at k w) (map (passed_at k) ws)
+passed-in k [] w i = absurd i
+passed-in k (v ∷ vs) w (inl e) = inl (ap (passed_at k) e)
+passed-in k (v ∷ vs) w (inr i) = inr (passed-in k vs w i)
+
+in-passed : (k : ℕ) (ws : List WaitingCall) (a : Answered) → In a (map (passed_at k) ws)
+    → (w : WaitingCall) × (In w ws × (a ≡ passed_at k w))
+in-passed k [] a i = absurd i
+in-passed k (v ∷ vs) a (inl e) = (v, (inl refl, e))
+in-passed k (v ∷ vs) a (inr i) =
+    let found = in-passed k vs a i in (found.0, (inr found.1.0, found.1.1))
+
+passed-kept : (k : ℕ) (vs ws : List WaitingCall) → ((w : WaitingCall) → In w vs → In w ws)
+    → (a : Answered) → In a (map (passed_at k) vs) → In a (map (passed_at k) ws)
+passed-kept k vs ws f a i =
+    let found = in-passed k vs a i in
+    subst (λ x. In x (map (passed_at k) ws)) (sym found.1.1)
+    (passed-in k ws found.0 (f found.0 found.1.0))
+
+-- in order of places, and with the last one serial, these are a Trip's answers
+serial-told : (k : ℕ) (ws : List WaitingCall)
+    → map logged (with_serial (map (passed_at k) ws)) ≡ told_at k (told_by_trip ws)
+serial-told k [] = refl
+serial-told k (w ∷ []) = refl
+serial-told k (w ∷ v ∷ ws) = ap (λ ps. logged (passed_at k w) ∷ ps) (serial-told k (v ∷ ws))
+
+-- the last one is made serial
+pub serial-set : (ts : List Answered) (n : ℕ) (d : Answered) → suc n ≡ length ts
+    → slice_set ts n (record (slice_index_or ts n d) { outcome = Serial }) ≡ with_serial ts
+serial-set [] n d e = absurd (omega (arith, e))
+serial-set (a ∷ []) zero d e = refl
+serial-set (a ∷ []) (suc n) d e = absurd (omega (arith, e))
+serial-set (a ∷ b ∷ ts) zero d e = absurd (omega (arith, e))
+serial-set (a ∷ b ∷ ts) (suc n) d e =
+    ap (λ xs. a ∷ xs) (serial-set (b ∷ ts) n d (omega (arith, e)))
+
+pub trip-told : (h : History) (rows : List (ClientRow Caller)) (b k : ℕ) (ys : List Answered)
+    → Follows h → AreCallers h rows → IsPermutation (map (passed_at k) (arrivals_in rows b)) ys
+    → IsNonDecreasingBy place_of ys
+    → map logged (with_serial ys) ≡ told_at k (told_by_trip (at_barrier b (open_calls h)))
+trip-told h rows b k ys f a p r =
+    ap (λ ts. map logged (with_serial ts)) same ∙ serial-told k ws
   where
-    the_same : Some v ≡ Some w → w ≡ v
-    the_same k = cc
+    ws : List WaitingCall
+    ws = at_barrier b (open_calls h)
 
-head-late : (k : ℕ) (ws : List WaitingCall) (w : WaitingCall) → head_of (from k ws) ≡ Some w
-    → k ≤ w.place
-head-late k ws w e =
-    leb-true k w.place
-    (In-filter (λ (v : WaitingCall). leb k v.place) ws w (head-in (from k ws) w e)).1
+    same : ys ≡ map (passed_at k) ws
+    same =
+        sorted-same (map (passed_at k) (arrivals_in rows b)) ys (map (passed_at k) ws) p r
+        (λ n. arrivals-lone h rows b k n a) (passed-climbs k 0 ws (arrivals-ascend h b))
+        (passed-kept k (arrivals_in rows b) ws (arrival-open h rows b a))
+        (passed-kept k ws (arrivals_in rows b) (open-arrival h rows b f a))
 
--- the calls from the first one at place k or after it are those from place k on
-pub head-rest : (n k : ℕ) (ws : List WaitingCall) → Ascends n ws
-    → rest_of (head_of (from k ws)) ws ≡ from k ws
-head-rest n k [] a = refl
-head-rest n k (v ∷ vs) a = split (cases_lt v.place k) (head-rest (suc v.place) k vs a.1)
-  where
-    lift : (o : Option WaitingCall) → ((w : WaitingCall) → o ≡ Some w → k ≤ w.place) → v.place < k
-        → rest_of o vs ≡ from k vs → rest_of o (v ∷ vs) ≡ from k vs
-    lift None f lt ih = ih
-    lift (Some w) f lt ih = rw (lt-leb w.place v.place (omega (arith, lt, f w refl))) ih
-
-    split : (v.place < k) ⊎ (k ≤ v.place) → rest_of (head_of (from k vs)) vs ≡ from k vs
-        → rest_of (head_of (from k (v ∷ vs))) (v ∷ vs) ≡ from k (v ∷ vs)
-    split (inl lt) ih =
-        rw (lt-leb k v.place lt) (lift (head_of (from k vs)) (λ w e. head-late k vs w e) lt ih)
-    split (inr le) ih =
-        rw (le-leb k v.place le, le-leb v.place v.place (omega arith))
-        (ap (λ us. v ∷ us)
-        (from-before v.place (suc v.place) vs a.1 (omega arith)
-        ∙ sym (from-before k (suc v.place) vs a.1 (omega (arith, le)))))
-
--- the first of them, and those after its place
-head-split : (n k : ℕ) (ws : List WaitingCall) (w : WaitingCall) → Ascends n ws
-    → head_of (from k ws) ≡ Some w → from k ws ≡ w ∷ from (suc w.place) ws
-head-split n k [] w a e = absurd cc
-head-split n k (v ∷ vs) w a e =
-    split (cases_lt v.place k) e (λ f. head-split (suc v.place) k vs w a.1 f)
-  where
-    here : k ≤ v.place → v ≡ w → v ∷ from k vs ≡ w ∷ from (suc w.place) (v ∷ vs)
-    here le same =
-        subst (λ (u : WaitingCall). v ∷ from k vs ≡ u ∷ from (suc u.place) (v ∷ vs)) same
-        (rw (lt-leb (suc v.place) v.place (omega arith)) (ap (λ us. v ∷ us)
-        (from-before k (suc v.place) vs a.1 (omega (arith, le))
-        ∙ sym (from-before (suc v.place) (suc v.place) vs a.1 (omega arith)))))
-
-    the_same : Some v ≡ Some w → v ≡ w
-    the_same f = cc
-
-    behind : v.place < k → head_of (from k vs) ≡ Some w
-        → from k vs ≡ w ∷ from (suc w.place) vs → from k vs ≡ w ∷ from (suc w.place) (v ∷ vs)
-    behind lt f ih =
-        rw (lt-leb (suc w.place) v.place (omega (arith, lt, head-late k vs w f))) ih
-
-    first : k ≤ v.place → from k (v ∷ vs) ≡ v ∷ from k vs
-    first le = rw (le-leb k v.place le) refl
-
-    later : v.place < k → from k (v ∷ vs) ≡ from k vs
-    later lt = rw (lt-leb k v.place lt) refl
-
-    split : (v.place < k) ⊎ (k ≤ v.place) → head_of (from k (v ∷ vs)) ≡ Some w
-        → (head_of (from k vs) ≡ Some w → from k vs ≡ w ∷ from (suc w.place) vs)
-        → from k (v ∷ vs) ≡ w ∷ from (suc w.place) (v ∷ vs)
-    split (inl lt) f ih =
-        let g : head_of (from k vs) ≡ Some w = sym (ap head_of (later lt)) ∙ f in
-        later lt ∙ behind lt g (ih g)
-    split (inr le) f ih = first le ∙ here le (the_same (sym (ap head_of (first le)) ∙ f))
-
--- how far a Trip's answers have been told: from the next call on they are left
-pub record TripSoFar (ws : List WaitingCall) (at : ℕ) (old : List (ℕ × Told)) (now : List Answered)
-    (next : Option WaitingCall) (len capacity : ℕ) : Type 0 where
-  pub first : next ≡ head_of (rest_of next ws)
-  pub told : map logged now ++ told_at at (told_by_trip (rest_of next ws))
-      ≡ old ++ told_at at (told_by_trip ws)
-  pub room : len + length (rest_of next ws) ≤ capacity
-
--- the same, where the next call is known
-pub so-far-at : (ws : List WaitingCall) (at : ℕ) (old : List (ℕ × Told)) (now : List Answered)
-    (next : Option WaitingCall) (w : WaitingCall) (len capacity : ℕ)
-    → TripSoFar ws at old now next len capacity → next ≡ Some w
-    → TripSoFar ws at old now (Some w) len capacity
-so-far-at ws at old now next w len capacity s e =
-    subst (λ o. TripSoFar ws at old now o len capacity) e s
-
--- nobody has been told yet
-pub trip-start : (ws : List WaitingCall) (at : ℕ) (old : List Answered) (next : Option WaitingCall)
-    (len capacity : ℕ) → Ascends 0 ws → next ≡ head_of (from 0 ws) → len + length ws ≤ capacity
-    → TripSoFar ws at (map logged old) old next len capacity
-trip-start ws at old next len capacity a e room =
-    record {
-      first = e ∙ sym (ap head_of rest);
-      told = ap (λ us. map logged old ++ told_at at (told_by_trip us)) all;
-      room = omega (arith, room, ap length all);
-    }
-  where
-    rest : rest_of next ws ≡ from 0 ws
-    rest = ap (λ o. rest_of o ws) e ∙ head-rest 0 0 ws a
-
-    all : rest_of next ws ≡ ws
-    all = rest ∙ from-before 0 0 ws a (omega arith)
-
--- what is left has the next call first
-pub trip-rest : (ws : List WaitingCall) (w : WaitingCall) → Ascends 0 ws
-    → Some w ≡ head_of (rest_of (Some w) ws)
-    → rest_of (Some w) ws ≡ w ∷ from (suc w.place) ws
-trip-rest ws w a e = head-split 0 w.place ws w a (sym e)
-
--- the next call is told, if room is left for the rest
-pub trip-more : (ws : List WaitingCall) (at : ℕ) (old : List (ℕ × Told)) (now then : List Answered)
-    (w : WaitingCall) (next : Option WaitingCall) (k len more capacity room : ℕ) → Ascends 0 ws
-    → TripSoFar ws at old now (Some w) len capacity → k ≡ suc w.place
-    → next ≡ head_of (from k ws) → more ≡ len + 1 → room ≡ capacity
-    → map logged then ≡ map logged now
-    ++ (at, record { client = w.client; place = w.place; outcome = outcome_before next }) ∷ []
-    → TripSoFar ws at old then next more room
-trip-more ws at old now then w next k len more capacity room a s ek e el er en =
-    record {
-      first = after ∙ sym (ap head_of rest);
-      told = ap (λ us. map logged then ++ told_at at (told_by_trip us)) rest
-          ∙ (ap (λ us. us ++ told_at at (told_by_trip behind)) en
-          ∙ (append_assoc (map logged now) (said (outcome_before next) ∷ [])
-          (told_at at (told_by_trip behind))
-          ∙ (ap (λ x. map logged now ++ said x ∷ told_at at (told_by_trip behind))
-          (ap outcome_before after ∙ last behind)
-          ∙ (ap (λ us. map logged now ++ told_at at (told_by_trip us)) (sym whole) ∙ s.told))));
-      room = omega (arith, s.room, el, er, ap length rest, ap length whole);
-    }
-  where
-    behind : List WaitingCall
-    behind = from (suc w.place) ws
-
-    whole : rest_of (Some w) ws ≡ w ∷ behind
-    whole = trip-rest ws w a s.first
-
-    after : next ≡ head_of behind
-    after = e ∙ ap (λ j. head_of (from j ws)) ek
-
-    rest : rest_of next ws ≡ behind
-    rest = ap (λ o. rest_of o ws) after ∙ head-rest 0 (suc w.place) ws a
-
-    said : Outcome → ℕ × Told
-    said x = (at, record { client = w.client; place = w.place; outcome = x })
-
-    last : (us : List WaitingCall) → outcome_before (head_of us) ≡ trip_outcome us
-    last [] = refl
-    last (u ∷ us) = refl
-
--- fewer are left
-pub trip-fewer : (ws : List WaitingCall) (now : Option WaitingCall) (w : WaitingCall)
-    (next : Option WaitingCall) (k : ℕ) → Ascends 0 ws → now ≡ Some w
-    → Some w ≡ head_of (rest_of (Some w) ws) → k ≡ suc w.place → next ≡ head_of (from k ws)
-    → length (rest_of next ws) < length (rest_of now ws)
-trip-fewer ws now w next k a is s ek e =
+-- the new answers, and the room for them
+pub arrivals-room : (h : History) (rows : List (ClientRow Caller)) (b k : ℕ) → AreCallers h rows
+    → length (arrivals_in rows b) ≤ length (at_barrier b (open_calls h))
+arrivals-room h rows b k a =
+    let ws = at_barrier b (open_calls h) in
     omega (
       arith,
-      ap length (ap (λ o. rest_of o ws) is ∙ trip-rest ws w a s),
-      ap length (ap (λ o. rest_of o ws) (e ∙ ap (λ j. head_of (from j ws)) ek)
-          ∙ head-rest 0 (suc w.place) ws a),
+      length-map (arrivals_in rows b) (passed_at k),
+      length-map ws (passed_at k),
+      lone-length (map (passed_at k) (arrivals_in rows b)) (map (passed_at k) ws)
+          (λ n. arrivals-lone h rows b k n a)
+          (passed-kept k (arrivals_in rows b) ws (arrival-open h rows b a)),
     )
 
--- who is answered next came before the Trip
-pub trip-below : (h : History) (b : ℕ) (w : WaitingCall)
-    → Some w ≡ head_of (rest_of (Some w) (at_barrier b (open_calls h))) → w.place < place h
-trip-below h b w e =
-    let late = In-filter (λ (v : WaitingCall). leb w.place v.place)
-    (at_barrier b (open_calls h)) w (head-in (from w.place (at_barrier b (open_calls h))) w (sym e))
-    in
-    let part = In-filter (λ (v : WaitingCall). is_arrival v.role && (v.object == b))
-    (open_calls h) w late.0 in
-    Each-in (λ (v : WaitingCall). v.place < place h) (open_calls h) w (open-below h) part.0
+pub drop_front : (xs ys : List Answered) → drop (length xs) (xs ++ ys) ≡ ys
+drop_front [] ys = refl
+drop_front (x ∷ xs) ys = drop_front xs ys
+
+pub take_front : (xs ys : List Answered) → take (length xs) (xs ++ ys) ≡ xs
+take_front [] ys = refl
+take_front (x ∷ xs) ys = ap (λ zs. x ∷ zs) (take_front xs ys)
+
+pub serial-length : (ts : List Answered) → length (with_serial ts) ≡ length ts
+serial-length [] = refl
+serial-length (a ∷ []) = refl
+serial-length (a ∷ b ∷ ts) = ap suc (serial-length (b ∷ ts))
+
+-- what is left of a list where all of it was written
+pub whole : (new old : List Answered) (n : ℕ) → length new ≡ length old → n ≡ length old
+    → take n (new ++ drop (length new) old) ≡ new
+whole new old n e is =
+    ap (λ m. take m (new ++ drop (length new) old)) (is ∙ sym e)
+    ∙ take_front new (drop (length new) old)
+
+-- the answers behind others
+pub tail-logged : (xs ys : List Answered) (qs : List (ℕ × Told))
+    → map logged ys ≡ map logged xs ++ qs → map logged (drop (length xs) ys) ≡ qs
+tail-logged [] ys qs e = e
+tail-logged (x ∷ xs) [] qs e = absurd cc
+tail-logged (x ∷ xs) (y ∷ ys) qs e =
+    let rest : map logged ys ≡ map logged xs ++ qs = cc in tail-logged xs ys qs rest
+
+pub take_rest : (ts : List Answered) (n : ℕ) → take (length ts - n) (drop n ts) ≡ drop n ts
+take_rest ts n =
+    ap (λ m. take m (drop n ts)) (sym (length-drop n ts)) ∙ take_all (drop n ts)
+  where
+    take_all : (xs : List Answered) → take (length xs) xs ≡ xs
+    take_all [] = refl
+    take_all (x ∷ xs) = ap (λ zs. x ∷ zs) (take_all xs)
+
+drop-first : (ts : List Answered) (i : ℕ) (a : Answered) → i < length ts
+    → a ≡ slice_index_or ts i a → drop i ts ≡ a ∷ drop (suc i) ts
+drop-first [] i a lt is = absurd (omega (arith, lt))
+drop-first (t ∷ ts) zero a lt is = ap (λ x. x ∷ ts) (sym is)
+drop-first (t ∷ ts) (suc i) a lt is = drop-first ts i a (omega (arith, lt)) is
+
+pub drop-end : (ts : List Answered) (i : ℕ) → length ts ≤ i → drop i ts ≡ []
+drop-end [] zero le = refl
+drop-end [] (suc i) le = refl
+drop-end (t ∷ ts) zero le = absurd (omega (arith, le))
+drop-end (t ∷ ts) (suc i) le = drop-end ts i (omega (arith, le))
+
+-- how far the rows have been closed by these answers
+pub record ClosedSoFar (old now : List (ClientRow Caller)) (ts : List Answered) (i : ℕ) : Type 0
+  where
+    pub look : (d : ℕ) → option_map (closed_by_all d (drop i ts)) (client_value now d)
+        ≡ option_map (closed_by_all d ts) (client_value old d)
+    pub many : length now ≡ length old
+    pub once : Once old → Once now
+
+pub closed-more : (old now then : List (ClientRow Caller)) (ts : List Answered) (i j : ℕ)
+    (a : Answered) → j ≡ suc i → i < length ts → a ≡ slice_index_or ts i a
+    → ChangesCaller now then a.client (closed_by a) → ClosedSoFar old now ts i
+    → ClosedSoFar old then ts j
+closed-more old now then ts i j a next lt is c s =
+    subst (λ n. ClosedSoFar old then ts n) (sym next) (record {
+      look = λ d.
+          ap (option_map (closed_by_all d (drop (suc i) ts))) (c.look d)
+          ∙ (one d (a.client == d) (client_value now d)
+          ∙ (ap (λ xs. option_map (closed_by_all d xs) (client_value now d))
+          (sym (drop-first ts i a lt is)) ∙ s.look d));
+      many = c.many ∙ s.many;
+      once = λ once. c.once (s.once once);
+    })
+  where
+    one : (d : ℕ) (t : Bool) (kept : Option Caller)
+        → option_map (closed_by_all d (drop (suc i) ts))
+        (cond t (option_map (closed_by a) kept) kept)
+        ≡ option_map (λ v. closed_by_all d (drop (suc i) ts) (cond t (closed_by a v) v)) kept
+    one d true None = refl
+    one d true (Some v) = refl
+    one d false None = refl
+    one d false (Some v) = refl
+
+option_same : (kept : Option Caller) → option_map (λ v. v) kept ≡ kept
+option_same None = refl
+option_same (Some v) = refl
+
+pub closed-end : (old now : List (ClientRow Caller)) (ts : List Answered) (i : ℕ)
+    → length ts ≤ i → ClosedSoFar old now ts i → ClosesBy old now ts
+closed-end old now ts i le s =
+    record {
+      look = λ d.
+          sym (option_same (client_value now d))
+          ∙ (ap (λ xs. option_map (closed_by_all d xs) (client_value now d))
+          (sym (drop-end ts i le)) ∙ s.look d);
+      many = s.many;
+      once = s.once;
+    }
+
+-- the row of an answer's client is closed by it
+pub closes-client : (rows : List (ClientRow Caller)) (n : ℕ) (x : Outcome) (a : Answered)
+    (u : Caller) → n ≡ a.client → x ≡ a.outcome → Some u ≡ client_value rows n
+    → ChangesCaller rows (with_client rows n (closed (Some x) u)) a.client (closed_by a)
+closes-client rows n x a u same said is =
+    subst (λ y. ChangesCaller rows (with_client rows n (closed (Some x) u)) a.client
+    (closed (Some y))) said (changes-some (closed (Some x)) rows n a.client u same is)
+
+-- a row of client d after these answers
+abbrev closed_log : ℕ → List (ℕ × Told) → Caller → Caller
+closed_log d [] v = v
+closed_log d (p ∷ ps) v = closed_log d ps (cond (p.1.client == d) (closed (Some p.1.outcome) v) v)
+
+closed-logged : (d : ℕ) (ts : List Answered) (v : Caller)
+    → closed_by_all d ts v ≡ closed_log d (map logged ts) v
+closed-logged d [] v = refl
+closed-logged d (a ∷ ts) v =
+    closed-logged d ts (cond (a.client == d) (closed (Some a.outcome) v) v)
+
+-- a row after an answer to it, if there is one
+abbrev closed_if : Option Told → Caller → Caller
+closed_if None v = v
+closed_if (Some t) v = closed (Some t.outcome) v
+
+-- a client without a call at the barrier gets no answer
+closed-none : (k d : ℕ) (ws : List WaitingCall) (v : Caller)
+    → ((w : WaitingCall) → In w ws → w.client ≡ d → ⊥)
+    → closed_log d (told_at k (told_by_trip ws)) v ≡ v
+closed-none k d [] v f = refl
+closed-none k d (w ∷ ws) v f =
+    ap (λ t. closed_log d (told_at k (told_by_trip ws))
+    (cond t (closed (Some (trip_outcome ws)) v) v)) (ne_eqb w.client d (f w (inl refl)))
+    ∙ closed-none k d ws v (λ u i e. f u (inr i) e)
+
+-- a client with one gets the last answer to it
+closed-one : (k d j : ℕ) (ws : List WaitingCall) (v : Caller)
+    → ((w : WaitingCall) → In w ws → (w.client == d) ≡ (w.place == j))
+    → closed_log d (told_at k (told_by_trip ws)) v
+    ≡ closed_if (last_to (told_at k (told_by_trip ws)) j) v
+closed-one k d j [] v f = refl
+closed-one k d j (w ∷ ws) v f =
+    closed-one k d j ws _ (λ u i. f u (inr i))
+    ∙ go (last_to (told_at k (told_by_trip ws)) j) (w.client == d) (w.place == j) (f w (inl refl))
+  where
+    said : Told
+    said = record { client = w.client; place = w.place; outcome = trip_outcome ws }
+
+    go : (late : Option Told) (x y : Bool) → x ≡ y
+        → closed_if late (cond x (closed (Some said.outcome) v) v)
+        ≡ closed_if (option_or late (cond y (Some said) None)) v
+    go None true true e = refl
+    go None false false e = refl
+    go None true false e = absurd cc
+    go None false true e = absurd cc
+    go (Some t) true y e = refl
+    go (Some t) false y e = refl
+
+-- each call at the barrier has an answer
+told-some : (k : ℕ) (ws : List WaitingCall) (w : WaitingCall) → In w ws
+    → last_to (told_at k (told_by_trip ws)) w.place ≡ None → ⊥
+told-some k [] w i e = absurd i
+told-some k (v ∷ vs) w i e =
+    go i (last_to (told_at k (told_by_trip vs)) w.place) refl (v.place == w.place) refl
+    (λ j l. told-some k vs w j l) e
+  where
+    said : Told
+    said = record { client = v.client; place = v.place; outcome = trip_outcome vs }
+
+    go : In w (v ∷ vs) → (late : Option Told)
+        → last_to (told_at k (told_by_trip vs)) w.place ≡ late → (b : Bool)
+        → (v.place == w.place) ≡ b
+        → (In w vs → last_to (told_at k (told_by_trip vs)) w.place ≡ None → ⊥)
+        → option_or late (cond b (Some said) None) ≡ None → ⊥
+    go i (Some u) l b t ih e = cc
+    go i None l true t ih e = cc
+    go (inr i) None l false t ih e = ih i l
+    go (inl same) None l false t ih e =
+        let yes : (v.place == w.place) ≡ true =
+        eq-eqb v.place w.place (ap (λ (u : WaitingCall). u.place) (sym same)) in
+        absurd cc
+
+module _ (h : History) (rows : List (ClientRow Caller)) (b : ℕ) (f : Follows h)
+    (a : AreCallers h rows) (old : List (ℕ × Told)) where
+  -- the calls that the Trip answers
+  abbrev pub tripped : List WaitingCall
+  tripped = at_barrier b (open_calls h)
+
+  -- what they are answered
+  abbrev pub trip_log : List (ℕ × Told)
+  trip_log = told_at (place h) (told_by_trip (at_barrier b (open_calls h)))
+
+  -- a client's call at the barrier is the one in its row
+  its-call : (d : ℕ) (v : Caller) → client_value rows d ≡ Some v → (w : WaitingCall)
+      → In w (at_barrier b (open_calls h)) → w.client ≡ d
+      → option_map (λ (o : Open). o.call) v.open ≡ Some w
+  its-call d v e w i c =
+      let part = In-filter (arrives_at b) (open_calls h) w i in
+      sym (ap (λ (x : Option Caller). call_in x) e) ∙ (a.look.calls d
+      ∙ (ap (call_of (open_calls h)) (sym c) ∙ call_of-open h f w part.0))
+
+  -- so its row is closed by its answer
+  closes-row : (d : ℕ) (v : Caller) → client_value rows d ≡ Some v → (first : Option Open)
+      → v.open ≡ first → (t : Bool) → passes (arrived_at b) first ≡ t
+      → closed_log d trip_log v
+      ≡ cond t (closed (option_and_then (λ (o : Open). outcome_in_log (old ++ trip_log)
+      o.call.place) first) v) v
+  closes-row d v e None at true t = absurd cc
+  closes-row d v e None at false t =
+      closed-none (place h) d tripped v (λ w i c.
+      let its : ◌≡◌ {A = Option WaitingCall} None (Some w) =
+      sym (ap (option_map (λ (o : Open). o.call)) at) ∙ its-call d v e w i c in cc)
+  closes-row d v e (Some o) at false t =
+      closed-none (place h) d tripped v (λ w i c.
+      let its : Some o.call ≡ Some w =
+      sym (ap (option_map (λ (o : Open). o.call)) at) ∙ its-call d v e w i c in
+      let same : o.call ≡ w = cc in
+      let part = In-filter (arrives_at b) (open_calls h) w i in
+      let no : arrives_at b w ≡ false = ap (arrives_at b) (sym same) ∙ t in
+      false≢true (sym no ∙ part.1))
+  closes-row d v e (Some o) at true t =
+      closed-one (place h) d o.call.place tripped v tests
+      ∙ said (last_to trip_log o.call.place) refl
+    where
+      mine : In o.call (open_calls h) × (o.call.client ≡ d)
+      mine =
+          call_of-in (open_calls h) d o.call (sym (a.look.calls d)
+          ∙ (ap (λ (x : Option Caller). call_in x) e ∙ ap (option_map (λ (o : Open). o.call)) at))
+
+      here : In o.call tripped
+      here = filter-in (arrives_at b) (open_calls h) o.call mine.0 t
+
+      tests : (w : WaitingCall) → In w tripped → (w.client == d) ≡ (w.place == o.call.place)
+      tests w i = elim (cases_eq w.client d) [
+        | inl c ↦
+            let part = In-filter (arrives_at b) (open_calls h) w i in
+            let same = one_each h f w o.call part.0 mine.0 (c ∙ sym mine.1) in
+            rw (
+              eq-eqb w.client d c,
+              eq-eqb w.place o.call.place (ap (λ (u : WaitingCall). u.place) same),
+            ) refl
+        | inr ne ↦
+            rw (
+              ne_eqb w.client d ne,
+              ne_eqb w.place o.call.place (λ p. ne
+                  (ap (λ (u : WaitingCall). u.client)
+                  (one-place 0 tripped (arrivals-ascend h b) w o.call i here p) ∙ mine.1)),
+            ) refl
+      ]
+
+      said : (late : Option Told) → last_to trip_log o.call.place ≡ late
+          → closed_if (last_to trip_log o.call.place) v
+          ≡ closed (outcome_in_log (old ++ trip_log) o.call.place) v
+      said None l = absurd (told-some (place h) tripped o.call here l)
+      said (Some u) l =
+          ap (λ x. closed_if x v) l
+          ∙ ap (λ x. closed x v)
+          (sym (ap said_by (last_to-append old trip_log o.call.place
+          ∙ ap (λ x. option_or x (last_to old o.call.place)) l)))
+
+  -- each call at the barrier is closed with its answer in the log, and the other rows stay
+  pub closes-rewrites : (new : List (ClientRow Caller)) (ts : List Answered)
+      (log : List (ℕ × Told)) → map logged ts ≡ trip_log → log ≡ old ++ trip_log
+      → ClosesBy rows new ts → RewritesCallers rows new (closed_at b log)
+  closes-rewrites new ts log e l c =
+      record {
+        look = λ d. c.look d ∙ found d (client_value rows d) refl;
+        many = c.many;
+        once = c.once;
+      }
+    where
+      found : (d : ℕ) (kept : Option Caller) → client_value rows d ≡ kept
+          → option_map (closed_by_all d ts) kept ≡ option_map (closed_at b log) kept
+      found d None at = refl
+      found d (Some v) at =
+          ap Some (closed-logged d ts v ∙ (ap (λ ps. closed_log d ps v) e
+          ∙ (closes-row d v at v.open refl (passes (arrived_at b) v.open) refl
+          ∙ ap (λ ps. closed_at b ps v) (sym l))))

@@ -62,6 +62,14 @@ abbrev pub still_waits_at : ℕ → Open → Bool
 still_waits_at q o =
     is_wait o.call.role && (is_none o.moved && (q == o.call.object))
 
+-- the client's row has what g gives of what it had, if it has a row, and the others stay
+pub record ChangesCaller (old new : List (ClientRow Caller)) (c : ℕ) (g : Caller → Caller) : Type 0
+  where
+    pub look : (d : ℕ) → client_value new d
+        ≡ if c == d then option_map g (client_value old d) else client_value old d
+    pub many : length new ≡ length old
+    pub once : Once old → Once new
+
 -- what these answers say to the open call in a row
 abbrev pub answer_to_open : List (ℕ × Told) → Caller → Option Outcome
 answer_to_open log v = option_and_then (λ o. outcome_in_log log o.call.place) v.open

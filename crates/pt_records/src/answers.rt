@@ -48,16 +48,6 @@ pub fn last_answer(answers: &[Answered], place: u64) -> Option<Answered>
     None
 }
 
-/// What the last of these answers that is to the call at a place says.
-pub fn last_outcome(answers: &[Answered], place: u64) -> Option<Outcome>
-    ensures { result ≡ outcome_in_log (map logged answers.now) place }
-{
-    match last_answer(answers, place) {
-        Some(answer) => Some(answer.outcome),
-        None => None,
-    }
-}
-
 /// The answer to the call at a place, of those since that place.
 pub fn answer_since(answers: &[Answered], place: u64) -> Option<Answered>
     requires { Rises 0 (map logged answers.now) }

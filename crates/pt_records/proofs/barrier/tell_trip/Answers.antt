@@ -1,91 +1,63 @@
-use Rattle.std.proofs.Common.{◌+◌, ◌∷◌, ◌++◌, [], map, vec_len, vec_capacity, refl, sym, ap, ◌∙◌, arith}
+use Rattle.std.proofs.Common.{◌≡◌, ◌+◌, ◌++◌, List, drop, take, map, length, length-append, sym, ap, ◌∙◌, subst, arith}
+use Rattle.std.specs.List.Sorted.{IsPermutation}
+use Rattle.std.proofs.lemmas.List.{map-append}
+use Rattle.std.proofs.lemmas.List.Sorted.{length_permutation}
 use Rattle.pt_history.specs.Stored.{past_of}
-use Rattle.pt_model.specs.Histories.{place}
-use Rattle.pt_model.specs.Answers.{at_barrier, open_calls}
-use Rattle.pt_model.specs.Records.{Told}
 use Rattle.pt_history.proofs.Places.{place_of_next}
-use Rattle.pt_records.specs.Arrivals.{outcome_before}
-use Rattle.pt_records.specs.Logs.{logged}
-use Rattle.pt_records.proofs.ArrivalLemmas.{next-head, arrivals-ascend}
-use Rattle.pt_records.proofs.TripLemmas.{so-far-at, trip-start, trip-more, trip-fewer, trip-below}
+use Rattle.pt_model.specs.Answers.{at_barrier, open_calls, told_by_trip}
+use Rattle.pt_records.specs.declared.answers.Answered.{Answered}
+use Rattle.pt_records.specs.Arrivals.{arrivals_in, passed_at}
+use Rattle.pt_records.specs.Logs.{logged, told_at}
+use Rattle.pt_records.proofs.TripLemmas.{arrivals-room, drop_front, serial-length, take_front, trip-told, whole}
 use Rattle.pt_records.proofs.barrier.tell_trip.Goals as goal
 
-pub loop-next-init : goal.loop-next-init
-loop-next-init g c =
-    record {
-      so_far = trip-start (at_barrier c.args.b (open_calls (past_of c.args.history.now)))
-          (place (past_of c.args.history.now))
-          c.args.answers.now.items c.next_arrival-next.result
-          (vec_len c.args.answers.now) (vec_capacity c.args.answers.now)
-          (arrivals-ascend (past_of c.args.history.now) c.args.b)
-          (c.next_arrival-next.ensures
-          ∙ next-head (past_of c.args.history.now) c.args.clients.now c.args.b 0 c.requires.follows
-          c.requires.callers)
-          c.requires.room;
-      capacity = refl;
-    }
-
-pub overflow_add-call : goal.overflow_add-call
-overflow_add-call g c =
-    let s = so-far-at (at_barrier c.args.b (open_calls (past_of c.args.history.now)))
-    (place (past_of c.args.history.now))
-    (map logged c.args.answers.now.items) c.loop-next.answers.items
-    c.loop-next.next c.in-Some.call (vec_len c.loop-next.answers)
-    (vec_capacity c.loop-next.answers) c.loop-next.invariant.so_far
-    c.in-Some.is in
+pub tell_in_rows-requires : goal.tell_in_rows-requires
+tell_in_rows-requires g c =
     omega (
       arith,
-      trip-below (past_of c.args.history.now) c.args.b c.in-Some.call s.first,
-      place_of_next c.args.history.now,
-      c.len-at.ensures,
-      c.len-at.auto,
+      c.requires.room,
+      arrivals-room (past_of c.args.history.now) c.args.clients.now c.args.b 0
+          c.requires.callers,
     )
 
-pub loop-next-smaller : goal.loop-next-smaller
-loop-next-smaller g c =
-    let ws = at_barrier c.args.b (open_calls (past_of c.args.history.now)) in
-    let is = c.in-Some.is in
-    let s = so-far-at ws (place (past_of c.args.history.now))
-    (map logged c.args.answers.now.items)
-    c.loop-next.answers.items c.loop-next.next c.in-Some.call
-    (vec_len c.loop-next.answers) (vec_capacity c.loop-next.answers)
-    c.loop-next.invariant.so_far is in
-    trip-fewer ws c.loop-next.next c.in-Some.call
-    c.next_arrival-next-in-Some.result (c.in-Some.call.place + 1)
-    (arrivals-ascend (past_of c.args.history.now) c.args.b) is s.first (omega arith)
-    (c.next_arrival-next-in-Some.ensures
-    ∙ next-head (past_of c.args.history.now) c.args.clients.now c.args.b
-    (c.in-Some.call.place + 1)
-    c.requires.follows c.requires.callers)
-
-pub loop-next-preserved : goal.loop-next-preserved
-loop-next-preserved g c =
-    let said : Told = record {
-      client = c.in-Some.call.client;
-      place = c.in-Some.call.place;
-      outcome = outcome_before c.next_arrival-next-in-Some.result;
-    } in
-    let ws = at_barrier c.args.b (open_calls (past_of c.args.history.now)) in
-    let s = so-far-at ws (place (past_of c.args.history.now))
-    (map logged c.args.answers.now.items)
-    c.loop-next.answers.items c.loop-next.next c.in-Some.call
-    (vec_len c.loop-next.answers) (vec_capacity c.loop-next.answers)
-    c.loop-next.invariant.so_far c.in-Some.is in
+pub returns : goal.returns
+returns g c =
+    let h = past_of c.args.history.now in
+    let old = c.args.answers.now.items in
+    let at = c.len.result in
+    let told : List Answered = map (passed_at at) (arrivals_in c.args.clients.now c.args.b) in
+    let items = c.tell_in_rows.new.answers.items in
+    let front = c.split_at_mut-new.result.0.now in
+    let back = c.split_at_mut-new.result.1.now in
+    let sorted = c.sort_by_place.new.answers in
+    let serial = c.make_last_serial.new.answers in
+    let from : c.len-from.result ≡ length old = c.len-from.ensures ∙ c.args.answers.now.ok.0 in
+    let slice : c.as_mut_slice.result.now ≡ old ++ told =
+    c.as_mut_slice.ensures.value ∙ c.tell_in_rows.ensures.told in
+    let behind : back ≡ told =
+    c.split_at_mut-new.ensures.back ∙ (ap (λ xs. drop c.len-from.result xs) slice
+    ∙ (ap (λ n. drop n (old ++ told)) from ∙ drop_front old told)) in
+    let before : front ≡ old =
+    c.split_at_mut-new.ensures.front ∙ (ap (λ xs. take c.len-from.result xs) slice
+    ∙ (ap (λ n. take n (old ++ told)) from ∙ take_front old told)) in
+    let same : length (front ++ serial) ≡ length items =
+    length-append front serial
+    ∙ (ap (λ n. length front + n) (ap length c.make_last_serial.ensures
+    ∙ (serial-length sorted ∙ length_permutation back sorted c.sort_by_place.ensures.same))
+    ∙ (sym (length-append front back)
+    ∙ ap length (sym c.split_at_mut-new.ensures.value ∙ c.as_mut_slice.ensures.value))) in
+    let said : map logged serial ≡ told_at at (told_by_trip (at_barrier c.args.b (open_calls h))) =
+    ap (map logged) c.make_last_serial.ensures
+    ∙ trip-told h c.args.clients.now c.args.b at sorted c.requires.follows c.requires.callers
+    (subst (λ xs. IsPermutation xs sorted) behind c.sort_by_place.ensures.same)
+    c.sort_by_place.ensures.order in
     record {
-      so_far = trip-more ws (place (past_of c.args.history.now))
-          (map logged c.args.answers.now.items)
-          c.loop-next.answers.items c.tell.new.answers.items c.in-Some.call
-          c.next_arrival-next-in-Some.result (c.in-Some.call.place + 1)
-          (vec_len c.loop-next.answers) (vec_len c.tell.new.answers)
-          (vec_capacity c.loop-next.answers) (vec_capacity c.tell.new.answers)
-          (arrivals-ascend (past_of c.args.history.now) c.args.b) s (omega arith)
-          (c.next_arrival-next-in-Some.ensures
-          ∙ next-head (past_of c.args.history.now) c.args.clients.now c.args.b
-          (c.in-Some.call.place + 1)
-          c.requires.follows c.requires.callers)
-          c.tell.ensures.len c.tell.ensures.capacity
-          (c.tell.ensures.told
-          ∙ ap (λ p. map logged c.loop-next.answers.items ++ p ∷ []) (c.told_in_trip.ensures
-          ∙ ap (λ n. (n, said)) (c.len-at.ensures ∙ sym (place_of_next c.args.history.now))));
-      capacity = c.tell.ensures.capacity ∙ c.loop-next.invariant.capacity;
+      told = ap (map logged) (whole (front ++ serial) items c.tell_in_rows.new.answers.len same
+          c.tell_in_rows.new.answers.ok.0)
+          ∙ (map-append logged front serial
+          ∙ (ap (λ xs. map logged xs ++ map logged serial) before
+          ∙ ap (λ ps. map logged old ++ ps)
+          (said ∙ ap (λ n. told_at n (told_by_trip (at_barrier c.args.b (open_calls h))))
+          (c.len.ensures ∙ sym (place_of_next c.args.history.now)))));
+      capacity = c.tell_in_rows.ensures.capacity;
     }
