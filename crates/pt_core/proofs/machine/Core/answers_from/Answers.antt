@@ -11,4 +11,4 @@ returns-clause-ok g c =
     subst
     (λ (ts : List Told). IfOk c.answers_from.result (λ replies. map told_of replies.items ≡ ts))
     (ap (λ (s : Seen). answers_behind (shown s).start c.args.place s.entries) c.self.view_is)
-    c.answers_from.ensures.ok
+    (rw (← c.deref.ensures) c.answers_from.ensures.ok)

@@ -6,10 +6,13 @@ use Rattle.pt_core.proofs.machine.Core.entry.Goals as goal
 pub returns-clause-before : goal.returns-clause-before
 returns-clause-before g c below =
     c.entry.ensures.before
-    (subst (λ (s : Seen). c.args.place < (shown s).start.at) (sym c.self.view_is) below)
+    (rw c.deref.ensures
+    (subst (λ (s : Seen). c.args.place < (shown s).start.at) (sym c.self.view_is) below))
 
 pub returns-clause-since : goal.returns-clause-since
 returns-clause-since g c from =
     c.entry.ensures.since
-    (subst (λ (s : Seen). (shown s).start.at ≤ c.args.place) (sym c.self.view_is) from)
-    ∙ ap (λ (s : Seen). slice_get s.entries (c.args.place - (shown s).start.at)) c.self.view_is
+    (rw c.deref.ensures
+    (subst (λ (s : Seen). (shown s).start.at ≤ c.args.place) (sym c.self.view_is) from))
+    ∙ rw c.deref.ensures
+    (ap (λ (s : Seen). slice_get s.entries (c.args.place - (shown s).start.at)) c.self.view_is)

@@ -9,8 +9,8 @@ use Rattle.pt_history.proofs.Places.{place_of_next}
 pub returns-clause-value : goal.returns-clause-value
 returns-clause-value g c =
     c.len.ensures
-    ∙ sym (place_of_next c.self.inside.body.stored)
-    ∙ ap (λ (s : Seen). place (past (shown s))) c.self.view_is
+    ∙ rw c.deref.ensures (sym (place_of_next c.self.inside.body.value.stored)
+    ∙ ap (λ (s : Seen). place (past (shown s))) c.self.view_is)
 
 pub returns-clause-starts : goal.returns-clause-starts
 returns-clause-starts g c =
