@@ -87,7 +87,7 @@ fn sends<L: Ledger>(hub: &mut Hub<L>, pass: &mut Pass<L>, word: Word) -> Result<
     }
 }
 
-fn tells<L: Ledger>(hub: &mut Hub<L>, clock: &mut ClockPass<L>, sec: u64, nsec: u64) -> bool {
+fn advances<L: Ledger>(hub: &mut Hub<L>, clock: &mut ClockPass<L>, sec: u64, nsec: u64) -> bool {
     match Moment::new(sec, nsec) {
         Some(moment) => hub.moment(clock, Clock::Real, moment).is_ok(),
         None => false,
@@ -124,7 +124,7 @@ fn plays<L: Ledger>(
             Some(pass) => comes_out(hub, pass, step),
             None => false,
         },
-        Step::Moment { sec, nsec } => tells(hub, clock, sec, nsec),
+        Step::Moment { sec, nsec } => advances(hub, clock, sec, nsec),
         Step::LeastDeadline { sec } => hub.least_deadline(Clock::Real) == Deadline::new(sec, 0),
     }
 }
