@@ -1,0 +1,5 @@
+pub mod ReceiptLemmas
+pub mod InputLemmas
+pub mod DealingLemmas
+pub mod LabourLemmas
+pub mod OutputLemmas

@@ -1,0 +1,5 @@
+pub mod Readings
+pub mod Transcripts
+pub mod Outputs
+pub mod Steps
+pub mod Ends

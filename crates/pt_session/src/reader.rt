@@ -1,0 +1,223 @@
+//! The reading side: bytes in, readings into the ring.
+
+ghost use Rattle.std.specs.Prelude.{◌≡◌, ◌≤◌, ◌<◌, ◌+◌, ◌^◌, ◌++◌, ◌∷◌, [], ℕ, List, length, true, false, IsTrue, IfSome, IfNone};
+ghost use mathlib.Core.List.{IsPrefix};
+ghost use Rattle.rtrb.specs.Ring.{sent, SameProducer};
+ghost use Rattle.pt_lines.specs.Lines.{to_come, IsBegun};
+ghost use Rattle.pt_session.specs.Readings.{EndsBy, IsBehind, reading_of, readings_of};
+ghost use Rattle.pt_session.specs.Steps.{StopsPushing};
+
+use crate::ends::ReadEnd;
+use crate::kinds::{ClockMode, EndCause, Reading};
+use pt_hub::SessionId;
+use pt_io::Source;
+use pt_lines::{CallLine, Cut, Cutter};
+use pt_shared::Shared;
+use pt_types::Refusal;
+use rtrb::Producer;
+use std::alloc::Global;
+use std::sync::Wait;
+use std::sync::ledger::Ledger;
+
+/// How many reads there may be of one input, the one that reports its end counted.  [profile]
+pub const MOST_READS: u64 = 1 << 40;
+
+/// How many bytes are read at once, at most.  [profile]
+const PIECE: usize = 4096;
+
+// The end of the ring that readings go into, and how many went.
+#[derive(Drop)]
+struct Pusher {
+    ring: Producer<Reading>,
+    read: u64,
+    ghost counted: { read ≡ length (sent ring) },
+}
+
+// What is read of a line.
+fn reading_of(mode: ClockMode, cut: &Cut) -> Reading
+    ensures { result ≡ reading_of mode cut.now }
+{
+    match (mode, CallLine::of(cut)) {
+        (ClockMode::System, Ok(CallLine::Tick(_, _))) => Err(Refusal::Syntax),
+        (_, reading) => reading,
+    }
+}
+
+impl Pusher {
+    ghost use Rattle.std.specs.Prelude.{◌≡◌, ◌<◌, ◌^◌, ◌++◌, ◌∷◌, [], ℕ, List, length, false, IsTrue, IfSome, IfNone};
+    ghost use Rattle.rtrb.specs.Ring.{sent, SameProducer};
+
+    // Pushes a reading under the lock, and wakes the working side. `false` if the ring is full, or
+    // if no more can be counted, which no input comes to within its reads.
+    fn push<L: Ledger, T: Wait>(&mut self, rt: &T, shared: &Shared<L>, reading: Reading) -> bool
+        ensures ring { SameProducer self.old.ring self.new.ring }
+        ensures pushed { IsTrue result
+            → sent self.new.ring ≡ sent self.old.ring ++ reading ∷ [] }
+        ensures full { result ≡ false → sent self.new.ring ≡ sent self.old.ring }
+    {
+        let Some(read) = self.read.checked_add(1) else {
+            return false;
+        };
+        let room = shared.room.lock(rt);
+        let is_pushed = self.ring.push(reading).is_ok();
+        if is_pushed {
+            self.read = read;
+            shared.ring();
+        }
+        drop(room);
+        is_pushed
+    }
+}
+
+// Pushes what is read of each line that the cutter has whole. `false` if one finds the ring full.
+fn push_lines<L: Ledger, T: Wait>(
+    rt: &T,
+    shared: &Shared<L>,
+    pusher: &mut Pusher,
+    mode: ClockMode,
+    cutter: &mut Cutter,
+) -> bool
+    ensures ring { SameProducer pusher.old.ring pusher.new.ring }
+    ensures pushed { IsTrue result → (given : List ℕ)
+        → IsBehind mode given cutter.old (sent pusher.old.ring)
+        → IsBehind mode given cutter.new (sent pusher.new.ring) }
+    ensures begun { IsTrue result → IsBegun cutter.new }
+    ensures full { result ≡ false → (given : List ℕ)
+        → IsBehind mode given cutter.old (sent pusher.old.ring)
+        → StopsPushing mode given (sent pusher.new.ring) EndCause.RingFull }
+{
+    while let Some(cut) = cutter.next_line() {
+        if !pusher.push(rt, shared, reading_of(mode, &cut)) {
+            return false;
+        }
+    }
+    true
+}
+
+// Takes in a piece of the input. The cause, if the input ends here.
+fn take_in<L: Ledger, T: Wait>(
+    rt: &T,
+    shared: &Shared<L>,
+    pusher: &mut Pusher,
+    mode: ClockMode,
+    cutter: &mut Cutter,
+    piece: &[u8],
+) -> Option<EndCause>
+    ensures ring { SameProducer pusher.old.ring pusher.new.ring }
+    ensures pushed { IfNone result ((given : List ℕ)
+        → IsBehind mode given cutter.old (sent pusher.old.ring)
+        → IsBehind mode (given ++ piece.now) cutter.new (sent pusher.new.ring)) }
+    ensures begun { IfNone result (IsBegun cutter.new) }
+    ensures stopped { IfSome result (λ cause. (given : List ℕ)
+        → IsBehind mode given cutter.old (sent pusher.old.ring)
+        → StopsPushing mode (given ++ piece.now) (sent pusher.new.ring) cause) }
+    ensures goes_on { IfSome result (λ cause. cause ≡ EndCause.InputEnded → ⊥) }
+{
+    let Ok(()) = cutter.feed(piece) else {
+        return Some(EndCause::Memory);
+    };
+    if push_lines(rt, shared, pusher, mode, cutter) {
+        None
+    } else {
+        Some(EndCause::RingFull)
+    }
+}
+
+// Pushes what is read of the last line, which no newline ended, if there is one.
+fn push_last<L: Ledger, T: Wait>(
+    rt: &T,
+    shared: &Shared<L>,
+    pusher: &mut Pusher,
+    mode: ClockMode,
+    cutter: Cutter,
+) -> EndCause
+    requires { IsBegun cutter }
+    ensures ring { SameProducer pusher.old.ring pusher.new.ring }
+    ensures stopped { (given : List ℕ)
+        → IsBehind mode given cutter (sent pusher.old.ring)
+        → StopsPushing mode given (sent pusher.new.ring) result }
+{
+    let Some(cut) = cutter.finish() else {
+        return EndCause::InputEnded;
+    };
+    if pusher.push(rt, shared, reading_of(mode, &cut)) {
+        EndCause::InputEnded
+    } else {
+        EndCause::RingFull
+    }
+}
+
+// Reads the input to its end, if nothing stops it, and pushes what is read of its lines.
+fn read_all<R: Source, L: Ledger, T: Wait>(
+    rt: &T,
+    alloc: Global,
+    reader: &mut R,
+    shared: &Shared<L>,
+    pusher: &mut Pusher,
+    mode: ClockMode,
+) -> EndCause
+    requires fresh { (sent pusher.old.ring ≡ []) × (R.given reader.old ≡ [])
+        × (R.ended reader.old ≡ false) × (R.failures reader.old ≡ 0) × (R.reads reader.old ≡ 0) }
+    ensures ring { SameProducer pusher.old.ring pusher.new.ring }
+    ensures pushed { IsPrefix (sent pusher.new.ring) (readings_of mode (R.given reader.new)) }
+    ensures ends { EndsBy mode (record {
+      given = R.given reader.new;
+      ended = R.ended reader.new;
+      failures = R.failures reader.new;
+      reads = R.reads reader.new;
+      pushed = sent pusher.new.ring;
+    }) result }
+{
+    let mut cutter = Cutter::new(alloc);
+    let mut piece = [0u8; PIECE];
+    for _ in 0..MOST_READS {
+        let Ok(n) = reader.read(&mut piece) else {
+            return EndCause::InputFailed;
+        };
+        if n == 0 {
+            return push_last(rt, shared, pusher, mode, cutter);
+        }
+        if let Some(cause) = take_in(rt, shared, pusher, mode, &mut cutter, &piece[..n]) {
+            return cause;
+        }
+    }
+    EndCause::InputFailed
+}
+
+/// Reads lines, and pushes what is read of each into the ring, until the input ends or fails, a
+/// line finds the ring full, or a growth is refused. The session's input has ended then. If a read
+/// fails or a growth is refused, a line that has begun is dropped.  [profile]
+pub fn read_side<R: Source, L: Ledger, T: Wait>(
+    rt: &T,
+    alloc: Global,
+    mut reader: R,
+    ring: Producer<Reading>,
+    shared: &Shared<L>,
+    session: SessionId,
+    mode: ClockMode,
+) -> ReadEnd<R>
+    requires ring { sent ring ≡ [] }
+    requires input { (R.given reader ≡ []) × (R.ended reader ≡ false)
+        × (R.failures reader ≡ 0) × (R.reads reader ≡ 0) }
+    ensures ring { SameProducer ring result.ring }
+    ensures pushed { IsPrefix (sent result.ring) (readings_of mode (R.given result.reader)) }
+    ensures read { result.read ≡ length (sent result.ring) }
+    ensures ends { EndsBy mode (record {
+      given = R.given result.reader;
+      ended = R.ended result.reader;
+      failures = R.failures result.reader;
+      reads = R.reads result.reader;
+      pushed = sent result.ring;
+    }) result.cause }
+{
+    let mut pusher = Pusher { ring, read: 0 };
+    let cause = read_all(rt, alloc, &mut reader, shared, &mut pusher, mode);
+    shared.end_input(rt, session);
+    let Pusher { ring, read } = pusher;
+    ReadEnd {
+        read,
+        cause,
+        reader,
+        ring,
+    }
+}

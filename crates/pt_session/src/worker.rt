@@ -1,0 +1,184 @@
+//! The working side: readings out of the ring, answers out.
+
+ghost use Rattle.std.specs.Prelude.{◌≡◌, ◌∷◌, ◌++◌, [], MatchOption};
+ghost use Rattle.rtrb.specs.Ring.{received, SameConsumer};
+ghost use Rattle.pt_session.specs.Transcripts.{IsLeftOf, IsTranscript, moments_in};
+ghost use Rattle.pt_session.specs.Outputs.{IsLabour, StopsBy, output};
+
+use crate::dealings::{Dealings, Remains};
+use crate::delivery::answer;
+use crate::ends::WorkEnd;
+use crate::gates::Gate;
+use crate::kinds::{EndCause, Reading};
+use pt_hub::{ClockPass, SessionId};
+use pt_io::Sink;
+use pt_shared::Shared;
+use rtrb::Consumer;
+use std::alloc::Global;
+use std::sync::Wait;
+use std::sync::ledger::Ledger;
+
+// How many lines were submitted and answered, and why the work ended before its input did.
+#[derive(Clone, Copy, Debug, PartialEq, Eq)]
+struct Tally {
+    submitted: u64,
+    answered: u64,
+    cause: Option<EndCause>,
+}
+
+// The next reading, or `None` if the input has ended and the ring is empty.
+fn take_next<L: Ledger, T: Wait>(
+    rt: &T,
+    shared: &Shared<L>,
+    session: SessionId,
+    ring: &mut Consumer<Reading>,
+) -> Option<Reading>
+    ensures ring { SameConsumer ring.old ring.new }
+    ensures next { MatchOption result (received ring.new ≡ received ring.old)
+        (λ line. received ring.new ≡ received ring.old ++ line ∷ []) }
+{
+    let mut room = shared.room.lock(rt);
+    for _ in rt.forever() {
+        if let Ok(line) = ring.pop() {
+            return Some(line);
+        }
+        if room.hub.input_ended(session) {
+            return None;
+        }
+        room = shared.wait(rt, room);
+    }
+    unreachable!()
+}
+
+// Submits the readings in the ring and writes their words, until the input ends or a cause comes.
+fn work_all<W: Sink, G: Gate, L: Ledger, T: Wait>(
+    rt: &T,
+    alloc: Global,
+    writer: &mut W,
+    ring: &mut Consumer<Reading>,
+    shared: &Shared<L>,
+    session: SessionId,
+    dealings: &mut Dealings<L>,
+    gate: &G,
+) -> Tally
+    requires ring { received ring.old ≡ [] }
+    requires output { (W.taken writer.old ≡ []) × (W.flushed writer.old ≡ [])
+        × (W.failures writer.old ≡ 0) }
+    requires new { dealings.old.exchanges ≡ [] }
+    ensures ring { SameConsumer ring.old ring.new }
+    ensures labour { IsLabour (record {
+      submitted = result.submitted;
+      answered = result.answered;
+      exchanges = dealings.new.exchanges;
+      received = received ring.new;
+      output = output W.taken W.flushed W.failures W.rejections writer.old writer.new;
+    }) }
+    ensures stops { StopsBy (record {
+      submitted = result.submitted;
+      answered = result.answered;
+      exchanges = dealings.new.exchanges;
+      received = received ring.new;
+      output = output W.taken W.flushed W.failures W.rejections writer.old writer.new;
+    }) result.cause }
+{
+    let mut buffer = Vec::new(alloc);
+    for answered in 0..u64::MAX {
+        let Some(line) = take_next(rt, shared, session, ring) else {
+            return Tally {
+                submitted: answered,
+                answered,
+                cause: None,
+            };
+        };
+        let n = answered + 1;
+        if !gate.ask(session, n) {
+            return Tally {
+                submitted: answered,
+                answered,
+                cause: Some(EndCause::GateShut),
+            };
+        }
+        let Some(word) = dealings.submit(rt, shared, session, line) else {
+            return Tally {
+                submitted: n,
+                answered,
+                cause: None,
+            };
+        };
+        if let Some(cause) = answer(writer, &mut buffer, n, word) {
+            return Tally {
+                submitted: n,
+                answered,
+                cause: Some(cause),
+            };
+        }
+    }
+    Tally {
+        submitted: u64::MAX,
+        answered: u64::MAX,
+        cause: None,
+    }
+}
+
+/// Takes the readings out of the ring in order, asks the gate, submits each, waits for its answer
+/// and writes it. Once the input has ended it goes on until the ring is empty or a call is open. In
+/// the end the client dies.  [profile]
+pub fn work_side<W: Sink, G: Gate, L: Ledger, T: Wait>(
+    rt: &T,
+    alloc: Global,
+    mut writer: W,
+    mut ring: Consumer<Reading>,
+    shared: &Shared<L>,
+    session: SessionId,
+    clock: ClockPass<L>,
+    gate: &G,
+) -> WorkEnd<W, L>
+    requires ring { received ring ≡ [] }
+    requires output { (W.taken writer ≡ []) × (W.failures writer ≡ 0) }
+    requires clock { clock.moments ≡ [] }
+    ensures ring { SameConsumer ring result.ring }
+    ensures labour { IsLabour (record {
+      submitted = result.submitted;
+      answered = result.answered;
+      exchanges = result.transcript;
+      received = received result.ring;
+      output = output W.taken W.flushed W.failures W.rejections writer result.writer;
+    }) }
+    ensures stops { StopsBy (record {
+      submitted = result.submitted;
+      answered = result.answered;
+      exchanges = result.transcript;
+      received = received result.ring;
+      output = output W.taken W.flushed W.failures W.rejections writer result.writer;
+    }) result.cause }
+    ensures words { IsTranscript result.transcript }
+    ensures left { IsLeftOf result.transcript result.left }
+    ensures clock { result.clock.moments ≡ moments_in result.transcript }
+{
+    let mut dealings = Dealings::new(clock);
+    let tally = work_all(
+        rt,
+        alloc,
+        &mut writer,
+        &mut ring,
+        shared,
+        session,
+        &mut dealings,
+        gate,
+    );
+    let Remains {
+        left,
+        clock,
+        transcript,
+    } = dealings.end(rt, shared);
+    WorkEnd {
+        submitted: tally.submitted,
+        answered: tally.answered,
+        left,
+        clock,
+        transcript,
+        cause: tally.cause,
+        writer,
+        ring,
+    }
+}
