@@ -7,6 +7,8 @@ use Rattle.std.specs.List.{list_any}
 use Rattle.pt_types.specs.declared.time.Clock.{Clock}
 use Rattle.pt_types.specs.declared.call.Call.{Call as Asked}
 use Rattle.pt_types.specs.declared.outcome.Outcome.{Outcome}
+use Rattle.pt_types.specs.declared.outcome.Outcome.TheVariants.{Done, Serial, Eperm, Einval, Ebusy, Eagain, Edeadlk, Etimedout, Eownerdead, Enotrecoverable}
+use Rattle.pt_types.specs.Operations.{Operation, Makes, Ends, Acquires, Unlocks, Restores, Rwunlocks, Awaits, Signals, Broadcasts, Arrives, operation}
 use Rattle.pt_timers.specs.Deadlines.{deadline_at}
 use Rattle.pt_waitq.specs.ListLemmas.{any-in, any-out}
 use Rattle.pt_model.specs.declared.entry.Cause.{Cause}
@@ -17,7 +19,7 @@ use Rattle.pt_model.specs.Histories.{History, ◌▷◌, place}
 use Rattle.pt_model.specs.declared.waiting_call.WaitingCall.{WaitingCall}
 use Rattle.pt_model.specs.declared.waiting_call.Move.{Move}
 use Rattle.pt_model.specs.Answers.{open_calls}
-use Rattle.pt_model.specs.Moves.{cause_by, move_or, moved, is_moved}
+use Rattle.pt_model.specs.Moves.{cause_by, cause_by_operation, move_or, moved, is_moved}
 use Rattle.pt_model.specs.Steps.{Follows}
 use Rattle.pt_records.specs.declared.clients.Open.{Open}
 use Rattle.pt_state.specs.declared.state.State.{State}
@@ -25,7 +27,7 @@ use Rattle.pt_state.specs.Adds.{past, Adds, IsReadyFor}
 use Rattle.pt_records.specs.Callers.{opens_of}
 use Rattle.pt_state.specs.Serving.{move_of, AreOpen}
 use Rattle.pt_state.proofs.ServingFinds.{are-open}
-use Rattle.pt_machine.specs.Timed.{set_at, AreTimed, is_from, was_moved_at}
+use Rattle.pt_machine.specs.Timed.{set_at, AreTimed, can_move_waits, is_from, was_moved_at}
 use Rattle.pt_machine.proofs.QueuedSame.{past-adds}
 use Rattle.pt_machine.proofs.QueuedCalls.{open-answered}
 use Rattle.pt_machine.proofs.TimedSteps.{set-same, set-moved}
@@ -91,6 +93,33 @@ module _ (h : History) (e : Entry) (f : Follows h) (same : open_calls (h ▷ e) 
       go true t = set-moved h e f same p (goes t)
       go false t = set-same h e f same p (stays t)
 
+-- a call that can move no wait moves none
+moves-none : (h : History) (c : ℕ) (call : Asked) (x : Outcome)
+    → can_move_waits (operation call) ≡ false → (j : ℕ)
+    → cause_by h (moved h) (Call c call (Some x)) j ≡ None
+moves-none h c call Done none j = by (operation call) none
+  where
+    by : (o : Operation) → can_move_waits o ≡ false → cause_by_operation h (moved h) o j ≡ None
+    by (Signals n) e = cc
+    by (Broadcasts n) e = cc
+    by (Makes n kind) e = refl
+    by (Ends n s) e = refl
+    by (Acquires n k how) e = refl
+    by (Unlocks n) e = refl
+    by (Restores n) e = refl
+    by (Rwunlocks n) e = refl
+    by (Awaits n m d) e = refl
+    by (Arrives n) e = refl
+moves-none h c call Serial none j = refl
+moves-none h c call Eperm none j = refl
+moves-none h c call Einval none j = refl
+moves-none h c call Ebusy none j = refl
+moves-none h c call Eagain none j = refl
+moves-none h c call Edeadlk none j = refl
+moves-none h c call Etimedout none j = refl
+moves-none h c call Eownerdead none j = refl
+moves-none h c call Enotrecoverable none j = refl
+
 module _ {A : Type 0} (old new : State A) (timers later : List (ℕ × (Clock × ℕ))) (c : ℕ)
     (call : Asked) (x : Outcome) (ready : IsReadyFor old (Call c call (Some x)))
     (adds : Adds old (Call c call (Some x)) new) where
@@ -117,3 +146,15 @@ module _ {A : Type 0} (old new : State A) (timers later : List (ℕ × (Clock ×
       ∙ sym (set-dropped (past old) (Call c call (Some x)) ready.read.follows
       (open-answered (past old) c call x ready.read.follows ready.step)
       (opens_of new.clients) opens-new p))))
+
+  -- where it can move no wait, they are those that were set
+  pub timed-unmoved : can_move_waits (operation call) ≡ false → AreTimed (past old) timers
+      → AreTimed (past new) timers
+  timed-unmoved none timed =
+      subst (λ (h : History). AreTimed h timers)
+      (sym (past-adds old new (Call c call (Some x)) adds))
+      (λ p. timed p
+      ∙ sym (set-same (past old) (Call c call (Some x)) ready.read.follows
+      (open-answered (past old) c call x ready.read.follows ready.step) p
+      (λ w i at. ap (λ y. move_or (place (past old)) y (moved (past old) w.place))
+      (moves-none (past old) c call x none w.place))))

@@ -1,7 +1,10 @@
 -- Deadlines that are dropped, row by row.
-use Rattle.std.proofs.Common.{◌≡◌, ℕ, zero, suc, ◌+◌, ◌≤◌, ◌==◌, Bool, true, false, cond, ◌&&◌, ◌||◌, List, [], ◌∷◌, Option, Some, None, length, refl, sym, ap, ◌∙◌, take, take_all, add-one}
+use Rattle.std.proofs.Common.{◌≡◌, ℕ, zero, suc, ◌+◌, ◌≤◌, ◌==◌, Bool, true, false, cond, ◌&&◌, ◌||◌, List, [], ◌∷◌, Option, Some, None, is_some, length, refl, sym, ap, ◌∙◌, take, take_all, add-one}
 use Rattle.std.specs.List.{list_any, cons_option}
 use Rattle.pt_types.specs.declared.time.Clock.{Clock}
+use Rattle.pt_types.specs.declared.time.Clock.TheVariants.{Mono, Real}
+use Rattle.pt_types.specs.Times.{Timespec}
+use Rattle.pt_timers.specs.Deadlines.{IsLeast, deadline_at}
 use Rattle.pt_table.specs.declared.clients.ClientRow.{ClientRow}
 use Rattle.pt_table.specs.ClientRows.{nth_value}
 use Rattle.pt_model.specs.Found.{passes}
@@ -93,3 +96,26 @@ pub rows-all : (k : ℕ) (rows : List (ClientRow Caller)) (n : ℕ) → length r
     → dropped k (opens_of (take n rows)) before p ≡ dropped k (opens_of rows) before p
 rows-all k rows n all before p =
     ap (λ rs. dropped k (opens_of rs) before p) (take_all n rows all)
+
+-- where none is set, none is dropped
+pub drops-none : (b : Bool) (before : Option (Clock × ℕ)) → before ≡ None
+    → before ≡ cond b None before
+drops-none true before e = e
+drops-none false before e = refl
+
+-- none is set where no clock has a least one
+unset : (ts : List (ℕ × (Clock × ℕ))) → ((q m : ℕ) → deadline_at ts q ≡ Some (Real, m) → ⊥)
+    → ((q m : ℕ) → deadline_at ts q ≡ Some (Mono, m) → ⊥) → (p : ℕ) → deadline_at ts p ≡ None
+unset ts real mono p = go (deadline_at ts p) refl
+  where
+    go : (found : Option (Clock × ℕ)) → deadline_at ts p ≡ found → found ≡ None
+    go None e = refl
+    go (Some (Real, m)) e = absurd (real p m e)
+    go (Some (Mono, m)) e = absurd (mono p m e)
+
+pub unset-by : (ts : List (ℕ × (Clock × ℕ))) (real mono : Option Timespec) → IsLeast ts Real real
+    → IsLeast ts Mono mono → real ≡ None → is_some mono ≡ false → (p : ℕ)
+    → deadline_at ts p ≡ None
+unset-by ts None None r m e f = unset ts r m
+unset-by ts None (Some d) r m e f = absurd cc
+unset-by ts (Some d) mono r m e f = absurd cc

@@ -1,9 +1,9 @@
 -- Timed: the deadlines that are set, as they are read off a history.
-use Rattle.std.specs.Prelude.{◌/◌, ◌%◌, option_map, ℕ, ◌≡◌, ◌==◌, Bool, false, not, ◌&&◌, List, Option, Some, None, if◌then◌else◌}
+use Rattle.std.specs.Prelude.{◌/◌, ◌%◌, option_map, ℕ, ◌≡◌, ◌==◌, Bool, true, false, not, ◌&&◌, List, Option, Some, None, if◌then◌else◌}
 use Rattle.std.specs.List.{filter}
 use Rattle.pt_types.specs.declared.time.Clock.{Clock}
 use Rattle.pt_types.specs.Times.{Timespec, has_bad_deadline}
-use Rattle.pt_types.specs.Operations.{Operation, Acquires, Awaits, operation, deadline_of}
+use Rattle.pt_types.specs.Operations.{Operation, Acquires, Awaits, Broadcasts, Signals, operation, deadline_of}
 use Rattle.pt_timers.specs.Deadlines.{deadline_at}
 use Rattle.pt_types.specs.Limits.{second}
 use Rattle.pt_model.specs.declared.entry.Entry.{Entry}
@@ -73,3 +73,9 @@ is_from k (Some v) = v.at == k
 -- whether the entry at this place moved an open call  [XSH pthread_cond_broadcast]
 abbrev pub was_moved_at : ℕ → Open → Bool
 was_moved_at k o = is_from k (move_of o)
+
+-- whether an operation can move waits  [XSH pthread_cond_broadcast]
+abbrev pub can_move_waits : Operation → Bool
+can_move_waits (Signals n) = true
+can_move_waits (Broadcasts n) = true
+can_move_waits _ = false

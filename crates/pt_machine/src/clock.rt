@@ -3,9 +3,9 @@
 ghost use Rattle.pt_model.specs.declared.entry.Entry.TheVariants as entry_is;
 ghost use Rattle.pt_state.specs.Adds.{Adds, IsReadyFor, Stays, past};
 ghost use Rattle.pt_machine.specs.Queued.{IsQueued};
-ghost use Rattle.std.specs.Prelude.{IfErr, IfSome, IsOk, None, OnErr, OnOk, Some, ℕ, ◌&&◌, ◌==◌, ◌≡◌, ◌≤◌, false, filter, if◌then◌else◌, option_map};
+ghost use Rattle.std.specs.Prelude.{IfErr, IfSome, IsOk, None, OnErr, OnOk, Some, ℕ, ◌&&◌, ◌==◌, ◌≡◌, ◌≤◌, false, filter, if◌then◌else◌, option_map, true};
 ghost use Rattle.pt_types.specs.Operations.{operation};
-ghost use Rattle.pt_machine.specs.Timed.{AreTimed, asked, good_of, was_moved_at};
+ghost use Rattle.pt_machine.specs.Timed.{AreTimed, asked, can_move_waits as can_move_waits_in, good_of, was_moved_at};
 ghost use Rattle.std.specs.List.{list_any};
 ghost use Rattle.pt_timers.specs.Deadlines.{deadline_at};
 ghost use Rattle.pt_records.specs.Callers.{open_in, opens_of};
@@ -76,6 +76,16 @@ fn was_moved(open: &Open, place: u64) -> bool
     }
 }
 
+// Whether no deadline is set, by either clock.
+fn has_none<A: Allocator + Copy>(timers: &Timers<A>) -> bool
+    ensures { result ≡ true → (p : ℕ) → deadline_at timers.now p ≡ None }
+{
+    match timers.least(Clock::Real) {
+        Some(_) => false,
+        None => timers.least(Clock::Mono).is_none(),
+    }
+}
+
 // The deadlines of those that the entry at a place moved are set no more.
 // [XSH pthread_cond_broadcast]
 fn drop_moved<A: Allocator + Copy>(timers: &mut Timers<A>, state: &State<A>, place: u64)
@@ -86,6 +96,9 @@ fn drop_moved<A: Allocator + Copy>(timers: &mut Timers<A>, state: &State<A>, pla
         then None
         else deadline_at timers.old p) }
 {
+    if has_none(timers) {
+        return;
+    }
     for i in 0..state.clients.len() {
         if let Some(open) = state.open_nth(i) {
             if was_moved(&open, place) {
@@ -158,6 +171,16 @@ pub(crate) fn push_left<Q: WaitList, A: Allocator + Copy>(
     }
 }
 
+// Whether a call can move waits.  [XSH pthread_cond_broadcast]
+fn can_move_waits(call: &Call) -> bool
+    ensures { result ≡ can_move_waits_in (operation call.now) }
+{
+    matches!(
+        operation_of(call),
+        Operation::Signals(_) | Operation::Broadcasts(_)
+    )
+}
+
 // A call with its answer: no deadline is set any more for those that it moves. ENOMEM if there
 // is no memory for the object that it makes.  [XSH, the call's page]
 pub(crate) fn push_answered<Q: WaitList, A: Allocator + Copy>(
@@ -181,13 +204,11 @@ pub(crate) fn push_answered<Q: WaitList, A: Allocator + Copy>(
     ensures timed { AreTimed (past state.new) timers.new }
 {
     let place = state.stored.len();
-    match calls::push_answered(state, queues, c, call, answer) {
-        Ok(()) => {
-            drop_moved(timers, state, place);
-            Ok(())
-        }
-        Err(refusal) => Err(refusal),
+    calls::push_answered(state, queues, c, call, answer)?;
+    if can_move_waits(call) {
+        drop_moved(timers, state, place);
     }
+    Ok(())
 }
 
 // A client's process ends: no deadline is set any more for its open call.
