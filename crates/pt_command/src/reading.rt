@@ -1,6 +1,7 @@
 use crate::words::command;
-use clap::Error;
 use clap::error::ErrorKind;
+use clap::{ArgMatches, Error};
+use std::alloc::Global;
 use std::process::ExitCode;
 use std::{env, io};
 
@@ -10,10 +11,30 @@ const USAGE: u8 = 2;
 /// The exit status of lack of memory.  [profile]
 const MEMORY: u8 = 5;
 
+/// Whose clock deadlines are compared with.
+#[derive(Clone, Copy, Debug, PartialEq, Eq)]
+pub enum ClockWord {
+    /// The connections': they send moment lines.
+    Lines,
+    System,
+}
+
+/// What is served, and for how long.
+#[derive(Debug, Drop)]
+pub struct Service {
+    /// The path of the socket.
+    pub path: String,
+    pub clock: ClockWord,
+    /// How many connections; 0 is without end.
+    pub sessions: u64,
+}
+
 /// What a command line asks of the program.
 pub enum Task {
     /// To answer a script.
     Script,
+    /// To serve a socket.
+    Serve(Service),
     /// Nothing more: what was asked for, or what is wrong, has been shown.
     End(ExitCode),
 }
@@ -27,6 +48,19 @@ fn show(rt: &HostRuntime, error: &Error) -> ExitCode {
     ExitCode::SUCCESS
 }
 
+// What the options of `serve` ask for. The error is lack of memory.
+fn read_service(alloc: Global, options: &ArgMatches) -> Result<Service, Error> {
+    let clock = match options.get_str("clock") {
+        Some("system") => ClockWord::System,
+        _ => ClockWord::Lines,
+    };
+    Ok(Service {
+        path: String::from_str(alloc, options.get_str("socket").unwrap_or(""))?,
+        clock,
+        sessions: options.get_one::<u64>("sessions").unwrap_or(0),
+    })
+}
+
 // The task that these words ask for. The error is lack of memory.
 fn task_of(rt: &HostRuntime, words: &[String]) -> Result<Task, Error> {
     let matches = match command(rt.alloc())?.try_get_matches_from(words) {
@@ -36,6 +70,7 @@ fn task_of(rt: &HostRuntime, words: &[String]) -> Result<Task, Error> {
     };
     match matches.subcommand() {
         Some(("script", _)) => Ok(Task::Script),
+        Some(("serve", options)) => Ok(Task::Serve(read_service(rt.alloc(), options)?)),
         _ => Ok(Task::End(ExitCode::from(USAGE))),
     }
 }

@@ -1,4 +1,4 @@
-use clap::{Command, Error};
+use clap::{Arg, ArgAction, Command, Error, value_parser};
 use std::alloc::Global;
 
 const ABOUT: &str = "\
@@ -6,6 +6,30 @@ POSIX mutexes, read-write locks, condition variables and barriers, shared by cli
 priority. Every answer is proved to be what the rules say.";
 
 const SCRIPT: &str = "Answers the lines of standard input on standard output, each as it comes";
+
+const SERVE: &str = "Serves a Unix socket: each connection is a client, and its lines are calls";
+
+const SOCKET: &str = "The path of the socket: no file may be there yet, and it is not removed";
+
+const CLOCK: &str = "Whose clock deadlines are compared with: moment lines, or the system's";
+
+const SESSIONS: &str = "End after so many connections, once they have ended; 0 is without end";
+
+const CONNECTIONS: &str = "\
+It writes `ready` once it listens. A connection sends one call a line, with no client's name before
+it, and is answered with the number of the line and a result:
+
+  hello 10                       the connection is a client of priority 10 from here on
+  mutex-init m normal robust
+  lock m                         is answered `3 0` once it has the mutex
+
+A connection that ends is a client that dies. `ptserver script --help` lists the calls; `die` is
+none of them. At most 16 lines may wait for the answer to a call: one more ends the connection.
+
+After the last of --sessions N it writes `closed` and the number of events, if no event is missing.
+
+Status: 0 done; 2 a wrong command line; 3 the socket, a thread or writing failed; 4 an event is
+missing; 5 out of memory.";
 
 const LINES: &str = "\
 A line is a client's name and a call, separated by single spaces. The client comes first. There are
@@ -46,7 +70,33 @@ docs/RULES.md has the rules, and examples/ has scripts to try:
 
   ptserver script < examples/two-clients.script";
 
-/// The command line: `script`, `--help` and `--version`.
+// The word `serve` and its options.
+fn serve<'a>(alloc: Global) -> Result<Command<'a>, Error> {
+    let socket = Arg::new(alloc, "socket")
+        .long("socket")
+        .value_name("PATH")
+        .help(SOCKET)
+        .required(true)
+        .action(ArgAction::Set);
+    let clock = Arg::new(alloc, "clock")
+        .long("clock")
+        .value_name("CLOCK")
+        .help(CLOCK)
+        .value_parser(["lines", "system"].as_slice())
+        .default_value("lines");
+    let sessions = Arg::new(alloc, "sessions")
+        .long("sessions")
+        .value_name("N")
+        .help(SESSIONS)
+        .value_parser(value_parser!(u64))
+        .default_value("0");
+    let serve = Command::new(alloc, "serve")
+        .about(SERVE)
+        .after_help(CONNECTIONS);
+    Ok(serve.arg(socket)?.arg(clock)?.arg(sessions)?)
+}
+
+/// The command line: `script`, `serve`, `--help` and `--version`.
 pub fn command<'a>(alloc: Global) -> Result<Command<'a>, Error> {
     let script = Command::new(alloc, "script")
         .about(SCRIPT)
@@ -58,6 +108,7 @@ pub fn command<'a>(alloc: Global) -> Result<Command<'a>, Error> {
             .about(ABOUT)
             .after_help(LINES)
             .subcommand_required(true)
-            .subcommand(script)?,
+            .subcommand(script)?
+            .subcommand(serve(alloc)?)?,
     )
 }

@@ -29,8 +29,35 @@ fn are_statuses_told(alloc: Global) -> Result<bool, Fail> {
     Ok(true)
 }
 
+// Whether the options of `serve` give these statuses.
+fn are_services_told(alloc: Global) -> Result<bool, Fail> {
+    let table: [(&[&str], i32); 7] = [
+        (&["--socket", "p"], 0),
+        (&[], 2),
+        (&["--socket"], 2),
+        (&["--socket", "p", "--clock", "system"], 0),
+        (&["--socket", "p", "--clock", "sun"], 2),
+        (&["--socket", "p", "--sessions", "18446744073709551615"], 0),
+        (&["--socket", "p", "--sessions", "18446744073709551616"], 2),
+    ];
+    for (options, status) in table {
+        let mut words = vec![in alloc; "ptserver", "serve"]?;
+        words.extend_from_slice(options)?;
+        if exit_of(alloc, words.as_slice())? != status {
+            return Ok(false);
+        }
+    }
+    Ok(true)
+}
+
 #[test]
 fn command_lines(rt: HostRuntime) -> Result<(), Fail> {
     assert!(rt; are_statuses_told(rt.alloc())?);
+    Ok(())
+}
+
+#[test]
+fn service_lines(rt: HostRuntime) -> Result<(), Fail> {
+    assert!(rt; are_services_told(rt.alloc())?);
     Ok(())
 }

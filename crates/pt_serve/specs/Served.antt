@@ -1,0 +1,16 @@
+-- Served: what a server writes.
+use Rattle.std.specs.Prelude.{ℕ, ◌++◌, List, [], ◌∷◌, codes, decimal}
+use Rattle.pt_session.specs.Outputs.{IsCutShort}
+
+-- the line that says that connections are accepted  [profile]
+abbrev pub ready_line : List ℕ
+ready_line = codes "ready" ++ 10 ∷ []
+
+-- the line that says that the history is closed, with its number of events  [profile]
+abbrev pub closed_line : ℕ → List ℕ
+closed_line outer = codes "closed " ++ decimal outer ++ 10 ∷ []
+
+-- a front of what a server writes was taken after the old text, for some number of events
+pub record IsServiceBegun (old taken : List ℕ) : Type 0 where
+  pub outer : ℕ
+  pub begun : IsCutShort old (ready_line ++ closed_line outer) taken

@@ -1,0 +1,46 @@
+ghost use Rattle.std.specs.Prelude.{◌≢◌};
+
+use pt_hub::CloseFault;
+use thiserror::Error;
+
+/// Why a server ends before its sessions are served and closed.  [profile]
+#[derive(Clone, Copy, Debug, PartialEq, Eq, Error)]
+pub enum ServeFault {
+    /// The socket could not be made: its path is empty or exists, or the system refused it.
+    #[error("bind failed")]
+    Bind,
+    /// A connection could not be accepted.
+    #[error("accept failed")]
+    Accept,
+    /// A thread could not be started.
+    #[error("thread failed")]
+    Thread,
+    /// A write or a flush of `out` failed, or a write took no byte.
+    #[error("write failed")]
+    Write,
+    /// The hub did not close.
+    #[error("close failed")]
+    Close(CloseFault),
+    /// A growth was refused.
+    #[error("out of memory")]
+    Memory,
+}
+
+/// Why no more connections are served.
+#[derive(Clone, Copy, Debug, PartialEq, Eq)]
+pub enum HostFault {
+    Accept,
+    Thread,
+    Memory,
+}
+
+/// The server ends by this too.
+pub fn fault_of(fault: HostFault) -> ServeFault
+    ensures { result ≢ ServeFault.Write }
+{
+    match fault {
+        HostFault::Accept => ServeFault::Accept,
+        HostFault::Thread => ServeFault::Thread,
+        HostFault::Memory => ServeFault::Memory,
+    }
+}

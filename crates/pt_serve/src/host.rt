@@ -1,0 +1,130 @@
+//! The threads of a server.
+
+use crate::clock::tick;
+use crate::fault::HostFault;
+use crate::remains::{Remain, Remains};
+use pt_hub::ClockPass;
+use pt_io::Counted;
+use pt_session::{ClockMode, OpenGate, session};
+use pt_shared::Shared;
+use std::alloc::Global;
+use std::os::unix::net::{UnixListener, UnixStream};
+use std::sync::ledger::Ledger;
+use std::sync::{Mutex, Wait};
+use std::thread;
+use std::thread::Threads;
+use std::time::Clock;
+
+// Serves one connection, and keeps what its session leaves, if that is asked for. The end of the
+// session, or its refusal, closes the connection.
+fn converse<L: Ledger + Send + Sync, R: Threads + Wait + Sync>(
+    rt: &R,
+    alloc: Global,
+    stream: UnixStream,
+    shared: &Shared<L>,
+    mode: ClockMode,
+    kept: Option<&Mutex<Remains<L>>>,
+) {
+    let reader = Counted::new(&stream);
+    let writer = Counted::new(&stream);
+    let Ok(end) = session(rt, alloc, reader, writer, shared, &OpenGate, mode) else {
+        return;
+    };
+    if let Some(remains) = kept {
+        remains.lock(rt).add(Remain {
+            left: end.left,
+            clock: end.clock,
+        });
+    }
+}
+
+// Accepts so many connections, and waits for their sessions; without end if that is 0. After a
+// fault nothing more is accepted.
+fn accept<L: Ledger + Send + Sync, R: Threads + Wait + Sync>(
+    rt: &R,
+    alloc: Global,
+    listener: &UnixListener,
+    shared: &Shared<L>,
+    remains: &Mutex<Remains<L>>,
+    mode: ClockMode,
+    sessions: u64,
+) -> Result<(), HostFault> {
+    // What is left is wanted for the close alone.
+    let kept = if sessions > 0 { Some(remains) } else { None };
+    thread::scope(
+        thread::scope_env(),
+        rt,
+        move |scope| -> Result<(), HostFault> {
+            let mut accepted: u64 = 0;
+            for stream in listener.incoming() {
+                let Ok(stream) = stream else {
+                    return Err(HostFault::Accept);
+                };
+                let thread = scope.spawn(move || converse(rt, alloc, stream, shared, mode, kept));
+                if thread.is_err() {
+                    return Err(HostFault::Thread);
+                }
+                if remains.lock(rt).is_short() {
+                    return Err(HostFault::Memory);
+                }
+                accepted = accepted.saturating_add(1);
+                if accepted == sessions {
+                    break;
+                }
+            }
+            Ok(())
+        },
+    )
+}
+
+// As `accept`, while another thread hands in the clocks of the system. Gives their pass back.
+fn accept_by_clock<L: Ledger + Send + Sync, R: Threads + Wait + Clock + Sync>(
+    rt: &R,
+    alloc: Global,
+    listener: &UnixListener,
+    shared: &Shared<L>,
+    remains: &Mutex<Remains<L>>,
+    clock: ClockPass<L>,
+    sessions: u64,
+) -> Result<ClockPass<L>, HostFault> {
+    thread::scope(
+        thread::scope_env(),
+        rt,
+        move |scope| -> Result<ClockPass<L>, HostFault> {
+            let Ok(ticking) = scope.spawn(move || tick(rt, shared, clock)) else {
+                return Err(HostFault::Thread);
+            };
+            let mode = ClockMode::System;
+            let served = accept(rt, alloc, listener, shared, remains, mode, sessions);
+            shared.finish(rt);
+            let clock = ticking.join(rt);
+            served?;
+            Ok(clock)
+        },
+    )
+}
+
+/// Serves so many connections, and returns what they leave; without end if that is 0.
+pub fn host<L: Ledger + Send + Sync, R: Threads + Wait + Clock + Sync>(
+    rt: &R,
+    alloc: Global,
+    listener: &UnixListener,
+    shared: &Shared<L>,
+    clock: ClockPass<L>,
+    mode: ClockMode,
+    sessions: u64,
+) -> Result<Remains<L>, HostFault> {
+    let remains = Mutex::new(Remains::new(alloc));
+    let clock = match mode {
+        ClockMode::System => {
+            accept_by_clock(rt, alloc, listener, shared, &remains, clock, sessions)?
+        }
+        ClockMode::Lines => {
+            accept(rt, alloc, listener, shared, &remains, mode, sessions)?;
+            clock
+        }
+    };
+    let mut remains = remains.into_inner();
+    remains.add_clock(clock);
+    Ok(remains)
+}

@@ -1,0 +1,98 @@
+ghost use Rattle.std.specs.Prelude.{◌≡◌, ◌≢◌, ◌^◌, ◌-◌, ◌++◌, OnOk, OnErr, IfOk, IfErr};
+ghost use Rattle.pt_session.specs.Outputs.{IsBroken};
+ghost use Rattle.pt_serve.specs.Served.{IsServiceBegun, closed_line, ready_line};
+
+use crate::fault::{ServeFault, fault_of};
+use crate::host::host;
+use crate::output::{say_closed, say_ready};
+use pt_hub::{ClockPass, Closed, Hub};
+use pt_io::Sink;
+use pt_session::ClockMode;
+use pt_shared::Shared;
+use std::alloc::Global;
+use std::marker::Brand;
+use std::net::Net;
+use std::os::unix::net::UnixListener;
+use std::rt::Files;
+use std::sync::Wait;
+use std::sync::ledger::{Blank, Ledger};
+use std::thread::Threads;
+use std::time::Clock;
+
+/// How many shares of the ledger there may be: one for each client, session and clock.
+const SHARES: u64 = 1 << 63;
+
+// An empty history, and the clock of the server.
+fn open_hub<L: Ledger>(alloc: Global, blank: Blank) -> Result<(Hub<L>, ClockPass<L>), ServeFault>
+    requires name { (blank.name ≡ L.name) × (blank.parts ≡ L.parts) }
+    requires parts { blank.parts ≡ 2 ^ 63 }
+    ensures { IfErr result (λ fault. fault ≡ ServeFault.Memory) }
+{
+    match Hub::new(alloc, blank) {
+        Ok(made) => Ok(made),
+        Err(_) => Err(ServeFault::Memory),
+    }
+}
+
+// Serves with this ledger on a socket that listens, once that is written.
+fn serve_ready<L: Ledger + Send + Sync, R: Threads + Wait + Clock + Sync>(
+    rt: &R,
+    alloc: Global,
+    blank: Blank,
+    listener: &UnixListener,
+    mode: ClockMode,
+    sessions: u64,
+) -> Result<Closed, ServeFault>
+    requires name { (blank.name ≡ L.name) × (blank.parts ≡ L.parts) }
+    requires parts { blank.parts ≡ 2 ^ 63 }
+    ensures { IfErr result (λ fault. fault ≢ ServeFault.Write) }
+{
+    let (hub, clock) = open_hub::<L>(alloc, blank)?;
+    let shared = Shared::new(hub);
+    match host(rt, alloc, listener, &shared, clock, mode, sessions) {
+        Ok(remains) => remains.close(shared.into_hub()),
+        Err(fault) => Err(fault_of(fault)),
+    }
+}
+
+/// Serves so many connections to a Unix socket at this path, and then closes the history of their
+/// clients; without end if `sessions` is 0.  [profile]
+///
+/// It writes `ready` once it listens, and `closed` with the number of events after the close. A
+/// connection whose session is refused is closed, and counts as one. After a fault nothing more is
+/// accepted, the running sessions are waited for, and the history is not closed. The file at the
+/// path stays.
+pub fn serve<W: Sink, R: Files + Net + Threads + Wait + Clock + Sync>(
+    rt: &R,
+    alloc: Global,
+    path: &str,
+    mode: ClockMode,
+    sessions: u64,
+    out: &mut W,
+) -> Result<Closed, ServeFault>
+    requires { W.failures out.old ≡ 0 }
+
+    // Both lines are written and nothing else, and all of it is flushed.
+    ensures ok { IfOk result (λ closed.
+        W.taken out.new ≡ (W.taken out.old ++ ready_line) ++ closed_line closed.outer) }
+    ensures out { OnOk result
+        ((W.flushed out.new ≡ W.taken out.new) × (W.failures out.new ≡ 0)) }
+
+    // A fault: what is written begins such a text. `Write` comes only if the writer broke.
+    ensures err { OnErr result (IsServiceBegun (W.taken out.old) (W.taken out.new)) }
+    ensures why { IfErr result (λ fault. fault ≡ ServeFault.Write
+        → IsBroken (W.failures out.new) (W.rejections out.new - W.rejections out.old)) }
+{
+    // The system would make a socket without a name for it.  [XSH bind: ENOENT]
+    if path.is_empty() {
+        return Err(ServeFault::Bind);
+    }
+    let Ok(listener) = UnixListener::bind(rt, path) else {
+        return Err(ServeFault::Bind);
+    };
+    say_ready(out)?;
+    let blank = Blank::new(SHARES);
+    let closed = serve_ready::<Brand, R>(rt, alloc, blank, &listener, mode, sessions)?;
+    say_closed(out, closed.outer)?;
+    Ok(closed)
+}

@@ -1,0 +1,68 @@
+use crate::client::Client;
+use pt_hub::Closed;
+use pt_io::Counted;
+use pt_serve::{ServeFault, serve};
+use pt_session::ClockMode;
+use std::alloc::Global;
+use std::net::Net;
+use std::rt::Files;
+use std::sync::Wait;
+use std::test::Fail;
+use std::thread::Threads;
+use std::time::Clock;
+use std::{fs, io, thread};
+
+// A server of so many sessions, and what it wrote.
+fn serve_in_memory<R: Files + Net + Threads + Wait + Clock + Sync>(
+    rt: &R,
+    alloc: Global,
+    path: &str,
+    sessions: u64,
+) -> (Result<Closed, ServeFault>, Vec<u8>) {
+    let mut out = Counted::new(Vec::new(alloc));
+    let served = serve(rt, alloc, path, ClockMode::Lines, sessions, &mut out);
+    (served, out.into_inner())
+}
+
+// Two clients, of which one waits for the mutex of the other. Whether all answers are right.
+fn converse<R: Files + Net + Clock>(rt: &R, alloc: Global, path: &str) -> io::Result<bool> {
+    let mut first = Client::connect(rt, path)?;
+    let mut second = Client::connect(rt, path)?;
+    first.send(b"hello 10\nmutex-init m normal stalled\nlock m\n")?;
+    let mut is_right = first.hears(alloc, b"1 0\n2 0\n3 0\n")?;
+    second.send(b"hello 10\nlock m\n")?;
+    first.send(b"unlock m\n")?;
+    is_right &= first.hears(alloc, b"4 0\n")?;
+    is_right &= second.hears(alloc, b"1 0\n2 0\n")?;
+    Ok(is_right)
+}
+
+#[test]
+fn serve_two(rt: HostRuntime) -> Result<(), Fail> {
+    let alloc = rt.alloc();
+    let ((served, out), is_right) = thread::join(
+        &rt,
+        || serve_in_memory(&rt, alloc, "serve_two", 2),
+        || converse(&rt, alloc, "serve_two"),
+    );
+    assert!(rt; is_right?);
+    assert!(rt;
+        served
+            == Ok(Closed {
+                outer: 8,
+                entries: 10
+            })
+    );
+    assert!(rt; out.as_slice() == b"ready\nclosed 8\n".as_slice());
+    Ok(())
+}
+
+#[test]
+fn path_that_exists(rt: HostRuntime) -> Result<(), Fail> {
+    let alloc = rt.alloc();
+    fs::write(&rt, "taken", b"")?;
+    let (served, out) = serve_in_memory(&rt, alloc, "taken", 1);
+    assert!(rt; served == Err(ServeFault::Bind));
+    assert!(rt; out.is_empty());
+    Ok(())
+}
