@@ -1,4 +1,4 @@
--- Reserved: how many entries are reserved, and whether an owner may be dead, as they are kept.
+-- Reserved: how many entries are reserved, and whether an owner may be dead, as they are stored.
 use Rattle.std.specs.Prelude.{ℕ, ◌≡◌, Bool, true, false, ◌&&◌, Option, Some, None, is_none}
 use Rattle.pt_types.specs.MutexTable.{is_acquired}
 use Rattle.pt_model.specs.declared.entry.Entry.{Entry}
@@ -11,7 +11,7 @@ use Rattle.pt_model.specs.Grants.{grant_outcome}
 use Rattle.pt_model.specs.Forced.{is_orphan}
 use Rattle.pt_model.specs.Room.{need}
 
--- as many entries are reserved as are kept count of; and no robust mutex has a dead owner, unless
+-- as many entries are reserved as the number that is stored; and no robust mutex has a dead owner, unless
 -- the last event was a Death  [profile; XSH pthread_mutex_lock, EOWNERDEAD]
 pub record IsReserved (h : History) (kept : ℕ) (dying : Bool) : Type 0 where
   pub needs : kept ≡ need h

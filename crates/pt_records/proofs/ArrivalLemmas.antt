@@ -56,7 +56,7 @@ arrivals-end b [] (suc i) le = refl
 arrivals-end b (x ∷ rows) zero le = absurd (omega (arith, le))
 arrivals-end b (x ∷ rows) (suc i) le = arrivals-end b rows i (omega (arith, le))
 
--- how far the answers to the calls in the rows have been told
+-- how far the answers to the calls in the rows have been given
 pub record ToldSoFar (k b : ℕ) (rows : List (ClientRow Caller)) (i : ℕ)
     (old now : List Answered) (len capacity : ℕ) : Type 0 where
   pub told : now ++ map (passed_at k) (arrivals_in (drop i rows) b)
@@ -114,7 +114,7 @@ told-room k b rows i old now len capacity w lt e s =
     ∙ ap (λ o. listed o ++ arrivals_in (drop (suc i) rows) b) (sym e) in
     omega (arith, s.room, ap length here)
 
--- all are told
+-- all are given
 pub told-end : (k b : ℕ) (rows : List (ClientRow Caller)) (i : ℕ) (old now : List Answered)
     (len capacity : ℕ) → length rows ≤ i → ToldSoFar k b rows i old now len capacity
     → now ≡ old ++ map (passed_at k) (arrivals_in rows b)

@@ -284,7 +284,7 @@ wanted_at_once c before out given taken read wrote accepted = record {
     empty : Held
     empty = record { rest = []; dropping = false }
 
--- a read of no byte into a buffer that has room tells the end
+-- a read of no byte into a buffer that has room reports the end
 pub has_ended : (n : ℕ) (buf : List ℕ) (before after : Bool) → n ≡ 0 → length buf ≡ 4096
     → after ≡ (before || moves_none n buf) → after ≡ true
 has_ended n buf before after e room says =

@@ -49,7 +49,7 @@ fn accept<L: Ledger + Send + Sync, R: Threads + Wait + Sync>(
     mode: ClockMode,
     sessions: u64,
 ) -> Result<(), HostFault> {
-    // What is left is wanted for the close alone.
+    // What is left is needed for the close alone.
     let kept = if sessions > 0 { Some(remains) } else { None };
     thread::scope(
         thread::scope_env(),

@@ -87,7 +87,7 @@ ends_by mode x InputFailed stops ended works = absurd stops
 ends_by mode x WriteFailed stops ended works = absurd stops
 ends_by mode x GateShut stops ended works = absurd stops
 
--- a read of no byte into a buffer that has room tells the end
+-- a read of no byte into a buffer that has room reports the end
 pub tells_end_now : (n : ℕ) (buf : List ℕ) (before after : Bool) → n ≡ 0 → length buf ≡ 4096
     → after ≡ (before || moves_none n buf) → after ≡ true
 tells_end_now n buf before after e room says =
