@@ -13,10 +13,12 @@ ghost use Rattle.pt_model.specs.Room.{refusal_within};
 ghost use Rattle.pt_model.specs.Legal.{LegalBehind, events_of};
 ghost use Rattle.pt_core.specs.Cores.{past};
 ghost use Rattle.pt_hub.specs.Desks.{IsRefusedAs, kept, call_refusal, one_if};
+ghost use Rattle.pt_hub.specs.Audiences.{audience_at};
 ghost use Rattle.pt_hub.specs.Hubs.{Joins, Sends, Ticks, Dies, Takes, takeable, next_place, outer_count, has_ended, Opens, IsNotOpened, EndsInput, Closes, Fits};
 ghost use Rattle.pt_hub.specs.Passes.{events_found};
 ghost use Rattle.pt_hub.specs.Closing.{Holds, IsCloseFault};
 
+use crate::audience::Audience;
 use crate::closing::{CloseFault, CloseRefused, Closed, clock_events, left_events};
 use crate::desk::Desk;
 use crate::forks::least_fork;
@@ -299,6 +301,25 @@ impl<L: Ledger, A: Allocator + Copy> Hub<L, A> {
         ensures { Closes self.old self.new session.0 }
     {
         marks::close(&mut self.marks, session.0);
+    }
+
+    /// The place of the next entry.
+    pub fn len(&self) -> u64
+        ensures { result ≡ next_place self.now.desk }
+    {
+        self.desk.len()
+    }
+
+    /// Whose calls the entry at a place answers.
+    pub fn audience(&self, place: u64) -> Audience
+        ensures { result ≡ audience_at (kept self.now.desk) place }
+    {
+        self.desk.audience(place)
+    }
+
+    /// The allocator that the hub was made with.
+    pub fn allocator(&self) -> A {
+        self.alloc
     }
 
     /// What holds whenever the lock is free.

@@ -6,6 +6,7 @@
 #![tactic(auto)]
 
 mod account;
+mod audience;
 mod claims;
 mod closing;
 mod desk;
@@ -17,6 +18,7 @@ mod receipts;
 mod tally;
 
 pub use account::Account;
+pub use audience::Audience;
 pub use closing::{CloseFault, CloseRefused, Closed};
 pub use hub::Hub;
 pub use pass::{Answer, ClockPass, Left, Pass, Receipt, Sent, SessionId, Tick};

@@ -27,6 +27,7 @@ fn of_event(refusal: Refusal) -> Refusal
 fn greet<L: Ledger, T: Wait>(
     rt: &T,
     shared: &Shared<L>,
+    session: SessionId,
     pass: &mut Option<Pass<L>>,
     priority: Priority,
 ) -> Word
@@ -35,7 +36,7 @@ fn greet<L: Ledger, T: Wait>(
     if pass.is_some() {
         return Word::Refusal(Refusal::Nohello);
     }
-    match shared.join(rt, priority) {
+    match shared.join(rt, session, priority) {
         Ok(joined) => {
             *pass = Some(joined);
             Word::Outcome(Outcome::Done)
@@ -109,7 +110,7 @@ fn deal_read<L: Ledger, T: Wait>(
     ensures { Deals pass.old clock.old (Ok line) result pass.new clock.new }
 {
     match line {
-        CallLine::Hello(priority) => Some(greet(rt, shared, pass, priority)),
+        CallLine::Hello(priority) => Some(greet(rt, shared, session, pass, priority)),
         CallLine::Ask(call) => ask(rt, shared, session, pass, call),
         CallLine::Tick(of, moment) => Some(tick(rt, shared, clock, of, moment)),
     }

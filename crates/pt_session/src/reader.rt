@@ -25,9 +25,10 @@ pub const MOST_READS: u64 = 1 << 40;
 /// How many bytes are read at once, at most.  [profile]
 const PIECE: usize = 4096;
 
-// The end of the ring that readings go into, and how many went.
+// The end of a session's ring that readings go into, and how many went.
 #[derive(Drop)]
 struct Pusher {
+    session: SessionId,
     ring: Producer<Reading>,
     read: u64,
     ghost counted: { read ≡ length (sent ring) },
@@ -62,7 +63,7 @@ impl Pusher {
         let is_pushed = self.ring.push(reading).is_ok();
         if is_pushed {
             self.read = read;
-            shared.ring();
+            shared.ring(self.session);
         }
         drop(room);
         is_pushed
@@ -210,10 +211,14 @@ pub fn read_side<R: Source, L: Ledger, T: Wait>(
       pushed = sent result.ring;
     }) result.cause }
 {
-    let mut pusher = Pusher { ring, read: 0 };
+    let mut pusher = Pusher {
+        session,
+        ring,
+        read: 0,
+    };
     let cause = read_all(rt, alloc, &mut reader, shared, &mut pusher, mode);
     shared.end_input(rt, session);
-    let Pusher { ring, read } = pusher;
+    let Pusher { ring, read, .. } = pusher;
     ReadEnd {
         read,
         cause,

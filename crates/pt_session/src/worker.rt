@@ -45,7 +45,7 @@ fn take_next<L: Ledger, T: Wait>(
         if room.hub.input_ended(session) {
             return None;
         }
-        room = shared.wait(rt, room);
+        room = shared.wait(rt, room, session);
     }
     unreachable!()
 }

@@ -17,8 +17,13 @@ use std::sync::Wait;
 use std::sync::ledger::Ledger;
 
 impl<L: Ledger> Shared<L> {
-    /// A client joins.
-    pub fn join<R: Wait>(&self, rt: &R, priority: Priority) -> Result<Pass<L>, Refusal>
+    /// A client joins, whose answers this session takes.
+    pub fn join<R: Wait>(
+        &self,
+        rt: &R,
+        session: SessionId,
+        priority: Priority,
+    ) -> Result<Pass<L>, Refusal>
         ensures pass { IfOk result (λ pass. (pass.priority ≡ priority) × (pass.receipts ≡ [])) }
         ensures ok { IfOk result (λ pass. Made (λ old new. Joins old priority new pass)) }
         ensures err { IfErr result (λ refusal. Found (λ hub. IsRefusedAs
@@ -27,10 +32,12 @@ impl<L: Ledger> Shared<L> {
     {
         let mut room = self.room.lock(rt);
         room.law_fits();
+        let place = room.hub.len();
         match room.hub.join(priority) {
             Ok(pass) => {
                 room.law_fits();
-                self.ring();
+                room.attach(session, pass.client());
+                self.ring_since(&room, place);
                 Ok(pass)
             }
             Err(refusal) => Err(refusal),
@@ -51,10 +58,11 @@ impl<L: Ledger> Shared<L> {
     {
         let mut room = self.room.lock(rt);
         room.law_fits();
+        let place = room.hub.len();
         match room.hub.call(pass, call) {
             Ok(sent) => {
                 room.law_fits();
-                self.ring();
+                self.ring_since(&room, place);
                 Ok(sent)
             }
             Err(refusal) => Err(refusal),
@@ -107,7 +115,7 @@ impl<L: Ledger> Shared<L> {
             if room.hub.input_ended(session) {
                 return None;
             }
-            room = self.wait(rt, room);
+            room = self.wait(rt, room, session);
         }
         unreachable!()
     }
@@ -119,10 +127,12 @@ impl<L: Ledger> Shared<L> {
         ensures dies { Made (λ old new. Leaves old new pass result) }
     {
         let mut room = self.room.lock(rt);
+        room.detach(pass.client());
         room.law_fits();
+        let place = room.hub.len();
         let left = room.hub.die(pass);
         room.law_fits();
-        self.ring();
+        self.ring_since(&room, place);
         left
     }
 
@@ -145,10 +155,11 @@ impl<L: Ledger> Shared<L> {
     {
         let mut room = self.room.lock(rt);
         room.law_fits();
+        let place = room.hub.len();
         match room.hub.moment(pass, clock, moment) {
             Ok(()) => {
                 room.law_fits();
-                self.ring();
+                self.ring_since(&room, place);
                 Ok(())
             }
             Err(refusal) => Err(refusal),

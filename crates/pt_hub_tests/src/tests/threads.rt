@@ -55,7 +55,7 @@ fn asks_all<L: Ledger, R: Wait>(
 
 // A client joins, makes its calls, and dies. `None` if one of them was not answered 0.
 fn client<L: Ledger, R: Wait>(rt: &R, shared: &Shared<L>, session: SessionId) -> Option<Left<L>> {
-    let mut pass = shared.join(rt, Priority::new(10)?).ok()?;
+    let mut pass = shared.join(rt, session, Priority::new(10)?).ok()?;
     let answered = asks_all(rt, shared, session, &mut pass);
     let left = shared.die(rt, pass);
     if answered { Some(left) } else { None }
@@ -67,7 +67,7 @@ fn first_client<L: Ledger, R: Wait>(
     shared: &Shared<L>,
     session: SessionId,
 ) -> Option<Left<L>> {
-    let mut pass = shared.join(rt, Priority::new(10)?).ok()?;
+    let mut pass = shared.join(rt, session, Priority::new(10)?).ok()?;
     let answered = asks(rt, shared, session, &mut pass, Word::MutexInit);
     let left = shared.die(rt, pass);
     if answered { Some(left) } else { None }
