@@ -13,6 +13,7 @@ mod client;
 mod cutter;
 mod fields;
 mod number;
+mod packed;
 mod reply;
 mod script_line;
 mod verb;

@@ -2,6 +2,7 @@ ghost use Rattle.std.specs.Prelude.{◌≡◌, IfSome, Some};
 ghost use Rattle.pt_lines.specs.declared.verb.Verb.{Verb};
 ghost use Rattle.pt_lines.specs.Verbs.{named_word, timed_word, clocked_word, moment_word, word_of, verb_of, call_on, call_until, call_by_clock};
 
+use crate::packed::find_verb;
 use pt_types::{Call, Clock, Deadline, Name};
 
 /// The word of a call that one name follows.
@@ -230,14 +231,6 @@ impl Verb {
         ensures found { IfSome result (λ verb. text.now ≡ word_of verb) }
         ensures exact { (verb : Verb) → text.now ≡ word_of verb → result ≡ Some verb }
     {
-        first_verb(text)
+        find_verb(text)
     }
-}
-
-// The first verb in the table whose word this is.
-fn first_verb(text: &[u8]) -> Option<Verb>
-    ensures first { result ≡ verb_of text.now }
-    ensures found { IfSome result (λ verb. text.now ≡ word_of verb) }
-{
-    VERBS.iter().copied().find(|verb| verb.word() == text)
 }

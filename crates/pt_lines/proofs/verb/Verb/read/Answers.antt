@@ -1,7 +1,10 @@
 use Rattle.std.proofs.Common.{◌∙◌, ap}
 use Rattle.pt_lines.specs.Verbs.{verb_of}
-use Rattle.pt_lines.proofs.VerbLemmas.{verb_of-word}
+use Rattle.pt_lines.proofs.VerbLemmas.{verb_of-word, word_of-found}
 use Rattle.pt_lines.proofs.verb.Verb.read.Goals as goal
 
+pub returns-clause-found : goal.returns-clause-found
+returns-clause-found c = word_of-found c.args.text.now c.find_verb.result c.find_verb.ensures
+
 pub returns-clause-exact : goal.returns-clause-exact
-returns-clause-exact c = λ verb is. c.first_verb.ensures.first ∙ ap verb_of is ∙ verb_of-word verb
+returns-clause-exact c = λ verb is. c.find_verb.ensures ∙ ap verb_of is ∙ verb_of-word verb
