@@ -1,5 +1,4 @@
 ghost use Rattle.std.specs.Prelude.{◌≡◌};
-ghost use Rattle.std.specs.List.{list_all};
 ghost use Rattle.pt_lines.specs.ClientNames.{is_client_byte};
 
 use arrayvec::ArrayVec;
@@ -26,10 +25,10 @@ impl Model for ClientName {
     ghost inverse = { λ xs. record { text = record { items = xs } } };
 }
 
-fn all_may_stand(bytes: &[u8]) -> bool
-    ensures { result ≡ list_all is_client_byte bytes.now }
+fn may_stand(byte: u8) -> bool
+    ensures { result ≡ is_client_byte byte }
 {
-    bytes.iter().all(|byte| matches!(byte, b'a'..=b'z' | b'A'..=b'Z' | b'0'..=b'9'))
+    matches!(byte, b'a'..=b'z' | b'A'..=b'Z' | b'0'..=b'9')
 }
 
 impl ClientName {
@@ -41,10 +40,16 @@ impl ClientName {
         ensures valid { IsSome result ↔ IsClientName bytes.now }
         ensures value { IfSome result (λ name. name ≡ bytes.now) }
     {
-        if bytes.is_empty() || !all_may_stand(bytes) {
+        if bytes.is_empty() || bytes.len() > 8 {
             return None;
         }
-        let text = ArrayVec::try_from(bytes).ok()?;
+        let mut text = ArrayVec::new();
+        for byte in bytes {
+            if !may_stand(*byte) {
+                return None;
+            }
+            text.push(*byte);
+        }
         Some(ClientName { text })
     }
 

@@ -1,8 +1,20 @@
 ghost use Rattle.std.specs.Prelude.{◌≡◌, [], ◌∷◌, MatchOption};
+ghost use Rattle.memchr.specs.Find.{IsFirstByte, is_byte};
 ghost use Rattle.pt_lines.specs.Fields.{fields};
 
-use memchr::memchr;
 use std::marker::Model;
+
+/// The place of the first space.
+pub fn first_space(text: &[u8]) -> Option<usize>
+    ensures { IsFirstByte (is_byte 32) text.now result }
+{
+    for place in 0..text.len() {
+        if text[place] == b' ' {
+            return Some(place);
+        }
+    }
+    None
+}
 
 /// The fields of a line that are left, one after another.
 #[derive(Drop)]
@@ -33,7 +45,7 @@ impl<'a> Fields<'a> {
             (λ field. self.old ≡ field.now ∷ self.new) }
     {
         let text = self.rest?;
-        match memchr(b' ', text) {
+        match first_space(text) {
             Some(end) => {
                 self.rest = Some(&text[end + 1..]);
                 Some(&text[..end])

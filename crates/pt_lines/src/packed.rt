@@ -8,47 +8,89 @@ use crate::verb::{ClockedVerb, NamedVerb, TimedVerb, Verb};
 use pt_types::Clock;
 
 const WAIT: u64 = 0x7761_6974;
+
 const LOCK: u64 = 0x6c6f_636b;
+
 const HELLO: u64 = 0x68_656c_6c6f;
+
 const BWAIT: u64 = 0x62_7761_6974;
+
 const MOMENT: u64 = 0x6d6f_6d65_6e74;
+
 const UNLOCK: u64 = 0x756e_6c6f_636b;
+
 const RDLOCK: u64 = 0x7264_6c6f_636b;
+
 const WRLOCK: u64 = 0x7772_6c6f_636b;
+
 const SIGNAL: u64 = 0x7369_676e_616c;
+
 const TRYLOCK: u64 = 0x74_7279_6c6f_636b;
+
 const RWUNLOCK: u64 = 0x7277_756e_6c6f_636b;
+
 const TIMEDWAI: u64 = 0x7469_6d65_6477_6169;
+
 const CLOCKWAI: u64 = 0x636c_6f63_6b77_6169;
+
 const TRYRDLOC: u64 = 0x7472_7972_646c_6f63;
+
 const TRYWRLOC: u64 = 0x7472_7977_726c_6f63;
+
 const COND_INI: u64 = 0x636f_6e64_2d69_6e69;
+
 const BROADCAS: u64 = 0x6272_6f61_6463_6173;
+
 const TIMEDLOC: u64 = 0x7469_6d65_646c_6f63;
+
 const CLOCKLOC: u64 = 0x636c_6f63_6b6c_6f63;
+
 const MUTEX_IN: u64 = 0x6d75_7465_782d_696e;
+
 const CONSISTE: u64 = 0x636f_6e73_6973_7465;
+
 const MONO_MOM: u64 = 0x6d6f_6e6f_2d6d_6f6d;
+
 const RWLOCK_I: u64 = 0x7277_6c6f_636b_2d69;
+
 const TIMEDRDL: u64 = 0x7469_6d65_6472_646c;
+
 const TIMEDWRL: u64 = 0x7469_6d65_6477_726c;
+
 const CLOCKRDL: u64 = 0x636c_6f63_6b72_646c;
+
 const CLOCKWRL: u64 = 0x636c_6f63_6b77_726c;
+
 const BARRIER: u64 = 0x6261_7272_6965_722d;
+
 const COND_DES: u64 = 0x636f_6e64_2d64_6573;
+
 const MUTEX_DE: u64 = 0x6d75_7465_782d_6465;
+
 const RWLOCK_D: u64 = 0x7277_6c6f_636b_2d64;
+
 const T: u64 = 0x74;
+
 const K: u64 = 0x6b;
+
 const IT: u64 = 0x6974;
+
 const NT: u64 = 0x6e74;
+
 const ENT: u64 = 0x65_6e74;
+
 const NIT: u64 = 0x6e_6974;
+
 const OCK: u64 = 0x6f_636b;
+
 const INIT: u64 = 0x696e_6974;
+
 const TROY: u64 = 0x7472_6f79;
+
 const STROY: u64 = 0x73_7472_6f79;
+
 const ESTROY: u64 = 0x6573_7472_6f79;
+
 const DESTROY: u64 = 0x64_6573_7472_6f79;
 
 /// These bytes as a number, in base 256.

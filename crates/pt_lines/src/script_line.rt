@@ -6,7 +6,7 @@ ghost use Rattle.pt_lines.specs.Script.{body_of, body_read, IsReadAs, short_read
 use crate::call_line::{CallLine, read_call};
 use crate::client::Who;
 use crate::cutter::Cut;
-use memchr::memchr;
+use crate::fields::first_space;
 use pt_types::{Call, Clock, MOST_IN_LINE, Moment, Priority, Refusal};
 
 /// What a line of a script says.
@@ -31,7 +31,7 @@ fn split_at_space(text: &[u8]) -> (&[u8], Option<&[u8]>)
     ensures before { result.0.now ≡ before_space text.now }
     ensures behind { option_copied result.1 ≡ behind_space text.now }
 {
-    match memchr(b' ', text) {
+    match first_space(text) {
         Some(end) => (&text[..end], Some(&text[end + 1..])),
         None => (text, None),
     }

@@ -1,4 +1,4 @@
-use Rattle.std.proofs.Common.{◌≡◌, ◌<◌, ◌∙◌, ◌-◌, ap, get_or, take, drop, length, List, ℕ, arith}
+use Rattle.std.proofs.Common.{◌≡◌, ◌∙◌, ◌-◌, ap, take, drop, length, List, ℕ, arith}
 use Rattle.std.proofs.lemmas.Grind.{common_steps}
 use Rattle.pt_lines.specs.PackedWords.{packed}
 use Rattle.pt_lines.proofs.PackedLemmas.{found_short, found_long, found_too_long}

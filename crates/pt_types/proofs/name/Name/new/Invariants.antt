@@ -1,0 +1,10 @@
+use Rattle.std.proofs.Common.{◌≡◌, true, take}
+use Rattle.std.specs.List.{list_all}
+use Rattle.pt_types.specs.Names.{is_name_byte}
+use Rattle.pt_types.proofs.name.Name.new.Given as goal
+
+abbrev pub invariant-loop-byte : goal.invariant-loop-byte
+invariant-loop-byte l = record {
+  copied : l.text.items ≡ take l.byte-index l.bytes;
+  allowed : list_all is_name_byte (take l.byte-index l.bytes) ≡ true;
+}
