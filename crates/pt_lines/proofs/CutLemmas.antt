@@ -1,13 +1,16 @@
 -- CutLemmas: lines by the bytes that they begin with.
-use Rattle.std.proofs.Common.{◌≡◌, ◌≢◌, ◌<◌, ◌≤◌, ◌+◌, ◌∙◌, ◌==◌, ℕ, suc, Bool, true, false, cond, nat_le, List, [], ◌∷◌, ◌++◌, length, take, drop, get_or, refl, map, None, Some, length-append, ap, sym, drop-cons, add-one, arith, append_assoc}
+use Rattle.std.proofs.Common.{◌≡◌, ◌≢◌, ◌<◌, ◌≤◌, ◌+◌, ◌∙◌, ◌==◌, ℕ, suc, Bool, true, false, cond, nat_le, List, [], ◌∷◌, ◌++◌, length, take, drop, get_or, refl, map, Option, None, Some, length-append, ap, sym, drop-cons, add-one, arith, append_assoc}
 use Rattle.std.proofs.lemmas.Grind.{common_steps}
 use Rattle.std.proofs.lemmas.List.{take-append-drop, append-nil, get_or-take}
 use Rattle.std.proofs.lemmas.Bool.{eq-eqb, eqb-true}
+use Rattle.std.specs.Option.{IfSome}
 use Rattle.memchr.specs.Find.{IsFirstByte, is_byte}
 use Rattle.pt_lines.specs.declared.cutter.Cut.{Cut}
 use Rattle.pt_lines.specs.declared.cutter.Cut.TheVariants.{Line, Long}
 use Rattle.pt_lines.specs.Cuts.{cut_of}
-use Rattle.pt_lines.specs.Lines.{lines_after, lines, lines_past_newline, NoNewline, Held, IsBegun, to_come, last_of, joined, AllTexts}
+use Rattle.pt_lines.specs.Lines.{lines_after, lines, lines_past_newline, NoNewline, Held, IsBegun, to_come, last_of, joined, AllTexts, IsFront, past_line}
+use Rattle.pt_lines.specs.declared.script_line.ScriptLine.{ScriptLine}
+use Rattle.pt_lines.specs.Script.{script_of, script_read, IsNextScriptLine}
 
 not_newline : (x : ℕ) → x ≢ 10 → (x == 10) ≡ false
 not_newline x ne = grind arith
@@ -164,6 +167,55 @@ first_line xs i f short text is more =
     ∙ ap lines (append_assoc (take i xs) (10 ∷ drop (i + 1) xs) more)
     ∙ lines_after-newline [] (take i xs) (drop (i + 1) xs ++ more) (NoNewline-take xs i f)
     ∙ ap (λ c. c ∷ lines (drop (i + 1) xs ++ more)) line
+
+take_short : (n : ℕ) (xs : List ℕ) → n ≤ 128 → length (take n xs) ≤ 128
+take_short n xs le = grind (arith, common_steps)
+
+-- a newline among the first 129 bytes ends the first line
+pub front_of :
+    (held : Held) (n : ℕ) (r : Option ℕ) → held.dropping ≡ false → n ≤ 129
+    → IsFirstByte (is_byte 10) (take n held.rest) r → IfSome r (IsFront held)
+front_of held n None keeps few h = tt
+front_of held n (Some i) keeps few h =
+    let found = first_in_front held.rest n i h in
+    let short : i ≤ 128 = omega (arith, found.1) in
+    let line =
+    cut_of-short (take i held.rest) (take_short i held.rest short) in
+    record {
+      within = found.0.within;
+      short = short;
+      given = λ more.
+          ap (λ d. cond d (lines_past_newline (held.rest ++ more)) (lines (held.rest ++ more))) keeps
+          ∙ first_line held.rest i found.0 short (take i held.rest) refl more
+          ∙ ap (λ c. c ∷ lines (drop (i + 1) held.rest ++ more)) (sym line)
+          ∙ ap (λ ls. cut_of (take i held.rest) ∷ ls)
+          (sym (ap (λ d. cond d (lines_past_newline (drop (i + 1) held.rest ++ more))
+          (lines (drop (i + 1) held.rest ++ more))) keeps));
+    }
+
+abbrev held_of : List ℕ → Bool → Held
+held_of rest dropping = record { rest = rest; dropping = dropping }
+
+-- a line that is read where it lies
+pub read_in_place :
+    (old : Held) (rest : List ℕ) (dropping : Bool) (end : ℕ) (line : ScriptLine)
+    → IsFront old end → line ≡ script_read (take end old.rest) → rest ≡ drop (end + 1) old.rest
+    → dropping ≡ old.dropping
+    → IsNextScriptLine old line (record { rest = rest; dropping = dropping })
+read_in_place old rest dropping end line front is past same =
+    let after : held_of rest dropping ≡ past_line old end =
+    ap (λ xs. held_of xs dropping) past
+    ∙ ap (λ d. held_of (drop (end + 1) old.rest) d) same in
+    record {
+      cut = cut_of (take end old.rest);
+      read =
+          is
+          ∙ sym (ap script_of (cut_of-short (take end old.rest)
+          (take_short end old.rest front.short)));
+      given = λ more.
+          front.given more
+          ∙ ap (λ h. cut_of (take end old.rest) ∷ to_come h more) (sym after);
+    }
 
 front_len : (n : ℕ) (xs : List ℕ) → n ≤ length xs → length (take n xs) ≡ n
 front_len n xs le = grind (arith, common_steps)

@@ -1,5 +1,5 @@
 -- Lines: the lines of a stream of bytes, and what a cutter still has to give of them.
-use Rattle.std.specs.Prelude.{◌≡◌, ◌≢◌, ℕ, ◌<◌, ◌≤◌, ◌==◌, ◌++◌, Bool, true, List, [], ◌∷◌, length, if◌then◌else◌, slice_index, map}
+use Rattle.std.specs.Prelude.{◌≡◌, ◌≢◌, ℕ, ◌+◌, ◌<◌, ◌≤◌, ◌==◌, ◌++◌, Bool, true, List, [], ◌∷◌, length, take, drop, if◌then◌else◌, slice_index, map}
 use Rattle.pt_lines.specs.declared.cutter.Cut.{Cut}
 use Rattle.pt_lines.specs.Cuts.{cut_of}
 
@@ -41,6 +41,17 @@ pub record IsBegun (held : Held) : Type 0 where
   pub no_newline : NoNewline held.rest
   pub short : length held.rest ≤ 128
   pub dropped : held.dropping ≡ true → held.rest ≡ []
+
+-- what is held after a line that ends at this place, and its newline
+abbrev pub past_line : Held → ℕ → Held
+past_line held end = record held { rest = drop (end + 1) held.rest }
+
+-- a line of at most 128 bytes is whole, and ends at this place
+pub record IsFront (held : Held) (end : ℕ) : Type 0 where
+  pub within : end < length held.rest
+  pub short : end ≤ 128
+  pub given : (more : List ℕ)
+      → to_come held more ≡ cut_of (take end held.rest) ∷ to_come (past_line held end) more
 
 -- texts, each ended by a newline, and a rest
 abbrev pub joined : List (List ℕ) → List ℕ → List ℕ

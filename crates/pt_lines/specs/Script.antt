@@ -15,6 +15,7 @@ use Rattle.pt_lines.specs.declared.script_line.ScriptLine.{ScriptLine}
 use Rattle.pt_lines.specs.ClientNames.{IsClientName}
 use Rattle.pt_lines.specs.Clients.{who_text, who_named, who_of, before_space, behind_space}
 use Rattle.pt_lines.specs.Grammar.{Spells}
+use Rattle.pt_lines.specs.Lines.{Held, to_come}
 use Rattle.pt_lines.specs.Reading.{call_read}
 
 -- what a client says: a hello, a call or `die`; under `*` a moment, and nothing else  [profile]
@@ -92,3 +93,9 @@ script_read text = if nat_lt 128 (length text) then long_line else short_read te
 abbrev pub script_of : Cut → ScriptLine
 script_of (Line text) = script_read text.items
 script_of Long = long_line
+
+-- the next line to come is read as this one of a script
+pub record IsNextScriptLine (old : Held) (line : ScriptLine) (new : Held) : Type 0 where
+  pub cut : Cut
+  pub read : line ≡ script_of cut
+  pub given : (more : List ℕ) → to_come old more ≡ cut ∷ to_come new more

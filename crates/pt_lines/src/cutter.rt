@@ -4,6 +4,7 @@ ghost use Rattle.std.specs.List.{flat_map};
 ghost use Rattle.pt_lines.specs.Cuts.{is_long};
 ghost use Rattle.pt_lines.specs.Lines.{lines, lines_past_newline, to_come, NoNewline, IsBegun, LinesOfTexts};
 
+use crate::script_line::{ScriptLine, read_script_line};
 use arrayvec::ArrayVec;
 use bytes::BytesMut;
 use memchr::memchr;
@@ -93,6 +94,9 @@ fn take_line<A: Allocator + Copy>(held: &mut BytesMut<A>) -> Option<Cut>
 }
 
 impl<A: Allocator + Copy> Cutter<A> {
+    ghost use Rattle.pt_lines.specs.Lines.{IsFront};
+    ghost use Rattle.pt_lines.specs.Script.{IsNextScriptLine};
+
     /// A cutter that was fed nothing. It takes no memory.
     pub fn new(alloc: A) -> Self
         ensures { result ≡ record { rest = []; dropping = false } }
@@ -133,6 +137,37 @@ impl<A: Allocator + Copy> Cutter<A> {
             self.dropping = true;
         }
         Some(cut)
+    }
+
+    // The place of the newline of the first line, if that is whole and not too long.
+    fn front(&self) -> Option<usize>
+        ensures { IfSome result (IsFront self.now) }
+    {
+        if self.dropping {
+            return None;
+        }
+        let count = self.held.len().min(MOST_IN_LINE + 1);
+        let text = self.held.as_slice();
+        memchr(b'\n', &text[..count])
+    }
+
+    /// What is read of the next line as one of a script, as soon as `next_line` would return it.
+    /// A whole line is not copied. It takes no memory.
+    pub fn next_script_line(&mut self) -> Option<ScriptLine>
+        ensures some { IfSome result (λ line. IsNextScriptLine self.old line self.new) }
+        ensures none { IfNone result (IsBegun self.new) }
+        ensures same { IfNone result
+            ((more : List ℕ) → to_come self.old more ≡ to_come self.new more) }
+        ensures fewer { OnSome result (length self.new.rest < length self.old.rest) }
+    {
+        let Some(end) = self.front() else {
+            let cut = self.next_line()?;
+            return Some(ScriptLine::of(&cut));
+        };
+        let text = self.held.as_slice();
+        let line = read_script_line(&text[..end]);
+        self.held.advance(end + 1);
+        Some(line)
     }
 
     /// The last line, which no newline ended; None if nothing is left of the input, or a line
