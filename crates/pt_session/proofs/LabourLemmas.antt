@@ -8,7 +8,7 @@ use mathlib.Core.List.{IsPrefix}
 use Rattle.pt_lines.specs.declared.reply.Word.{Word}
 use Rattle.pt_session.specs.Readings.{Reading}
 use Rattle.pt_session.specs.Transcripts.{Exchange, all_answered, answer_line, lines_of, text_from, text_of}
-use Rattle.pt_session.specs.Outputs.{Labour, Output, IsLabour, IsTextBegun, StopsBy, Works}
+use Rattle.pt_session.specs.Outputs.{Labour, Output, IsLabour, IsTextBegun, StopsBy, Works, labour}
 use Rattle.pt_session.specs.declared.kinds.EndCause.{EndCause}
 use Rattle.pt_session.specs.declared.kinds.EndCause.TheVariants.{InputEnded, InputFailed, RingFull, WriteFailed, GateShut, Memory}
 use Rattle.pt_session.specs.Steps.{StopsWriting}
@@ -58,13 +58,7 @@ take_all xs n e = ap (take n) (sym (append-nil xs)) ∙ take_front xs [] n e
 pub labour_whole : (xs : List Exchange) (n : ℕ) (received : List Reading) (o : Output)
     → length xs ≡ n → IsPrefix (lines_of xs) received → o.taken ≡ text_of xs
     → o.flushed ≡ o.taken
-    → IsLabour (record {
-      submitted = n;
-      answered = n;
-      exchanges = xs;
-      received = received;
-      output = o;
-    })
+    → IsLabour (labour n n xs received o)
 labour_whole xs n received o count lines taken flushed =
     let done = ap text_of (take_all xs n count) in
     record {
@@ -87,13 +81,7 @@ pub labour_part : (xs : List Exchange) (x : Exchange) (n : ℕ) (received : List
     (o : Output) (front rest : List ℕ) → length xs ≡ n → received ≡ lines_of (xs ++ x ∷ [])
     → answer_line (n + 1) x.1 ≡ front ++ rest → o.taken ≡ text_of xs ++ front
     → o.flushed ≡ text_of xs
-    → IsLabour (record {
-      submitted = n + 1;
-      answered = n;
-      exchanges = xs ++ x ∷ [];
-      received = received;
-      output = o;
-    })
+    → IsLabour (labour (n + 1) n (xs ++ x ∷ []) received o)
 labour_part xs x n received o front rest count lines parts taken flushed =
     let done = ap text_of (take_front xs (x ∷ []) n count) in
     record {
@@ -120,13 +108,7 @@ text_more xs x n count = text_push 1 xs x (n + 1) (omega (arith, count))
 -- the input has ended, and each line was answered
 pub stops_whole : (xs : List Exchange) (n : ℕ) (received : List Reading) (o : Output)
     → received ≡ lines_of xs → all_answered xs ≡ true → Works o
-    → StopsBy (record {
-      submitted = n;
-      answered = n;
-      exchanges = xs;
-      received = received;
-      output = o;
-    }) None
+    → StopsBy (labour n n xs received o) None
 stops_whole xs n received o lines all works =
     let none = ap {B = ℕ} (λ b. if b then 0 else 1) all in
     (lines, works, omega (arith, none))
@@ -134,13 +116,7 @@ stops_whole xs n received o lines all works =
 -- the input has ended, and the last call is open
 pub stops_open : (xs : List Exchange) (line : Reading) (n : ℕ) (received : List Reading)
     (o : Output) → received ≡ lines_of (xs ++ (line, None) ∷ []) → Works o
-    → StopsBy (record {
-      submitted = n + 1;
-      answered = n;
-      exchanges = xs ++ (line, None) ∷ [];
-      received = received;
-      output = o;
-    }) None
+    → StopsBy (labour (n + 1) n (xs ++ (line, None) ∷ []) received o) None
 stops_open xs line n received o lines works =
     let one = ap {B = ℕ} (λ b. if b then 0 else 1) (all_push_none xs line) in
     (lines, works, omega (arith, one))
@@ -148,13 +124,7 @@ stops_open xs line n received o lines works =
 -- the gate did not let a line through
 pub stops_shut : (xs : List Exchange) (line : Reading) (n : ℕ) (received : List Reading)
     (o : Output) → length xs ≡ n → received ≡ lines_of xs ++ line ∷ [] → Works o
-    → StopsBy (record {
-      submitted = n;
-      answered = n;
-      exchanges = xs;
-      received = received;
-      output = o;
-    }) (Some GateShut)
+    → StopsBy (labour n n xs received o) (Some GateShut)
 stops_shut xs line n received o count lines works =
     let all = ap length lines ∙ length-append (lines_of xs) (line ∷ []) in
     let each : length (lines_of xs) ≡ length xs = simp length-map in
@@ -166,13 +136,7 @@ pub labour_stopped : (xs : List Exchange) (x : Exchange) (n : ℕ) (received : L
     → received ≡ lines_of (xs ++ x ∷ []) → o.taken ≡ written.taken
     → o.flushed ≡ written.flushed
     → StopsWriting (text_of xs) (answer_line (n + 1) x.1) written cause
-    → IsLabour (record {
-      submitted = n + 1;
-      answered = n;
-      exchanges = xs ++ x ∷ [];
-      received = received;
-      output = o;
-    })
+    → IsLabour (labour (n + 1) n (xs ++ x ∷ []) received o)
 labour_stopped xs x n received o written Memory count lines taken flushed stops =
     labour_part xs x n received o [] (answer_line (n + 1) x.1) count lines refl
     (taken ∙ stops.taken ∙ sym (append-nil (text_of xs))) (flushed ∙ stops.flushed)

@@ -30,6 +30,10 @@ output taken flushed failures rejections old new = record {
   rejections = rejections new - rejections old;
 }
 
+-- a writer that took nothing, and did not fail
+abbrev pub IsUnwritten : {W : Type 0} → (W → List ℕ) → (W → ℕ) → W → Type 0
+IsUnwritten taken failures writer = (taken writer ≡ []) × (failures writer ≡ 0)
+
 -- a front of these bytes was taken after the old text
 pub record IsCutShort (old bytes text : List ℕ) : Type 0 where
   pub front : List ℕ
@@ -62,6 +66,16 @@ pub record Labour : Type 0 where
   pub exchanges : List Exchange
   pub received : List Reading
   pub output : Output
+
+-- the five as one
+abbrev pub labour : ℕ → ℕ → List Exchange → List Reading → Output → Labour
+labour submitted answered exchanges received output = record {
+  submitted = submitted;
+  answered = answered;
+  exchanges = exchanges;
+  received = received;
+  output = output;
+}
 
 -- a front of the rest of a whole text was taken after what is done of it
 pub record IsTextBegun (done whole taken : List ℕ) : Type 0 where

@@ -1,5 +1,5 @@
 -- Readings: what is read of the lines of a connection, and how its reading ends.
-use Rattle.std.specs.Prelude.{ℕ, ◌≡◌, ◌⊎◌, ◌+◌, ◌<◌, ◌^◌, ◌++◌, Bool, true, List, length, map, Result, Ok, Err}
+use Rattle.std.specs.Prelude.{ℕ, ◌≡◌, ◌⊎◌, ◌+◌, ◌<◌, ◌^◌, ◌++◌, Bool, true, false, List, [], length, map, Result, Ok, Err}
 use Rattle.pt_types.specs.declared.outcome.Refusal.{Refusal}
 use Rattle.pt_types.specs.declared.outcome.Refusal.TheVariants.{Syntax}
 use Rattle.pt_lines.specs.declared.call_line.CallLine.{CallLine}
@@ -45,6 +45,28 @@ IsBehind mode given held pushed =
 abbrev pub most_reads : ℕ
 most_reads = 2 ^ 40
 
+-- the bytes that an input gave, whether it reported its end, how often it failed, and how many
+-- reads there were
+pub record Input : Type 0 where
+  pub given : List ℕ
+  pub ended : Bool
+  pub failures : ℕ
+  pub reads : ℕ
+
+-- the same of a reader of some type
+abbrev pub input : {R : Type 0} → (R → List ℕ) → (R → Bool) → (R → ℕ) → (R → ℕ) → R → Input
+input given ended failures reads reader = record {
+  given = given reader;
+  ended = ended reader;
+  failures = failures reader;
+  reads = reads reader;
+}
+
+-- a reader of which nothing was read, and which did not fail
+abbrev pub IsUnread : {R : Type 0} → (R → List ℕ) → (R → Bool) → (R → ℕ) → (R → ℕ) → R → Type 0
+IsUnread given ended failures reads reader =
+    (given reader ≡ []) × (ended reader ≡ false) × (failures reader ≡ 0) × (reads reader ≡ 0)
+
 -- the bytes that the input gave, whether it reported its end, how often it failed, how many reads
 -- there were, and the readings that were pushed
 pub record Intake : Type 0 where
@@ -53,6 +75,16 @@ pub record Intake : Type 0 where
   pub failures : ℕ
   pub reads : ℕ
   pub pushed : List Reading
+
+-- an input with the readings that were pushed
+abbrev pub intake : Input → List Reading → Intake
+intake x pushed = record {
+  given = x.given;
+  ended = x.ended;
+  failures = x.failures;
+  reads = x.reads;
+  pushed = pushed;
+}
 
 -- what is so if a reading side ends by this cause: all lines were pushed, and the input reported
 -- its end; or a read failed, or there were as many as there may be; or a line was not pushed

@@ -4,7 +4,7 @@ ghost use Rattle.std.specs.Prelude.{◌≡◌, ◌≤◌, ◌<◌, ◌+◌, ◌^
 ghost use mathlib.Core.List.{IsPrefix};
 ghost use Rattle.rtrb.specs.Ring.{sent, SameProducer};
 ghost use Rattle.pt_lines.specs.Lines.{to_come, IsBegun};
-ghost use Rattle.pt_session.specs.Readings.{EndsBy, IsBehind, reading_of, readings_of};
+ghost use Rattle.pt_session.specs.Readings.{EndsBy, IsBehind, IsUnread, input, intake, reading_of, readings_of};
 ghost use Rattle.pt_session.specs.Steps.{StopsPushing};
 
 use crate::ends::ReadEnd;
@@ -157,17 +157,12 @@ fn read_all<R: Source, L: Ledger, T: Wait>(
     pusher: &mut Pusher,
     mode: ClockMode,
 ) -> EndCause
-    requires fresh { (sent pusher.old.ring ≡ []) × (R.given reader.old ≡ [])
-        × (R.ended reader.old ≡ false) × (R.failures reader.old ≡ 0) × (R.reads reader.old ≡ 0) }
+    requires fresh { (sent pusher.old.ring ≡ [])
+        × IsUnread R.given R.ended R.failures R.reads reader.old }
     ensures ring { SameProducer pusher.old.ring pusher.new.ring }
     ensures pushed { IsPrefix (sent pusher.new.ring) (readings_of mode (R.given reader.new)) }
-    ensures ends { EndsBy mode (record {
-      given = R.given reader.new;
-      ended = R.ended reader.new;
-      failures = R.failures reader.new;
-      reads = R.reads reader.new;
-      pushed = sent pusher.new.ring;
-    }) result }
+    ensures ends { EndsBy mode (intake (input R.given R.ended R.failures R.reads reader.new)
+        (sent pusher.new.ring)) result }
 {
     let mut cutter = Cutter::new(alloc);
     let mut piece = [0u8; PIECE];
@@ -198,18 +193,12 @@ pub fn read_side<R: Source, L: Ledger, T: Wait>(
     mode: ClockMode,
 ) -> ReadEnd<R>
     requires ring { sent ring ≡ [] }
-    requires input { (R.given reader ≡ []) × (R.ended reader ≡ false)
-        × (R.failures reader ≡ 0) × (R.reads reader ≡ 0) }
+    requires input { IsUnread R.given R.ended R.failures R.reads reader }
     ensures ring { SameProducer ring result.ring }
     ensures pushed { IsPrefix (sent result.ring) (readings_of mode (R.given result.reader)) }
     ensures read { result.read ≡ length (sent result.ring) }
-    ensures ends { EndsBy mode (record {
-      given = R.given result.reader;
-      ended = R.ended result.reader;
-      failures = R.failures result.reader;
-      reads = R.reads result.reader;
-      pushed = sent result.ring;
-    }) result.cause }
+    ensures ends { EndsBy mode (intake (input R.given R.ended R.failures R.reads result.reader)
+        (sent result.ring)) result.cause }
 {
     let mut pusher = Pusher {
         session,

@@ -1,14 +1,13 @@
 //! A session: its two sides at once.
 
-ghost use Rattle.std.specs.Prelude.{◌≡◌, ◌⊎◌, [], length, false, IfOk, IfErr};
-ghost use mathlib.Core.List.{IsPrefix};
-ghost use Rattle.rtrb.specs.Ring.{sent, received, IsPair, SameProducer};
+ghost use Rattle.std.specs.Prelude.{◌≡◌, ◌⊎◌, [], IfOk, IfErr};
+ghost use Rattle.rtrb.specs.Ring.{sent, SameProducer};
 ghost use Rattle.pt_types.specs.declared.outcome.Refusal.TheVariants as refusal;
 ghost use Rattle.pt_hub.specs.Hubs.{IsNotOpened};
 ghost use Rattle.pt_shared.specs.Stays.{Found};
-ghost use Rattle.pt_session.specs.Readings.{EndsBy, readings_of};
-ghost use Rattle.pt_session.specs.Outputs.{output};
-ghost use Rattle.pt_session.specs.Ends.{IsSession};
+ghost use Rattle.pt_session.specs.Readings.{IsUnread, input};
+ghost use Rattle.pt_session.specs.Outputs.{IsUnwritten, output};
+ghost use Rattle.pt_session.specs.Ends.{EndsReading, IsSession, IsNewRing};
 
 use crate::ends::{ReadEnd, SessionEnd, WorkEnd};
 use crate::gates::Gate;
@@ -25,7 +24,7 @@ use std::snapshot::Snapshot;
 use std::sync::Wait;
 use std::sync::ledger::Ledger;
 use std::thread;
-use std::thread::{Promise, Threads};
+use std::thread::{Promise, PromisedHandle, Scope, Threads};
 
 /// How many lines may wait in the ring of a session.  [profile]
 pub const MOST_WAITING: usize = 16;
@@ -38,117 +37,126 @@ struct Reads {
 }
 
 impl<R: Source> Promise<ReadEnd<R>> for Reads {
-    ghost use Rattle.std.specs.Prelude.{◌≡◌, length};
-    ghost use mathlib.Core.List.{IsPrefix};
-    ghost use Rattle.rtrb.specs.Ring.{sent, SameProducer};
-    ghost use Rattle.pt_session.specs.Readings.{EndsBy, readings_of};
+    ghost use Rattle.rtrb.specs.Ring.{SameProducer};
+    ghost use Rattle.pt_session.specs.Readings.{input};
+    ghost use Rattle.pt_session.specs.Ends.{EndsReading};
 
     ghost kept_by = { λ p r. SameProducer p.ring.value r.ring
-        × IsPrefix (sent r.ring) (readings_of p.mode (R.given r.reader))
-        × (r.read ≡ length (sent r.ring))
-        × EndsBy p.mode (record {
-          given = R.given r.reader;
-          ended = R.ended r.reader;
-          failures = R.failures r.reader;
-          reads = R.reads r.reader;
-          pushed = sent r.ring;
-        }) r.cause };
+        × EndsReading p.mode (input R.given R.ended R.failures R.reads) r };
 }
 
-// Both sides, each over its end of a ring: the reading side in a thread of its own. An `Err` if the
-// thread is refused. The ring is made before: the borrow checker covers no way out ahead of the
-// scope.
-fn run_sides<
-    R: Source + Send + Drop,
-    W: Sink + Drop,
-    G: Gate,
-    L: Ledger + Send + Sync,
-    T: Threads + Wait + Sync,
+// A session that is open, with both ends of its ring.
+#[derive(Drop)]
+struct Opened<L: Ledger> {
+    id: SessionId,
+    clock: ClockPass<L>,
+    producer: Producer<Reading>,
+    consumer: Consumer<Reading>,
+    ghost clock_is_new: { clock.moments ≡ [] },
+    ghost ring_is_new: { IsNewRing producer consumer },
+}
+
+// Makes a ring, and opens a session.
+fn open<L: Ledger, T: Wait>(rt: &T, alloc: Global, shared: &Shared<L>) -> Result<Opened<L>, Refusal>
+    ensures err { IfErr result (λ r. Found (λ hub. IsNotOpened hub r) ⊎ (r ≡ refusal.Enomem)) }
+{
+    let Ok((producer, consumer)) = RingBuffer::new(alloc, MOST_WAITING) else {
+        return Err(Refusal::Enomem);
+    };
+    let (id, clock) = shared.open_session(rt)?;
+    Ok(Opened {
+        id,
+        clock,
+        producer,
+        consumer,
+    })
+}
+
+// Starts the reading side in a thread of the scope. An `Err` if the thread is refused.
+fn start_reading<
+    's,
+    E,
+    R: Source + Send + Drop + 's,
+    L: Ledger + Send + Sync + 's,
+    T: Wait + Sync + 's,
 >(
-    rt: &T,
+    scope: &Scope<'s, E>,
+    rt: &'s T,
     alloc: Global,
     reader: R,
-    writer: W,
-    shared: &Shared<L>,
-    opened: (SessionId, ClockPass<L>),
-    ring: (Producer<Reading>, Consumer<Reading>),
-    gate: &G,
+    ring: Producer<Reading>,
+    shared: &'s Shared<L>,
+    session: SessionId,
     mode: ClockMode,
-) -> Result<SessionEnd<R, W, L>, AllocError>
-    requires input { (R.given reader ≡ []) × (R.ended reader ≡ false)
-        × (R.failures reader ≡ 0) × (R.reads reader ≡ 0) }
-    requires output { (W.taken writer ≡ []) × (W.failures writer ≡ 0) }
-    requires clock { opened.1.moments ≡ [] }
-    requires ring { IsPair ring.0 ring.1 × (sent ring.0 ≡ []) × (received ring.1 ≡ []) }
-    ensures { IfOk result (λ s. IsSession mode (record {
-      read = s.read;
-      submitted = s.submitted;
-      answered = s.answered;
-      given = R.given s.reader;
-      ended = R.ended s.reader;
-      failures = R.failures s.reader;
-      reads = R.reads s.reader;
-      exchanges = s.transcript;
-      left = s.left;
-      moments = s.clock.moments;
-      output = output W.taken W.flushed W.failures W.rejections writer s.writer;
-    }) s.cause) }
+) -> Result<PromisedHandle<ReadEnd<R>, Reads>, AllocError>
+    requires input { IsUnread R.given R.ended R.failures R.reads reader }
+    requires ring { sent ring ≡ [] }
+    ensures { IfOk result (λ h. (h.promise.ring.value ≡ ring) × (h.promise.mode ≡ mode)) }
 {
-    let (session, clock) = opened;
-    let (producer, consumer) = ring;
     let promise = Reads {
-        ring: Snapshot::of(&producer),
+        ring: Snapshot::of(&ring),
         mode,
     };
-    thread::scope(
-        thread::scope_env(),
-        rt,
-        move |scope| -> Result<SessionEnd<R, W, L>, AllocError>
-            requires input { (R.given reader ≡ []) × (R.ended reader ≡ false)
-                × (R.failures reader ≡ 0) × (R.reads reader ≡ 0) }
-            requires output { (W.taken writer ≡ []) × (W.failures writer ≡ 0) }
-            requires clock { clock.moments ≡ [] }
-            requires ring { IsPair producer consumer × (sent producer ≡ [])
-                × (received consumer ≡ []) }
-            requires promise { (promise.ring.value ≡ producer) × (promise.mode ≡ mode) }
-            ensures { IfOk result (λ s. IsSession mode (record {
-              read = s.read;
-              submitted = s.submitted;
-              answered = s.answered;
-              given = R.given s.reader;
-              ended = R.ended s.reader;
-              failures = R.failures s.reader;
-              reads = R.reads s.reader;
-              exchanges = s.transcript;
-              left = s.left;
-              moments = s.clock.moments;
-              output = output W.taken W.flushed W.failures W.rejections writer s.writer;
-            }) s.cause) }
-        {
-            let child = scope.spawn_with(
-                promise,
-                move || -> ReadEnd<R>
-                    requires input { (R.given reader ≡ []) × (R.ended reader ≡ false)
-                        × (R.failures reader ≡ 0) × (R.reads reader ≡ 0) }
-                    requires ring { sent producer ≡ [] }
-                    ensures ring { SameProducer producer result.ring }
-                    ensures pushed { IsPrefix (sent result.ring) (readings_of mode (R.given result.reader)) }
-                    ensures read { result.read ≡ length (sent result.ring) }
-                    ensures ends { EndsBy mode (record {
-                      given = R.given result.reader;
-                      ended = R.ended result.reader;
-                      failures = R.failures result.reader;
-                      reads = R.reads result.reader;
-                      pushed = sent result.ring;
-                    }) result.cause }
-                { read_side(rt, alloc, reader, producer, shared, session, mode) },
-            )?;
-            let mut work = work_side(rt, alloc, writer, consumer, shared, session, clock, gate);
-            let mut read = child.join(rt);
-            work.ring.slots_beside(&mut read.ring);
-            Ok(SessionEnd::of(read, work))
-        },
-    )
+    let child = scope.spawn_with(
+        promise,
+        move || -> ReadEnd<R>
+            requires input { IsUnread R.given R.ended R.failures R.reads reader }
+            requires ring { sent ring ≡ [] }
+            ensures ring { SameProducer ring result.ring }
+            ensures ends { EndsReading mode (input R.given R.ended R.failures R.reads) result }
+        { read_side(rt, alloc, reader, ring, shared, session, mode) },
+    )?;
+    Ok(child)
+}
+
+impl<L: Ledger + Send + Sync> Opened<L> {
+    ghost use Rattle.std.specs.Prelude.{◌≡◌, [], IfOk};
+    ghost use Rattle.pt_session.specs.Readings.{IsUnread, input};
+    ghost use Rattle.pt_session.specs.Outputs.{IsUnwritten, output};
+    ghost use Rattle.pt_session.specs.Ends.{IsNewRing, IsSession};
+
+    // Runs both sides, each over its end of the ring: the reading side in a thread of its own. An
+    // `Err` if the thread is refused. The ring was made before: the borrow checker covers no way
+    // out ahead of the scope.
+    fn run<R: Source + Send + Drop, W: Sink + Drop, G: Gate, T: Threads + Wait + Sync>(
+        self,
+        rt: &T,
+        alloc: Global,
+        reader: R,
+        writer: W,
+        shared: &Shared<L>,
+        gate: &G,
+        mode: ClockMode,
+    ) -> Result<SessionEnd<R, W, L>, AllocError>
+        requires input { IsUnread R.given R.ended R.failures R.reads reader }
+        requires output { IsUnwritten W.taken W.failures writer }
+        ensures { IfOk result (IsSession mode (input R.given R.ended R.failures R.reads)
+            (output W.taken W.flushed W.failures W.rejections writer)) }
+    {
+        let Opened {
+            id,
+            clock,
+            producer,
+            consumer,
+        } = self;
+        thread::scope(
+            thread::scope_env(),
+            rt,
+            move |scope| -> Result<SessionEnd<R, W, L>, AllocError>
+                requires input { IsUnread R.given R.ended R.failures R.reads reader }
+                requires output { IsUnwritten W.taken W.failures writer }
+                requires new { IsNewRing producer consumer × (clock.moments ≡ []) }
+                ensures { IfOk result (IsSession mode (input R.given R.ended R.failures R.reads)
+                    (output W.taken W.flushed W.failures W.rejections writer)) }
+            {
+                let child = start_reading(scope, rt, alloc, reader, producer, shared, id, mode)?;
+                let mut work = work_side(rt, alloc, writer, consumer, shared, id, clock, gate);
+                let mut read = child.join(rt);
+                work.ring.slots_beside(&mut read.ring);
+                Ok(SessionEnd::of(read, work))
+            },
+        )
+    }
 }
 
 /// Serves one connection: reads its lines in a thread of its own, and submits and answers them in
@@ -170,34 +178,16 @@ pub fn session<
     gate: &G,
     mode: ClockMode,
 ) -> Result<SessionEnd<R, W, L>, Refusal>
-    requires input { (R.given reader ≡ []) × (R.ended reader ≡ false)
-        × (R.failures reader ≡ 0) × (R.reads reader ≡ 0) }
-    requires output { (W.taken writer ≡ []) × (W.failures writer ≡ 0) }
-    ensures ok { IfOk result (λ s. IsSession mode (record {
-      read = s.read;
-      submitted = s.submitted;
-      answered = s.answered;
-      given = R.given s.reader;
-      ended = R.ended s.reader;
-      failures = R.failures s.reader;
-      reads = R.reads s.reader;
-      exchanges = s.transcript;
-      left = s.left;
-      moments = s.clock.moments;
-      output = output W.taken W.flushed W.failures W.rejections writer s.writer;
-    }) s.cause) }
+    requires input { IsUnread R.given R.ended R.failures R.reads reader }
+    requires output { IsUnwritten W.taken W.failures writer }
+    ensures ok { IfOk result (IsSession mode (input R.given R.ended R.failures R.reads)
+        (output W.taken W.flushed W.failures W.rejections writer)) }
     ensures err { IfErr result (λ r. Found (λ hub. IsNotOpened hub r) ⊎ (r ≡ refusal.Enomem)) }
 {
-    let Ok(ring) = RingBuffer::new(alloc, MOST_WAITING) else {
-        return Err(Refusal::Enomem);
-    };
-    let opened = match shared.open_session(rt) {
-        Ok(opened) => opened,
-        Err(refusal) => return Err(refusal),
-    };
-    let session = opened.0;
-    let ended = run_sides(rt, alloc, reader, writer, shared, opened, ring, gate, mode);
-    shared.close_session(rt, session);
+    let opened = open(rt, alloc, shared)?;
+    let id = opened.id;
+    let ended = opened.run(rt, alloc, reader, writer, shared, gate, mode);
+    shared.close_session(rt, id);
     match ended {
         Ok(end) => Ok(end),
         Err(_) => Err(Refusal::Enomem),

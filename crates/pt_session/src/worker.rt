@@ -1,9 +1,10 @@
 //! The working side: readings out of the ring, answers out.
 
-ghost use Rattle.std.specs.Prelude.{◌≡◌, ◌∷◌, ◌++◌, [], MatchOption};
+ghost use Rattle.std.specs.Prelude.{◌≡◌, ◌∷◌, ◌++◌, [], MatchOption, None, Some};
 ghost use Rattle.rtrb.specs.Ring.{received, SameConsumer};
 ghost use Rattle.pt_session.specs.Transcripts.{IsLeftOf, IsTranscript, moments_in};
-ghost use Rattle.pt_session.specs.Outputs.{IsLabour, StopsBy, output};
+ghost use Rattle.pt_session.specs.Outputs.{IsLabour, IsUnwritten, StopsBy, output};
+ghost use Rattle.pt_session.specs.Ends.{tallied, worked};
 
 use crate::dealings::{Dealings, Remains};
 use crate::delivery::answer;
@@ -24,6 +25,33 @@ struct Tally {
     submitted: u64,
     answered: u64,
     cause: Option<EndCause>,
+}
+
+impl Tally {
+    ghost use Rattle.std.specs.Prelude.{◌≡◌, None, Some};
+
+    // So many, and the work ended as its input did.
+    fn ended(submitted: u64, answered: u64) -> Tally
+        ensures { result ≡ record { submitted = submitted; answered = answered; cause = None } }
+    {
+        Tally {
+            submitted,
+            answered,
+            cause: None,
+        }
+    }
+
+    // So many, and the work ended before its input did.
+    fn stopped(submitted: u64, answered: u64, cause: EndCause) -> Tally
+        ensures { result
+            ≡ record { submitted = submitted; answered = answered; cause = Some cause } }
+    {
+        Tally {
+            submitted,
+            answered,
+            cause: Some(cause),
+        }
+    }
 }
 
 // The next reading, or `None` if the input has ended and the ring is empty.
@@ -66,57 +94,52 @@ fn work_all<W: Sink, G: Gate, L: Ledger, T: Wait>(
         × (W.failures writer.old ≡ 0) }
     requires new { dealings.old.exchanges ≡ [] }
     ensures ring { SameConsumer ring.old ring.new }
-    ensures labour { IsLabour (record {
-      submitted = result.submitted;
-      answered = result.answered;
-      exchanges = dealings.new.exchanges;
-      received = received ring.new;
-      output = output W.taken W.flushed W.failures W.rejections writer.old writer.new;
-    }) }
-    ensures stops { StopsBy (record {
-      submitted = result.submitted;
-      answered = result.answered;
-      exchanges = dealings.new.exchanges;
-      received = received ring.new;
-      output = output W.taken W.flushed W.failures W.rejections writer.old writer.new;
-    }) result.cause }
+    ensures labour { IsLabour (tallied result dealings.new.exchanges (received ring.new)
+        (output W.taken W.flushed W.failures W.rejections writer.old writer.new)) }
+    ensures stops { StopsBy (tallied result dealings.new.exchanges (received ring.new)
+        (output W.taken W.flushed W.failures W.rejections writer.old writer.new)) result.cause }
 {
     let mut buffer = Vec::new(alloc);
     for answered in 0..u64::MAX {
         let Some(line) = take_next(rt, shared, session, ring) else {
-            return Tally {
-                submitted: answered,
-                answered,
-                cause: None,
-            };
+            return Tally::ended(answered, answered);
         };
         let n = answered + 1;
         if !gate.ask(session, n) {
-            return Tally {
-                submitted: answered,
-                answered,
-                cause: Some(EndCause::GateShut),
-            };
+            return Tally::stopped(answered, answered, EndCause::GateShut);
         }
         let Some(word) = dealings.submit(rt, shared, session, line) else {
-            return Tally {
-                submitted: n,
-                answered,
-                cause: None,
-            };
+            return Tally::ended(n, answered);
         };
         if let Some(cause) = answer(writer, &mut buffer, n, word) {
-            return Tally {
-                submitted: n,
-                answered,
-                cause: Some(cause),
-            };
+            return Tally::stopped(n, answered, cause);
         }
     }
-    Tally {
-        submitted: u64::MAX,
-        answered: u64::MAX,
-        cause: None,
+    Tally::ended(u64::MAX, u64::MAX)
+}
+
+// How a working side ended that counted so, with what is left of its client and its clock.
+fn end_of<W, L: Ledger>(
+    tally: Tally,
+    remains: Remains<L>,
+    writer: W,
+    ring: Consumer<Reading>,
+) -> WorkEnd<W, L>
+    ensures counts { (result.submitted ≡ tally.submitted) × (result.answered ≡ tally.answered) }
+    ensures cause { result.cause ≡ tally.cause }
+    ensures transcript { result.transcript ≡ remains.transcript }
+    ensures left { (result.left ≡ remains.left) × (result.clock ≡ remains.clock) }
+    ensures ends { (result.writer ≡ writer) × (result.ring ≡ ring) }
+{
+    WorkEnd {
+        submitted: tally.submitted,
+        answered: tally.answered,
+        left: remains.left,
+        clock: remains.clock,
+        transcript: remains.transcript,
+        cause: tally.cause,
+        writer,
+        ring,
     }
 }
 
@@ -134,23 +157,13 @@ pub fn work_side<W: Sink, G: Gate, L: Ledger, T: Wait>(
     gate: &G,
 ) -> WorkEnd<W, L>
     requires ring { received ring ≡ [] }
-    requires output { (W.taken writer ≡ []) × (W.failures writer ≡ 0) }
+    requires output { IsUnwritten W.taken W.failures writer }
     requires clock { clock.moments ≡ [] }
     ensures ring { SameConsumer ring result.ring }
-    ensures labour { IsLabour (record {
-      submitted = result.submitted;
-      answered = result.answered;
-      exchanges = result.transcript;
-      received = received result.ring;
-      output = output W.taken W.flushed W.failures W.rejections writer result.writer;
-    }) }
-    ensures stops { StopsBy (record {
-      submitted = result.submitted;
-      answered = result.answered;
-      exchanges = result.transcript;
-      received = received result.ring;
-      output = output W.taken W.flushed W.failures W.rejections writer result.writer;
-    }) result.cause }
+    ensures labour { IsLabour
+        (worked (output W.taken W.flushed W.failures W.rejections writer) result) }
+    ensures stops { StopsBy
+        (worked (output W.taken W.flushed W.failures W.rejections writer) result) result.cause }
     ensures words { IsTranscript result.transcript }
     ensures left { IsLeftOf result.transcript result.left }
     ensures clock { result.clock.moments ≡ moments_in result.transcript }
@@ -166,19 +179,5 @@ pub fn work_side<W: Sink, G: Gate, L: Ledger, T: Wait>(
         &mut dealings,
         gate,
     );
-    let Remains {
-        left,
-        clock,
-        transcript,
-    } = dealings.end(rt, shared);
-    WorkEnd {
-        submitted: tally.submitted,
-        answered: tally.answered,
-        left,
-        clock,
-        transcript,
-        cause: tally.cause,
-        writer,
-        ring,
-    }
+    end_of(tally, dealings.end(rt, shared), writer, ring)
 }
