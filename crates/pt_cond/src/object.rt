@@ -84,7 +84,7 @@ impl CondObj {
     /// The call that a signal wakes: the first of the condition's queue, if calls wait there.
     /// [XSH pthread_cond_signal, 2.8.4]
     pub fn least<W: WaitList>(&self, list: &W, queue: ObjectId) -> Option<Waiter>
-        ensures { result ≡ head_of (W.queue list.now queue) }
+        ensures { result ≡ head_of ((W.seen list.now).queue queue) }
     {
         list.first(queue)
     }

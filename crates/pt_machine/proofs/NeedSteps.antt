@@ -34,11 +34,11 @@ forced-lives h (Expires o) = refl
 module _ {A : Type 0} (old new : State A) where
   -- after an outer entry
   pub reserved-outer : (e : Entry) → Adds old e new → Follows (past old) → Step (past old) e
-      → is_forced e ≡ false → (kept added used : ℕ) (dying : Bool) → kept ≡ need (past old)
+      → is_forced e ≡ false → (reserved added used : ℕ) (dying : Bool) → reserved ≡ need (past old)
       → added ≡ added_by e → used ≡ used_by (past old) e → dying ≡ is_death e
-      → IsReserved (past new) (kept + added - used) dying
-  reserved-outer e a f s o kept added used dying k ad us d =
-      subst (λ (h : History). IsReserved h (kept + added - used) dying)
+      → IsReserved (past new) (reserved + added - used) dying
+  reserved-outer e a f s o reserved added used dying k ad us d =
+      subst (λ (h : History). IsReserved h (reserved + added - used) dying)
       (sym (past-adds old new e a))
       (record {
         needs = omega (arith, need-step (past old) e f s o, k, ad, us);
@@ -47,11 +47,12 @@ module _ {A : Type 0} (old new : State A) where
 
   -- after a forced entry
   pub reserved-forced : (e : Entry) → Adds old e new → Follows (past old) → Step (past old) e
-      → is_death e ≡ false → (kept used : ℕ) (dying : Bool) → IsReserved (past old) kept dying
+      → is_death e ≡ false → (reserved used : ℕ) (dying : Bool)
+      → IsReserved (past old) reserved dying
       → need (past old ▷ e) + used ≡ need (past old)
-      → IsReserved (past new) (kept - used) dying
-  reserved-forced e a f s d kept used dying r n =
-      subst (λ (h : History). IsReserved h (kept - used) dying) (sym (past-adds old new e a))
+      → IsReserved (past new) (reserved - used) dying
+  reserved-forced e a f s d reserved used dying r n =
+      subst (λ (h : History). IsReserved h (reserved - used) dying) (sym (past-adds old new e a))
       (record {
         needs = omega (arith, r.needs, n);
         owners = λ lives. orphan-step (past old) e f s d (r.owners lives);

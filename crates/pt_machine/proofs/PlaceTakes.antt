@@ -3,7 +3,7 @@ use Rattle.std.proofs.Common.{◌≡◌, ℕ, ◌==◌, Bool, true, false, cond,
 use Rattle.pt_table.specs.declared.clients.ClientRow.{ClientRow}
 use Rattle.pt_table.specs.ClientRows.{client_value}
 use Rattle.pt_waitq.specs.declared.waiter.Waiter.{Waiter}
-use Rattle.pt_waitq.specs.Queues.{stands_in, IsLatest, insert_in_order}
+use Rattle.pt_waitq.specs.Queues.{QueuesView, stands_in, IsLatest, insert_in_order}
 use Rattle.pt_model.specs.Histories.{History}
 use Rattle.pt_model.specs.Searches.{In}
 use Rattle.pt_model.specs.Clients.{client}
@@ -86,27 +86,26 @@ takes h rows f a c object p v o row level at is =
         sym level ∙ (ap (client h) (sym e) ∙ open_priority h f w i) in
         cc
 
-module _ {h : History} {c object : ℕ} {v : Waiter} {queue : ℕ → List Waiter}
-    {admitted made : ℕ → Bool} (s : CanStand h c queue admitted made) (t : Takes h c object v)
-  where
-    -- it is the client's own
-    own : v.client ≡ c
-    own = ap (λ (x : Waiter). x.client) (t.same s.call s.open s.its) ∙ s.its
+module _ {h : History} {c object : ℕ} {v : Waiter} {queues : QueuesView} (s : CanStand h c queues)
+    (t : Takes h c object v) where
+  -- it is the client's own
+  own : v.client ≡ c
+  own = ap (λ (x : Waiter). x.client) (t.same s.call s.open s.its) ∙ s.its
 
-    pub take-admitted : admitted v.client ≡ true
-    take-admitted = ap admitted own ∙ s.room
+  pub take-admitted : queues.admitted v.client ≡ true
+  take-admitted = ap queues.admitted own ∙ s.room
 
-    pub take-nowhere : (q : ℕ) → stands_in v.client (queue q) ≡ false
-    take-nowhere q = ap (λ (d : ℕ). stands_in d (queue q)) own ∙ s.nowhere q
+  pub take-nowhere : (q : ℕ) → stands_in v.client (queues.queue q) ≡ false
+  take-nowhere q = ap (λ (d : ℕ). stands_in d (queues.queue q)) own ∙ s.nowhere q
 
-    pub take-made : made object ≡ true
-    take-made = ap made (t.seat s.call s.open s.its) ∙ s.there
+  pub take-made : queues.made object ≡ true
+  take-made = ap queues.made (t.seat s.call s.open s.its) ∙ s.there
 
-    pub take-latest : IsLatest v (queue object)
-    take-latest =
-        subst (λ (x : Waiter). IsLatest x (queue object)) (sym (t.same s.call s.open s.its))
-        (subst (λ (q : ℕ). IsLatest (waiter h s.call) (queue q))
-        (sym (t.seat s.call s.open s.its)) s.latest)
+  pub take-latest : IsLatest v (queues.queue object)
+  take-latest =
+      subst (λ (x : Waiter). IsLatest x (queues.queue object)) (sym (t.same s.call s.open s.its))
+      (subst (λ (q : ℕ). IsLatest (waiter h s.call) (queues.queue q))
+      (sym (t.seat s.call s.open s.its)) s.latest)
 
 -- the queue in which it takes its place
 pub take-put :

@@ -9,15 +9,17 @@ use Rattle.pt_model.specs.declared.entry.Entry.TheVariants.{Call}
 use Rattle.pt_state.specs.declared.state.State.{State}
 use Rattle.pt_state.specs.Adds.{past, IsReadyFor, Adds}
 use Rattle.pt_state.specs.Calling.{is_done, is_plain}
+use Rattle.pt_waitq.specs.Queues.{queues_of}
 use Rattle.pt_machine.specs.Queued.{IsQueued}
 use Rattle.pt_machine.proofs.QueuedSame.{queued-adds}
 use Rattle.pt_machine.proofs.QueuedCalls.{queued-told, queued-plain}
 
 module _ {A : Type 0} (s : State A) (c : ℕ) (call : Asked) (queue : ℕ → List Waiter)
-    (admitted made : ℕ → Bool) (k : IsQueued (past s) queue admitted made) (new : State A) where
+    (admitted made : ℕ → Bool)
+    (k : IsQueued (past s) (queues_of queue admitted made)) (new : State A) where
   -- a call that is answered anything but 0
   pub told-queued : (x : Outcome) → IsReadyFor s (Call c call (Some x)) → is_done x ≡ false
-      → Adds s (Call c call (Some x)) new → IsQueued (past new) queue admitted made
+      → Adds s (Call c call (Some x)) new → IsQueued (past new) (queues_of queue admitted made)
   told-queued x g other a =
       queued-adds s new (Call c call (Some x)) queue admitted made a
       (queued-told (past s) c call x g.read.follows g.step queue queue admitted admitted made made
@@ -25,7 +27,7 @@ module _ {A : Type 0} (s : State A) (c : ℕ) (call : Asked) (queue : ℕ → Li
 
   -- a call that is answered 0, makes no object, ends none and wakes no wait
   pub plain-queued : IsReadyFor s (Call c call (Some Done)) → is_plain (operation call) ≡ true
-      → Adds s (Call c call (Some Done)) new → IsQueued (past new) queue admitted made
+      → Adds s (Call c call (Some Done)) new → IsQueued (past new) (queues_of queue admitted made)
   plain-queued g plain a =
       queued-adds s new (Call c call (Some Done)) queue admitted made a
       (queued-plain (past s) c call g.read.follows g.step queue queue admitted admitted made made

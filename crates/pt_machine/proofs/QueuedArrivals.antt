@@ -4,9 +4,9 @@ use Rattle.std.proofs.lemmas.Bool.{false≢true}
 use Rattle.std.proofs.lemmas.Bool.Decides.{nat_tests}
 use Rattle.pt_types.specs.declared.time.Clock.{Clock}
 use Rattle.pt_waitq.specs.declared.waiter.Waiter.{Waiter}
-use Rattle.pt_waitq.specs.Queues.{stands_in, without}
+use Rattle.pt_waitq.specs.Queues.{queues_of, stands_in, without}
 use Rattle.pt_waitq.specs.Members.{Members}
-use Rattle.pt_waitq.specs.Waits.{Waits, no_waits, queue_in, is_admitted, is_made}
+use Rattle.pt_waitq.specs.Waits.{Waits, no_waits, seen_in}
 use Rattle.pt_waitq.proofs.MemberLemmas.{members-out}
 use Rattle.pt_model.specs.Starts.{nothing}
 use Rattle.pt_model.specs.declared.entry.Entry.TheVariants.{Join, Death, Moment, Yield}
@@ -21,7 +21,7 @@ use Rattle.pt_model.proofs.Sound.{Fresh-follows}
 use Rattle.pt_machine.specs.Queued.{waiter, IsQueued}
 use Rattle.pt_machine.proofs.QueuedSame.{members-carry, queued-same}
 
-queued-none : IsQueued (Begin nothing) (queue_in no_waits) (is_admitted no_waits) (is_made no_waits)
+queued-none : IsQueued (Begin nothing) (seen_in no_waits)
 queued-none =
     record {
       members = record {
@@ -35,24 +35,25 @@ queued-none =
 
 -- before the first entry there is no call, no room and no queue
 pub queued-begin : (h : History) (waits : Waits) → h ≡ Begin nothing → waits ≡ no_waits
-    → IsQueued h (queue_in waits) (is_admitted waits) (is_made waits)
+    → IsQueued h (seen_in waits)
 queued-begin h waits begins empty =
-    subst (λ (g : History). IsQueued g (queue_in waits) (is_admitted waits) (is_made waits))
+    subst (λ (g : History). IsQueued g (seen_in waits))
     (sym begins)
-    (subst (λ (ws : Waits). IsQueued (Begin nothing) (queue_in ws) (is_admitted ws) (is_made ws))
+    (subst (λ (ws : Waits). IsQueued (Begin nothing) (seen_in ws))
     (sym empty) queued-none)
 
 -- a reading of the clock changes no queue
 pub queued-moment : (h : History) (z : Clock) (t : ℕ) (queue : ℕ → List Waiter)
-    (admitted made : ℕ → Bool) → IsQueued h queue admitted made
-    → IsQueued (h ▷ Moment z t) queue admitted made
+    (admitted made : ℕ → Bool) → IsQueued h (queues_of queue admitted made)
+    → IsQueued (h ▷ Moment z t) (queues_of queue admitted made)
 queued-moment h z t queue admitted made k =
     queued-same h (Moment z t) queue queue admitted admitted made made (λ q. refl) (λ c. refl)
     (λ o. refl) (open-moment h z t) (λ w i. refl) (λ c. refl) (λ o. refl) k
 
 -- nor does a Yield, which changes the state of one mutex alone
 pub queued-yield : (h : History) (m : ℕ) (queue : ℕ → List Waiter) (admitted made : ℕ → Bool)
-    → IsQueued h queue admitted made → IsQueued (h ▷ Yield m) queue admitted made
+    → IsQueued h (queues_of queue admitted made)
+    → IsQueued (h ▷ Yield m) (queues_of queue admitted made)
 queued-yield h m queue admitted made k =
     queued-same h (Yield m) queue queue admitted admitted made made (λ q. refl) (λ c. refl)
     (λ o. refl) (open-yield h m) (λ w i. refl) (λ c. refl) (λ o. refl) k
@@ -67,7 +68,8 @@ pub queued-join : (h : History) (n p : ℕ) (queue queue' : ℕ → List Waiter)
     → ((q : ℕ) → queue' q ≡ queue q)
     → ((c : ℕ) → admitted' c ≡ ((n == c) || admitted c))
     → ((o : ℕ) → made' o ≡ made o)
-    → IsQueued h queue admitted made → IsQueued (h ▷ Join (place h) p) queue' admitted' made'
+    → IsQueued h (queues_of queue admitted made)
+    → IsQueued (h ▷ Join (place h) p) (queues_of queue' admitted' made')
 queued-join h n p queue queue' admitted admitted' made made' f here queues rooms places k =
     record {
       members = members-carry h (h ▷ Join (place h) p) queue queue' queues
@@ -81,7 +83,7 @@ queued-join h n p queue queue' admitted admitted' made made' f here queues rooms
 
 -- there is no room yet for the client that would join next
 pub no-room-yet : (h : History) (n : ℕ) (queue : ℕ → List Waiter) (admitted made : ℕ → Bool)
-    → Follows h → n ≡ place h → IsQueued h queue admitted made → admitted n ≡ false
+    → Follows h → n ≡ place h → IsQueued h (queues_of queue admitted made) → admitted n ≡ false
 no-room-yet h n queue admitted made f here k =
     k.admits n ∙ ap is_some ((Fresh-follows h f).clients n (omega (arith, here)))
 
@@ -119,7 +121,8 @@ pub queued-death : (h : History) (c : ℕ) (queue queue' : ℕ → List Waiter)
     → ((q : ℕ) → queue' q ≡ without c (queue q))
     → ((d : ℕ) → admitted' d ≡ (not (c == d) && admitted d))
     → ((o : ℕ) → made' o ≡ made o)
-    → IsQueued h queue admitted made → IsQueued (h ▷ Death c) queue' admitted' made'
+    → IsQueued h (queues_of queue admitted made)
+    → IsQueued (h ▷ Death c) (queues_of queue' admitted' made')
 queued-death h c queue queue' admitted admitted' made made' queues rooms places k =
     record {
       members = subst (λ (ws : List WaitingCall). Members (at_object h) (waiter h) ws queue')

@@ -7,7 +7,7 @@ use Rattle.std.specs.List.{AllByRecursion as Each}
 use Rattle.pt_types.specs.Times.{pair_before}
 use Rattle.pt_types.specs.KeyOrder.{rank}
 use Rattle.pt_waitq.specs.declared.waiter.Waiter.{Waiter}
-use Rattle.pt_waitq.specs.Queues.{In, arrival, comes_before, is_like, insert_in_order, head_of, stands_in, without}
+use Rattle.pt_waitq.specs.Queues.{queues_of, In, arrival, comes_before, is_like, insert_in_order, head_of, stands_in, without}
 use Rattle.pt_waitq.specs.Members.{Members}
 use Rattle.pt_waitq.specs.ListLemmas.{In-filter, any-in, any-out, any-without}
 use Rattle.pt_waitq.proofs.MemberLemmas.{members-agree, members-move, head-first, head-in}
@@ -90,7 +90,8 @@ nothing (v ∷ vs) e = absurd cc
 
 -- the queues as the broadcast comes
 pub rousing-begins : {h g : History} {q : ℕ} {queue : ℕ → List Waiter} {admitted made : ℕ → Bool}
-    → Broadcast h g q → IsQueued h queue admitted made → IsRousing h g q queue admitted made
+    → Broadcast h g q
+    → IsQueued h (queues_of queue admitted made) → IsRousing h g q queue admitted made
 rousing-begins {h = h} {g = g} {q = q} {queue = queue} b k =
     record {
       by = b;
@@ -137,7 +138,7 @@ module _ {h g : History} {q : ℕ} {queue : ℕ → List Waiter} {admitted made 
     (k : IsRousing h g q queue admitted made) where
   -- the queues once none stands at the condition
   pub rousing-ends : {found : Option Waiter} → found ≡ head_of (queue q) → found ≡ None
-      → IsQueued g queue admitted made
+      → IsQueued g (queues_of queue admitted made)
   rousing-ends e n =
       record {
         members = subst (λ (ws : List Waiter).
@@ -252,7 +253,7 @@ module _ {h g : History} {q : ℕ} {queue : ℕ → List Waiter} {admitted made 
       -- the first of them may take its place at its mutex
       pub rousing-stands : {admitted1 made1 : ℕ → Bool}
           → ((c : ℕ) → admitted1 c ≡ admitted c) → ((o : ℕ) → made1 o ≡ made o)
-          → CanStand g first.client queue1 admitted1 made1
+          → CanStand g first.client (queues_of queue1 admitted1 made1)
       rousing-stands f m =
           record {
             call = next.call;

@@ -10,7 +10,7 @@ use Rattle.pt_types.specs.Operations.{Operation, Makes, Ends, Acquires, Unlocks,
 use Rattle.pt_types.specs.declared.operations.ObjectClass.{ObjectClass}
 use Rattle.pt_types.specs.MutexTable.{is_number}
 use Rattle.pt_waitq.specs.declared.waiter.Waiter.{Waiter}
-use Rattle.pt_waitq.specs.Queues.{In, stands_in}
+use Rattle.pt_waitq.specs.Queues.{queues_of, In, stands_in}
 use Rattle.pt_waitq.specs.ListLemmas.{any-in}
 use Rattle.pt_model.specs.declared.entry.Entry.TheVariants.{Call}
 use Rattle.pt_model.specs.Histories.{History, ◌▷◌, place}
@@ -109,8 +109,8 @@ module _ (h : History) (c : ℕ) (call : Asked) (x : Outcome) (f : Follows h)
       → ((q : ℕ) → queue' q ≡ queue q) → ((d : ℕ) → admitted' d ≡ admitted d)
       → ((o : ℕ) → made' o ≡ is_some (kind_of (h ▷ Call c call (Some x)) o))
       → ((j : ℕ) → cause_by h (moved h) (Call c call (Some x)) j ≡ None)
-      → IsQueued h queue admitted made
-      → IsQueued (h ▷ Call c call (Some x)) queue' admitted' made'
+      → IsQueued h (queues_of queue admitted made)
+      → IsQueued (h ▷ Call c call (Some x)) (queues_of queue' admitted' made')
   queued-answered queue queue' admitted admitted' made made' queues rooms there still k =
       record {
         members = members-carry h (h ▷ Call c call (Some x)) queue queue' queues open-answered
@@ -123,8 +123,8 @@ module _ (h : History) (c : ℕ) (call : Asked) (x : Outcome) (f : Follows h)
   pub queued-told : (queue queue' : ℕ → List Waiter) (admitted admitted' made made' : ℕ → Bool)
       → ((q : ℕ) → queue' q ≡ queue q) → ((d : ℕ) → admitted' d ≡ admitted d)
       → ((o : ℕ) → made' o ≡ made o) → is_done x ≡ false
-      → IsQueued h queue admitted made
-      → IsQueued (h ▷ Call c call (Some x)) queue' admitted' made'
+      → IsQueued h (queues_of queue admitted made)
+      → IsQueued (h ▷ Call c call (Some x)) (queues_of queue' admitted' made')
   queued-told queue queue' admitted admitted' made made' queues rooms there other k =
       queued-answered queue queue' admitted admitted' made made' queues rooms
       (λ o. there o ∙ (k.makes o ∙ ap is_some (sym (told-kind h c call x o other))))
@@ -142,8 +142,8 @@ module _ (h : History) (c : ℕ) (call : Asked) (f : Follows h)
   pub queued-plain : (queue queue' : ℕ → List Waiter) (admitted admitted' made made' : ℕ → Bool)
       → ((q : ℕ) → queue' q ≡ queue q) → ((d : ℕ) → admitted' d ≡ admitted d)
       → ((o : ℕ) → made' o ≡ made o) → is_plain (operation call) ≡ true
-      → IsQueued h queue admitted made
-      → IsQueued (h ▷ Call c call (Some Done)) queue' admitted' made'
+      → IsQueued h (queues_of queue admitted made)
+      → IsQueued (h ▷ Call c call (Some Done)) (queues_of queue' admitted' made')
   queued-plain queue queue' admitted admitted' made made' queues rooms there plain k =
       queued-answered h c call Done f s queue queue' admitted admitted' made made' queues rooms
       (λ o. there o
@@ -155,8 +155,8 @@ module _ (h : History) (c : ℕ) (call : Asked) (f : Follows h)
       → (queue queue' : ℕ → List Waiter) (admitted admitted' made made' : ℕ → Bool)
       → ((q : ℕ) → queue' q ≡ queue q) → ((d : ℕ) → admitted' d ≡ admitted d)
       → ((o : ℕ) → made' o ≡ ((place h == o) || made o))
-      → IsQueued h queue admitted made
-      → IsQueued (h ▷ Call c call (Some Done)) queue' admitted' made'
+      → IsQueued h (queues_of queue admitted made)
+      → IsQueued (h ▷ Call c call (Some Done)) (queues_of queue' admitted' made')
   queued-made n kind e queue queue' admitted admitted' made made' queues rooms there k =
       queued-answered h c call Done f s queue queue' admitted admitted' made made' queues rooms
       (λ o. there o ∙ (ap (λ b. (place h == o) || b) (k.makes o) ∙ (one_more (place h == o)
@@ -183,8 +183,8 @@ module _ (h : History) (c : ℕ) (call : Asked) (f : Follows h)
       → (queue queue' : ℕ → List Waiter) (admitted admitted' made made' : ℕ → Bool)
       → ((o : ℕ) → queue' o ≡ queue o) → ((d : ℕ) → admitted' d ≡ admitted d)
       → ((o : ℕ) → made' o ≡ (not (q == o) && made o))
-      → IsQueued h queue admitted made
-      → IsQueued (h ▷ Call c call (Some Done)) queue' admitted' made'
+      → IsQueued h (queues_of queue admitted made)
+      → IsQueued (h ▷ Call c call (Some Done)) (queues_of queue' admitted' made')
   queued-ended n class e q found queue queue' admitted admitted' made made' queues rooms there k =
       queued-answered h c call Done f s queue queue' admitted admitted' made made' queues rooms
       (λ o. there o ∙ (ap (λ b. not (q == o) && b) (k.makes o) ∙ (one_fewer (q == o) (kind_of h o)
@@ -198,7 +198,7 @@ module _ (h : History) (c : ℕ) (call : Asked) (f : Follows h)
       one_fewer false before = refl
 
 module _ (h : History) (queue : ℕ → List Waiter) (admitted made : ℕ → Bool) (f : Follows h)
-    (k : IsQueued h queue admitted made) where
+    (k : IsQueued h (queues_of queue admitted made)) where
   -- no queue has the number of a place that isn't there yet
   pub unmade-next : made (place h) ≡ false
   unmade-next =

@@ -1,7 +1,7 @@
 -- The queues of a state after an entry that must follow.
 use Rattle.std.proofs.Common.{◌≡◌, ℕ, Bool, true, false, cond, ◌==◌, List, [], ap, subst}
 use Rattle.pt_waitq.specs.declared.waiter.Waiter.{Waiter}
-use Rattle.pt_waitq.specs.Queues.{without}
+use Rattle.pt_waitq.specs.Queues.{queues_of, without}
 use Rattle.pt_model.specs.declared.entry.Entry.TheVariants.{Grant, Trip, Expire}
 use Rattle.pt_model.specs.Searches.{In}
 use Rattle.pt_model.specs.WaitingCall.{is_arrival, is_wait}
@@ -22,7 +22,8 @@ use Rattle.pt_machine.proofs.QueuedOut.{queued-grant, queued-expire, queued-trip
 module _ {A : Type 0} (old new : State A) (o : Open) (queue queue' : ℕ → List Waiter)
     (admitted admitted' made made' : ℕ → Bool) (read : AreTables old)
     (known : In o (opens_of old.clients)) (room : (c : ℕ) → admitted' c ≡ admitted c)
-    (there : (q : ℕ) → made' q ≡ made q) (k : IsQueued (past old) queue admitted made) where
+    (there : (q : ℕ) → made' q ≡ made q)
+    (k : IsQueued (past old) (queues_of queue admitted made)) where
   -- the call that was found is open
   open_call : In (called o) (open_calls (past old))
   open_call = ((are-open (past old) old.clients read.follows read.callers).known o known).0
@@ -31,7 +32,7 @@ module _ {A : Type 0} (old new : State A) (o : Open) (queue queue' : ℕ → Lis
   pub queued-granted : Adds old (service (past old) (called o)) new
       → is_arrival (called o).role ≡ false
       → ((q : ℕ) → queue' q ≡ without o.call.client (queue q))
-      → IsQueued (past new) queue' admitted' made'
+      → IsQueued (past new) (queues_of queue' admitted' made')
   queued-granted a other gone =
       queued-adds old new (Grant o.call.place (grant_outcome (past old) (called o))) queue'
       admitted' made'
@@ -45,7 +46,7 @@ module _ {A : Type 0} (old new : State A) (o : Open) (queue queue' : ℕ → Lis
   pub queued-tripped : Adds old (service (past old) (called o)) new
       → is_arrival (called o).role ≡ true
       → ((q : ℕ) → queue' q ≡ cond (o.call.object == q) [] (queue q))
-      → IsQueued (past new) queue' admitted' made'
+      → IsQueued (past new) (queues_of queue' admitted' made')
   queued-tripped a arrival gone =
       queued-adds old new (Trip o.call.object) queue' admitted' made'
       (subst (λ e. Adds old e new)
@@ -57,7 +58,7 @@ module _ {A : Type 0} (old new : State A) (o : Open) (queue queue' : ℕ → Lis
   -- a call that is no wait expired
   pub queued-late : Adds old (Expire o.call.place) new → is_wait (called o).role ≡ false
       → ((q : ℕ) → queue' q ≡ without o.call.client (queue q))
-      → IsQueued (past new) queue' admitted' made'
+      → IsQueued (past new) (queues_of queue' admitted' made')
   queued-late a other gone =
       queued-adds old new (Expire o.call.place) queue' admitted' made' a
       (queued-expire (past old) (called o) queue queue' admitted admitted' made made' read.follows

@@ -6,7 +6,7 @@ use Rattle.pt_types.specs.declared.call.Call.{Call as Asked}
 use Rattle.pt_types.specs.declared.outcome.Outcome.{Outcome}
 use Rattle.pt_types.specs.Operations.{operation, clock_of}
 use Rattle.pt_waitq.specs.declared.waiter.Waiter.{Waiter}
-use Rattle.pt_waitq.specs.Queues.{stands_in, IsLatest, insert_in_order}
+use Rattle.pt_waitq.specs.Queues.{queues_of, stands_in, IsLatest, insert_in_order}
 use Rattle.pt_waitq.specs.ListLemmas.{any-out}
 use Rattle.pt_waitq.proofs.CallerLemmas.{latest-after}
 use Rattle.pt_waitq.proofs.MemberLemmas.{members-in}
@@ -67,7 +67,8 @@ came h f c call s =
     }
 
 module _ (h : History) (f : Follows h) (c : ℕ) (call : Asked) (s : Step h (Call c call None))
-    (queue : ℕ → List Waiter) (admitted made : ℕ → Bool) (k : IsQueued h queue admitted made)
+    (queue : ℕ → List Waiter) (admitted made : ℕ → Bool)
+    (k : IsQueued h (queues_of queue admitted made))
   where
     -- after the call
     abbrev after : History
@@ -106,7 +107,7 @@ module _ (h : History) (f : Follows h) (c : ℕ) (call : Asked) (s : Step h (Cal
         (sym (arrival-new h f new.waiting new.at))
         (waiters-below h queue f k.members (at_object after new.waiting)))
 
-    can-stand : CanStand after c queue admitted made
+    can-stand : CanStand after c (queues_of queue admitted made)
     can-stand =
         record {
           call = new.waiting;
@@ -121,9 +122,9 @@ module _ (h : History) (f : Follows h) (c : ℕ) (call : Asked) (s : Step h (Cal
 
     -- the call may take its place
     pub can-stand-left : (g : History) → g ≡ h ▷ Call c call None
-        → CanStand g c queue admitted made
+        → CanStand g c (queues_of queue admitted made)
     can-stand-left g e =
-        subst (λ (x : History). CanStand x c queue admitted made) (sym e) can-stand
+        subst (λ (x : History). CanStand x c (queues_of queue admitted made)) (sym e) can-stand
 
     -- the queue of each object is as before, but for the one where the call stands
     abbrev Puts : History → (ℕ → List Waiter) → Type 0
@@ -133,7 +134,7 @@ module _ (h : History) (f : Follows h) (c : ℕ) (call : Asked) (s : Step h (Cal
 
     queued : (queue' : ℕ → List Waiter) (admitted' made' : ℕ → Bool) → Puts after queue'
         → ((d : ℕ) → admitted' d ≡ admitted d) → ((o : ℕ) → made' o ≡ made o)
-        → IsQueued after queue' admitted' made'
+        → IsQueued after (queues_of queue' admitted' made')
     queued queue' admitted' made' puts admits makes =
         record {
           members = members-in (at_object after) (waiter after) (open_calls h) (open_calls after)
@@ -164,7 +165,8 @@ module _ (h : History) (f : Follows h) (c : ℕ) (call : Asked) (s : Step h (Cal
     pub queued-left : (g : History) → g ≡ h ▷ Call c call None
         → (queue' : ℕ → List Waiter) (admitted' made' : ℕ → Bool) → Puts g queue'
         → ((d : ℕ) → admitted' d ≡ admitted d) → ((o : ℕ) → made' o ≡ made o)
-        → IsQueued g queue' admitted' made'
+        → IsQueued g (queues_of queue' admitted' made')
     queued-left g e queue' admitted' made' puts admits makes =
-        subst (λ (x : History). Puts x queue' → IsQueued x queue' admitted' made') (sym e)
+        subst
+        (λ (x : History). Puts x queue' → IsQueued x (queues_of queue' admitted' made')) (sym e)
         (λ ps. queued queue' admitted' made' ps admits makes) puts

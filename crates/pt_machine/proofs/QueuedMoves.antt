@@ -4,7 +4,7 @@ use Rattle.std.proofs.lemmas.Bool.Decides.{nat_tests}
 use Rattle.std.proofs.lemmas.Bool.{false≢true}
 use Rattle.std.specs.List.{AllByRecursion as Each}
 use Rattle.pt_waitq.specs.declared.waiter.Waiter.{Waiter}
-use Rattle.pt_waitq.specs.Queues.{stands_in, without, insert_in_order}
+use Rattle.pt_waitq.specs.Queues.{queues_of, stands_in, without, insert_in_order}
 use Rattle.pt_waitq.specs.Members.{Members}
 use Rattle.pt_waitq.proofs.MemberLemmas.{members-move}
 use Rattle.pt_waitq.proofs.CallerLemmas.{latest-after, without-stands, without-each}
@@ -39,7 +39,7 @@ module _ (h : History) (e : Entry) (u : WaitingCall) (f : Follows (h ▷ e)) (m 
     (queue queue' : ℕ → List Waiter) (admitted admitted' made made' : ℕ → Bool)
     (left : (q : ℕ) → queue' q ≡ without u.client (queue q))
     (room : (c : ℕ) → admitted' c ≡ admitted c) (there : (o : ℕ) → made' o ≡ made o)
-    (k : IsQueued h queue admitted made) where
+    (k : IsQueued h (queues_of queue admitted made)) where
   -- who is left in a queue came there before
   left_before : (q : ℕ) → Each (λ v. v.moved < place h) (queue' q)
   left_before q =
@@ -48,7 +48,7 @@ module _ (h : History) (e : Entry) (u : WaitingCall) (f : Follows (h ▷ e)) (m 
       (waiters-below h queue f.0 k.members q))
 
   -- the call that is moved may take its place, once it has left its queue
-  pub can-stand-moved : CanStand (h ▷ e) u.client queue' admitted' made'
+  pub can-stand-moved : CanStand (h ▷ e) u.client (queues_of queue' admitted' made')
   can-stand-moved =
       record {
         call = u;
@@ -97,7 +97,7 @@ module _ (h : History) (e : Entry) (u : WaitingCall) (f : Follows (h ▷ e)) (m 
       ≡ cond (at_object (h ▷ e) u == q) (insert_in_order (waiter (h ▷ e) u) (queue' q))
       (queue' q))
       → ((c : ℕ) → admitted'' c ≡ admitted' c) → ((o : ℕ) → made'' o ≡ made' o)
-      → IsQueued (h ▷ e) queue'' admitted'' made''
+      → IsQueued (h ▷ e) (queues_of queue'' admitted'' made'')
   queued-moved queue'' admitted'' made'' taken room' there' =
       record {
         members = subst

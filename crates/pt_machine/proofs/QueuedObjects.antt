@@ -6,7 +6,7 @@ use Rattle.pt_types.specs.declared.outcome.Outcome.TheVariants.{Done}
 use Rattle.pt_types.specs.Operations.{Makes, Ends, operation}
 use Rattle.pt_types.specs.declared.operations.ObjectClass.{ObjectClass}
 use Rattle.pt_waitq.specs.declared.waiter.Waiter.{Waiter}
-use Rattle.pt_waitq.specs.Queues.{stands_in}
+use Rattle.pt_waitq.specs.Queues.{queues_of, stands_in}
 use Rattle.pt_model.specs.declared.entry.Entry.TheVariants.{Call}
 use Rattle.pt_model.specs.Objects.{find}
 use Rattle.pt_state.specs.declared.state.State.{State}
@@ -18,7 +18,7 @@ use Rattle.pt_history.proofs.Places.{place_of_next}
 
 module _ {A : Type 0} (s : State A) (c : ℕ) (call : Asked)
     (g : IsReadyFor s (Call c call (Some Done))) (queue : ℕ → List Waiter)
-    (admitted made : ℕ → Bool) (k : IsQueued (past s) queue admitted made) where
+    (admitted made : ℕ → Bool) (k : IsQueued (past s) (queues_of queue admitted made)) where
   -- the number of a new object has no queue
   pub make-unmade : (o : ℕ) → o ≡ s.stored.start.at + length s.stored.entries → made o ≡ false
   make-unmade o e =
@@ -39,7 +39,7 @@ module _ {A : Type 0} (s : State A) (c : ℕ) (call : Asked)
       → o ≡ s.stored.start.at + length s.stored.entries
       → ((q : ℕ) → queue' q ≡ queue q) → ((d : ℕ) → admitted' d ≡ admitted d)
       → ((q : ℕ) → made' q ≡ ((o == q) || made q)) → Adds s (Call c call (Some Done)) new
-      → IsQueued (past new) queue' admitted' made'
+      → IsQueued (past new) (queues_of queue' admitted' made')
   make-queued n kind d new queue' admitted' made' o e queues rooms there a =
       queued-adds s new (Call c call (Some Done)) queue' admitted' made' a
       (queued-made (past s) c call g.read.follows g.step n kind d queue queue' admitted admitted'
@@ -52,7 +52,7 @@ module _ {A : Type 0} (s : State A) (c : ℕ) (call : Asked)
       → ((q : ℕ) → queue' q ≡ queue q) → ((d : ℕ) → admitted' d ≡ admitted d)
       → ((q : ℕ) → made' q ≡ ((o == q) || made q))
       → ((q : ℕ) → made'' q ≡ (not (o == q) && made' q)) → Stays s new
-      → IsQueued (past new) queue' admitted' made''
+      → IsQueued (past new) (queues_of queue' admitted' made'')
   make-undone new queue' admitted' made' made'' o e queues rooms more fewer a =
       queued-stays s new queue' admitted' made'' a
       (queued-kept (past s) queue queue' admitted admitted' made made'' queues rooms
@@ -74,7 +74,7 @@ module _ {A : Type 0} (s : State A) (c : ℕ) (call : Asked)
         (admitted' made' : ℕ → Bool)
         → ((q : ℕ) → queue' q ≡ queue q) → ((d : ℕ) → admitted' d ≡ admitted d)
         → ((q : ℕ) → made' q ≡ (not (o == q) && made q)) → Adds s (Call c call (Some Done)) new
-        → IsQueued (past new) queue' admitted' made'
+        → IsQueued (past new) (queues_of queue' admitted' made')
     end-queued d new queue' admitted' made' queues rooms there a =
         queued-adds s new (Call c call (Some Done)) queue' admitted' made' a
         (queued-ended (past s) c call g.read.follows g.step n class d o found queue queue' admitted

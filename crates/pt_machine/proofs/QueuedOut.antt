@@ -6,7 +6,7 @@ use Rattle.pt_types.specs.declared.operations.ObjectClass.TheVariants.{Barrier a
 use Rattle.pt_types.specs.declared.outcome.Outcome.{Outcome}
 use Rattle.pt_waitq.specs.declared.waiter.Waiter.{Waiter}
 use Rattle.pt_waitq.specs.Members.{Members}
-use Rattle.pt_waitq.specs.Queues.{IsInKeyOrder, without}
+use Rattle.pt_waitq.specs.Queues.{queues_of, IsInKeyOrder, without}
 use Rattle.pt_waitq.specs.ListLemmas.{In-filter as In-kept}
 use Rattle.pt_waitq.proofs.MemberLemmas.{members-agree, members-out, filter-in}
 use Rattle.pt_model.specs.declared.entry.Entry.{Entry}
@@ -38,9 +38,9 @@ pub queued-still : (h g : History) (queue queue' : ℕ → List Waiter)
     (admitted admitted' made made' : ℕ → Bool) → ((j : ℕ) → moved g j ≡ moved h j)
     → ((c : ℕ) → is_alive g c ≡ is_alive h c) → ((o : ℕ) → kind_of g o ≡ kind_of h o)
     → ((c : ℕ) → admitted' c ≡ admitted c) → ((o : ℕ) → made' o ≡ made o)
-    → IsQueued h queue admitted made
+    → IsQueued h (queues_of queue admitted made)
     → Members (at_object h) (waiter h) (open_calls g) queue'
-    → IsQueued g queue' admitted' made'
+    → IsQueued g (queues_of queue' admitted' made')
 queued-still h g queue queue' admitted admitted' made made' moves alive kinds room there k m =
     record {
       members = members-agree (at_object h) (at_object g) (waiter h) (waiter g) (open_calls g)
@@ -77,7 +77,8 @@ pub queued-out : (h : History) (e : Entry) (u : WaitingCall) (queue queue' : ℕ
     → ((o : ℕ) → kind_of (h ▷ e) o ≡ kind_of h o)
     → ((q : ℕ) → queue' q ≡ without u.client (queue q))
     → ((c : ℕ) → admitted' c ≡ admitted c) → ((o : ℕ) → made' o ≡ made o)
-    → IsQueued h queue admitted made → IsQueued (h ▷ e) queue' admitted' made'
+    → IsQueued h (queues_of queue admitted made)
+    → IsQueued (h ▷ e) (queues_of queue' admitted' made')
 queued-out h e u queue queue' admitted admitted' made made' f i calls moves alive kinds gone room
     there k =
     queued-still h (h ▷ e) queue queue' admitted admitted' made made' moves alive kinds room there k
@@ -93,7 +94,8 @@ pub queued-grant : (h : History) (x : Outcome) (u : WaitingCall) (queue queue' :
     (admitted admitted' made made' : ℕ → Bool) → Follows h → In u (open_calls h)
     → ((q : ℕ) → queue' q ≡ without u.client (queue q))
     → ((c : ℕ) → admitted' c ≡ admitted c) → ((o : ℕ) → made' o ≡ made o)
-    → IsQueued h queue admitted made → IsQueued (h ▷ Grant u.place x) queue' admitted' made'
+    → IsQueued h (queues_of queue admitted made)
+    → IsQueued (h ▷ Grant u.place x) (queues_of queue' admitted' made')
 queued-grant h x u queue queue' admitted admitted' made made' f i gone room there k =
     queued-out h (Grant u.place x) u queue queue' admitted admitted' made made' f i
     (open-grant h u.place x) (λ j. refl) (λ c. refl) (λ o. refl) gone room there k
@@ -104,7 +106,8 @@ pub queued-expire : (h : History) (u : WaitingCall) (queue queue' : ℕ → List
     → is_wait u.role ≡ false
     → ((q : ℕ) → queue' q ≡ without u.client (queue q))
     → ((c : ℕ) → admitted' c ≡ admitted c) → ((o : ℕ) → made' o ≡ made o)
-    → IsQueued h queue admitted made → IsQueued (h ▷ Expire u.place) queue' admitted' made'
+    → IsQueued h (queues_of queue admitted made)
+    → IsQueued (h ▷ Expire u.place) (queues_of queue' admitted' made')
 queued-expire h u queue queue' admitted admitted' made made' f i other gone room there k =
     queued-out h (Expire u.place) u queue queue' admitted admitted' made made' f i
     (open-expire h u f i
@@ -199,7 +202,8 @@ pub queued-trip : (h : History) (u : WaitingCall) (queue queue' : ℕ → List W
     → is_arrival u.role ≡ true
     → ((q : ℕ) → queue' q ≡ cond (u.object == q) [] (queue q))
     → ((c : ℕ) → admitted' c ≡ admitted c) → ((o : ℕ) → made' o ≡ made o)
-    → IsQueued h queue admitted made → IsQueued (h ▷ Trip u.object) queue' admitted' made'
+    → IsQueued h (queues_of queue admitted made)
+    → IsQueued (h ▷ Trip u.object) (queues_of queue' admitted' made')
 queued-trip h u queue queue' admitted admitted' made made' f i arrival gone room there k =
     queued-still h (h ▷ Trip u.object) queue queue' admitted admitted' made made' (λ j. refl)
     (λ c. refl) (λ o. refl) room there k

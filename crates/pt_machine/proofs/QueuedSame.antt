@@ -1,7 +1,7 @@
 -- Queues that are right still: nothing that they are read off has changed.
 use Rattle.std.proofs.Common.{◌≡◌, ℕ, Bool, List, Option, is_some, sym, ap, ◌∙◌, subst}
 use Rattle.pt_waitq.specs.declared.waiter.Waiter.{Waiter}
-use Rattle.pt_waitq.specs.Queues.{IsInKeyOrder}
+use Rattle.pt_waitq.specs.Queues.{queues_of, IsInKeyOrder}
 use Rattle.pt_waitq.specs.Members.{Members}
 use Rattle.pt_waitq.proofs.MemberLemmas.{members-agree}
 use Rattle.pt_model.specs.declared.entry.Entry.{Entry}
@@ -61,7 +61,8 @@ pub queued-same : (h : History) (e : Entry) (queue queue' : ℕ → List Waiter)
     → ((w : WaitingCall) → In w (open_calls h) → moved (h ▷ e) w.place ≡ moved h w.place)
     → ((c : ℕ) → is_alive (h ▷ e) c ≡ is_alive h c)
     → ((o : ℕ) → is_some (kind_of (h ▷ e) o) ≡ is_some (kind_of h o))
-    → IsQueued h queue admitted made → IsQueued (h ▷ e) queue' admitted' made'
+    → IsQueued h (queues_of queue admitted made)
+    → IsQueued (h ▷ e) (queues_of queue' admitted' made')
 queued-same h e queue queue' _ _ _ _ queues rooms places calls moves lives kinds k =
     record {
       members = members-carry h (h ▷ e) queue queue' queues calls moves k.members;
@@ -74,7 +75,7 @@ pub queued-kept : (h : History) (queue queue' : ℕ → List Waiter)
     (admitted admitted' made made' : ℕ → Bool)
     → ((q : ℕ) → queue' q ≡ queue q) → ((c : ℕ) → admitted' c ≡ admitted c)
     → ((o : ℕ) → made' o ≡ made o)
-    → IsQueued h queue admitted made → IsQueued h queue' admitted' made'
+    → IsQueued h (queues_of queue admitted made) → IsQueued h (queues_of queue' admitted' made')
 queued-kept h queue queue' admitted admitted' made made' queues rooms places k =
     record {
       members = members-same (at_object h) (waiter h) (open_calls h) queue queue' queues k.members;
@@ -94,12 +95,13 @@ module _ {A : Type 0} (old new : State A) where
 
   -- queues that are right for the history with its entry are right for the state that has it
   pub queued-adds : (e : Entry) (queue : ℕ → List Waiter) (admitted made : ℕ → Bool)
-      → Adds old e new → IsQueued (past old ▷ e) queue admitted made
-      → IsQueued (past new) queue admitted made
+      → Adds old e new → IsQueued (past old ▷ e) (queues_of queue admitted made)
+      → IsQueued (past new) (queues_of queue admitted made)
   queued-adds e queue admitted made a k =
-      subst (λ (h : History). IsQueued h queue admitted made) (sym (past-adds e a)) k
+      subst (λ (h : History). IsQueued h (queues_of queue admitted made)) (sym (past-adds e a)) k
 
   pub queued-stays : (queue : ℕ → List Waiter) (admitted made : ℕ → Bool) → Stays old new
-      → IsQueued (past old) queue admitted made → IsQueued (past new) queue admitted made
+      → IsQueued (past old) (queues_of queue admitted made)
+      → IsQueued (past new) (queues_of queue admitted made)
   queued-stays queue admitted made s k =
-      subst (λ (h : History). IsQueued h queue admitted made) (sym (past-stays s)) k
+      subst (λ (h : History). IsQueued h (queues_of queue admitted made)) (sym (past-stays s)) k

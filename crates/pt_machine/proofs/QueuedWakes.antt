@@ -7,7 +7,7 @@ use Rattle.pt_types.specs.declared.outcome.Outcome.TheVariants.{Done}
 use Rattle.pt_types.specs.Operations.{Operation, Signals, operation, clock_of}
 use Rattle.pt_types.specs.declared.operations.ObjectClass.TheVariants.{Cond as CondClass}
 use Rattle.pt_waitq.specs.declared.waiter.Waiter.{Waiter}
-use Rattle.pt_waitq.specs.Queues.{without, insert_in_order}
+use Rattle.pt_waitq.specs.Queues.{queues_of, without, insert_in_order}
 use Rattle.pt_model.specs.declared.entry.Entry.{Entry}
 use Rattle.pt_model.specs.declared.entry.Entry.TheVariants.{Call, Expire}
 use Rattle.pt_model.specs.declared.entry.Cause.{Cause}
@@ -96,8 +96,8 @@ module _ (h : History) (c : ℕ) (call : Asked) (n : List ℕ) (f : Follows h)
   -- where there is none, the queues stay as they are
   pub queued-unmoved : (queue : ℕ → List Waiter) (admitted made : ℕ → Bool)
       → least (precedes_by (moved h)) (cond_waits h (moved h) n) ≡ None
-      → IsQueued h queue admitted made
-      → IsQueued (h ▷ Call c call (Some Done)) queue admitted made
+      → IsQueued h (queues_of queue admitted made)
+      → IsQueued (h ▷ Call c call (Some Done)) (queues_of queue admitted made)
   queued-unmoved queue admitted made none k =
       queued-same h (Call c call (Some Done)) queue queue admitted admitted made made
       (λ q. refl) (λ b. refl) (λ o. refl) same_calls
@@ -145,11 +145,11 @@ module _ {A : Type 0} (old new : State A) (e : Entry) (u : WaitingCall) (g : IsR
     (queue queue' : ℕ → List Waiter) (admitted admitted' made made' : ℕ → Bool)
     (left : (q : ℕ) → queue' q ≡ without u.client (queue q))
     (room : (c : ℕ) → admitted' c ≡ admitted c) (there : (o : ℕ) → made' o ≡ made o)
-    (k : IsQueued (past old) queue admitted made) where
+    (k : IsQueued (past old) (queues_of queue admitted made)) where
   -- the call that is moved may take its place in the new state
-  pub stands-moved : CanStand (past new) u.client queue' admitted' made'
+  pub stands-moved : CanStand (past new) u.client (queues_of queue' admitted' made')
   stands-moved =
-      subst (λ (h : History). CanStand h u.client queue' admitted' made')
+      subst (λ (h : History). CanStand h u.client (queues_of queue' admitted' made'))
       (sym (past-adds old new e a))
       (can-stand-moved (past old) e u (g.read.follows, g.step) m queue queue' admitted admitted'
       made made' left room there k)
@@ -161,7 +161,7 @@ module _ {A : Type 0} (old new : State A) (e : Entry) (u : WaitingCall) (g : IsR
       ≡ cond (at_object (past new) w == q) (insert_in_order (waiter (past new) w) (queue' q))
       (queue' q))
       → ((c : ℕ) → admitted'' c ≡ admitted' c) → ((o : ℕ) → made'' o ≡ made' o)
-      → IsQueued (past new) queue'' admitted'' made''
+      → IsQueued (past new) (queues_of queue'' admitted'' made'')
   queued-taken queue'' admitted'' made'' taken room' there' =
       queued-adds old new e queue'' admitted'' made'' a
       (queued-moved (past old) e u (g.read.follows, g.step) m queue queue' admitted admitted'

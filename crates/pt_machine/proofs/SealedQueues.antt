@@ -16,6 +16,7 @@ use Rattle.pt_model.specs.Steps.{Follows}
 use Rattle.pt_model.proofs.Lists.{false_by}
 use Rattle.pt_model.proofs.Seats.{move-sealed}
 use Rattle.pt_model.proofs.Agreeing.{calls-sealed, filter-alike}
+use Rattle.pt_waitq.specs.Queues.{queues_of}
 use Rattle.pt_machine.specs.Queued.{IsQueued}
 use Rattle.pt_machine.specs.Timed.{timed, is_set, setting_if, set_at, AreTimed}
 use Rattle.pt_machine.proofs.QueuedSame.{members-carry}
@@ -23,7 +24,8 @@ use Rattle.pt_machine.proofs.NoBadDeadlines.{none-bad, written_good}
 
 -- the queues
 pub queued-seal : (h : History) (queue : ℕ → List Waiter) (admitted made : ℕ → Bool)
-    → IsQueued h queue admitted made → IsQueued (Begin (seal h)) queue admitted made
+    → IsQueued h (queues_of queue admitted made)
+    → IsQueued (Begin (seal h)) (queues_of queue admitted made)
 queued-seal h queue admitted made k =
     record {
       members = members-carry h (Begin (seal h)) queue queue (λ q. refl) (calls-sealed h)

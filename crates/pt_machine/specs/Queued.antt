@@ -1,8 +1,8 @@
 -- Queued: the queues of waiting calls, as they are read off a history.
-use Rattle.std.specs.Prelude.{ℕ, ◌≡◌, Bool, true, false, List, Option, is_some}
+use Rattle.std.specs.Prelude.{ℕ, ◌≡◌, true, false, Option, is_some}
 use Rattle.pt_waitq.specs.declared.waiter.Waiter.{Waiter}
 use Rattle.pt_waitq.specs.Members.{Members}
-use Rattle.pt_waitq.specs.Queues.{stands_in, IsLatest}
+use Rattle.pt_waitq.specs.Queues.{QueuesView, stands_in, IsLatest}
 use Rattle.pt_model.specs.Histories.{History}
 use Rattle.pt_model.specs.Searches.{In}
 use Rattle.pt_model.specs.Clients.{is_alive}
@@ -30,20 +30,18 @@ waiter h w = waiter_by (moved h w.place) w
 
 -- the queues have the open calls, each where it waits, and no others; there is room for each
 -- living client's call, and a queue for each object  [XSH 2.8.4]
-pub record IsQueued (h : History) (queue : ℕ → List Waiter) (admitted made : ℕ → Bool) : Type 0
-  where
-    pub members : Members (at_object h) (waiter h) (open_calls h) queue
-    pub admits : (c : ℕ) → admitted c ≡ is_alive h c
-    pub makes : (o : ℕ) → made o ≡ is_some (kind_of h o)
+pub record IsQueued (h : History) (v : QueuesView) : Type 0 where
+  pub members : Members (at_object h) (waiter h) (open_calls h) v.queue
+  pub admits : (c : ℕ) → v.admitted c ≡ is_alive h c
+  pub makes : (o : ℕ) → v.made o ≡ is_some (kind_of h o)
 
 -- a client's open call may take its place: it is in no queue, its queue is there, and its arrival
 -- is the greatest of its priority and kind  [XSH 2.8.4]
-pub record CanStand (h : History) (c : ℕ) (queue : ℕ → List Waiter) (admitted made : ℕ → Bool)
-    : Type 0 where
+pub record CanStand (h : History) (c : ℕ) (v : QueuesView) : Type 0 where
   pub call : WaitingCall
   pub «open» : In call (open_calls h)
   pub its : call.client ≡ c
-  pub room : admitted c ≡ true
-  pub nowhere : (q : ℕ) → stands_in c (queue q) ≡ false
-  pub there : made (at_object h call) ≡ true
-  pub latest : IsLatest (waiter h call) (queue (at_object h call))
+  pub room : v.admitted c ≡ true
+  pub nowhere : (q : ℕ) → stands_in c (v.queue q) ≡ false
+  pub there : v.made (at_object h call) ≡ true
+  pub latest : IsLatest (waiter h call) (v.queue (at_object h call))

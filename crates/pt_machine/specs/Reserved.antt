@@ -13,8 +13,8 @@ use Rattle.pt_model.specs.Room.{need}
 
 -- as many entries are reserved as the number that is stored; and no robust mutex has a dead owner,
 -- unless the last event was a Death  [profile; XSH pthread_mutex_lock, EOWNERDEAD]
-pub record IsReserved (h : History) (kept : ℕ) (dying : Bool) : Type 0 where
-  pub needs : kept ≡ need h
+pub record IsReserved (h : History) (reserved : ℕ) (dying : Bool) : Type 0 where
+  pub needs : reserved ≡ need h
   pub owners : dying ≡ false → (m : ℕ) → is_orphan h m ≡ false
 
 -- whether an entry is a Death

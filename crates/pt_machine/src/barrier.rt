@@ -29,13 +29,11 @@ pub(crate) fn push_tripped<Q: WaitList, A: Allocator + Copy>(
     found: &Open,
 )
     requires ready { IsReadyFor state.old (service (past state.old) (called found.now)) }
-    requires queued { IsQueued (past state.old)
-        (Q.queue queues.old) (Q.admitted queues.old) (Q.made queues.old) }
+    requires queued { IsQueued (past state.old) (Q.seen queues.old) }
     requires known { In found.now (opens_of state.old.clients) }
     requires arrival { is_arrival_role (called found.now).role ≡ true }
     ensures adds { Adds state.old (service (past state.old) (called found.now)) state.new }
-    ensures queued { IsQueued (past state.new)
-        (Q.queue queues.new) (Q.admitted queues.new) (Q.made queues.new) }
+    ensures queued { IsQueued (past state.new) (Q.seen queues.new) }
 {
     state.push_served(found);
     clear(queues, ObjectId(found.call.object));

@@ -50,8 +50,7 @@ impl<Q: WaitList, A: Allocator + Copy> Model for Body<Q, A> {
 
     ghost view = { λ b. b.state };
 
-    ghost invariant = { λ b. IsQueued (past b.state)
-        (Q.queue b.queues) (Q.admitted b.queues) (Q.made b.queues)
+    ghost invariant = { λ b. IsQueued (past b.state) (Q.seen b.queues)
         × AreTimed (past b.state) b.timers
         × IsTouched (past b.state) b.touched b.entering
         × IsReserved (past b.state) b.need b.dying };

@@ -31,14 +31,12 @@ pub(crate) fn push_left<Q: WaitList, A: Allocator + Copy>(
     call: &Call,
 ) -> Result<(), Refusal>
     requires ready { IsReadyFor state.old (entry.Call c call.now None) }
-    requires queued { IsQueued (past state.old)
-        (Q.queue queues.old) (Q.admitted queues.old) (Q.made queues.old) }
+    requires queued { IsQueued (past state.old) (Q.seen queues.old) }
     ensures ok { OnOk result (Adds state.old (entry.Call c call.now None) state.new) }
     ensures err { OnErr result (Stays state.old state.new) }
     ensures reason { IfErr result (λ refusal. refusal ≡ Refusal.Enomem) }
     ensures enough { asks_to_read (operation call.now) ≡ false → IsOk result }
-    ensures queued { IsQueued (past state.new)
-        (Q.queue queues.new) (Q.admitted queues.new) (Q.made queues.new) }
+    ensures queued { IsQueued (past state.new) (Q.seen queues.new) }
 {
     match state.push_left(c, call) {
         Ok(()) => {
@@ -72,14 +70,12 @@ fn push_done<Q: WaitList, A: Allocator + Copy>(
     call: &Call,
 ) -> Result<(), Refusal>
     requires ready { IsReadyFor state.old (entry.Call c call.now (Some told.Done)) }
-    requires queued { IsQueued (past state.old)
-        (Q.queue queues.old) (Q.admitted queues.old) (Q.made queues.old) }
+    requires queued { IsQueued (past state.old) (Q.seen queues.old) }
     ensures ok { OnOk result (Adds state.old (entry.Call c call.now (Some told.Done)) state.new) }
     ensures err { OnErr result (Stays state.old state.new) }
     ensures reason { IfErr result (λ refusal. refusal ≡ Refusal.Enomem) }
     ensures enough { makes_object (operation call.now) ≡ false → IsOk result }
-    ensures queued { IsQueued (past state.new)
-        (Q.queue queues.new) (Q.admitted queues.new) (Q.made queues.new) }
+    ensures queued { IsQueued (past state.new) (Q.seen queues.new) }
 {
     if is_plain(call) {
         state.push_plain(c, call);
@@ -113,14 +109,12 @@ pub(crate) fn push_answered<Q: WaitList, A: Allocator + Copy>(
     answer: Outcome,
 ) -> Result<(), Refusal>
     requires ready { IsReadyFor state.old (entry.Call c call.now (Some answer)) }
-    requires queued { IsQueued (past state.old)
-        (Q.queue queues.old) (Q.admitted queues.old) (Q.made queues.old) }
+    requires queued { IsQueued (past state.old) (Q.seen queues.old) }
     ensures ok { OnOk result (Adds state.old (entry.Call c call.now (Some answer)) state.new) }
     ensures err { OnErr result (Stays state.old state.new) }
     ensures reason { IfErr result (λ refusal. refusal ≡ Refusal.Enomem) }
     ensures enough { makes_object (operation call.now) ≡ false → IsOk result }
-    ensures queued { IsQueued (past state.new)
-        (Q.queue queues.new) (Q.admitted queues.new) (Q.made queues.new) }
+    ensures queued { IsQueued (past state.new) (Q.seen queues.new) }
 {
     match answer {
         Outcome::Done => push_done(state, queues, c, call),

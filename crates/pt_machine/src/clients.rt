@@ -19,14 +19,12 @@ pub(crate) fn push_join<Q: WaitList, A: Allocator + Copy>(
     priority: Priority,
 ) -> Result<(), Refusal>
     requires ready { IsReadyFor state.old (entry.Join (place (past state.old)) priority) }
-    requires queued { IsQueued (past state.old)
-        (Q.queue queues.old) (Q.admitted queues.old) (Q.made queues.old) }
+    requires queued { IsQueued (past state.old) (Q.seen queues.old) }
     ensures ok { OnOk result
         (Adds state.old (entry.Join (place (past state.old)) priority) state.new) }
     ensures err { OnErr result (Stays state.old state.new) }
     ensures reason { IfErr result (λ refusal. refusal ≡ Refusal.Enomem) }
-    ensures queued { IsQueued (past state.new)
-        (Q.queue queues.new) (Q.admitted queues.new) (Q.made queues.new) }
+    ensures queued { IsQueued (past state.new) (Q.seen queues.new) }
 {
     let c = ClientId(state.stored.len());
     if let Err(refusal) = queues.admit(c) {
@@ -48,11 +46,9 @@ pub(crate) fn push_death<Q: WaitList, A: Allocator + Copy>(
     c: ClientId,
 )
     requires ready { IsReadyFor state.old (entry.Death c) }
-    requires queued { IsQueued (past state.old)
-        (Q.queue queues.old) (Q.admitted queues.old) (Q.made queues.old) }
+    requires queued { IsQueued (past state.old) (Q.seen queues.old) }
     ensures adds { Adds state.old (entry.Death c) state.new }
-    ensures queued { IsQueued (past state.new)
-        (Q.queue queues.new) (Q.admitted queues.new) (Q.made queues.new) }
+    ensures queued { IsQueued (past state.new) (Q.seen queues.new) }
 {
     queues.remove(c);
     queues.dismiss(c);

@@ -42,11 +42,9 @@ pub(crate) fn push_moment<Q: WaitList, A: Allocator + Copy>(
     moment: Moment,
 )
     requires ready { IsReadyFor state.old (entry_is.Moment clock moment) }
-    requires queued { IsQueued (past state.old)
-        (Q.queue queues.old) (Q.admitted queues.old) (Q.made queues.old) }
+    requires queued { IsQueued (past state.old) (Q.seen queues.old) }
     ensures adds { Adds state.old (entry_is.Moment clock moment) state.new }
-    ensures queued { IsQueued (past state.new)
-        (Q.queue queues.new) (Q.admitted queues.new) (Q.made queues.new) }
+    ensures queued { IsQueued (past state.new) (Q.seen queues.new) }
 {
     state.push_moment(clock, moment);
 }
@@ -119,16 +117,14 @@ fn push_timed<Q: WaitList, A: Allocator + Copy>(
     deadline: Deadline,
 ) -> Result<(), Refusal>
     requires ready { IsReadyFor state.old (entry_is.Call c call.now None) }
-    requires queued { IsQueued (past state.old)
-        (Q.queue queues.old) (Q.admitted queues.old) (Q.made queues.old) }
+    requires queued { IsQueued (past state.old) (Q.seen queues.old) }
     requires timed { AreTimed (past state.old) timers.old }
     requires deadline { asked (operation call.now) ≡ Some deadline }
     requires good { is_bad_deadline deadline ≡ false }
     ensures ok { OnOk result (Adds state.old (entry_is.Call c call.now None) state.new) }
     ensures err { OnErr result (Stays state.old state.new) }
     ensures reason { IfErr result (λ refusal. refusal ≡ Refusal.Enomem) }
-    ensures queued { IsQueued (past state.new)
-        (Q.queue queues.new) (Q.admitted queues.new) (Q.made queues.new) }
+    ensures queued { IsQueued (past state.new) (Q.seen queues.new) }
     ensures timed { AreTimed (past state.new) timers.new }
 {
     let place = state.stored.len();
@@ -154,15 +150,13 @@ pub(crate) fn push_left<Q: WaitList, A: Allocator + Copy>(
     call: &Call,
 ) -> Result<(), Refusal>
     requires ready { IsReadyFor state.old (entry_is.Call c call.now None) }
-    requires queued { IsQueued (past state.old)
-        (Q.queue queues.old) (Q.admitted queues.old) (Q.made queues.old) }
+    requires queued { IsQueued (past state.old) (Q.seen queues.old) }
     requires timed { AreTimed (past state.old) timers.old }
     ensures ok { OnOk result (Adds state.old (entry_is.Call c call.now None) state.new) }
     ensures err { OnErr result (Stays state.old state.new) }
     ensures reason { IfErr result (λ refusal. refusal ≡ Refusal.Enomem) }
     ensures enough { needs_memory_to_wait (operation call.now) ≡ false → IsOk result }
-    ensures queued { IsQueued (past state.new)
-        (Q.queue queues.new) (Q.admitted queues.new) (Q.made queues.new) }
+    ensures queued { IsQueued (past state.new) (Q.seen queues.new) }
     ensures timed { AreTimed (past state.new) timers.new }
 {
     match good_deadline(call) {
@@ -192,15 +186,13 @@ pub(crate) fn push_answered<Q: WaitList, A: Allocator + Copy>(
     answer: Outcome,
 ) -> Result<(), Refusal>
     requires ready { IsReadyFor state.old (entry_is.Call c call.now (Some answer)) }
-    requires queued { IsQueued (past state.old)
-        (Q.queue queues.old) (Q.admitted queues.old) (Q.made queues.old) }
+    requires queued { IsQueued (past state.old) (Q.seen queues.old) }
     requires timed { AreTimed (past state.old) timers.old }
     ensures ok { OnOk result (Adds state.old (entry_is.Call c call.now (Some answer)) state.new) }
     ensures err { OnErr result (Stays state.old state.new) }
     ensures reason { IfErr result (λ refusal. refusal ≡ Refusal.Enomem) }
     ensures enough { makes_object (operation call.now) ≡ false → IsOk result }
-    ensures queued { IsQueued (past state.new)
-        (Q.queue queues.new) (Q.admitted queues.new) (Q.made queues.new) }
+    ensures queued { IsQueued (past state.new) (Q.seen queues.new) }
     ensures timed { AreTimed (past state.new) timers.new }
 {
     let place = state.stored.len();
@@ -219,12 +211,10 @@ pub(crate) fn push_death<Q: WaitList, A: Allocator + Copy>(
     c: ClientId,
 )
     requires ready { IsReadyFor state.old (entry_is.Death c) }
-    requires queued { IsQueued (past state.old)
-        (Q.queue queues.old) (Q.admitted queues.old) (Q.made queues.old) }
+    requires queued { IsQueued (past state.old) (Q.seen queues.old) }
     requires timed { AreTimed (past state.old) timers.old }
     ensures adds { Adds state.old (entry_is.Death c) state.new }
-    ensures queued { IsQueued (past state.new)
-        (Q.queue queues.new) (Q.admitted queues.new) (Q.made queues.new) }
+    ensures queued { IsQueued (past state.new) (Q.seen queues.new) }
     ensures timed { AreTimed (past state.new) timers.new }
 {
     let open = state.open_place(c);
@@ -243,16 +233,14 @@ pub(crate) fn push_outer<Q: WaitList, A: Allocator + Copy>(
     entry: &Entry,
 ) -> Result<(), Refusal>
     requires ready { IsReadyFor state.old entry.now }
-    requires queued { IsQueued (past state.old)
-        (Q.queue queues.old) (Q.admitted queues.old) (Q.made queues.old) }
+    requires queued { IsQueued (past state.old) (Q.seen queues.old) }
     requires timed { AreTimed (past state.old) timers.old }
     requires outer { is_forced entry.now ≡ false }
     ensures ok { OnOk result (Adds state.old entry.now state.new) }
     ensures err { OnErr result (Stays state.old state.new) }
     ensures reason { IfErr result (λ refusal. refusal ≡ Refusal.Enomem) }
     ensures enough { needs_memory entry.now ≡ false → IsOk result }
-    ensures queued { IsQueued (past state.new)
-        (Q.queue queues.new) (Q.admitted queues.new) (Q.made queues.new) }
+    ensures queued { IsQueued (past state.new) (Q.seen queues.new) }
     ensures timed { AreTimed (past state.new) timers.new }
 {
     match entry {
@@ -282,13 +270,11 @@ pub(crate) fn push_forced<Q: WaitList, A: Allocator + Copy>(
     forced: &Forced,
 )
     requires ready { IsReadyFor state.old (entry_of (past state.old) forced.now) }
-    requires queued { IsQueued (past state.old)
-        (Q.queue queues.old) (Q.admitted queues.old) (Q.made queues.old) }
+    requires queued { IsQueued (past state.old) (Q.seen queues.old) }
     requires timed { AreTimed (past state.old) timers.old }
     requires known { IsFor (opens_of state.old.clients) forced.now }
     ensures adds { Adds state.old (entry_of (past state.old) forced.now) state.new }
-    ensures queued { IsQueued (past state.new)
-        (Q.queue queues.new) (Q.admitted queues.new) (Q.made queues.new) }
+    ensures queued { IsQueued (past state.new) (Q.seen queues.new) }
     ensures timed { AreTimed (past state.new) timers.new }
 {
     match forced {

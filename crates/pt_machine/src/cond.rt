@@ -43,15 +43,13 @@ fn push_wake<Q: WaitList, A: Allocator + Copy>(
     first: Open,
 )
     requires ready { IsReadyFor state.old (entry.Call c call.now (Some told.Done)) }
-    requires queued { IsQueued (past state.old)
-        (Q.queue queues.old) (Q.admitted queues.old) (Q.made queues.old) }
+    requires queued { IsQueued (past state.old) (Q.seen queues.old) }
     requires operation { operation call.now ≡ Signals n.now }
     requires first { Some (called first)
         ≡ least (precedes_by (moved (past state.old)))
         (cond_waits (past state.old) (moved (past state.old)) n.now) }
     ensures adds { Adds state.old (entry.Call c call.now (Some told.Done)) state.new }
-    ensures queued { IsQueued (past state.new)
-        (Q.queue queues.new) (Q.admitted queues.new) (Q.made queues.new) }
+    ensures queued { IsQueued (past state.new) (Q.seen queues.new) }
 {
     let woken = ClientId(first.call.client);
     state.push_woken(c, call, n, Some(first));
@@ -68,12 +66,10 @@ pub(crate) fn push_signal<Q: WaitList, A: Allocator + Copy>(
     n: &Name,
 )
     requires ready { IsReadyFor state.old (entry.Call c call.now (Some told.Done)) }
-    requires queued { IsQueued (past state.old)
-        (Q.queue queues.old) (Q.admitted queues.old) (Q.made queues.old) }
+    requires queued { IsQueued (past state.old) (Q.seen queues.old) }
     requires operation { operation call.now ≡ Signals n.now }
     ensures adds { Adds state.old (entry.Call c call.now (Some told.Done)) state.new }
-    ensures queued { IsQueued (past state.new)
-        (Q.queue queues.new) (Q.admitted queues.new) (Q.made queues.new) }
+    ensures queued { IsQueued (past state.new) (Q.seen queues.new) }
 {
     let q = state.find(n, ObjectClass::Cond).unwrap();
     match first_waiting(queues, state, q) {
@@ -91,12 +87,10 @@ pub(crate) fn push_broadcast<Q: WaitList, A: Allocator + Copy>(
     n: &Name,
 )
     requires ready { IsReadyFor state.old (entry.Call c call.now (Some told.Done)) }
-    requires queued { IsQueued (past state.old)
-        (Q.queue queues.old) (Q.admitted queues.old) (Q.made queues.old) }
+    requires queued { IsQueued (past state.old) (Q.seen queues.old) }
     requires operation { operation call.now ≡ Broadcasts n.now }
     ensures adds { Adds state.old (entry.Call c call.now (Some told.Done)) state.new }
-    ensures queued { IsQueued (past state.new)
-        (Q.queue queues.new) (Q.admitted queues.new) (Q.made queues.new) }
+    ensures queued { IsQueued (past state.new) (Q.seen queues.new) }
 {
     let q = state.find(n, ObjectClass::Cond).unwrap();
     state.push_broadcast(c, call, n);
@@ -113,13 +107,11 @@ pub(crate) fn push_late_wait<Q: WaitList, A: Allocator + Copy>(
     found: &Open,
 )
     requires ready { IsReadyFor state.old (entry.Expire found.now.call.place) }
-    requires queued { IsQueued (past state.old)
-        (Q.queue queues.old) (Q.admitted queues.old) (Q.made queues.old) }
+    requires queued { IsQueued (past state.old) (Q.seen queues.old) }
     requires known { In found.now (opens_of state.old.clients) }
     requires wait { is_wait_role (called found.now).role ≡ true }
     ensures adds { Adds state.old (entry.Expire found.now.call.place) state.new }
-    ensures queued { IsQueued (past state.new)
-        (Q.queue queues.new) (Q.admitted queues.new) (Q.made queues.new) }
+    ensures queued { IsQueued (past state.new) (Q.seen queues.new) }
 {
     let late = ClientId(found.call.client);
     state.push_expire(found);
@@ -134,8 +126,7 @@ pub(crate) fn first_waiting<Q: WaitList, A: Allocator + Copy>(
     q: ObjectId,
 ) -> Option<Open>
     requires read { AreTables state.now }
-    requires queued { IsQueued (past state.now)
-        (Q.queue queues.now) (Q.admitted queues.now) (Q.made queues.now) }
+    requires queued { IsQueued (past state.now) (Q.seen queues.now) }
     requires cond { kind_of (past state.now) q ≡ Some kind.Cond }
     ensures value { option_map called result
         ≡ least (precedes (past state.now))
@@ -200,10 +191,10 @@ impl<Q: WaitList, A: Allocator + Copy> Body<Q, A> {
         let Some(q) = self.state.find(n, ObjectClass::Cond) else {
             return Verdict::Reply(Outcome::Einval);
         };
-        let Some((m, kept)) = self.state.mutex_named(k) else {
+        let Some((m, mutex)) = self.state.mutex_named(k) else {
             return Verdict::Reply(Outcome::Einval);
         };
-        let owns = kept.is_owned_by(c);
+        let owns = mutex.is_owned_by(c);
         self.condition(q).verdict_wait(m, owns, deadline)
     }
 

@@ -31,13 +31,11 @@ fn push_granted<Q: WaitList, A: Allocator + Copy>(
     found: &Open,
 )
     requires ready { IsReadyFor state.old (service (past state.old) (called found.now)) }
-    requires queued { IsQueued (past state.old)
-        (Q.queue queues.old) (Q.admitted queues.old) (Q.made queues.old) }
+    requires queued { IsQueued (past state.old) (Q.seen queues.old) }
     requires known { In found.now (opens_of state.old.clients) }
     requires other { is_arrival_role (called found.now).role ≡ false }
     ensures adds { Adds state.old (service (past state.old) (called found.now)) state.new }
-    ensures queued { IsQueued (past state.new)
-        (Q.queue queues.new) (Q.admitted queues.new) (Q.made queues.new) }
+    ensures queued { IsQueued (past state.new) (Q.seen queues.new) }
 {
     state.push_served(found);
     queues.remove(ClientId(found.call.client));
@@ -50,12 +48,10 @@ pub(crate) fn push_served<Q: WaitList, A: Allocator + Copy>(
     found: &Open,
 )
     requires ready { IsReadyFor state.old (service (past state.old) (called found.now)) }
-    requires queued { IsQueued (past state.old)
-        (Q.queue queues.old) (Q.admitted queues.old) (Q.made queues.old) }
+    requires queued { IsQueued (past state.old) (Q.seen queues.old) }
     requires known { In found.now (opens_of state.old.clients) }
     ensures adds { Adds state.old (service (past state.old) (called found.now)) state.new }
-    ensures queued { IsQueued (past state.new)
-        (Q.queue queues.new) (Q.admitted queues.new) (Q.made queues.new) }
+    ensures queued { IsQueued (past state.new) (Q.seen queues.new) }
 {
     if is_arrival(found.call.role) {
         push_tripped(state, queues, found);
@@ -71,13 +67,11 @@ fn push_late_lock<Q: WaitList, A: Allocator + Copy>(
     found: &Open,
 )
     requires ready { IsReadyFor state.old (entry.Expire found.now.call.place) }
-    requires queued { IsQueued (past state.old)
-        (Q.queue queues.old) (Q.admitted queues.old) (Q.made queues.old) }
+    requires queued { IsQueued (past state.old) (Q.seen queues.old) }
     requires known { In found.now (opens_of state.old.clients) }
     requires other { is_wait_role (called found.now).role ≡ false }
     ensures adds { Adds state.old (entry.Expire found.now.call.place) state.new }
-    ensures queued { IsQueued (past state.new)
-        (Q.queue queues.new) (Q.admitted queues.new) (Q.made queues.new) }
+    ensures queued { IsQueued (past state.new) (Q.seen queues.new) }
 {
     state.push_expire(found);
     queues.remove(ClientId(found.call.client));
@@ -90,12 +84,10 @@ pub(crate) fn push_expire<Q: WaitList, A: Allocator + Copy>(
     found: &Open,
 )
     requires ready { IsReadyFor state.old (entry.Expire found.now.call.place) }
-    requires queued { IsQueued (past state.old)
-        (Q.queue queues.old) (Q.admitted queues.old) (Q.made queues.old) }
+    requires queued { IsQueued (past state.old) (Q.seen queues.old) }
     requires known { In found.now (opens_of state.old.clients) }
     ensures adds { Adds state.old (entry.Expire found.now.call.place) state.new }
-    ensures queued { IsQueued (past state.new)
-        (Q.queue queues.new) (Q.admitted queues.new) (Q.made queues.new) }
+    ensures queued { IsQueued (past state.new) (Q.seen queues.new) }
 {
     if is_wait(found.call.role) {
         push_late_wait(state, queues, found);
@@ -112,12 +104,10 @@ pub(crate) fn push_forced<Q: WaitList, A: Allocator + Copy>(
     forced: &Forced,
 )
     requires ready { IsReadyFor state.old (entry_of (past state.old) forced.now) }
-    requires queued { IsQueued (past state.old)
-        (Q.queue queues.old) (Q.admitted queues.old) (Q.made queues.old) }
+    requires queued { IsQueued (past state.old) (Q.seen queues.old) }
     requires known { IsFor (opens_of state.old.clients) forced.now }
     ensures adds { Adds state.old (entry_of (past state.old) forced.now) state.new }
-    ensures queued { IsQueued (past state.new)
-        (Q.queue queues.new) (Q.admitted queues.new) (Q.made queues.new) }
+    ensures queued { IsQueued (past state.new) (Q.seen queues.new) }
 {
     match forced {
         Forced::Serve(found) => push_served(state, queues, found),

@@ -30,14 +30,12 @@ pub(crate) fn push_made<Q: WaitList, A: Allocator + Copy>(
     kind: ObjectKind,
 ) -> Result<(), Refusal>
     requires ready { IsReadyFor state.old (entry.Call c call.now (Some told.Done)) }
-    requires queued { IsQueued (past state.old)
-        (Q.queue queues.old) (Q.admitted queues.old) (Q.made queues.old) }
+    requires queued { IsQueued (past state.old) (Q.seen queues.old) }
     requires operation { operation call.now ≡ Makes n.now kind }
     ensures ok { OnOk result (Adds state.old (entry.Call c call.now (Some told.Done)) state.new) }
     ensures err { OnErr result (Stays state.old state.new) }
     ensures reason { IfErr result (λ refusal. refusal ≡ Refusal.Enomem) }
-    ensures queued { IsQueued (past state.new)
-        (Q.queue queues.new) (Q.admitted queues.new) (Q.made queues.new) }
+    ensures queued { IsQueued (past state.new) (Q.seen queues.new) }
 {
     let o = ObjectId(state.stored.len());
     if let Err(refusal) = queues.make(o) {
@@ -62,12 +60,10 @@ pub(crate) fn push_ended<Q: WaitList, A: Allocator + Copy>(
     class: ObjectClass,
 )
     requires ready { IsReadyFor state.old (entry.Call c call.now (Some told.Done)) }
-    requires queued { IsQueued (past state.old)
-        (Q.queue queues.old) (Q.admitted queues.old) (Q.made queues.old) }
+    requires queued { IsQueued (past state.old) (Q.seen queues.old) }
     requires operation { operation call.now ≡ Ends n.now class }
     ensures adds { Adds state.old (entry.Call c call.now (Some told.Done)) state.new }
-    ensures queued { IsQueued (past state.new)
-        (Q.queue queues.new) (Q.admitted queues.new) (Q.made queues.new) }
+    ensures queued { IsQueued (past state.new) (Q.seen queues.new) }
 {
     let o = state.find(n, class).unwrap();
     queues.discard(o);

@@ -47,16 +47,15 @@ pub(crate) fn take_place<Q: WaitList, A: Allocator + Copy>(
     c: ClientId,
 )
     requires read { AreTables state.now }
-    requires ready { CanStand (past state.now) c
-        (Q.queue queues.old) (Q.admitted queues.old) (Q.made queues.old) }
+    requires ready { CanStand (past state.now) c (Q.seen queues.old) }
     ensures queues { (w : WaitingCall) → In w (open_calls (past state.now)) → w.client ≡ c
         → (q : ℕ)
-        → Q.queue queues.new q
+        → (Q.seen queues.new).queue q
         ≡ (if at_object (past state.now) w == q
-        then insert_in_order (waiter (past state.now) w) (Q.queue queues.old q)
-        else Q.queue queues.old q) }
-    ensures admitted { (d : ℕ) → Q.admitted queues.new d ≡ Q.admitted queues.old d }
-    ensures made { (o : ℕ) → Q.made queues.new o ≡ Q.made queues.old o }
+        then insert_in_order (waiter (past state.now) w) ((Q.seen queues.old).queue q)
+        else (Q.seen queues.old).queue q) }
+    ensures admitted { (d : ℕ) → (Q.seen queues.new).admitted d ≡ (Q.seen queues.old).admitted d }
+    ensures made { (o : ℕ) → (Q.seen queues.new).made o ≡ (Q.seen queues.old).made o }
 {
     if let Some(open) = state.open_of(c) {
         if let Some(prio) = state.priority(c) {
@@ -68,9 +67,9 @@ pub(crate) fn take_place<Q: WaitList, A: Allocator + Copy>(
 /// All calls leave a queue.  [XSH pthread_barrier_wait]
 pub(crate) fn clear<Q: WaitList>(queues: &mut Q, object: ObjectId)
     ensures queues { (q : ℕ)
-        → Q.queue queues.new q ≡ (if object == q then [] else Q.queue queues.old q) }
-    ensures admitted { (c : ℕ) → Q.admitted queues.new c ≡ Q.admitted queues.old c }
-    ensures made { (o : ℕ) → Q.made queues.new o ≡ Q.made queues.old o }
+        → (Q.seen queues.new).queue q ≡ (if object == q then [] else (Q.seen queues.old).queue q) }
+    ensures admitted { (c : ℕ) → (Q.seen queues.new).admitted c ≡ (Q.seen queues.old).admitted c }
+    ensures made { (o : ℕ) → (Q.seen queues.new).made o ≡ (Q.seen queues.old).made o }
 {
     while let Some(first) = queues.first(object) {
         queues.remove(first.client);

@@ -2,7 +2,7 @@
 use Rattle.std.proofs.Common.{ℕ, ◌≡◌, ◌<◌, ◌+◌, Bool, List, sym, subst, arith, ◌∙◌}
 use Rattle.std.specs.List.{AllByRecursion as Each}
 use Rattle.pt_waitq.specs.declared.waiter.Waiter.{Waiter}
-use Rattle.pt_waitq.specs.Queues.{without}
+use Rattle.pt_waitq.specs.Queues.{queues_of, without}
 use Rattle.pt_waitq.specs.ListLemmas.{Each-weaker}
 use Rattle.pt_waitq.proofs.CallerLemmas.{without-each}
 use Rattle.pt_parts_tests.specs.Playing.{IsInPlay}
@@ -16,9 +16,9 @@ later n ws a =
 
 -- a change after which all who wait came before the next place
 pub plays : (before after : ℕ → List Waiter) (admitted admits made makes : ℕ → Bool) (n : ℕ)
-    → IsInPlay before admitted made n → ((c : ℕ) → admits c ≡ admitted c)
+    → IsInPlay (queues_of before admitted made) n → ((c : ℕ) → admits c ≡ admitted c)
     → ((q : ℕ) → makes q ≡ made q) → ((q : ℕ) → Each (λ v. v.moved < n + 1) (after q))
-    → IsInPlay after admits makes (n + 1)
+    → IsInPlay (queues_of after admits makes) (n + 1)
 plays before after admitted admits made makes n p a m e =
     record {
       clients = λ c lt. a c ∙ p.clients c lt;
@@ -28,9 +28,9 @@ plays before after admitted admits made makes n p a m e =
 
 -- a change that leaves the queues as they are
 pub plays-same : (before after : ℕ → List Waiter) (admitted admits made makes : ℕ → Bool) (n : ℕ)
-    → IsInPlay before admitted made n → ((c : ℕ) → admits c ≡ admitted c)
+    → IsInPlay (queues_of before admitted made) n → ((c : ℕ) → admits c ≡ admitted c)
     → ((q : ℕ) → makes q ≡ made q) → ((q : ℕ) → after q ≡ before q)
-    → IsInPlay after admits makes (n + 1)
+    → IsInPlay (queues_of after admits makes) (n + 1)
 plays-same before after admitted admits made makes n p a m e =
     plays before after admitted admits made makes n p a m (λ q.
     subst (λ (ws : List Waiter). Each (λ v. v.moved < n + 1) ws) (sym (e q))
@@ -38,9 +38,9 @@ plays-same before after admitted admits made makes n p a m e =
 
 -- a change that takes a client's waiters out
 pub plays-without : (before after : ℕ → List Waiter) (admitted admits made makes : ℕ → Bool)
-    (client n : ℕ) → IsInPlay before admitted made n → ((c : ℕ) → admits c ≡ admitted c)
+    (client n : ℕ) → IsInPlay (queues_of before admitted made) n → ((c : ℕ) → admits c ≡ admitted c)
     → ((q : ℕ) → makes q ≡ made q) → ((q : ℕ) → after q ≡ without client (before q))
-    → IsInPlay after admits makes (n + 1)
+    → IsInPlay (queues_of after admits makes) (n + 1)
 plays-without before after admitted admits made makes client n p a m e =
     plays before after admitted admits made makes n p a m (λ q.
     subst (λ (ws : List Waiter). Each (λ v. v.moved < n + 1) ws) (sym (e q))

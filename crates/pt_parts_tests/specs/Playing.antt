@@ -1,7 +1,7 @@
 -- Playing: lists of waiters on which each drawn call may be made.
-use Rattle.std.specs.Prelude.{ℕ, ◌≡◌, ◌<◌, Bool, true, List}
+use Rattle.std.specs.Prelude.{ℕ, ◌≡◌, ◌<◌, true}
 use Rattle.std.specs.List.{AllByRecursion as Each}
-use Rattle.pt_waitq.specs.declared.waiter.Waiter.{Waiter}
+use Rattle.pt_waitq.specs.Queues.{QueuesView}
 
 -- how many clients are admitted, and how many queues are made
 abbrev pub clients_in_play : ℕ
@@ -11,7 +11,7 @@ abbrev pub queues_in_play : ℕ
 queues_in_play = 2
 
 -- the clients are admitted, the queues are made, and all who wait came before this place
-pub record IsInPlay (queue : ℕ → List Waiter) (admitted made : ℕ → Bool) (place : ℕ) : Type 0 where
-  pub clients : (c : ℕ) → c < clients_in_play → admitted c ≡ true
-  pub queues : (q : ℕ) → q < queues_in_play → made q ≡ true
-  pub earlier : (q : ℕ) → Each (λ v. v.moved < place) (queue q)
+pub record IsInPlay (v : QueuesView) (place : ℕ) : Type 0 where
+  pub clients : (c : ℕ) → c < clients_in_play → v.admitted c ≡ true
+  pub queues : (q : ℕ) → q < queues_in_play → v.made q ≡ true
+  pub earlier : (q : ℕ) → Each (λ w. w.moved < place) (v.queue q)

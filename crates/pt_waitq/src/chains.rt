@@ -56,14 +56,10 @@ impl<A: Allocator + Copy> Chains<A> {
 }
 
 impl<A: Allocator + Copy> WaitList for Chains<A> {
-    ghost use Rattle.pt_waitq.specs.Waits.{queue_in, is_admitted, is_made};
+    ghost use Rattle.pt_waitq.specs.Waits.{seen_in};
     ghost use Rattle.pt_waitq.specs.WaitLaws.{in_order, once, one_queue, admits, makes};
 
-    ghost queue = { queue_in };
-
-    ghost admitted = { is_admitted };
-
-    ghost made = { is_made };
+    ghost seen = { seen_in };
 
     ghost in_order = { in_order };
 

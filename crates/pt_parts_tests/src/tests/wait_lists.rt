@@ -95,12 +95,12 @@ impl Draws {
 
 // Puts a waiter in, unless its client waits.
 fn insert<W: WaitList>(list: &mut W, object: ObjectId, waiter: Waiter)
-    requires admitted { W.admitted list.old waiter.client ≡ true }
-    requires made { W.made list.old object ≡ true }
-    requires earlier { (q : ℕ) → Each (λ v. v.moved < waiter.moved) (W.queue list.old q) }
-    ensures admitted { (c : ℕ) → W.admitted list.new c ≡ W.admitted list.old c }
-    ensures made { (q : ℕ) → W.made list.new q ≡ W.made list.old q }
-    ensures earlier { (q : ℕ) → Each (λ v. v.moved < waiter.moved + 1) (W.queue list.new q) }
+    requires admitted { (W.seen list.old).admitted waiter.client ≡ true }
+    requires made { (W.seen list.old).made object ≡ true }
+    requires earlier { (q : ℕ) → Each (λ v. v.moved < waiter.moved) ((W.seen list.old).queue q) }
+    ensures admitted { (c : ℕ) → (W.seen list.new).admitted c ≡ (W.seen list.old).admitted c }
+    ensures made { (q : ℕ) → (W.seen list.new).made q ≡ (W.seen list.old).made q }
+    ensures earlier { (q : ℕ) → Each (λ v. v.moved < waiter.moved + 1) ((W.seen list.new).queue q) }
 {
     if list.at(waiter.client).is_some() {
         return;
@@ -110,11 +110,12 @@ fn insert<W: WaitList>(list: &mut W, object: ObjectId, waiter: Waiter)
 
 // Gives the room of two clients back and makes room for both, unless one of them waits.
 fn admit_again<W: WaitList>(list: &mut W, one: ClientId, other: ClientId) -> Result<(), Refusal>
-    requires one { W.admitted list.old one ≡ true }
-    requires other { W.admitted list.old other ≡ true }
-    ensures admitted { OnOk result ((c : ℕ) → W.admitted list.new c ≡ W.admitted list.old c) }
-    ensures made { (q : ℕ) → W.made list.new q ≡ W.made list.old q }
-    ensures queues { (q : ℕ) → W.queue list.new q ≡ W.queue list.old q }
+    requires one { (W.seen list.old).admitted one ≡ true }
+    requires other { (W.seen list.old).admitted other ≡ true }
+    ensures admitted { OnOk result ((c : ℕ)
+        → (W.seen list.new).admitted c ≡ (W.seen list.old).admitted c) }
+    ensures made { (q : ℕ) → (W.seen list.new).made q ≡ (W.seen list.old).made q }
+    ensures queues { (q : ℕ) → (W.seen list.new).queue q ≡ (W.seen list.old).queue q }
 {
     if one == other || list.at(one).is_some() || list.at(other).is_some() {
         return Ok(());
@@ -127,10 +128,10 @@ fn admit_again<W: WaitList>(list: &mut W, one: ClientId, other: ClientId) -> Res
 
 // Takes a queue away and makes it, unless one waits there.
 fn make_again<W: WaitList>(list: &mut W, object: ObjectId) -> Result<(), Refusal>
-    requires { W.made list.old object ≡ true }
-    ensures admitted { (c : ℕ) → W.admitted list.new c ≡ W.admitted list.old c }
-    ensures made { OnOk result ((q : ℕ) → W.made list.new q ≡ W.made list.old q) }
-    ensures queues { (q : ℕ) → W.queue list.new q ≡ W.queue list.old q }
+    requires { (W.seen list.old).made object ≡ true }
+    ensures admitted { (c : ℕ) → (W.seen list.new).admitted c ≡ (W.seen list.old).admitted c }
+    ensures made { OnOk result ((q : ℕ) → (W.seen list.new).made q ≡ (W.seen list.old).made q) }
+    ensures queues { (q : ℕ) → (W.seen list.new).queue q ≡ (W.seen list.old).queue q }
 {
     if list.len(object) != 0 {
         return Ok(());
@@ -155,9 +156,8 @@ fn play<W: WaitList>(
     step: &Step,
     place: u64,
 ) -> Result<Option<(ObjectId, Waiter)>, Refusal>
-    requires { IsInPlay (W.queue list.old) (W.admitted list.old) (W.made list.old) place }
-    ensures { OnOk result
-        (IsInPlay (W.queue list.new) (W.admitted list.new) (W.made list.new) (place + 1)) }
+    requires { IsInPlay (W.seen list.old) place }
+    ensures { OnOk result (IsInPlay (W.seen list.new) (place + 1)) }
 {
     let client = ClientId(step.client);
     let object = ObjectId(step.object);
@@ -220,13 +220,10 @@ fn play_on_both<P: WaitList, C: WaitList>(
     step: &Step,
     place: u64,
 ) -> Result<(), &'static str>
-    requires plain { IsInPlay (P.queue plain.old) (P.admitted plain.old) (P.made plain.old) place }
-    requires chains { IsInPlay (C.queue chains.old) (C.admitted chains.old) (C.made chains.old)
-        place }
-    ensures plain { OnOk result
-        (IsInPlay (P.queue plain.new) (P.admitted plain.new) (P.made plain.new) (place + 1)) }
-    ensures chains { OnOk result
-        (IsInPlay (C.queue chains.new) (C.admitted chains.new) (C.made chains.new) (place + 1)) }
+    requires plain { IsInPlay (P.seen plain.old) place }
+    requires chains { IsInPlay (C.seen chains.old) place }
+    ensures plain { OnOk result (IsInPlay (P.seen plain.new) (place + 1)) }
+    ensures chains { OnOk result (IsInPlay (C.seen chains.new) (place + 1)) }
 {
     let of_plain = play(plain, step, place).ok().ok_or("memory")?;
     let of_chains = play(chains, step, place).ok().ok_or("memory")?;
@@ -240,11 +237,11 @@ fn play_on_both<P: WaitList, C: WaitList>(
 }
 
 fn admit_all<W: WaitList>(list: &mut W) -> Result<(), Refusal>
-    requires { (c : ℕ) → W.admitted list.old c ≡ false }
+    requires { (c : ℕ) → (W.seen list.old).admitted c ≡ false }
     ensures admitted { OnOk result ((c : ℕ)
-        → c < clients_in_play → W.admitted list.new c ≡ true) }
-    ensures made { (q : ℕ) → W.made list.new q ≡ W.made list.old q }
-    ensures queues { (q : ℕ) → W.queue list.new q ≡ W.queue list.old q }
+        → c < clients_in_play → (W.seen list.new).admitted c ≡ true) }
+    ensures made { (q : ℕ) → (W.seen list.new).made q ≡ (W.seen list.old).made q }
+    ensures queues { (q : ℕ) → (W.seen list.new).queue q ≡ (W.seen list.old).queue q }
 {
     for number in 0..CLIENTS {
         list.admit(ClientId(number))?;
@@ -253,10 +250,10 @@ fn admit_all<W: WaitList>(list: &mut W) -> Result<(), Refusal>
 }
 
 fn make_all<W: WaitList>(list: &mut W) -> Result<(), Refusal>
-    requires { (q : ℕ) → W.made list.old q ≡ false }
-    ensures made { OnOk result ((q : ℕ) → q < queues_in_play → W.made list.new q ≡ true) }
-    ensures admitted { (c : ℕ) → W.admitted list.new c ≡ W.admitted list.old c }
-    ensures queues { (q : ℕ) → W.queue list.new q ≡ W.queue list.old q }
+    requires { (q : ℕ) → (W.seen list.old).made q ≡ false }
+    ensures made { OnOk result ((q : ℕ) → q < queues_in_play → (W.seen list.new).made q ≡ true) }
+    ensures admitted { (c : ℕ) → (W.seen list.new).admitted c ≡ (W.seen list.old).admitted c }
+    ensures queues { (q : ℕ) → (W.seen list.new).queue q ≡ (W.seen list.old).queue q }
 {
     list.make(ObjectId(0))?;
     list.make(ObjectId(1))
@@ -264,11 +261,10 @@ fn make_all<W: WaitList>(list: &mut W) -> Result<(), Refusal>
 
 // Brings an empty list into play.
 fn begin<W: WaitList>(list: &mut W) -> Result<(), &'static str>
-    requires clients { (c : ℕ) → W.admitted list.old c ≡ false }
-    requires unmade { (q : ℕ) → W.made list.old q ≡ false }
-    requires empty { (q : ℕ) → W.queue list.old q ≡ [] }
-    ensures { OnOk result
-        (IsInPlay (W.queue list.new) (W.admitted list.new) (W.made list.new) 0) }
+    requires clients { (c : ℕ) → (W.seen list.old).admitted c ≡ false }
+    requires unmade { (q : ℕ) → (W.seen list.old).made q ≡ false }
+    requires empty { (q : ℕ) → (W.seen list.old).queue q ≡ [] }
+    ensures { OnOk result (IsInPlay (W.seen list.new) 0) }
 {
     admit_all(list).ok().ok_or("clients")?;
     make_all(list).ok().ok_or("queues")
@@ -293,12 +289,10 @@ fn play_one_chain<P: WaitList, C: WaitList>(
     plain: &mut P,
     chains: &mut C,
 ) -> Result<(), &'static str>
-    requires plain { IsInPlay (P.queue plain.old) (P.admitted plain.old) (P.made plain.old) 0 }
-    requires chains { IsInPlay (C.queue chains.old) (C.admitted chains.old) (C.made chains.old) 0 }
-    ensures plain { OnOk result
-        (IsInPlay (P.queue plain.new) (P.admitted plain.new) (P.made plain.new) 10) }
-    ensures chains { OnOk result
-        (IsInPlay (C.queue chains.new) (C.admitted chains.new) (C.made chains.new) 10) }
+    requires plain { IsInPlay (P.seen plain.old) 0 }
+    requires chains { IsInPlay (C.seen chains.old) 0 }
+    ensures plain { OnOk result (IsInPlay (P.seen plain.new) 10) }
+    ensures chains { OnOk result (IsInPlay (C.seen chains.new) 10) }
 {
     let prio = priority(50);
     for place in 0..10 {
@@ -318,9 +312,8 @@ fn play_one_chain<P: WaitList, C: WaitList>(
 
 // The queues fill and empty in turn, 250 changes each.
 fn play_2000<P: WaitList, C: WaitList>(plain: &mut P, chains: &mut C) -> Result<(), &'static str>
-    requires plain { IsInPlay (P.queue plain.old) (P.admitted plain.old) (P.made plain.old) 10 }
-    requires chains { IsInPlay (C.queue chains.old) (C.admitted chains.old) (C.made chains.old)
-        10 }
+    requires plain { IsInPlay (P.seen plain.old) 10 }
+    requires chains { IsInPlay (C.seen chains.old) 10 }
 {
     let mut draws = Draws { last: 1 };
     for place in 10..2010 {
@@ -332,12 +325,12 @@ fn play_2000<P: WaitList, C: WaitList>(plain: &mut P, chains: &mut C) -> Result<
 }
 
 fn play_all<P: WaitList, C: WaitList>(plain: &mut P, chains: &mut C) -> Result<(), &'static str>
-    requires clients { (c : ℕ) → P.admitted plain.old c ≡ false }
-    requires unmade { (q : ℕ) → P.made plain.old q ≡ false }
-    requires empty { (q : ℕ) → P.queue plain.old q ≡ [] }
-    requires no_clients { (c : ℕ) → C.admitted chains.old c ≡ false }
-    requires no_queues { (q : ℕ) → C.made chains.old q ≡ false }
-    requires no_waiters { (q : ℕ) → C.queue chains.old q ≡ [] }
+    requires clients { (c : ℕ) → (P.seen plain.old).admitted c ≡ false }
+    requires unmade { (q : ℕ) → (P.seen plain.old).made q ≡ false }
+    requires empty { (q : ℕ) → (P.seen plain.old).queue q ≡ [] }
+    requires no_clients { (c : ℕ) → (C.seen chains.old).admitted c ≡ false }
+    requires no_queues { (q : ℕ) → (C.seen chains.old).made q ≡ false }
+    requires no_waiters { (q : ℕ) → (C.seen chains.old).queue q ≡ [] }
 {
     begin(plain)?;
     begin(chains)?;

@@ -12,7 +12,7 @@ returns-in_default g c =
       reason = tt;
       enough = λ small. refl;
       queued = told-queued c.args.state.now c.args.c c.args.call.now
-          (g.Q.WaitList.queue c.args.queues.now) (g.Q.WaitList.admitted c.args.queues.now)
-          (g.Q.WaitList.made c.args.queues.now) c.requires.queued c.push_told.new.self
+          (g.Q.WaitList.seen c.args.queues.now).queue (g.Q.WaitList.seen c.args.queues.now).admitted
+          (g.Q.WaitList.seen c.args.queues.now).made c.requires.queued c.push_told.new.self
           c.args.answer c.requires.ready other c.push_told.ensures;
     }

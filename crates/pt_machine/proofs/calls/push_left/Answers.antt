@@ -9,8 +9,8 @@ use Rattle.pt_machine.proofs.calls.push_left.Goals as goal
 pub take_place-requires-clause-ready : goal.take_place-requires-clause-ready
 take_place-requires-clause-ready g c =
     can-stand-left (past c.args.state.now) c.requires.ready.read.follows c.args.c
-    c.args.call.now c.requires.ready.step (g.Q.WaitList.queue c.args.queues.now)
-    (g.Q.WaitList.admitted c.args.queues.now) (g.Q.WaitList.made c.args.queues.now)
+    c.args.call.now c.requires.ready.step (g.Q.WaitList.seen c.args.queues.now).queue
+    (g.Q.WaitList.seen c.args.queues.now).admitted (g.Q.WaitList.seen c.args.queues.now).made
     c.requires.queued (past c.push_left.new.self)
     (past-adds c.args.state.now c.push_left.new.self
     (entry.Call c.args.c c.args.call.now None) c.in-Ok.ensures.ok)
@@ -19,12 +19,12 @@ take_place-requires-clause-ready g c =
 pub returns-in-Ok-clause-queued : goal.returns-in-Ok-clause-queued
 returns-in-Ok-clause-queued g c =
     queued-left (past c.args.state.now) c.requires.ready.read.follows c.args.c
-    c.args.call.now c.requires.ready.step (g.Q.WaitList.queue c.args.queues.now)
-    (g.Q.WaitList.admitted c.args.queues.now) (g.Q.WaitList.made c.args.queues.now)
+    c.args.call.now c.requires.ready.step (g.Q.WaitList.seen c.args.queues.now).queue
+    (g.Q.WaitList.seen c.args.queues.now).admitted (g.Q.WaitList.seen c.args.queues.now).made
     c.requires.queued (past c.push_left.new.self)
     (past-adds c.args.state.now c.push_left.new.self
     (entry.Call c.args.c c.args.call.now None) c.in-Ok.ensures.ok)
-    (g.Q.WaitList.queue c.take_place.new.queues)
-    (g.Q.WaitList.admitted c.take_place.new.queues)
-    (g.Q.WaitList.made c.take_place.new.queues)
+    (g.Q.WaitList.seen c.take_place.new.queues).queue
+    (g.Q.WaitList.seen c.take_place.new.queues).admitted
+    (g.Q.WaitList.seen c.take_place.new.queues).made
     c.take_place.ensures.queues c.take_place.ensures.admitted c.take_place.ensures.made

@@ -18,8 +18,8 @@ dismiss-requires-clause-nowhere g c =
     let s = c.args.state.now in
     let none = no-room-yet (past s) c.len.result _ _ _ c.requires.ready.read.follows
     (c.len.ensures ∙ sym (place_of_next s.stored)) c.requires.queued in
-    no-room-nowhere c.len.result (g.Q.WaitList.queue c.args.queues.now)
-    (g.Q.WaitList.queue c.admit.new.self) (g.Q.WaitList.admitted c.args.queues.now)
+    no-room-nowhere c.len.result (g.Q.WaitList.seen c.args.queues.now).queue
+    (g.Q.WaitList.seen c.admit.new.self).queue (g.Q.WaitList.seen c.args.queues.now).admitted
     (g.met.Q.WaitList.admits c.args.queues.now c.len.result) none c.in_default.ensures.queues
 
 pub returns-in-Ok-clause-queued : goal.returns-in-Ok-clause-queued

@@ -7,7 +7,7 @@ use Rattle.pt_machine.proofs.cond.first_waiting.Goals as goal
 pub returns-in-Some-clause-value : goal.returns-in-Some-clause-value
 returns-in-Some-clause-value g c =
     let s = c.args.state.now in
-    first-called (past s) (g.Q.WaitList.queue c.args.queues.now) c.requires.queued.members
+    first-called (past s) (g.Q.WaitList.seen c.args.queues.now).queue c.requires.queued.members
     c.requires.read.follows c.args.q (waits_in (past s) c.args.q)
     (at-cond (past s) c.requires.read.follows c.args.q c.requires.cond) s.clients
     c.requires.read.callers c.first.result c.in-Some.first c.open_of.result c.first.ensures
@@ -20,7 +20,7 @@ returns-in-Some-clause-known g c =
 pub returns-in-None-clause-value : goal.returns-in-None-clause-value
 returns-in-None-clause-value g c =
     let h = past c.args.state.now in
-    none-called h (g.Q.WaitList.queue c.args.queues.now) c.requires.queued.members
+    none-called h (g.Q.WaitList.seen c.args.queues.now).queue c.requires.queued.members
     c.requires.read.follows c.args.q (waits_in h c.args.q)
     (at-cond h c.requires.read.follows c.args.q c.requires.cond) c.first.result
     c.first.ensures c.in-None.is

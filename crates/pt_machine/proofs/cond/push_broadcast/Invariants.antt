@@ -5,8 +5,8 @@ use Rattle.pt_machine.proofs.cond.push_broadcast.Given as goal
 
 abbrev pub invariant-loop-first : goal.invariant-loop-first
 invariant-loop-first g l =
-    IsRousing (past l.fn.state) (past l.state) l.q (g.Q.WaitList.queue l.queues)
-    (g.Q.WaitList.admitted l.queues) (g.Q.WaitList.made l.queues)
+    IsRousing (past l.fn.state) (past l.state) l.q (g.Q.WaitList.seen l.queues).queue
+    (g.Q.WaitList.seen l.queues).admitted (g.Q.WaitList.seen l.queues).made
 
 abbrev pub decreases-loop-first : goal.decreases-loop-first
-decreases-loop-first g l = length (g.Q.WaitList.queue l.queues l.q)
+decreases-loop-first g l = length ((g.Q.WaitList.seen l.queues).queue l.q)

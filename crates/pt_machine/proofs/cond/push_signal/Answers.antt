@@ -15,13 +15,14 @@ first_waiting-requires-clause-cond g c =
 pub returns-in-None-clause-queued : goal.returns-in-None-clause-queued
 returns-in-None-clause-queued g c =
     queued-adds c.args.state.now c.push_woken.new.self
-    (entry.Call c.args.c c.args.call.now (Some told.Done)) (g.Q.WaitList.queue c.args.queues.now)
-    (g.Q.WaitList.admitted c.args.queues.now) (g.Q.WaitList.made c.args.queues.now)
+    (entry.Call c.args.c c.args.call.now (Some told.Done))
+    (g.Q.WaitList.seen c.args.queues.now).queue
+    (g.Q.WaitList.seen c.args.queues.now).admitted (g.Q.WaitList.seen c.args.queues.now).made
     c.push_woken.ensures
     (queued-unmoved (past c.args.state.now) c.args.c c.args.call.now c.args.n.now
     c.requires.ready.read.follows c.requires.ready.step c.requires.operation
-    (g.Q.WaitList.queue c.args.queues.now) (g.Q.WaitList.admitted c.args.queues.now)
-    (g.Q.WaitList.made c.args.queues.now)
+    (g.Q.WaitList.seen c.args.queues.now).queue (g.Q.WaitList.seen c.args.queues.now).admitted
+    (g.Q.WaitList.seen c.args.queues.now).made
     (sym (first-named (past c.args.state.now) c.args.n.now c.unwrap-q.result
     c.first_waiting.result (sym c.find.ensures ∙ c.unwrap-q.ensures)
     c.first_waiting.ensures.value None c.in-None.is))

@@ -14,9 +14,9 @@ take_place-requires-clause-ready g c =
     (moves-first (past c.args.state.now) c.args.c c.args.call.now c.args.n.now
     c.requires.ready.read.follows c.requires.ready.step c.requires.operation (called c.args.first)
     c.requires.first)
-    (g.Q.WaitList.queue c.args.queues.now) (g.Q.WaitList.queue c.remove.new.self)
-    (g.Q.WaitList.admitted c.args.queues.now) (g.Q.WaitList.admitted c.remove.new.self)
-    (g.Q.WaitList.made c.args.queues.now) (g.Q.WaitList.made c.remove.new.self)
+    (g.Q.WaitList.seen c.args.queues.now).queue (g.Q.WaitList.seen c.remove.new.self).queue
+    (g.Q.WaitList.seen c.args.queues.now).admitted (g.Q.WaitList.seen c.remove.new.self).admitted
+    (g.Q.WaitList.seen c.args.queues.now).made (g.Q.WaitList.seen c.remove.new.self).made
     c.remove.ensures.queues c.remove.ensures.admitted c.remove.ensures.made c.requires.queued
 
 pub returns-clause-queued : goal.returns-clause-queued
@@ -27,10 +27,11 @@ returns-clause-queued g c =
     (moves-first (past c.args.state.now) c.args.c c.args.call.now c.args.n.now
     c.requires.ready.read.follows c.requires.ready.step c.requires.operation (called c.args.first)
     c.requires.first)
-    (g.Q.WaitList.queue c.args.queues.now) (g.Q.WaitList.queue c.remove.new.self)
-    (g.Q.WaitList.admitted c.args.queues.now) (g.Q.WaitList.admitted c.remove.new.self)
-    (g.Q.WaitList.made c.args.queues.now) (g.Q.WaitList.made c.remove.new.self)
+    (g.Q.WaitList.seen c.args.queues.now).queue (g.Q.WaitList.seen c.remove.new.self).queue
+    (g.Q.WaitList.seen c.args.queues.now).admitted (g.Q.WaitList.seen c.remove.new.self).admitted
+    (g.Q.WaitList.seen c.args.queues.now).made (g.Q.WaitList.seen c.remove.new.self).made
     c.remove.ensures.queues c.remove.ensures.admitted c.remove.ensures.made c.requires.queued
-    (g.Q.WaitList.queue c.take_place.new.queues) (g.Q.WaitList.admitted c.take_place.new.queues)
-    (g.Q.WaitList.made c.take_place.new.queues) c.take_place.ensures.queues
+    (g.Q.WaitList.seen c.take_place.new.queues).queue
+    (g.Q.WaitList.seen c.take_place.new.queues).admitted
+    (g.Q.WaitList.seen c.take_place.new.queues).made c.take_place.ensures.queues
     c.take_place.ensures.admitted c.take_place.ensures.made

@@ -5,25 +5,25 @@ use Rattle.pt_machine.proofs.objects.push_ended.Goals as goal
 pub discard-requires-clause-made : goal.discard-requires-clause-made
 discard-requires-clause-made g c =
     end-made c.args.state.now c.args.c c.args.call.now c.requires.ready
-    (g.Q.WaitList.queue c.args.queues.now) (g.Q.WaitList.admitted c.args.queues.now)
-    (g.Q.WaitList.made c.args.queues.now) c.requires.queued c.args.n.now
+    (g.Q.WaitList.seen c.args.queues.now).queue (g.Q.WaitList.seen c.args.queues.now).admitted
+    (g.Q.WaitList.seen c.args.queues.now).made c.requires.queued c.args.n.now
     c.args.class c.unwrap-o.result (sym c.find.ensures ∙ c.unwrap-o.ensures)
 
 pub discard-requires-clause-empty : goal.discard-requires-clause-empty
 discard-requires-clause-empty g c =
     end-empty c.args.state.now c.args.c c.args.call.now c.requires.ready
-    (g.Q.WaitList.queue c.args.queues.now) (g.Q.WaitList.admitted c.args.queues.now)
-    (g.Q.WaitList.made c.args.queues.now) c.requires.queued c.args.n.now
+    (g.Q.WaitList.seen c.args.queues.now).queue (g.Q.WaitList.seen c.args.queues.now).admitted
+    (g.Q.WaitList.seen c.args.queues.now).made c.requires.queued c.args.n.now
     c.args.class c.unwrap-o.result (sym c.find.ensures ∙ c.unwrap-o.ensures)
     c.requires.operation
 
 pub returns-clause-queued : goal.returns-clause-queued
 returns-clause-queued g c =
     end-queued c.args.state.now c.args.c c.args.call.now c.requires.ready
-    (g.Q.WaitList.queue c.args.queues.now) (g.Q.WaitList.admitted c.args.queues.now)
-    (g.Q.WaitList.made c.args.queues.now) c.requires.queued c.args.n.now
+    (g.Q.WaitList.seen c.args.queues.now).queue (g.Q.WaitList.seen c.args.queues.now).admitted
+    (g.Q.WaitList.seen c.args.queues.now).made c.requires.queued c.args.n.now
     c.args.class c.unwrap-o.result (sym c.find.ensures ∙ c.unwrap-o.ensures)
-    c.requires.operation c.push_ended.new.self (g.Q.WaitList.queue c.discard.new.self)
-    (g.Q.WaitList.admitted c.discard.new.self) (g.Q.WaitList.made c.discard.new.self)
+    c.requires.operation c.push_ended.new.self (g.Q.WaitList.seen c.discard.new.self).queue
+    (g.Q.WaitList.seen c.discard.new.self).admitted (g.Q.WaitList.seen c.discard.new.self).made
     c.discard.ensures.queues c.discard.ensures.admitted c.discard.ensures.made
     c.push_ended.ensures

@@ -5,7 +5,7 @@ use Rattle.pt_machine.proofs.queues.clear.Goals as goal
 -- the first is taken out of its queue
 pub loop-first-smaller : goal.loop-first-smaller
 loop-first-smaller g c =
-    let queue = g.Q.WaitList.queue c.loop-first.queues in
+    let queue = (g.Q.WaitList.seen c.loop-first.queues).queue in
     subst (λ (n : ℕ). n < length (queue c.args.object))
     (sym (ap length (c.remove.ensures.queues c.args.object)))
     (first-out (queue c.args.object) c.in-Some.first (sym c.first.ensures ∙ c.in-Some.is))
@@ -13,7 +13,7 @@ loop-first-smaller g c =
 -- and no other queue changes
 pub loop-first-preserved : goal.loop-first-preserved
 loop-first-preserved g c =
-    let queue = g.Q.WaitList.queue c.loop-first.queues in
+    let queue = (g.Q.WaitList.seen c.loop-first.queues).queue in
     let kept = c.loop-first.invariant in (
       λ q ne. c.remove.ensures.queues q
           ∙ (others-stay queue (g.met.Q.WaitList.one_queue c.loop-first.queues) c.args.object

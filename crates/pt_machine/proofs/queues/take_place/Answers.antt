@@ -42,7 +42,7 @@ returns-in-Some-priority-clause-queues g c =
     c.requires.read.callers c.args.c c.at_object.result c.in-Some-priority.prio
     c.waiter_of.result c.in-Some.open (sym c.open_of.ensures ∙ c.in-Some.is)
     (sym c.priority.ensures ∙ c.in-Some-priority.is) c.at_object.ensures c.waiter_of.ensures)
-    (g.Q.WaitList.queue c.args.queues.now) (g.Q.WaitList.queue c.insert.new.self)
+    (g.Q.WaitList.seen c.args.queues.now).queue (g.Q.WaitList.seen c.insert.new.self).queue
     c.insert.ensures.queues
 
 pub returns-in_default-clause-queues : goal.returns-in_default-clause-queues

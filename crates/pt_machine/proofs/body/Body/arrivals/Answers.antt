@@ -6,9 +6,8 @@ use Rattle.pt_machine.proofs.body.Body.arrivals.Goals as goal
 pub returns : goal.returns
 returns g c =
     let queues = c.self.inside.queues in
-    let queued : IsQueued (past c.args.self.now) (g.Q.WaitList.queue queues)
-    (g.Q.WaitList.admitted queues) (g.Q.WaitList.made queues) =
+    let queued : IsQueued (past c.args.self.now) (g.Q.WaitList.seen queues) =
     rw (← c.self.view_is) c.self.invariant.0 in
-    counts-barrier (past c.args.self.now) (g.Q.WaitList.queue queues) queued.members
+    counts-barrier (past c.args.self.now) (g.Q.WaitList.seen queues).queue queued.members
     c.requires.read.follows (g.met.Q.WaitList.once queues) c.args.b c.len.result
     c.requires.barrier c.len.ensures

@@ -12,12 +12,12 @@ pub returns-in-Some-clause-value : goal.returns-in-Some-clause-value
 returns-in-Some-clause-value g c =
     let s = c.args.self.now in
     let queues = c.self.inside.queues in
-    let queued : IsQueued (past s) (g.Q.WaitList.queue queues) (g.Q.WaitList.admitted queues)
-    (g.Q.WaitList.made queues) =
+    let queued : IsQueued (past s) (g.Q.WaitList.seen queues) =
     rw (← c.self.view_is) c.self.invariant.0 in
     let found : c.open_of.result ≡ open_in (client_value s.clients c.in-Some.first.client) =
     rw (← c.self.view_is) c.open_of.ensures in
-    first-called (past s) (g.Q.WaitList.queue queues) queued.members c.requires.follows c.args.o
+    first-called (past s)
+    (g.Q.WaitList.seen queues).queue queued.members c.requires.follows c.args.o
     (λ (w : WaitingCall). at_object (past s) w == c.args.o) (λ w i. refl) s.clients
     c.requires.callers c.first.result c.in-Some.first c.open_of.result c.first.ensures
     c.in-Some.is found
@@ -33,9 +33,8 @@ pub returns-in-None-clause-value : goal.returns-in-None-clause-value
 returns-in-None-clause-value g c =
     let s = c.args.self.now in
     let queues = c.self.inside.queues in
-    let queued : IsQueued (past s) (g.Q.WaitList.queue queues) (g.Q.WaitList.admitted queues)
-    (g.Q.WaitList.made queues) =
+    let queued : IsQueued (past s) (g.Q.WaitList.seen queues) =
     rw (← c.self.view_is) c.self.invariant.0 in
-    none-called (past s) (g.Q.WaitList.queue queues) queued.members c.requires.follows c.args.o
+    none-called (past s) (g.Q.WaitList.seen queues).queue queued.members c.requires.follows c.args.o
     (λ (w : WaitingCall). at_object (past s) w == c.args.o) (λ w i. refl) c.first.result
     c.first.ensures c.in-None.is

@@ -6,8 +6,7 @@ use Rattle.pt_machine.proofs.body.Body.is_awaited.Goals as goal
 pub returns : goal.returns
 returns g c =
     let queues = c.self.inside.queues in
-    let queued : IsQueued (past c.args.self.now) (g.Q.WaitList.queue queues)
-    (g.Q.WaitList.admitted queues) (g.Q.WaitList.made queues) =
+    let queued : IsQueued (past c.args.self.now) (g.Q.WaitList.seen queues) =
     rw (← c.self.view_is) c.self.invariant.0 in
-    awaited (past c.args.self.now) (g.Q.WaitList.queue queues) queued.members c.args.o
+    awaited (past c.args.self.now) (g.Q.WaitList.seen queues).queue queued.members c.args.o
     c.first.result c.is_some.result c.first.ensures c.is_some.ensures

@@ -7,20 +7,18 @@ use Rattle.pt_machine.proofs.body.Body.is_blocked.Goals as goal
 pub returns-in-Some : goal.returns-in-Some
 returns-in-Some g c =
     let queues = c.self.inside.queues in
-    let queued : IsQueued (past c.args.self.now) (g.Q.WaitList.queue queues)
-    (g.Q.WaitList.admitted queues) (g.Q.WaitList.made queues) =
+    let queued : IsQueued (past c.args.self.now) (g.Q.WaitList.seen queues) =
     rw (← c.self.view_is) c.self.invariant.0 in
-    blocked-living (past c.args.self.now) (g.Q.WaitList.queue queues) queued.members c.args.r
+    blocked-living (past c.args.self.now) (g.Q.WaitList.seen queues).queue queued.members c.args.r
     c.args.c c.in-Some.priority c.blocks_reader.result
     (rw (← c.self.view_is) (sym c.priority.ensures ∙ c.in-Some.is)) c.blocks_reader.ensures
 
 pub returns-in-None : goal.returns-in-None
 returns-in-None g c =
     let queues = c.self.inside.queues in
-    let queued : IsQueued (past c.args.self.now) (g.Q.WaitList.queue queues)
-    (g.Q.WaitList.admitted queues) (g.Q.WaitList.made queues) =
+    let queued : IsQueued (past c.args.self.now) (g.Q.WaitList.seen queues) =
     rw (← c.self.view_is) c.self.invariant.0 in
-    blocked-dead (past c.args.self.now) (g.Q.WaitList.queue queues) queued.members c.args.r
+    blocked-dead (past c.args.self.now) (g.Q.WaitList.seen queues).queue queued.members c.args.r
     c.args.c c.first_writer.result c.is_some.result
     (rw (← c.self.view_is) (sym c.priority.ensures ∙ c.in-None.is)) c.first_writer.ensures
     c.is_some.ensures

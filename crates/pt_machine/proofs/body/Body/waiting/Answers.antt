@@ -7,10 +7,9 @@ use Rattle.pt_machine.proofs.body.Body.waiting.Goals as goal
 pub returns-clause-value : goal.returns-clause-value
 returns-clause-value g c =
     let queues = c.self.inside.queues in
-    let queued : IsQueued (past c.args.self.now) (g.Q.WaitList.queue queues)
-    (g.Q.WaitList.admitted queues) (g.Q.WaitList.made queues) =
+    let queued : IsQueued (past c.args.self.now) (g.Q.WaitList.seen queues) =
     rw (← c.self.view_is) c.self.invariant.0 in
-    counts-cond (past c.args.self.now) (g.Q.WaitList.queue queues) queued.members
+    counts-cond (past c.args.self.now) (g.Q.WaitList.seen queues).queue queued.members
     c.requires.read.follows (g.met.Q.WaitList.once queues) c.args.q c.len.result
     c.requires.cond c.len.ensures
 

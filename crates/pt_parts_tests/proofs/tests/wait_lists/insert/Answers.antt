@@ -12,7 +12,7 @@ pub returns-clause-earlier : goal.returns-clause-earlier
 returns-clause-earlier g c = λ q.
     let n = c.args.waiter.moved in
     let earlier = λ (ws : List Waiter). Each (λ v. v.moved < n + 1) ws in
-    let before = g.W.WaitList.queue c.args.list.now q in
+    let before = (g.W.WaitList.seen c.args.list.now).queue q in
     let put =
     moved-before (c.args.object == q) c.args.waiter before n refl (c.requires.earlier q) in
     subst earlier (sym (c.insert.ensures.queues q)) put

@@ -5,9 +5,9 @@ pub returns-in-Remove : goal.returns-in-Remove
 returns-in-Remove g c =
     let old = c.args.list.now in
     let new = c.remove.new.self in
-    plays-without (g.W.WaitList.queue old) (g.W.WaitList.queue new)
-    (g.W.WaitList.admitted old) (g.W.WaitList.admitted new)
-    (g.W.WaitList.made old) (g.W.WaitList.made new) c.leaving-client.result c.args.place
+    plays-without (g.W.WaitList.seen old).queue (g.W.WaitList.seen new).queue
+    (g.W.WaitList.seen old).admitted (g.W.WaitList.seen new).admitted
+    (g.W.WaitList.seen old).made (g.W.WaitList.seen new).made c.leaving-client.result c.args.place
     c.requires c.remove.ensures.admitted c.remove.ensures.made c.remove.ensures.queues
 
 pub returns-in_ok-admit_again-in-AdmitAgain : goal.returns-in_ok-admit_again-in-AdmitAgain
@@ -15,9 +15,9 @@ returns-in_ok-admit_again-in-AdmitAgain g c =
     let old = c.args.list.now in
     let new = c.admit_again.new.list in
     let said = c.in_ok-admit_again-in-AdmitAgain.ensures in
-    plays-same (g.W.WaitList.queue old) (g.W.WaitList.queue new)
-    (g.W.WaitList.admitted old) (g.W.WaitList.admitted new)
-    (g.W.WaitList.made old) (g.W.WaitList.made new) c.args.place
+    plays-same (g.W.WaitList.seen old).queue (g.W.WaitList.seen new).queue
+    (g.W.WaitList.seen old).admitted (g.W.WaitList.seen new).admitted
+    (g.W.WaitList.seen old).made (g.W.WaitList.seen new).made c.args.place
     c.requires said.admitted said.made said.queues
 
 pub returns-in_ok-make_again-in-MakeAgain : goal.returns-in_ok-make_again-in-MakeAgain
@@ -25,7 +25,7 @@ returns-in_ok-make_again-in-MakeAgain g c =
     let old = c.args.list.now in
     let new = c.make_again.new.list in
     let said = c.in_ok-make_again-in-MakeAgain.ensures in
-    plays-same (g.W.WaitList.queue old) (g.W.WaitList.queue new)
-    (g.W.WaitList.admitted old) (g.W.WaitList.admitted new)
-    (g.W.WaitList.made old) (g.W.WaitList.made new) c.args.place
+    plays-same (g.W.WaitList.seen old).queue (g.W.WaitList.seen new).queue
+    (g.W.WaitList.seen old).admitted (g.W.WaitList.seen new).admitted
+    (g.W.WaitList.seen old).made (g.W.WaitList.seen new).made c.args.place
     c.requires said.admitted said.made said.queues
