@@ -67,7 +67,7 @@ pub record Labour : Type 0 where
   pub received : List Reading
   pub output : Output
 
--- the five as one
+-- what a working side did, from its parts
 abbrev pub labour : ℕ → ℕ → List Exchange → List Reading → Output → Labour
 labour submitted answered exchanges received output = record {
   submitted = submitted;

@@ -53,7 +53,7 @@ pub record Input : Type 0 where
   pub failures : ℕ
   pub reads : ℕ
 
--- the same of a reader of some type
+-- what is seen of a reader of some type
 abbrev pub input : {R : Type 0} → (R → List ℕ) → (R → Bool) → (R → ℕ) → (R → ℕ) → R → Input
 input given ended failures reads reader = record {
   given = given reader;
