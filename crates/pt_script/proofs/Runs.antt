@@ -6,7 +6,7 @@ use Rattle.std.proofs.Math.ListN.{length-map}
 use Rattle.pt_lines.specs.declared.cutter.Cut.{Cut}
 use Rattle.pt_lines.specs.declared.script_line.ScriptLine.{ScriptLine}
 use Rattle.pt_lines.specs.Lines.{Held, to_come}
-use Rattle.pt_lines.specs.Script.{script_of}
+use Rattle.pt_lines.specs.Script.{script_of, IsNextScriptLine}
 use Rattle.pt_types.specs.declared.outcome.Refusal.{Refusal}
 use Rattle.pt_model.specs.declared.entry.Event.{Event}
 use Rattle.pt_script.specs.declared.line_id.LineId.{LineId}
@@ -96,6 +96,26 @@ answers_one held s out mid t text next last new cut before gives adds = record {
         ∙ ap (λ xs. xs ++ adds.text) before.answered.grows
         ∙ append_assoc out before.answered.text adds.text;
   };
+}
+
+-- one line more, as it was read
+pub answers_next : (held : Held) (s : Script) (out : List ℕ) (mid : Held) (t : Script)
+    (text : List ℕ) (next : Held) (last : Script) (new : List ℕ) (line : ScriptLine)
+    → Answers held s out mid t text → IsNextScriptLine mid line next
+    → Adds (Says t line last) text new → Answers held s out next last new
+answers_next held s out mid t text next last new line before gives adds =
+    answers_one held s out mid t text next last new gives.cut before gives.given
+    (subst (λ l. Adds (Says t l last) text new) gives.read adds)
+
+-- no line more
+pub answers_same : (held : Held) (s : Script) (out : List ℕ) (mid next : Held) (last : Script)
+    (new : List ℕ) → Answers held s out mid last new
+    → ((more : List ℕ) → to_come mid more ≡ to_come next more)
+    → Answers held s out next last new
+answers_same held s out mid next last new before same = record {
+  cuts = before.cuts;
+  given = λ more. before.given more ∙ ap (λ xs. before.cuts ++ xs) (same more);
+  answered = before.answered;
 }
 
 -- how many lines remain

@@ -270,7 +270,7 @@ impl<A: Allocator + Copy> Engine<A> {
     }
 
     /// Answers all lines that the cutter has whole.
-    #[tactic(auto, using(crate::proofs::Runs::answers_none, crate::proofs::Runs::answers_one))]
+    #[tactic(auto, using(crate::proofs::Runs::answers_none, crate::proofs::Runs::answers_next, crate::proofs::Runs::answers_same))]
     pub fn answer_all(
         &mut self,
         cutter: &mut Cutter<A>,
@@ -282,8 +282,8 @@ impl<A: Allocator + Copy> Engine<A> {
         ensures begun { OnOk result (IsBegun cutter.new) }
         ensures why { IfErr result (λ fault. fault ≡ ScriptFault.Memory) }
     {
-        while let Some(cut) = cutter.next_line() {
-            self.answer(ScriptLine::of(&cut), out)?;
+        while let Some(line) = cutter.next_script_line() {
+            self.answer(line, out)?;
         }
         Ok(())
     }

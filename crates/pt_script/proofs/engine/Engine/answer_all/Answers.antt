@@ -5,5 +5,5 @@ use Rattle.pt_script.proofs.engine.Engine.answer_all.Goals as goal
 pub answer-requires : goal.answer-requires
 answer-requires g c =
     let few = answers_few c.args.cutter.now c.args.self.now c.args.out.now.items
-    c.loop-cut.cutter c.loop-cut.self c.loop-cut.out.items c.loop-cut.invariant in
+    c.loop-line.cutter c.loop-line.self c.loop-line.out.items c.loop-line.invariant in
     omega (arith, few)

@@ -2,9 +2,9 @@ use Rattle.std.proofs.Common.{length}
 use Rattle.pt_script.specs.Engines.{Answers}
 use Rattle.pt_script.proofs.engine.Engine.answer_all.Given as goal
 
-abbrev pub invariant-loop-cut : goal.invariant-loop-cut
-invariant-loop-cut g l =
+abbrev pub invariant-loop-line : goal.invariant-loop-line
+invariant-loop-line g l =
     Answers l.fn.cutter l.fn.self l.fn.out.items l.cutter l.self l.out.items
 
-abbrev pub decreases-loop-cut : goal.decreases-loop-cut
-decreases-loop-cut g l = length l.cutter.rest
+abbrev pub decreases-loop-line : goal.decreases-loop-line
+decreases-loop-line g l = length l.cutter.rest
