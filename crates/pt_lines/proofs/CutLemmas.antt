@@ -185,7 +185,8 @@ front_of held n (Some i) keeps few h =
       within = found.0.within;
       short = short;
       given = λ more.
-          ap (λ d. cond d (lines_past_newline (held.rest ++ more)) (lines (held.rest ++ more))) keeps
+          ap (λ d. cond d (lines_past_newline (held.rest ++ more)) (lines (held.rest ++ more)))
+          keeps
           ∙ first_line held.rest i found.0 short (take i held.rest) refl more
           ∙ ap (λ c. c ∷ lines (drop (i + 1) held.rest ++ more)) (sym line)
           ∙ ap (λ ls. cut_of (take i held.rest) ∷ ls)

@@ -1,11 +1,11 @@
 -- NumberLemmas: numbers and their decimals.
-use Rattle.std.proofs.Common.{◌≡◌, ◌<◌, ◌≤◌, ◌+◌, ◌-◌, ◌*◌, ◌^◌, ◌∙◌, ◌==◌, ◌&&◌, ◌||◌, not, ℕ, zero, suc, Bool, true, false, cond, List, [], ◌∷◌, length, take, get_or, nat_le, refl, ap, sym, arith, rules, None, Some, decimal, subst}
+use Rattle.std.proofs.Common.{◌≡◌, ◌<◌, ◌≤◌, ◌+◌, ◌-◌, ◌*◌, ◌^◌, ◌∙◌, ◌==◌, ◌&&◌, ◌||◌, not, ℕ, zero, suc, Bool, true, false, cond, List, [], ◌∷◌, length, take, get_or, nat_le, add-one, refl, ap, sym, arith, rules, None, Some, decimal, subst}
 use Rattle.std.proofs.lemmas.Bool.{eqb-true}
 use Rattle.std.specs.List.{list_all}
 use Rattle.std.specs.Char.{digit_value}
 use Rattle.std.specs.Str.Parse.{digits_value}
 use Rattle.std.proofs.lemmas.Grind.{common_steps}
-use Rattle.std.proofs.lemmas.Str.Parse.{IsNumeralModel, numerals_by_value, digits_value_short, digit_at}
+use Rattle.std.proofs.lemmas.Str.Parse.{IsNumeralModel, numerals_by_value, digits_value_short}
 use Rattle.std.proofs.lemmas.Str.{digit_value_digit}
 use Rattle.std.proofs.lemmas.Int.Digits.{digits_value_more}
 use Rattle.std.proofs.lemmas.Fmt.{digits_decimal, digits_value-decimal, decimal-digits_value, decimal_nonempty, length-decimal-le, first_decimal, decimal_digit}
@@ -16,48 +16,51 @@ use Rattle.pt_lines.proofs.TestLemmas.{some_inj, and_parts, and_true}
 own : IsNumeralModel (λ ds. list_all is_digit ds ≡ true) (digits_value 10)
 own = numerals_by_value _ (search rules)
 
-digits_take :
-    (ds : List ℕ) (i : ℕ) → list_all is_digit ds ≡ true → list_all is_digit (take i ds) ≡ true
-digits_take [] zero h = refl
-digits_take [] (suc i) h = refl
-digits_take (d ∷ ds) zero h = refl
-digits_take (d ∷ ds) (suc i) h =
-    let parts = and_parts (is_digit d) (list_all is_digit ds) h in
-    and_true (is_digit d) (list_all is_digit (take i ds)) parts.0 (digits_take ds i parts.1)
-
 -- what is read before the last of ten digits is small
 pub value_small :
-    (ds : List ℕ) (i : ℕ) → list_all is_digit ds ≡ true → length ds ≤ 10 → i < length ds
-    → digits_value 10 (take i ds) < 10 ^ 9
+    (ds : List ℕ) (i : ℕ) → list_all is_digit (take i ds) ≡ true → length ds ≤ 10
+    → i < length ds → digits_value 10 (take i ds) < 10 ^ 9
 value_small ds i h short lt =
-    digits_value_short own (take i ds) 9 (digits_take ds i h) (grind (arith, common_steps))
+    digits_value_short own (take i ds) 9 h (grind (arith, common_steps))
 
-pub digit_in :
-    (ds : List ℕ) (i : ℕ) → list_all is_digit ds ≡ true → i < length ds
-    → (48 ≤ get_or ds i 0) × (get_or ds i 0 ≤ 57)
-digit_in ds i h lt =
-    let r = digit_at ds i (own.to ds h) lt in
-    (omega (arith, r), omega (arith, r))
+-- the bounds of a digit
+pub digit_byte : (d : ℕ) → is_digit d ≡ true → (48 ≤ d) × (d ≤ 57)
+digit_byte d h =
+    let parts = and_parts (nat_le 48 d) (nat_le d 57) h in
+    let low : nat_le 48 d ≡ true = parts.0 in
+    let high : nat_le d 57 ≡ true = parts.1 in
+    (grind arith, grind arith)
 
 digit_is : (c : ℕ) → 48 ≤ c → c ≤ 57 → digit_value c ≡ c - 48
 digit_is c low high = omega (arith, digit_value_digit c (omega arith, omega arith))
 
 -- one more digit
+pub digits_more :
+    (ds : List ℕ) (i : ℕ) → i < length ds → list_all is_digit (take i ds) ≡ true
+    → is_digit (get_or ds i 0) ≡ true → list_all is_digit (take (i + 1) ds) ≡ true
+digits_more [] i lt h d = absurd (omega arith)
+digits_more (x ∷ xs) zero lt h d = and_true (is_digit x) true d refl
+digits_more (x ∷ xs) (suc i) lt h d =
+    let parts = and_parts (is_digit x) (list_all is_digit (take i xs)) h in
+    ap (λ n. list_all is_digit (take n (x ∷ xs))) (add-one (suc i))
+    ∙ and_true (is_digit x) (list_all is_digit (take (suc i) xs)) parts.0
+    (ap (λ n. list_all is_digit (take n xs)) (sym (add-one i))
+    ∙ digits_more xs i (omega arith) parts.1 d)
+
 pub value_more :
-    (ds : List ℕ) (i n : ℕ) → list_all is_digit ds ≡ true → i < length ds
+    (ds : List ℕ) (i n : ℕ) → is_digit (get_or ds i 0) ≡ true → i < length ds
     → n ≡ digits_value 10 (take i ds)
     → 10 * n + (get_or ds i 0 - 48) ≡ digits_value 10 (take (i + 1) ds)
 value_more ds i n h lt e =
-    let d = digit_in ds i h lt in
+    let d = digit_byte (get_or ds i 0) h in
     let v = digit_is (get_or ds i 0) d.0 d.1 in
     omega (arith, digits_value_more 10 ds i lt, v, e)
 
 pub value_bound :
-    (ds : List ℕ) (n i : ℕ) → list_all is_digit ds ≡ true → length ds ≤ 10
+    (ds : List ℕ) (n i : ℕ) → list_all is_digit (take i ds) ≡ true → length ds ≤ 10
     → n ≡ digits_value 10 (take i ds) → IsNumber n
 value_bound ds n i h short e =
-    let small =
-    digits_value_short own (take i ds) 10 (digits_take ds i h) (grind (arith, common_steps)) in
+    let small = digits_value_short own (take i ds) 10 h (grind (arith, common_steps)) in
     subst (λ m. m < 10 ^ 10) (sym e) small
 
 or_parts : (a : Bool) (n : ℕ) → (a || not (n == 48)) ≡ true → n ≡ 48 → a ≡ true

@@ -102,10 +102,12 @@ has_numbers-text verb text bytes =
         let word_bytes = bytes_of word (word_is_bytes verb) in
         let front =
         packed_once (take 8 word) (take 8 text) 0 0 (bytes_take 8 word word_bytes)
-        (bytes_take 8 text bytes) (length_take 8 word text (sym len)) (sym (eqb-true _ _ outer.1)) in
+        (bytes_take 8 text bytes) (length_take 8 word text (sym len))
+        (sym (eqb-true _ _ outer.1)) in
         let rest =
         packed_once (drop 8 word) (drop 8 text) 0 0 (bytes_drop 8 word word_bytes)
-        (bytes_drop 8 text bytes) (length_drop 8 word text (sym len)) (sym (eqb-true _ _ inner.1)) in
+        (bytes_drop 8 text bytes) (length_drop 8 word text (sym len))
+        (sym (eqb-true _ _ inner.1)) in
         let same : word ≡ text =
         sym (take-append-drop 8 word)
         ∙ ap (λ xs. xs ++ drop 8 word) front.1

@@ -13,7 +13,7 @@ packed_after n (b ∷ bytes) = packed_after (256 * n + b) bytes
 abbrev pub packed : List ℕ → ℕ
 packed bytes = packed_after 0 bytes
 
--- whether the word of a verb has this length, and these numbers of its first 8 bytes and of the others
+-- whether the word of a verb has this length, its first 8 bytes this number, and the others this
 abbrev pub has_numbers : ℕ → ℕ → ℕ → Verb → Bool
 has_numbers len first rest verb =
     len == length (word_of verb)

@@ -7,6 +7,7 @@ ghost use Rattle.pt_lines.specs.Verbs.{verb_of};
 use crate::verb::{ClockedVerb, NamedVerb, TimedVerb, Verb};
 use pt_types::Clock;
 
+// The bytes of each word of at most 8, and the first 8 of each other.
 const WAIT: u64 = 0x7761_6974;
 
 const LOCK: u64 = 0x6c6f_636b;
@@ -69,6 +70,7 @@ const MUTEX_DE: u64 = 0x6d75_7465_782d_6465;
 
 const RWLOCK_D: u64 = 0x7277_6c6f_636b_2d64;
 
+// The bytes of longer words after the first 8.
 const T: u64 = 0x74;
 
 const K: u64 = 0x6b;
@@ -105,6 +107,7 @@ pub fn packed(bytes: &[u8]) -> u64
     number
 }
 
+// The verb whose word has 4 bytes, with this number.
 fn of_four(first: u64) -> Option<Verb>
     ensures { result ≡ verb_numbered 4 first 0 }
 {
@@ -115,6 +118,7 @@ fn of_four(first: u64) -> Option<Verb>
     }
 }
 
+// The same of 5 bytes.
 fn of_five(first: u64) -> Option<Verb>
     ensures { result ≡ verb_numbered 5 first 0 }
 {
@@ -125,6 +129,7 @@ fn of_five(first: u64) -> Option<Verb>
     }
 }
 
+// The same of 6 bytes.
 fn of_six(first: u64) -> Option<Verb>
     ensures { result ≡ verb_numbered 6 first 0 }
 {
@@ -179,6 +184,7 @@ fn of_nine_t(first: u64) -> Option<Verb>
     }
 }
 
+// The verb whose word has 9 bytes, with these numbers.
 fn of_nine(first: u64, rest: u64) -> Option<Verb>
     ensures { result ≡ verb_numbered 9 first rest }
 {
@@ -189,6 +195,7 @@ fn of_nine(first: u64, rest: u64) -> Option<Verb>
     }
 }
 
+// The same of 10 bytes.
 fn of_ten(first: u64, rest: u64) -> Option<Verb>
     ensures { result ≡ verb_numbered 10 first rest }
 {
@@ -212,6 +219,7 @@ fn of_eleven_ock(first: u64) -> Option<Verb>
     }
 }
 
+// The same of 11 bytes.
 fn of_eleven(first: u64, rest: u64) -> Option<Verb>
     ensures { result ≡ verb_numbered 11 first rest }
 {
@@ -223,6 +231,7 @@ fn of_eleven(first: u64, rest: u64) -> Option<Verb>
     }
 }
 
+// The same of 12 bytes.
 fn of_twelve(first: u64, rest: u64) -> Option<Verb>
     ensures { result ≡ verb_numbered 12 first rest }
 {
@@ -233,6 +242,7 @@ fn of_twelve(first: u64, rest: u64) -> Option<Verb>
     }
 }
 
+// The same of 13 bytes.
 fn of_thirteen(first: u64, rest: u64) -> Option<Verb>
     ensures { result ≡ verb_numbered 13 first rest }
 {
@@ -242,6 +252,7 @@ fn of_thirteen(first: u64, rest: u64) -> Option<Verb>
     }
 }
 
+// The same of 14 bytes.
 fn of_fourteen(first: u64, rest: u64) -> Option<Verb>
     ensures { result ≡ verb_numbered 14 first rest }
 {
@@ -251,6 +262,7 @@ fn of_fourteen(first: u64, rest: u64) -> Option<Verb>
     }
 }
 
+// The same of 15 bytes.
 fn of_fifteen(first: u64, rest: u64) -> Option<Verb>
     ensures { result ≡ verb_numbered 15 first rest }
 {
