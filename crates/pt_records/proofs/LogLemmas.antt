@@ -1,5 +1,5 @@
 -- The log of answers: its order, its end from a place on, and what a search of it finds.
-use Rattle.std.proofs.Common.{◌≡◌, ◌≢◌, ◌⊎◌, ℕ, zero, suc, ◌+◌, ◌-◌, ◌<◌, ◌≤◌, Bool, true, false, cond, eqb, List, [], ◌∷◌, ◌++◌, Option, Some, None, length, take, drop, refl, sym, ap, ◌∙◌, arith, inl, inr, append_assoc, append-nil}
+use Rattle.std.proofs.Common.{◌≡◌, ◌≢◌, ◌⊎◌, ℕ, zero, suc, ◌+◌, ◌-◌, ◌<◌, ◌≤◌, Bool, true, false, cond, eqb, List, [], ◌∷◌, ◌++◌, Option, Some, None, is_some, length, take, drop, refl, sym, ap, ◌∙◌, arith, inl, inr, append_assoc, append-nil}
 use Rattle.std.specs.Prelude.{◌==◌, ◌&&◌, nat_le}
 use Rattle.std.specs.Option.{option_or}
 use Rattle.std.proofs.lemmas.Bool.{eq-eqb, ne_eqb, cases_eq, cases_lt, le-leb, lt-leb}
@@ -21,9 +21,10 @@ use Rattle.pt_model.specs.Steps.{Follows}
 use Rattle.pt_model.proofs.Histories.{onto-append, place-behind}
 use Rattle.pt_model.proofs.Lists.{Each-append, Each-weaker}
 use Rattle.pt_model.proofs.Sound.{Fresh-follows}
+use Rattle.pt_model.proofs.Once.{answers-unanswered}
 use Rattle.pt_model.proofs.Ascending.{Ascends, Ascends-filter}
 use Rattle.pt_model.proofs.OpenOrder.{open-ascends}
-use Rattle.pt_records.specs.Logs.{told_at, log, outcome_before, answers_in, since, Rises, last_to, said_by, outcome_in_log}
+use Rattle.pt_records.specs.Logs.{told_at, log, outcome_before, answers_in, since, Rises, last_to, said_by, outcome_in_log, first_to, first_said}
 
 -- given before place n
 abbrev pub Before : ℕ → List (ℕ × Told) → Type 0
@@ -263,30 +264,66 @@ log-outcome (h ▷ e) j =
     ∙ (or-assoc (outcome_in (told h e) j) (outcome_in_log (log h) j) (outcome_before h j)
     ∙ ap (λ o. option_or (outcome_in (told h e) j) o) (sym (log-outcome h j))))
 
--- no answer to a call is given before its place
-pub log-since : (h : History) (j : ℕ) → Follows h
-    → outcome h j ≡ option_or (outcome_in_log (since j (log h)) j) (outcome_before h j)
-log-since (Begin s) j f = refl
-log-since (h ▷ e) j f = split (log-since h j f.0) (cases_lt (place h) j)
+-- the first answer in two logs is that of the earlier one, where it has one
+first-append : (ps qs : List (ℕ × Told)) (j : ℕ)
+    → first_said (ps ++ qs) j ≡ option_or (first_said ps j) (first_said qs j)
+first-append [] qs j = refl
+first-append (p ∷ ps) qs j = go (eqb p.1.place j) (first-append ps qs j)
+  where
+    go : (b : Bool) → first_said (ps ++ qs) j ≡ option_or (first_said ps j) (first_said qs j)
+        → said_by (cond b (Some p.1) (first_to (ps ++ qs) j))
+        ≡ option_or (said_by (cond b (Some p.1) (first_to ps j))) (first_said qs j)
+    go true ih = refl
+    go false ih = ih
+
+first-told : (j k : ℕ) (ts : List Told) → first_said (told_at k ts) j ≡ outcome_in ts j
+first-told j k [] = refl
+first-told j k (t ∷ ts) = go (eqb t.place j) (first-told j k ts)
+  where
+    go : (b : Bool) → first_said (told_at k ts) j ≡ outcome_in ts j
+        → said_by (cond b (Some t) (first_to (told_at k ts) j))
+        ≡ cond b (Some t.outcome) (outcome_in ts j)
+    go true ih = refl
+    go false ih = ih
+
+-- an answer where there was none before is the first one
+or-first : (t f b o : Option Outcome) → o ≡ option_or f b → (is_some t ≡ true → o ≡ None)
+    → option_or t o ≡ option_or (option_or f t) b
+or-first None None b o e fresh = e
+or-first None (Some y) b o e fresh = e
+or-first (Some x) None b o e fresh = refl
+or-first (Some x) (Some y) b o e fresh = absurd (no (sym (fresh refl) ∙ e))
+  where
+    no : None ≡ Some y → ⊥
+    no c = absurd cc
+
+-- a call is answered once, so its answer is the first one to it since its place
+pub log-first : (h : History) (j : ℕ) → Follows h
+    → outcome h j ≡ option_or (first_said (since j (log h)) j) (outcome_before h j)
+log-first (Begin s) j f = refl
+log-first (h ▷ e) j f = split (log-first h j f.0) (cases_lt (place h) j)
   where
     new : List (ℕ × Told)
     new = told_at (place h) (told h e)
 
-    split : outcome h j ≡ option_or (outcome_in_log (since j (log h)) j) (outcome_before h j)
+    none : outcome (h ▷ e) j ≡ None → outcome_before h j ≡ None
+    none n = or-none (outcome_in_log (log (h ▷ e)) j) (outcome_before h j)
+        (sym (log-outcome (h ▷ e) j) ∙ n)
+
+    split : outcome h j ≡ option_or (first_said (since j (log h)) j) (outcome_before h j)
         → (place h < j) ⊎ (j ≤ place h) → outcome (h ▷ e) j
-        ≡ option_or (outcome_in_log (since j (log (h ▷ e))) j) (outcome_before h j)
+        ≡ option_or (first_said (since j (log (h ▷ e))) j) (outcome_before h j)
     split ih (inl lt) =
         (Fresh-follows (h ▷ e) f).answers j (omega (arith, lt))
-        ∙ sym (ap (λ ps. option_or (outcome_in_log ps j) (outcome_before h j))
+        ∙ sym (ap (λ ps. option_or (first_said ps j) (outcome_before h j))
         (since-none (suc (place h)) j (log (h ▷ e)) (log-before (h ▷ e)) (omega (arith, lt)))
-        ∙ or-none (outcome_in_log (log (h ▷ e)) j) (outcome_before h j)
-        (sym (log-outcome (h ▷ e) j) ∙ (Fresh-follows (h ▷ e) f).answers j (omega (arith, lt))))
+        ∙ none ((Fresh-follows (h ▷ e) f).answers j (omega (arith, lt))))
     split ih (inr le) =
-        sym (ap (λ o. option_or o (outcome_before h j)) (ap (λ ps. outcome_in_log ps j)
+        or-first (outcome_in (told h e) j) (first_said (since j (log h)) j) (outcome_before h j)
+        (outcome h j) ih (answers-unanswered h e j f.0 f.1)
+        ∙ sym (ap (λ o. option_or o (outcome_before h j)) (ap (λ ps. first_said ps j)
         (filter-append (λ p. nat_le j p.0) (log h) new
         ∙ ap (λ ps. since j (log h) ++ ps) (since-told j (place h) (told h e) le))
-        ∙ (outcome-append (since j (log h)) new j
-        ∙ ap (λ o. option_or o (outcome_in_log (since j (log h)) j)) (outcome-told h e j)))
-        ∙ (or-assoc (outcome_in (told h e) j) (outcome_in_log (since j (log h)) j)
-        (outcome_before h j)
-        ∙ ap (λ o. option_or (outcome_in (told h e) j) o) (sym ih)))
+        ∙ (first-append (since j (log h)) new j
+        ∙ ap (λ o. option_or (first_said (since j (log h)) j) o)
+        (first-told j (place h) (told h e)))))

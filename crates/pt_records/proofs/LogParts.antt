@@ -1,13 +1,14 @@
 -- Parts of the logged answers: what a loop from their end has seen.
-use Rattle.std.proofs.Common.{◌≡◌, ℕ, zero, suc, ◌-◌, ◌<◌, ◌≤◌, List, [], ◌∷◌, ◌++◌, Some, None, map, length, take, drop, get_or, refl, sym, ap, ◌∙◌, subst, arith, drop-cons}
-use Rattle.std.specs.Prelude.{nat_le}
+use Rattle.std.proofs.Common.{◌≡◌, ℕ, zero, suc, ◌-◌, ◌<◌, ◌≤◌, Bool, true, false, cond, List, [], ◌∷◌, ◌++◌, Option, Some, None, map, length, take, drop, get_or, refl, sym, ap, ◌∙◌, subst, arith, drop-cons}
+use Rattle.std.specs.Prelude.{◌==◌, nat_le, find, option_map}
 use Rattle.std.specs.Option.{option_or}
 use Rattle.std.proofs.lemmas.Bool.{eq-eqb, lt-leb}
 use Rattle.std.proofs.lemmas.List.{map-append, take-append-drop}
 use Rattle.std.proofs.lemmas.List.Elements.{filter-append}
+use Rattle.pt_model.specs.Records.{Told}
 use Rattle.pt_records.specs.declared.answers.Answered.{Answered}
-use Rattle.pt_records.specs.Logs.{logged, since, Rises, last_to}
-use Rattle.pt_records.proofs.LogLemmas.{last_to-append}
+use Rattle.pt_records.specs.Logs.{logged, since, Rises, first_to, first_said, said_by}
+use Rattle.pt_records.proofs.LogLemmas.{since-all}
 
 -- all of these were given since place k
 abbrev pub AllSince : ℕ → List Answered → Type 0
@@ -50,28 +51,55 @@ since-found k i xs d r pos le at rest =
     same : suc (i - 1) ≡ i
     same = omega (arith, pos)
 
-abbrev pub NoneTo : ℕ → List Answered → Type 0
-NoneTo j xs = last_to (map logged xs) j ≡ None
+-- those from one that was given since place k on were given since then
+late : (n k i : ℕ) (xs : List Answered) (d : Answered) → Rises n (map logged xs) → i < length xs
+    → k ≤ (get_or xs i d).at → Rises k (map logged (drop i xs))
+late n k i [] d r lt le = absurd (omega (arith, lt))
+late n k zero (x ∷ xs) d r lt le = (le, r.1)
+late n k (suc i) (x ∷ xs) d r lt le = late x.at k i xs d r.1 (omega (arith, lt)) le
 
--- the last one to a call, with none to it after
-pub last-found : (j i : ℕ) (xs : List Answered) (d : Answered) → 0 < i → i ≤ length xs
-    → (get_or xs (i - 1) d).place ≡ j → NoneTo j (drop i xs)
-    → Some (logged (get_or xs (i - 1) d)).1 ≡ last_to (map logged xs) j
-last-found j i xs d pos le at none =
-    sym (ap (λ ys. last_to (map logged ys) j) (sym (take-append-drop (i - 1) xs))
-    ∙ (ap (λ ps. last_to ps j) (map-append logged (take (i - 1) xs) (drop (i - 1) xs))
-    ∙ (last_to-append (map logged (take (i - 1) xs)) (map logged (drop (i - 1) xs)) j
-    ∙ ap (λ o. option_or o (last_to (map logged (take (i - 1) xs)) j)) found)))
+-- none of these was given since place k
+abbrev pub NoneSince : ℕ → List Answered → Type 0
+NoneSince k xs = since k (map logged xs) ≡ []
+
+-- no earlier one was given since place k
+pub none-since : (k i : ℕ) (xs : List Answered) (d : Answered) → Rises 0 (map logged xs)
+    → i < length xs → (get_or xs i d).at < k → NoneSince k (take (suc i) xs)
+none-since k i xs d r lt at = early 0 k i xs d r lt at
+
+-- each later one was given since place k
+pub all-since : (k i : ℕ) (xs : List Answered) (d : Answered) → Rises 0 (map logged xs)
+    → i < length xs → k ≤ (get_or xs i d).at → AllSince k (drop i xs)
+all-since k i xs d r lt le =
+    since-all k k (map logged (drop i xs)) (late 0 k i xs d r lt le) (omega arith)
+
+-- those since place k begin where none is earlier and each later one is
+pub since-between : (k i : ℕ) (xs : List Answered) → NoneSince k (take i xs)
+    → AllSince k (drop i xs) → map logged (drop i xs) ≡ since k (map logged xs)
+since-between k i xs none all =
+    sym (parts k i xs ∙ (ap (λ ps. ps ++ since k (map logged (drop i xs))) none ∙ all))
+
+-- the first to a call, found among the answers
+first_found : (j : ℕ) (xs : List Answered)
+    → option_map (λ a. (logged a).1) (find (λ a. a.place == j) xs) ≡ first_to (map logged xs) j
+first_found j [] = refl
+first_found j (x ∷ xs) = go (x.place == j) (first_found j xs)
   where
-    x : Answered
-    x = get_or xs (i - 1) d
+    go : (b : Bool)
+        → option_map (λ a. (logged a).1) (find (λ a. a.place == j) xs) ≡ first_to (map logged xs) j
+        → option_map (λ a. (logged a).1) (cond b (Some x) (find (λ a. a.place == j) xs))
+        ≡ cond b (Some (logged x).1) (first_to (map logged xs) j)
+    go true ih = refl
+    go false ih = ih
 
-    same : i ≡ suc (i - 1)
-    same = omega (arith, pos)
-
-    behind : NoneTo j (drop (suc (i - 1)) xs)
-    behind = subst (λ k. NoneTo j (drop k xs)) same none
-
-    found : last_to (map logged (drop (i - 1) xs)) j ≡ Some (logged x).1
-    found = ap (λ ys. last_to (map logged ys) j) (drop-cons xs (i - 1) d (omega (arith, pos, le)))
-        ∙ rw (behind, eq-eqb x.place j at) refl
+-- what the first to a call says, found among the answers of a log
+pub said-found : (j : ℕ) (xs : List Answered) (ps : List (ℕ × Told)) → map logged xs ≡ ps
+    → option_map (λ a. a.outcome) (find (λ a. a.place == j) xs) ≡ first_said ps j
+said-found j xs ps same =
+    go (find (λ a. a.place == j) xs)
+    ∙ (ap said_by (first_found j xs) ∙ ap (λ qs. first_said qs j) same)
+  where
+    go : (o : Option Answered)
+        → option_map (λ a. a.outcome) o ≡ said_by (option_map (λ a. (logged a).1) o)
+    go None = refl
+    go (Some a) = refl

@@ -52,3 +52,12 @@ said_by (Some t) = Some t.outcome
 -- what these answers say to the call at place j: the last one that is to it
 abbrev pub outcome_in_log : List (ℕ × Told) → ℕ → Option Outcome
 outcome_in_log ps j = said_by (last_to ps j)
+
+-- the first of these answers that is to the call at place j
+abbrev pub first_to : List (ℕ × Told) → ℕ → Option Told
+first_to [] j = None
+first_to (p ∷ ps) j = if p.1.place == j then Some p.1 else first_to ps j
+
+-- what these answers say to the call at place j: the first one that is to it
+abbrev pub first_said : List (ℕ × Told) → ℕ → Option Outcome
+first_said ps j = said_by (first_to ps j)

@@ -1,7 +1,7 @@
 //! The answers so far, and those from a place on.
 
-ghost use Rattle.std.specs.Prelude.{[], ◌++◌, ◌+◌, ◌<◌, ◌∷◌, ◌≡◌, ◌≤◌, drop, length, map, option_map, vec_capacity, vec_len};
-ghost use Rattle.pt_records.specs.Logs.{Rises, last_to, logged, outcome_in_log, since};
+ghost use Rattle.std.specs.Prelude.{[], ◌==◌, ◌++◌, ◌+◌, ◌<◌, ◌∷◌, ◌≡◌, ◌≤◌, drop, find, length, map, option_map, vec_capacity, vec_len};
+ghost use Rattle.pt_records.specs.Logs.{Rises, first_said, logged, since};
 
 use pt_types::{ClientId, Outcome};
 use std::alloc::Allocator;
@@ -17,7 +17,7 @@ pub struct Answered {
     pub outcome: Outcome,
 }
 
-/// Where the answers begin that the entries from a place on gave.
+/// Where the answers begin that the entries from a place on gave. It is looked for from the end.
 pub fn answered_since(answers: &[Answered], place: u64) -> usize
     requires { Rises 0 (map logged answers.now) }
     ensures within { result ≤ length answers.now }
@@ -33,40 +33,42 @@ pub fn answered_since(answers: &[Answered], place: u64) -> usize
     i
 }
 
-/// The last of these answers that is to the call at a place.
-pub fn last_answer(answers: &[Answered], place: u64) -> Option<Answered>
-    ensures { option_map (λ a. (logged a).1) result ≡ last_to (map logged answers.now) place }
+// Where the answers begin that the entries from a place on gave, wherever that is among them.
+fn halved_since(answers: &[Answered], place: u64) -> usize
+    requires { Rises 0 (map logged answers.now) }
+    ensures within { result ≤ length answers.now }
+    ensures rest { map logged (drop result answers.now) ≡ since place (map logged answers.now) }
 {
-    let mut i = answers.len();
-    while i > 0 {
-        i -= 1;
-        let answer = answers[i];
-        if answer.place == place {
-            return Some(answer);
+    let mut low = 0;
+    let mut high = answers.len();
+    while low < high {
+        let middle = low + (high - low) / 2;
+        if answers[middle].at < place {
+            low = middle + 1;
+        } else {
+            high = middle;
         }
     }
-    None
+    low
 }
 
-/// The answer to the call at a place, of those since that place.
-pub fn answer_since(answers: &[Answered], place: u64) -> Option<Answered>
-    requires { Rises 0 (map logged answers.now) }
-    ensures { option_map (λ a. (logged a).1) result
-        ≡ last_to (since place (map logged answers.now)) place }
+// What the first of these answers says that is to the call at a place.
+fn first_outcome(answers: &[Answered], place: u64) -> Option<Outcome>
+    ensures { result ≡ option_map (λ a. a.outcome) (find (λ a. a.place == place) answers.now) }
 {
-    let from = answered_since(answers, place);
-    last_answer(&answers[from..], place)
-}
-
-/// What the answers since a place say to the call at that place.
-pub fn outcome_since(answers: &[Answered], place: u64) -> Option<Outcome>
-    requires { Rises 0 (map logged answers.now) }
-    ensures { result ≡ outcome_in_log (since place (map logged answers.now)) place }
-{
-    match answer_since(answers, place) {
+    match answers.iter().find(|answer| answer.place == place) {
         Some(answer) => Some(answer.outcome),
         None => None,
     }
+}
+
+/// What the answers since a place say to the call at that place: the first that is to it.
+pub fn outcome_since(answers: &[Answered], place: u64) -> Option<Outcome>
+    requires { Rises 0 (map logged answers.now) }
+    ensures { result ≡ first_said (since place (map logged answers.now)) place }
+{
+    let from = halved_since(answers, place);
+    first_outcome(&answers[from..], place)
 }
 
 /// Adds an answer, in room that was made for it.

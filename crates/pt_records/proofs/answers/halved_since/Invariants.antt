@@ -1,0 +1,15 @@
+use Rattle.std.proofs.Common.{◌≤◌, ◌-◌, length, take, drop}
+use Rattle.pt_records.proofs.LogParts.{AllSince, NoneSince}
+use Rattle.pt_records.proofs.answers.halved_since.Given as goal
+
+abbrev pub invariant-loop-low : goal.invariant-loop-low
+invariant-loop-low l =
+    record {
+      order : l.low ≤ l.high;
+      within : l.high ≤ length l.answers;
+      none : NoneSince l.place (take l.low l.answers);
+      all : AllSince l.place (drop l.high l.answers);
+    }
+
+abbrev pub decreases-loop-low : goal.decreases-loop-low
+decreases-loop-low l = l.high - l.low
