@@ -3,7 +3,7 @@ use Rattle.std.proofs.Common.{◌≡◌, ℕ, ◌||◌, Bool, true, false, cond,
 use Rattle.pt_mutex.specs.MutexState.{MutexState}
 use Rattle.pt_rwlock.specs.RwlockState.{RwlockState}
 use Rattle.pt_table.specs.declared.objects.ObjectRow.{ObjectRow}
-use Rattle.pt_table.specs.ObjectRows.{object_named, object_value, has_object, with_object, and_object, without_object, is_taken}
+use Rattle.pt_table.specs.ObjectRows.{object_named, object_value, has_object, with_object, and_object, without_object, is_taken, out_of_chains}
 use Rattle.pt_records.specs.declared.objects.Object.{Object}
 use Rattle.pt_records.specs.declared.objects.Object.TheVariants.{Mutex, Rwlock}
 use Rattle.pt_records.specs.Objects.{Rising}
@@ -78,7 +78,8 @@ module _ {A : Type 0} where
       → is_taken rows o name ≡ false → Rising rows o
       → AddsObject rows (and_object rows o name x) o name x
   adds-object rows o name x free rising =
-      let row : ObjectRow (Object A) = record { number = o; name = name; value = x } in
+      let row : ObjectRow (Object A) =
+      record { number = o; name = name; value = x; link = out_of_chains } in
       let new = rising-new rows o rising in
       let named = unnamed rows o name free in
       record {

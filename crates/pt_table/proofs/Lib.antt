@@ -10,3 +10,13 @@ mod Written
 mod Removed
 -- Named: the names of the listed rows: a look-up by name goes through the slots of the names
 mod Named
+-- Links: what a written link leaves of the rows, and of what each leads to
+mod Links
+-- Chained: what the numbers of a chain lead to, as one is put in or taken out
+mod Chained
+-- Entered: a number put into a chain
+mod Entered
+-- Taken: a number taken out of a chain
+mod Taken
+-- Walked: walks along a chain, up to a bound
+mod Walked

@@ -178,16 +178,17 @@ module _ {T : Type 0} {slots : List (Option (ObjectRow T))} {names : List (List 
   pub IsNamed-added : IsNamed new (names ++ (row.name, key) ∷ [])
   IsNamed-added = record { named = named_again; listed = listed_again }
 
--- the names after the value of a row is written
+-- the names after a row is changed that keeps its number and its name
 pub IsNamed-written : {T : Type 0} {slots : List (Option (ObjectRow T))} {numbers : List (ℕ × ℕ)}
-    {names : List (List ℕ × ℕ)} {most : ℕ} (row : ObjectRow T) (slot : ℕ) (w : T)
+    {names : List (List ℕ × ℕ)} {most : ℕ} (row : ObjectRow T) (slot : ℕ)
+    (change : ObjectRow T → ObjectRow T)
+    → ((r : ObjectRow T) → (change r).number ≡ r.number) → (change row).name ≡ row.name
     → IsNumbered (λ r. r.number) slots numbers most → IsNamed slots names
     → row_in_slot slots slot ≡ Some row
-    → IsNamed (set slots slot (Some (record row { value = w }))) names
-IsNamed-written {T} {slots} row slot w h k here =
-    let same : (s : ℕ) → name_in (set slots slot (Some (record row { value = w }))) s
-    ≡ name_in slots s =
-    same_in row slot (λ r. record r { value = w }) (λ r. refl) h here (λ r. r.name) refl in
+    → IsNamed (set slots slot (Some (change row))) names
+IsNamed-written {T} {slots} row slot change keeps name h k here =
+    let same : (s : ℕ) → name_in (set slots slot (Some (change row))) s ≡ name_in slots s =
+    same_in row slot change keeps h here (λ r. r.name) name in
     record {
       named = λ t s e. same s ∙ k.named t s e;
       listed = λ s t e. k.listed s t (sym (same s) ∙ e);

@@ -6,3 +6,4 @@ pub mod ClientRows
 pub mod ObjectRows
 pub mod ClientLends
 pub mod ObjectLends
+pub mod Linked

@@ -1,12 +1,17 @@
 -- Objects: the rows of the table of objects as a map from their numbers and from their names.
-use Rattle.std.specs.Prelude.{◌≡◌, ℕ, ◌||◌, Bool, false, List, [], ◌∷◌, ◌++◌, Option, find, is_some, length, slice_get}
+use Rattle.std.specs.Prelude.{◌≡◌, ℕ, ◌||◌, Bool, false, List, [], ◌∷◌, ◌++◌, Option, None, find, is_some, length, slice_get}
 use Rattle.std.specs.Option.{option_map}
 use Rattle.pt_types.specs.Limits.{most_objects}
 use Rattle.pt_types.specs.Names.{same_name}
+use Rattle.pt_table.specs.declared.link.Link.{Link}
 use Rattle.pt_table.specs.declared.objects.ObjectRow.{ObjectRow}
 use Rattle.pt_table.specs.Rows.{row_at, without, changed_at}
 use Rattle.pt_table.specs.Slots.{IsNumbered}
 use Rattle.pt_table.specs.NameSlots.{IsNamed}
+
+-- the link of a row that is in no chain
+abbrev pub out_of_chains : Link
+out_of_chains = record { linked = false; next = None; slot = 0 }
 
 module _ {T : Type 0} where
   -- the row of the object with this number
@@ -24,6 +29,10 @@ module _ {T : Type 0} where
   -- the number of the object with this name
   abbrev pub number_of : List (ObjectRow T) → List ℕ → Option ℕ
   number_of rows name = option_map (λ row. row.number) (object_named rows name)
+
+  -- the link of the row of this object
+  abbrev pub link_of : List (ObjectRow T) → ℕ → Option Link
+  link_of rows number = option_map (λ row. row.link) (object_at rows number)
 
   -- whether an object has this number
   abbrev pub has_object : List (ObjectRow T) → ℕ → Bool
@@ -47,12 +56,17 @@ module _ {T : Type 0} where
   -- the rows, and this one last
   abbrev pub and_object : List (ObjectRow T) → ℕ → List ℕ → T → List (ObjectRow T)
   and_object rows number name value =
-      rows ++ record { number = number; name = name; value = value } ∷ []
+      rows ++ record { number = number; name = name; value = value; link = out_of_chains } ∷ []
 
   -- the rows, with this value in the row of the object
   abbrev pub with_object : List (ObjectRow T) → ℕ → T → List (ObjectRow T)
   with_object rows number value =
       changed_at (λ row. row.number) (λ row. record row { value = value }) rows number
+
+  -- the rows, with this link in the row of the object
+  abbrev pub with_link : List (ObjectRow T) → ℕ → Link → List (ObjectRow T)
+  with_link rows number link =
+      changed_at (λ row. row.number) (λ row. record row { link = link }) rows number
 
   -- the rows but the one of this object
   abbrev pub without_object : List (ObjectRow T) → ℕ → List (ObjectRow T)

@@ -7,11 +7,14 @@
 //! refused, that an empty table takes no memory, and the texts that `Display` writes.
 #![tactic(auto)]
 
+mod chains;
 mod clients;
 mod fault;
+mod link;
 mod objects;
 mod rows;
 
 pub use clients::{ClientRow, Clients};
 pub use fault::TableFault;
+pub use link::Link;
 pub use objects::{ObjectRow, Objects};

@@ -7,11 +7,12 @@ ghost use Rattle.indexmap.specs.IndexMap.{spare};
 ghost use Rattle.pt_types.specs.Limits.{most_objects};
 ghost use Rattle.pt_types.specs.Names.{same_name};
 ghost use Rattle.pt_table.specs.Faults.{IsFault};
-ghost use Rattle.pt_table.specs.ObjectRows.{object_at, object_value, has_object, number_of, is_taken, nth_number, nth_value, and_object, without_object, IsFullFor};
-ghost use Rattle.pt_table.specs.Slots.{row_in_slot, SameBut};
+ghost use Rattle.pt_table.specs.ObjectRows.{object_at, object_value, link_of, has_object, number_of, is_taken, nth_number, nth_value, and_object, with_link, without_object, IsFullFor};
+ghost use Rattle.pt_table.specs.Slots.{row_in_slot, HasRow, IsNumbered, SameBut};
 ghost use Rattle.pt_table.specs.NameSlots.{IsForgotten};
 
 use crate::fault::TableFault;
+use crate::link::Link;
 use crate::rows::{Numbers, make_room, nth_row, put, row_in, slot_of, take_out};
 use indexmap::IndexMap;
 use pt_types::{MOST_OBJECTS, Name};
@@ -26,6 +27,7 @@ pub struct ObjectRow<T> {
     pub number: u64,
     pub name: Name,
     pub value: T,
+    pub link: Link,
 }
 
 impl<T> ObjectRow<T> {
@@ -105,6 +107,25 @@ fn put_named<T, A: Allocator + Copy>(
     let slot = put(rows, numbers, row.number, row);
     names.insert(name, slot).unwrap();
     slot
+}
+
+// The slot of an object's row, which is looked for in this slot first.
+fn slot_by<T, A: Allocator + Copy>(
+    rows: &Slab<ObjectRow<T>, A>,
+    numbers: &Numbers<A>,
+    slot: usize,
+    number: u64,
+) -> usize
+    requires numbered { IsNumbered (λ row. row.number)
+        rows.now.slots numbers.now.entries most_objects }
+    requires listed { HasRow rows.now.slots numbers.now.entries number }
+    ensures slot { lookup (nat_eq number) numbers.now.entries ≡ Some result }
+    ensures there { IsSome (row_in_slot rows.now.slots result) }
+{
+    match rows.get(slot) {
+        Some(row) if row.number == number => slot,
+        _ => slot_of(rows, numbers, number),
+    }
 }
 
 // Takes a name out.
@@ -204,6 +225,42 @@ impl<T, A: Allocator + Copy> Objects<T, A> {
         }
     }
 
+    // The slot of an object's row, or any if there is no such object.
+    pub(crate) fn slot_near(&self, number: u64) -> usize {
+        match self.numbers.get(&number) {
+            Some(slot) => *slot,
+            None => 0,
+        }
+    }
+
+    // The link of an object's row, which is looked for in this slot first.
+    pub(crate) fn link_near(&self, slot: usize, number: u64) -> Link
+        requires { IsSome (object_at self.now number) }
+        ensures { link_of self.now number ≡ Some result }
+    {
+        let slot = slot_by(&self.rows, &self.numbers, slot, number);
+        self.rows[slot].link
+    }
+
+    // The link of an object's row.
+    pub(crate) fn link_of(&self, number: u64) -> Option<Link>
+        ensures { result ≡ link_of self.now number }
+    {
+        match row_in(&self.rows, self.numbers.get(&number)) {
+            Some(row) => Some(row.link),
+            None => None,
+        }
+    }
+
+    // Writes the link of an object's row, which is looked for in this slot first.
+    pub(crate) fn set_link(&mut self, slot: usize, number: u64, link: Link)
+        requires { IsSome (object_at self.old number) }
+        ensures { self.new ≡ with_link self.old number link }
+    {
+        let slot = slot_by(&self.rows, &self.numbers, slot, number);
+        self.rows[slot].link = link;
+    }
+
     /// Takes the object with this number out. Its name is free from then on.
     pub fn remove(&mut self, number: u64) -> Option<T>
         ensures value { result ≡ object_value self.old number }
@@ -215,6 +272,7 @@ impl<T, A: Allocator + Copy> Objects<T, A> {
             number: _,
             name: _,
             value,
+            link: _,
         } = row;
         Some(value)
     }
@@ -247,6 +305,7 @@ impl<T, A: Allocator + Copy> Objects<T, A> {
             number,
             name,
             value,
+            link: Link::out(),
         };
         put_named(&mut self.rows, &mut self.numbers, &mut self.names, row);
         Ok(())

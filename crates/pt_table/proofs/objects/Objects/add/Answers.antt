@@ -1,5 +1,7 @@
-use Rattle.std.proofs.Common.{◌<◌, ◌∙◌, sym, arith, length}
+use Rattle.std.proofs.Common.{◌<◌, ◌∙◌, [], ◌∷◌, ◌++◌, ap, sym, arith, length}
 use Rattle.pt_types.specs.Limits.{most_objects}
+use Rattle.pt_table.specs.declared.link.Link.{Link}
+use Rattle.pt_table.specs.declared.objects.ObjectRow.{ObjectRow}
 use Rattle.pt_table.proofs.Added.{new_number, numbered_added, view_added}
 use Rattle.pt_table.proofs.Named.{number_free, unnamed, new_name, named_added}
 use Rattle.pt_table.proofs.objects.Objects.add.Goals as goal
@@ -44,6 +46,8 @@ invariant_of-self-2 g c =
 pub returns-clause-ok : goal.returns-clause-ok
 returns-clause-ok g c =
     let below : length c.args.self.now < most_objects = omega (arith, c.len.ensures.len) in
+    let row : Link → ObjectRow g.row.T.Denot = λ link.
+    record { number = c.args.number; name = c.args.name; value = c.args.value; link = link } in
     view_added c.self.invariant.0 c.args.self.now c.self.view_is
     c.make_room_named.new.rows.slots c.make_room_named.new.numbers.entries
     c.make_room_named.ensures.rows c.make_room_named.ensures.numbers
@@ -52,3 +56,4 @@ returns-clause-ok g c =
     c.put_named.ensures.numbers
     (number_free c.args.self.now c.args.number c.args.name
     (sym c.is_taken.ensures ∙ c.if-is_taken.false)) below
+    ∙ ap (λ link. c.args.self.now ++ row link ∷ []) c.out.ensures

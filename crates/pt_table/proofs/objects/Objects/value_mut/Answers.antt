@@ -15,8 +15,8 @@ pub invariant_of-self-lent : goal.invariant_of-self-lent
 invariant_of-self-lent g c = λ w. (
   IsNumbered-written c.index_mut.result.now c.slot_of-slot.result (λ r. record r { value = w })
       (λ r. refl) c.self.invariant.0 c.index_mut.ensures.value,
-  IsNamed-written c.index_mut.result.now c.slot_of-slot.result w c.self.invariant.0
-      c.self.invariant.1 c.index_mut.ensures.value,
+  IsNamed-written c.index_mut.result.now c.slot_of-slot.result (λ r. record r { value = w })
+      (λ r. refl) refl c.self.invariant.0 c.self.invariant.1 c.index_mut.ensures.value,
 )
 
 pub returns : goal.returns

@@ -1,0 +1,196 @@
+-- Links of rows: what a written link leaves of the rows, and of what each leads to.
+use Rattle.std.proofs.Common.{◌≡◌, ◌∙◌, ℕ, Bool, true, false, cond, nat_eq, List, [], ◌∷◌, Option, Some, None, is_some, refl, sym, ap, arith}
+use Rattle.std.specs.Option.{option_map, option_and_then}
+use Rattle.std.proofs.lemmas.Bool.{eqb-true}
+use Rattle.std.proofs.lemmas.Bool.Decides.{nat_tests}
+use Rattle.pt_table.specs.declared.link.Link.{Link}
+use Rattle.pt_table.specs.declared.objects.ObjectRow.{ObjectRow}
+use Rattle.pt_table.specs.ObjectRows.{object_at, link_of, has_object, with_link, out_of_chains}
+use Rattle.pt_table.specs.Linked.{is_linked, next_number, linked_by, unlinked}
+
+module _ {T : Type 0} where
+  -- the row that is found has the number
+  found-number : (rows : List (ObjectRow T)) (n : ℕ) (row : ObjectRow T)
+      → object_at rows n ≡ Some row → row.number ≡ n
+  found-number [] n row e = cc
+  found-number (r ∷ rows) n row e = go (found-number rows n row) (nat_eq n r.number) refl e
+    where
+      go : (object_at rows n ≡ Some row → row.number ≡ n) → (b : Bool) → nat_eq n r.number ≡ b
+          → cond b (Some r) (object_at rows n) ≡ Some row → row.number ≡ n
+      go ih true t e =
+          let same : r ≡ row = cc in
+          ap (λ (x : ObjectRow T). x.number) (sym same) ∙ sym (eqb-true n r.number t)
+      go ih false t e = ih e
+
+  -- a row after a link is written to the row of a number
+  abbrev relinked : ℕ → Link → ObjectRow T → ObjectRow T
+  relinked n link r = cond (nat_eq n r.number) (record r { link = link }) r
+
+  number-kept : (n : ℕ) (link : Link) (r : ObjectRow T) → (relinked n link r).number ≡ r.number
+  number-kept n link r = go (nat_eq n r.number)
+    where
+      go : (b : Bool) → (cond b (record r { link = link }) r).number ≡ r.number
+      go true = refl
+      go false = refl
+
+  row-relinked : (rows : List (ObjectRow T)) (n : ℕ) (link : Link) (m : ℕ)
+      → object_at (with_link rows n link) m ≡ option_map (relinked n link) (object_at rows m)
+  row-relinked [] n link m = refl
+  row-relinked (r ∷ rows) n link m =
+      ap (λ k. cond (nat_eq m k) (Some (relinked n link r)) (object_at (with_link rows n link) m))
+      (number-kept n link r)
+      ∙ go (row-relinked rows n link m) (nat_eq m r.number)
+    where
+      go : object_at (with_link rows n link) m ≡ option_map (relinked n link) (object_at rows m)
+          → (b : Bool)
+          → cond b (Some (relinked n link r)) (object_at (with_link rows n link) m)
+          ≡ option_map (relinked n link) (cond b (Some r) (object_at rows m))
+      go ih true = refl
+      go ih false = ih
+
+  -- the link is in the row of the number, and the other rows have theirs
+  pub link-written : (rows : List (ObjectRow T)) (n : ℕ) (link : Link) → has_object rows n ≡ true
+      → (m : ℕ) → link_of (with_link rows n link) m
+      ≡ cond (nat_eq n m) (Some link) (link_of rows m)
+  link-written rows n link has m =
+      ap (option_map (λ r. r.link)) (row-relinked rows n link m)
+      ∙ go (object_at rows m) refl (nat_eq n m) refl
+    where
+      go : (o : Option (ObjectRow T)) → object_at rows m ≡ o → (b : Bool) → nat_eq n m ≡ b
+          → option_map (λ r. r.link) (option_map (relinked n link) o)
+          ≡ cond b (Some link) (option_map (λ r. r.link) o)
+      go None found true t =
+          let same : n ≡ m = grind (arith, nat_tests) in
+          absurd cc
+      go None found false t = refl
+      go (Some r) found b t =
+          ap (λ a. Some ((cond a (record r { link = link }) r).link))
+          (ap (nat_eq n) (found-number rows m r found) ∙ t) ∙ at b
+        where
+          at : (b : Bool) → Some ((cond b (record r { link = link }) r).link)
+              ≡ cond b (Some link) (Some r.link)
+          at true = refl
+          at false = refl
+
+  pub next-written : (rows : List (ObjectRow T)) (n : ℕ) (link : Link) → has_object rows n ≡ true
+      → (m : ℕ) → next_number (with_link rows n link) m
+      ≡ cond (nat_eq n m) link.next (next_number rows m)
+  next-written rows n link has m =
+      ap (option_and_then (λ (l : Link). l.next)) (link-written rows n link has m)
+      ∙ go (nat_eq n m)
+    where
+      go : (b : Bool) → option_and_then (λ (l : Link). l.next) (cond b (Some link) (link_of rows m))
+          ≡ cond b link.next (next_number rows m)
+      go true = refl
+      go false = refl
+
+  pub linked-written : (rows : List (ObjectRow T)) (n : ℕ) (link : Link)
+      → has_object rows n ≡ true → (m : ℕ) → is_linked (with_link rows n link) m
+      ≡ cond (nat_eq n m) link.linked (is_linked rows m)
+  linked-written rows n link has m =
+      ap linked_by (link-written rows n link has m) ∙ go (nat_eq n m)
+    where
+      go : (b : Bool) → linked_by (cond b (Some link) (link_of rows m))
+          ≡ cond b link.linked (is_linked rows m)
+      go true = refl
+      go false = refl
+
+  -- the same objects have a row
+  pub has-written : (rows : List (ObjectRow T)) (n : ℕ) (link : Link) (m : ℕ)
+      → has_object (with_link rows n link) m ≡ has_object rows m
+  has-written rows n link m = ap is_some (row-relinked rows n link m) ∙ go (object_at rows m)
+    where
+      go : (o : Option (ObjectRow T)) → is_some (option_map (relinked n link) o) ≡ is_some o
+      go None = refl
+      go (Some r) = refl
+
+  -- and the rows are what they were, but for links
+  pub unlinked-written : (rows : List (ObjectRow T)) (n : ℕ) (link : Link)
+      → unlinked (with_link rows n link) ≡ unlinked rows
+  unlinked-written [] n link = refl
+  unlinked-written (r ∷ rows) n link =
+      ap (λ x. x ∷ unlinked (with_link rows n link)) (go (nat_eq n r.number))
+      ∙ ap (λ xs. record r { link = out_of_chains } ∷ xs) (unlinked-written rows n link)
+    where
+      go : (b : Bool) → record (cond b (record r { link = link }) r) { link = out_of_chains }
+          ≡ record r { link = out_of_chains }
+      go true = refl
+      go false = refl
+
+  -- what is linked has a row, and so does what leads on
+  pub linked-there : (rows : List (ObjectRow T)) (n : ℕ) → is_linked rows n ≡ true
+      → has_object rows n ≡ true
+  linked-there rows n e = go (object_at rows n) e
+    where
+      go : (o : Option (ObjectRow T)) → linked_by (option_map (λ r. r.link) o) ≡ true
+          → is_some o ≡ true
+      go None e = cc
+      go (Some r) e = refl
+
+  -- the link that is found says what the number leads to
+  pub next-found : (rows : List (ObjectRow T)) (n : ℕ) (link : Link) → link_of rows n ≡ Some link
+      → link.next ≡ next_number rows n
+  next-found rows n link e = sym (ap (option_and_then (λ (l : Link). l.next)) e)
+
+  pub linked-found : (rows : List (ObjectRow T)) (n : ℕ) (link : Link) → link_of rows n ≡ Some link
+      → link.linked ≡ is_linked rows n
+  linked-found rows n link e = sym (ap linked_by e)
+
+  -- who has a row has one after a link is written
+  pub has-second : (rows one : List (ObjectRow T)) (n m : ℕ) (link : Link)
+      → has_object rows m ≡ true → one ≡ with_link rows n link → has_object one m ≡ true
+  has-second rows one n m link has to_one =
+      ap (λ rs. has_object rs m) to_one ∙ has-written rows n link m ∙ has
+
+  -- one link is written
+  module _ (rows one : List (ObjectRow T)) (n : ℕ) (link : Link)
+      (has : has_object rows n ≡ true) (to_one : one ≡ with_link rows n link) where
+    pub next-once : (k : ℕ) → next_number one k ≡ cond (nat_eq n k) link.next (next_number rows k)
+    next-once k = ap (λ rs. next_number rs k) to_one ∙ next-written rows n link has k
+
+    pub linked-once : (k : ℕ) → is_linked one k ≡ cond (nat_eq n k) link.linked (is_linked rows k)
+    linked-once k = ap (λ rs. is_linked rs k) to_one ∙ linked-written rows n link has k
+
+    pub unlinked-once : unlinked one ≡ unlinked rows
+    unlinked-once = ap unlinked to_one ∙ unlinked-written rows n link
+
+  -- and then another one
+  module _ (rows one two : List (ObjectRow T)) (n m : ℕ) (first second : Link)
+      (has : has_object rows n ≡ true) (too : has_object rows m ≡ true)
+      (to_one : one ≡ with_link rows n first) (to_two : two ≡ with_link one m second) where
+    pub next-twice : (k : ℕ) → next_number two k
+        ≡ cond (nat_eq m k) second.next (cond (nat_eq n k) first.next (next_number rows k))
+    next-twice k =
+        next-once one two m second (has-second rows one n m first too to_one) to_two k
+        ∙ ap (λ x. cond (nat_eq m k) second.next x) (next-once rows one n first has to_one k)
+
+    pub linked-twice : (k : ℕ) → is_linked two k
+        ≡ cond (nat_eq m k) second.linked (cond (nat_eq n k) first.linked (is_linked rows k))
+    linked-twice k =
+        linked-once one two m second (has-second rows one n m first too to_one) to_two k
+        ∙ ap (λ x. cond (nat_eq m k) second.linked x) (linked-once rows one n first has to_one k)
+
+    pub unlinked-twice : unlinked two ≡ unlinked rows
+    unlinked-twice =
+        unlinked-once one two m second (has-second rows one n m first too to_one) to_two
+        ∙ unlinked-once rows one n first has to_one
+
+-- what is true at a number stays what it is if that is written there
+pub written-true : (n k : ℕ) (linked : ℕ → Bool) → linked n ≡ true → (b : Bool) → b ≡ true
+    → cond (nat_eq n k) b (linked k) ≡ linked k
+written-true n k linked e b t = go (nat_eq n k) refl
+  where
+    go : (c : Bool) → nat_eq n k ≡ c → cond c b (linked k) ≡ linked k
+    go true s = t ∙ sym (ap linked (sym (eqb-true n k s)) ∙ e)
+    go false s = refl
+
+pub written-later : (n m k : ℕ) (linked : ℕ → Bool) → linked n ≡ true
+    → cond (nat_eq n k) true (cond (nat_eq m k) true (linked k))
+    ≡ cond (nat_eq m k) true (linked k)
+written-later n m k linked e = go (nat_eq n k) refl (nat_eq m k)
+  where
+    go : (c : Bool) → nat_eq n k ≡ c → (d : Bool)
+        → cond c true (cond d true (linked k)) ≡ cond d true (linked k)
+    go true s true = refl
+    go true s false = sym (ap linked (sym (eqb-true n k s)) ∙ e)
+    go false s d = refl

@@ -1,0 +1,40 @@
+use Rattle.std.proofs.Common.{◌∙◌, ap, Some, true, cond, nat_eq}
+use Rattle.pt_table.specs.Linked.{is_linked, next_number}
+use Rattle.pt_table.proofs.Links.{linked-there, next-found, linked-found, has-second, next-twice, linked-twice, unlinked-twice, written-later}
+use Rattle.pt_table.proofs.objects.Objects.put_after.Goals as goal
+
+pub set_link-requires-2 : goal.set_link-requires-2
+set_link-requires-2 g c =
+    let rows = c.args.self.now in
+    has-second rows c.set_link.new.self c.args.number c.args.before c.link_near-link.result
+    (linked-there rows c.args.before c.requires.before) c.set_link.ensures
+
+pub returns-clause-next : goal.returns-clause-next
+returns-clause-next g c = λ n.
+    let rows = c.args.self.now in
+    let before = c.args.before in
+    let number = c.args.number in
+    let link = c.link_near-link.result in
+    next-twice rows c.set_link.new.self c.set_link-2.new.self number before link _ c.requires.row
+    (linked-there rows before c.requires.before) c.set_link.ensures c.set_link-2.ensures n
+    ∙ ap (λ x. cond (nat_eq before n) (Some number) (cond (nat_eq number n) x
+    (next_number rows n))) (next-found rows before link c.link_near-link.ensures)
+
+pub returns-clause-linked : goal.returns-clause-linked
+returns-clause-linked g c = λ n.
+    let rows = c.args.self.now in
+    let before = c.args.before in
+    let number = c.args.number in
+    let link = c.link_near-link.result in
+    linked-twice rows c.set_link.new.self c.set_link-2.new.self number before link _ c.requires.row
+    (linked-there rows before c.requires.before) c.set_link.ensures c.set_link-2.ensures n
+    ∙ ap (λ x. cond (nat_eq before n) true (cond (nat_eq number n) x (is_linked rows n)))
+    (linked-found rows before link c.link_near-link.ensures ∙ c.requires.before)
+    ∙ written-later before number n (is_linked rows) c.requires.before
+
+pub returns-clause-rows : goal.returns-clause-rows
+returns-clause-rows g c =
+    let rows = c.args.self.now in
+    unlinked-twice rows c.set_link.new.self c.set_link-2.new.self c.args.number c.args.before
+    c.link_near-link.result _ c.requires.row
+    (linked-there rows c.args.before c.requires.before) c.set_link.ensures c.set_link-2.ensures
