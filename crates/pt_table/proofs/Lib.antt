@@ -20,3 +20,5 @@ mod Entered
 mod Taken
 -- Walked: walks along a chain, up to a bound
 mod Walked
+-- ChainCallers: for callers: chains and rows as rows are linked, written, added or taken out
+pub mod ChainCallers

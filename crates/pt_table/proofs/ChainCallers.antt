@@ -1,0 +1,178 @@
+-- For callers: chains and rows, as rows are linked, and as they are written, added or taken out.
+use Rattle.std.proofs.Common.{◌≡◌, ◌∙◌, ℕ, Bool, true, false, cond, not, nat_eq, List, [], ◌∷◌, Option, Some, None, is_some, refl, sym, ap, arith, true≢false}
+use Rattle.std.specs.Option.{option_map, option_and_then}
+use Rattle.std.proofs.lemmas.Bool.{eqb-true}
+use Rattle.std.proofs.lemmas.Bool.Decides.{nat_tests}
+use Rattle.pt_table.specs.declared.link.Link.{Link}
+use Rattle.pt_table.specs.declared.objects.ObjectRow.{ObjectRow}
+use Rattle.pt_table.specs.ObjectRows.{object_at, object_value, link_of, has_object, with_object, and_object, without_object, out_of_chains}
+use Rattle.pt_table.specs.Linked.{is_linked, next_number, linked_by, unlinked, IsChain, IsOneOf}
+use Rattle.pt_table.proofs.Chained.{all-linked, Leads-agree}
+
+module _ {T : Type 0} where
+  abbrev bare : ObjectRow T → ObjectRow T
+  bare row = record row { link = out_of_chains }
+
+  bare-row : (rows : List (ObjectRow T)) (n : ℕ) → object_at (unlinked rows) n
+      ≡ option_map bare (object_at rows n)
+  bare-row [] n = refl
+  bare-row (r ∷ rows) n = go (bare-row rows n) (nat_eq n r.number)
+    where
+      go : object_at (unlinked rows) n
+          ≡ option_map bare (object_at rows n)
+          → (b : Bool)
+          → cond b (Some (bare r)) (object_at (unlinked rows) n)
+          ≡ option_map bare
+          (cond b (Some r) (object_at rows n))
+      go ih true = refl
+      go ih false = ih
+
+  bare-value : (rows : List (ObjectRow T)) (n : ℕ)
+      → object_value (unlinked rows) n ≡ object_value rows n
+  bare-value rows n = ap (option_map (λ row. row.value)) (bare-row rows n) ∙ go (object_at rows n)
+    where
+      go : (o : Option (ObjectRow T)) → option_map (λ row. row.value)
+          (option_map bare o)
+          ≡ option_map (λ row. row.value) o
+      go None = refl
+      go (Some r) = refl
+
+  bare-has : (rows : List (ObjectRow T)) (n : ℕ)
+      → has_object (unlinked rows) n ≡ has_object rows n
+  bare-has rows n = ap is_some (bare-row rows n) ∙ go (object_at rows n)
+    where
+      go : (o : Option (ObjectRow T))
+          → is_some (option_map bare o) ≡ is_some o
+      go None = refl
+      go (Some r) = refl
+
+  -- rows that differ in links alone are of the same objects, with the same values
+  pub same-has : (old new : List (ObjectRow T)) → unlinked new ≡ unlinked old → (n : ℕ)
+      → has_object new n ≡ has_object old n
+  same-has old new e n =
+      sym (bare-has new n) ∙ ap (λ rows. has_object rows n) e ∙ bare-has old n
+
+  pub same-value : (old new : List (ObjectRow T)) → unlinked new ≡ unlinked old → (n : ℕ)
+      → object_value new n ≡ object_value old n
+  same-value old new e n =
+      sym (bare-value new n) ∙ ap (λ rows. object_value rows n) e ∙ bare-value old n
+
+  -- a chain stays if its rows' links do
+  pub chain-kept : (old new : List (ObjectRow T)) (h : Option ℕ) (ns : List ℕ)
+      → ((m : ℕ) → IsOneOf ns m → link_of new m ≡ link_of old m) → IsChain old h ns
+      → IsChain new h ns
+  chain-kept old new h ns kept l =
+      Leads-agree (next_number old) (is_linked old) (next_number new) (is_linked new) h ns
+      (λ m i. (
+        ap (option_and_then (λ (link : Link). link.next)) (kept m i),
+        ap linked_by (kept m i),
+      )) l
+
+  -- a written value leaves all links
+  pub link-valued : (rows : List (ObjectRow T)) (n : ℕ) (value : T) (m : ℕ)
+      → link_of (with_object rows n value) m ≡ link_of rows m
+  link-valued [] n value m = refl
+  link-valued (r ∷ rows) n value m = go (link-valued rows n value m) (nat_eq n r.number)
+    where
+      found : link_of (with_object rows n value) m ≡ link_of rows m → (x : ObjectRow T)
+          → x.link ≡ r.link → (b : Bool)
+          → option_map (λ row. row.link) (cond b (Some x) (object_at (with_object rows n value) m))
+          ≡ option_map (λ row. row.link) (cond b (Some r) (object_at rows m))
+      found ih x same true = ap Some same
+      found ih x same false = ih
+
+      go : link_of (with_object rows n value) m ≡ link_of rows m → (b : Bool)
+          → link_of (cond b (record r { value = value }) r ∷ with_object rows n value) m
+          ≡ link_of (r ∷ rows) m
+      go ih true = found ih (record r { value = value }) refl (nat_eq m r.number)
+      go ih false = found ih r refl (nat_eq m r.number)
+
+  -- a new row is in no chain, and leaves the others' links
+  pub link-added : (rows : List (ObjectRow T)) (n : ℕ) (name : List ℕ) (value : T)
+      → object_at rows n ≡ None → (m : ℕ) → link_of (and_object rows n name value) m
+      ≡ cond (nat_eq m n) (Some out_of_chains) (link_of rows m)
+  link-added [] n name value new m = go (nat_eq m n)
+    where
+      go : (b : Bool)
+          → option_map (λ (row : ObjectRow T). row.link)
+          (cond b (Some (record { number = n; name = name; value = value; link = out_of_chains })) None)
+          ≡ cond b (Some out_of_chains) None
+      go true = refl
+      go false = refl
+  link-added (r ∷ rows) n name value new m =
+      go (link-added rows n name value) (nat_eq n r.number) refl new (nat_eq m r.number) refl
+    where
+      go : (object_at rows n ≡ None → (k : ℕ) → link_of (and_object rows n name value) k
+          ≡ cond (nat_eq k n) (Some out_of_chains) (link_of rows k))
+          → (a : Bool) → nat_eq n r.number ≡ a → cond a (Some r) (object_at rows n) ≡ None
+          → (b : Bool) → nat_eq m r.number ≡ b
+          → option_map (λ row. row.link)
+          (cond b (Some r) (object_at (and_object rows n name value) m))
+          ≡ cond (nat_eq m n) (Some out_of_chains)
+          (option_map (λ row. row.link) (cond b (Some r) (object_at rows m)))
+      go ih true s new b t = cc
+      go ih false s new true t =
+          let other : nat_eq m n ≡ false = grind (arith, nat_tests) in
+          sym (ap (λ c. cond c (Some out_of_chains) (Some r.link)) other)
+      go ih false s new false t = ih new m
+
+  -- the row that is taken out leaves the others' links
+  pub link-removed : (rows : List (ObjectRow T)) (n m : ℕ) → nat_eq n m ≡ false
+      → link_of (without_object rows n) m ≡ link_of rows m
+  link-removed [] n m apart = refl
+  link-removed (r ∷ rows) n m apart =
+      go (link-removed rows n m apart) (nat_eq n r.number) refl (nat_eq m r.number) refl
+    where
+      go : link_of (without_object rows n) m ≡ link_of rows m
+          → (a : Bool) → nat_eq n r.number ≡ a → (b : Bool) → nat_eq m r.number ≡ b
+          → link_of (cond (not a) (r ∷ without_object rows n) (without_object rows n)) m
+          ≡ option_map (λ row. row.link) (cond b (Some r) (object_at rows m))
+      go ih true s true t =
+          let same : nat_eq n m ≡ true = grind (arith, nat_tests) in
+          absurd (true≢false (sym same ∙ apart))
+      go ih true s false t = ih
+      go ih false s b t =
+          ap (λ c. option_map (λ (row : ObjectRow T). row.link)
+          (cond c (Some r) (object_at (without_object rows n) m))) t ∙ at b
+        where
+          at : (b : Bool) → option_map (λ (row : ObjectRow T). row.link)
+              (cond b (Some r) (object_at (without_object rows n) m))
+              ≡ option_map (λ row. row.link) (cond b (Some r) (object_at rows m))
+          at true = refl
+          at false = ih
+
+  -- so chains stay
+  pub chain-valued : (rows : List (ObjectRow T)) (n : ℕ) (value : T) (h : Option ℕ) (ns : List ℕ)
+      → IsChain rows h ns → IsChain (with_object rows n value) h ns
+  chain-valued rows n value h ns =
+      chain-kept rows (with_object rows n value) h ns (λ m i. link-valued rows n value m)
+
+  -- a number of a chain has a link, so it isn't one that has no row, or that is in no chain
+  listed-apart : (rows : List (ObjectRow T)) (n : ℕ) → is_linked rows n ≡ false → (h : Option ℕ)
+      (ns : List ℕ) → IsChain rows h ns → (m : ℕ) → IsOneOf ns m → nat_eq m n ≡ false
+  listed-apart rows n free h ns l m i = go (nat_eq m n) refl
+    where
+      go : (b : Bool) → nat_eq m n ≡ b → b ≡ false
+      go false e = refl
+      go true e =
+          let linked = all-linked (next_number rows) (is_linked rows) h ns l m i in
+          absurd (true≢false (sym linked ∙ ap (is_linked rows) (eqb-true m n e) ∙ free))
+
+  pub chain-added : (rows : List (ObjectRow T)) (n : ℕ) (name : List ℕ) (value : T)
+      → object_at rows n ≡ None → (h : Option ℕ) (ns : List ℕ) → IsChain rows h ns
+      → IsChain (and_object rows n name value) h ns
+  chain-added rows n name value new h ns l =
+      chain-kept rows (and_object rows n name value) h ns (λ m i.
+      link-added rows n name value new m
+      ∙ ap (λ b. cond b (Some out_of_chains) (link_of rows m))
+      (listed-apart rows n (ap (λ o. linked_by (option_map (λ (r : ObjectRow T). r.link) o)) new)
+      h ns l m i)) l
+
+  pub chain-removed : (rows : List (ObjectRow T)) (n : ℕ) → is_linked rows n ≡ false
+      → (h : Option ℕ) (ns : List ℕ) → IsChain rows h ns → IsChain (without_object rows n) h ns
+  chain-removed rows n free h ns l =
+      chain-kept rows (without_object rows n) h ns (λ m i.
+      link-removed rows n m (turned m (listed-apart rows n free h ns l m i))) l
+    where
+      turned : (m : ℕ) → nat_eq m n ≡ false → nat_eq n m ≡ false
+      turned m e = grind (arith, nat_tests)
