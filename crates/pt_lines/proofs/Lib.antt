@@ -8,8 +8,6 @@ pub mod FieldLemmas
 pub mod NumberLemmas
 -- VerbLemmas: each verb is found by its word, and its word is short and has no space
 pub mod VerbLemmas
--- PackedLemmas: a short word is known by its length and its numbers
-pub mod PackedLemmas
 -- ArgumentLemmas: what fields are read as, and what is read again from its fields
 pub mod ArgumentLemmas
 -- SpelledLemmas: the text of a line is the word of a verb and the fields that it is read from

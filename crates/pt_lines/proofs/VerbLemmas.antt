@@ -1,8 +1,10 @@
 -- VerbLemmas: each verb is found by its word, and its word is short and has no space.
-use Rattle.std.proofs.Common.{◌≡◌, ℕ, Bool, true, List, Option, None, Some, nat_lt, refl, sym}
+use Rattle.std.proofs.Common.{◌≡◌, ◌==◌, ℕ, Bool, true, false, cond, List, [], ◌∷◌, Option, None, Some, find, length, refl, ap, sym}
+use Rattle.std.proofs.lemmas.Bool.{eq-eqb}
+use Rattle.std.proofs.lemmas.Slice.Eq.{bytes_eq-Decides}
 use Rattle.std.specs.Option.{IfSome}
 use Rattle.std.specs.Str.{bytes_eq}
-use Rattle.std.specs.List.{list_all}
+use Rattle.std.specs.List.{filter}
 use Rattle.pt_types.specs.declared.time.Clock.TheVariants.{Real, Mono}
 use Rattle.pt_lines.specs.declared.verb.NamedVerb.TheVariants.{Lock, Trylock, Unlock, Consistent, MutexDestroy, RwlockInit, Rdlock, Tryrdlock, Wrlock, Trywrlock, Rwunlock, RwlockDestroy, CondInit, CondDestroy, Signal, Broadcast, Bwait, BarrierDestroy}
 use Rattle.pt_lines.specs.declared.verb.TimedVerb.TheVariants.{Timedlock, Timedrdlock, Timedwrlock}
@@ -85,44 +87,35 @@ word_is_short (Clocked Clocklock) = refl
 word_is_short (Clocked Clockrdlock) = refl
 word_is_short (Clocked Clockwrlock) = refl
 
--- a number that a byte can have
-abbrev pub is_byte_value : ℕ → Bool
-is_byte_value b = nat_lt b 256
+find-filter :
+    {X : Type 0} (p q : X → Bool) (xs : List X) → ((x : X) → p x ≡ true → q x ≡ true)
+    → find p (filter q xs) ≡ find p xs
+find-filter p q [] h = refl
+find-filter {X} p q (x ∷ xs) h = go (q x) (h x) (find-filter p q xs h)
+  where
+    other : (c : Bool) → (c ≡ true → false ≡ true) → find p (filter q xs) ≡ find p xs
+        → find p (filter q xs) ≡ cond c (Some x) (find p xs)
+    other false f ih = ih
+    other true f ih = absurd (no (f refl))
+      where
+        no : false ≡ true → ⊥
+        no e = absurd cc
 
--- each word is of bytes
-pub word_is_bytes : (verb : Verb) → list_all is_byte_value (word_of verb) ≡ true
-word_is_bytes Hello = refl
-word_is_bytes (Moment Real) = refl
-word_is_bytes (Moment Mono) = refl
-word_is_bytes MutexInit = refl
-word_is_bytes BarrierInit = refl
-word_is_bytes Wait = refl
-word_is_bytes Timedwait = refl
-word_is_bytes Clockwait = refl
-word_is_bytes (Named Lock) = refl
-word_is_bytes (Named Trylock) = refl
-word_is_bytes (Named Unlock) = refl
-word_is_bytes (Named Consistent) = refl
-word_is_bytes (Named MutexDestroy) = refl
-word_is_bytes (Named RwlockInit) = refl
-word_is_bytes (Named Rdlock) = refl
-word_is_bytes (Named Tryrdlock) = refl
-word_is_bytes (Named Wrlock) = refl
-word_is_bytes (Named Trywrlock) = refl
-word_is_bytes (Named Rwunlock) = refl
-word_is_bytes (Named RwlockDestroy) = refl
-word_is_bytes (Named CondInit) = refl
-word_is_bytes (Named CondDestroy) = refl
-word_is_bytes (Named Signal) = refl
-word_is_bytes (Named Broadcast) = refl
-word_is_bytes (Named Bwait) = refl
-word_is_bytes (Named BarrierDestroy) = refl
-word_is_bytes (Timed Timedlock) = refl
-word_is_bytes (Timed Timedrdlock) = refl
-word_is_bytes (Timed Timedwrlock) = refl
-word_is_bytes (Clocked Clocklock) = refl
-word_is_bytes (Clocked Clockrdlock) = refl
-word_is_bytes (Clocked Clockwrlock) = refl
+    go : (b : Bool) → (p x ≡ true → b ≡ true) → find p (filter q xs) ≡ find p xs
+        → find p (cond b (x ∷ filter q xs) (filter q xs)) ≡ cond (p x) (Some x) (find p xs)
+    go true f ih = ap (cond (p x) (Some x)) ih
+    go false f ih = other (p x) f ih
+
+-- a verb with this word is one of those whose words have its length
+pub found-by-length : (text : List ℕ)
+    → find (λ verb. bytes_eq (word_of verb) text)
+    (filter (λ verb. length text == length (word_of verb)) VERBS)
+    ≡ verb_of text
+found-by-length text =
+    find-filter (λ verb. bytes_eq (word_of verb) text)
+    (λ verb. length text == length (word_of verb)) VERBS
+    (λ verb e. eq-eqb (length text) (length (word_of verb))
+    (ap length (sym ((bytes_eq-Decides (word_of verb) text).0 e))))
 
 -- a verb that is found has its word
 pub word_of-found :

@@ -3,7 +3,6 @@ pub mod Lines
 pub mod Fields
 pub mod Numbers
 pub mod Verbs
-pub mod PackedWords
 pub mod Arguments
 pub mod Grammar
 pub mod Reading

@@ -13,10 +13,10 @@ mod client;
 mod cutter;
 mod fields;
 mod number;
-mod packed;
 mod reply;
 mod script_line;
 mod verb;
+mod verbs;
 
 pub use call_line::{CallLine, read_call};
 pub use client::{ClientName, Who};

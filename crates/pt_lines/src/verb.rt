@@ -2,7 +2,7 @@ ghost use Rattle.std.specs.Prelude.{◌≡◌, IfSome, Some};
 ghost use Rattle.pt_lines.specs.declared.verb.Verb.{Verb};
 ghost use Rattle.pt_lines.specs.Verbs.{named_word, timed_word, clocked_word, moment_word, word_of, verb_of, call_on, call_until, call_by_clock};
 
-use crate::packed::find_verb;
+use crate::verbs::find_verb;
 use pt_types::{Call, Clock, Deadline, Name};
 
 /// The word of a call that one name follows.
