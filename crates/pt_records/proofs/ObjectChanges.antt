@@ -1,5 +1,5 @@
 -- Rows of objects after one is written, added or taken out.
-use Rattle.std.proofs.Common.{◌≡◌, ℕ, ◌||◌, Bool, true, false, cond, nat_eq, List, Option, Some, None, is_some, Result, Ok, Err, OnErr, refl, sym, ap, ◌∙◌}
+use Rattle.std.proofs.Common.{◌≡◌, ℕ, ◌||◌, Bool, true, false, cond, nat_eq, List, Option, Some, None, is_some, option_map, Result, Ok, Err, OnErr, refl, sym, ap, ◌∙◌}
 use Rattle.pt_mutex.specs.MutexState.{MutexState}
 use Rattle.pt_rwlock.specs.RwlockState.{RwlockState}
 use Rattle.pt_table.specs.declared.objects.ObjectRow.{ObjectRow}
@@ -10,6 +10,7 @@ use Rattle.pt_records.specs.Objects.{Rising}
 use Rattle.pt_records.specs.Writes.{WritesObject, AddsObject, RemovesObject}
 use Rattle.pt_records.proofs.RowLemmas.{length-map, length-added, length-without, one_changed, one-kept, value-changed, value-added, value-without, value-there}
 use Rattle.pt_records.proofs.ObjectWrites.{number_in, value_in, rising-apart, rising-new, rising-map, rising-added, rising-without}
+use Rattle.pt_records.proofs.ChainsKept.{keeps-added, keeps-removed}
 use Rattle.pt_records.proofs.ObjectNames.{number-map, names-map, number-added, names-added, number-without, names-without}
 
 module _ {A : Type 0} where
@@ -88,6 +89,8 @@ module _ {A : Type 0} where
         rising = rising-added rows row rising;
         many = length-added number_in rows row;
         once = names-added rows row named;
+        free = ap (option_map value_in) new;
+        chains = keeps-added rows o name x new;
       }
 
   -- the rows without one
@@ -99,6 +102,7 @@ module _ {A : Type 0} where
     rising = rising-without rows o;
     many = λ k rising. length-without number_in rows o (rising-apart rows k rising) has;
     once = names-without rows o;
+    chains = keeps-removed rows o;
   }
 
 -- what holds anyhow holds where there is a refusal, or none

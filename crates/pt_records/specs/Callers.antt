@@ -40,7 +40,8 @@ opens_of rows = filter_map (λ row. row.value.open) rows
 
 -- the row of a client that has just joined
 abbrev pub joined : ℕ → Caller
-joined p = record { priority = p; «open» = None; latest = None; answer = None }
+joined p =
+    record { priority = p; «open» = None; latest = None; answer = None; owned = None }
 
 -- an open call that the entry at place k moves  [XSH pthread_cond_broadcast]
 abbrev pub open_moved_at : ℕ → Cause → Open → Open

@@ -1,5 +1,6 @@
 pub mod Arrivals
 pub mod Callers
+pub mod Chained
 pub mod Counts
 pub mod LocksInRows
 pub mod Logs

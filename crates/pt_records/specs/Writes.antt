@@ -1,5 +1,5 @@
 -- Writes: rows of the tables before and after some of them are written.
-use Rattle.std.specs.Prelude.{ℕ, zero, suc, ◌+◌, ◌≡◌, ◌==◌, ◌&&◌, Bool, List, [], ◌∷◌, Option, Some, None, is_none, length, option_map, if◌then◌else◌}
+use Rattle.std.specs.Prelude.{ℕ, zero, suc, ◌+◌, ◌≡◌, ◌==◌, ◌&&◌, Bool, false, List, [], ◌∷◌, Option, Some, None, is_none, length, option_map, if◌then◌else◌}
 use Rattle.std.specs.Option.{option_and_then}
 use Rattle.pt_types.specs.declared.outcome.Outcome.{Outcome}
 use Rattle.pt_table.specs.declared.clients.ClientRow.{ClientRow}
@@ -10,6 +10,7 @@ use Rattle.pt_types.specs.declared.call.ObjectKind.TheVariants as kind
 use Rattle.pt_types.specs.MutexTable.{is_number}
 use Rattle.pt_types.specs.Names.{same_name}
 use Rattle.pt_table.specs.ObjectRows.{object_value, object_named, number_of}
+use Rattle.pt_table.specs.Linked.{is_linked}
 use Rattle.pt_mutex.specs.MutexState.{made as new_mutex}
 use Rattle.pt_rwlock.specs.RwlockState.{made as new_rwlock}
 use Rattle.pt_model.specs.declared.entry.Cause.{Cause}
@@ -20,6 +21,7 @@ use Rattle.pt_records.specs.declared.clients.Open.{Open}
 use Rattle.pt_records.specs.declared.objects.Object.{Object}
 use Rattle.pt_records.specs.declared.objects.Object.TheVariants.{Mutex, Rwlock, Cond, Barrier}
 use Rattle.pt_records.specs.Callers.{Once, has_open, closed, moved_at}
+use Rattle.pt_records.specs.Chained.{KeepsChains}
 use Rattle.pt_records.specs.Logs.{outcome_in_log}
 use Rattle.pt_records.specs.Objects.{Rising}
 
@@ -106,6 +108,8 @@ module _ {A : Type 0} where
     pub rising : Rising new (o + 1)
     pub many : length new ≡ length old + 1
     pub once : NamesOnce old → NamesOnce new
+    pub free : object_value old o ≡ None
+    pub chains : KeepsChains old new
 
   -- an object has no row any more, and the others stay
   pub record RemovesObject (old new : List (ObjectRow (Object A))) (o : ℕ) : Type 0 where
@@ -115,6 +119,7 @@ module _ {A : Type 0} where
     pub rising : (k : ℕ) → Rising old k → Rising new k
     pub many : (k : ℕ) → Rising old k → length new + 1 ≡ length old
     pub once : NamesOnce old → NamesOnce new
+    pub chains : is_linked old o ≡ false → KeepsChains old new
 
   -- an object as it is made  [XSH 2.9]
   abbrev pub new_object : ObjectKind → Object A

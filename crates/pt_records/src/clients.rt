@@ -1,4 +1,5 @@
-//! The row of a living client: its priority, its open call, and its latest call with the answer.
+//! The row of a living client: its priority, its open call, its latest call with the answer, and
+//! the robust mutexes that it owns.
 
 ghost use Rattle.std.specs.Prelude.{IfErr, OnErr, OnOk, Some, ◌<◌, ◌≡◌, false, length, true};
 ghost use Rattle.pt_table.specs.ClientRows.{client_value, has_client};
@@ -61,12 +62,14 @@ pub struct Open {
     pub moved: Option<Move>,
 }
 
-/// The row of a living client: its priority, its open call, and the place of its latest call, with
-/// the answer if it has one.
+/// The row of a living client: its priority, its open call, the place of its latest call, with the
+/// answer if it has one, and the robust mutexes that it owns.
 #[derive(Clone, Copy, Debug, PartialEq, Eq)]
 pub struct Caller {
     pub priority: Priority,
     pub open: Option<Open>,
     pub latest: Option<u64>,
     pub answer: Option<Outcome>,
+    /// The lowest number of a robust mutex that it owns: the head of their chain.
+    pub owned: Option<u64>,
 }

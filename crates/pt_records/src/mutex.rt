@@ -7,6 +7,7 @@ ghost use Rattle.pt_mutex.specs.MutexState.{MutexState, acquired, can_acquire, r
 ghost use Rattle.pt_table.specs.ObjectRows.{object_value};
 ghost use Rattle.pt_records.specs.LocksInRows.{mutex_in};
 ghost use Rattle.pt_records.specs.declared.objects.Object.TheVariants.{Mutex};
+ghost use Rattle.pt_records.specs.Chained.{KeepsChains};
 ghost use Rattle.pt_records.specs.Writes.{WritesObject};
 
 use crate::objects::Object;
@@ -59,8 +60,10 @@ pub fn acquire<A: Allocator + Copy>(objects: &mut Objects<Object<A>, A>, m: u64,
     requires there { IsSome (mutex_in (object_value objects.old m)) }
     requires may { (x : MutexState) → object_value objects.old m ≡ Some (Mutex x)
         → IsTrue (can_acquire x.seen c) }
-    ensures { (x : MutexState) → object_value objects.old m ≡ Some (Mutex x)
+    ensures mutex { (x : MutexState) → object_value objects.old m ≡ Some (Mutex x)
         → WritesObject objects.old objects.new m (Mutex (record x { seen = acquired x.seen c })) }
+    ensures chains { (x : MutexState) → object_value objects.old m ≡ Some (Mutex x)
+        → KeepsChains objects.old objects.new }
 {
     if let Some(object) = objects.at_mut(m) {
         if let Object::Mutex(mutex) = object {
@@ -74,8 +77,10 @@ pub fn release<A: Allocator + Copy>(objects: &mut Objects<Object<A>, A>, m: u64,
     requires there { IsSome (mutex_in (object_value objects.old m)) }
     requires owned { (x : MutexState) → object_value objects.old m ≡ Some (Mutex x)
         → IsTrue (owns x.seen c) }
-    ensures { (x : MutexState) → object_value objects.old m ≡ Some (Mutex x)
+    ensures mutex { (x : MutexState) → object_value objects.old m ≡ Some (Mutex x)
         → WritesObject objects.old objects.new m (Mutex (record x { seen = released x.seen })) }
+    ensures chains { (x : MutexState) → object_value objects.old m ≡ Some (Mutex x)
+        → KeepsChains objects.old objects.new }
 {
     if let Some(object) = objects.at_mut(m) {
         if let Object::Mutex(mutex) = object {
@@ -87,8 +92,10 @@ pub fn release<A: Allocator + Copy>(objects: &mut Objects<Object<A>, A>, m: u64,
 /// What the mutex guards is in order again.  [XSH pthread_mutex_consistent]
 pub fn restore<A: Allocator + Copy>(objects: &mut Objects<Object<A>, A>, m: u64)
     requires { IsSome (mutex_in (object_value objects.old m)) }
-    ensures { (x : MutexState) → object_value objects.old m ≡ Some (Mutex x)
+    ensures mutex { (x : MutexState) → object_value objects.old m ≡ Some (Mutex x)
         → WritesObject objects.old objects.new m (Mutex (record x { seen = restored x.seen })) }
+    ensures chains { (x : MutexState) → object_value objects.old m ≡ Some (Mutex x)
+        → KeepsChains objects.old objects.new }
 {
     if let Some(object) = objects.at_mut(m) {
         if let Object::Mutex(mutex) = object {
@@ -100,8 +107,10 @@ pub fn restore<A: Allocator + Copy>(objects: &mut Objects<Object<A>, A>, m: u64)
 /// The mutex is taken from its dead owner.  [XSH pthread_mutex_lock, EOWNERDEAD]
 pub fn yield_dead<A: Allocator + Copy>(objects: &mut Objects<Object<A>, A>, m: u64)
     requires { IsSome (mutex_in (object_value objects.old m)) }
-    ensures { (x : MutexState) → object_value objects.old m ≡ Some (Mutex x)
+    ensures mutex { (x : MutexState) → object_value objects.old m ≡ Some (Mutex x)
         → WritesObject objects.old objects.new m (Mutex (record x { seen = yielded x.seen })) }
+    ensures chains { (x : MutexState) → object_value objects.old m ≡ Some (Mutex x)
+        → KeepsChains objects.old objects.new }
 {
     if let Some(object) = objects.at_mut(m) {
         if let Object::Mutex(mutex) = object {

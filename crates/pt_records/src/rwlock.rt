@@ -6,6 +6,7 @@ ghost use Rattle.pt_rwlock.specs.RwlockState.{ChangesRow, RwlockState, can_acqui
 ghost use Rattle.pt_table.specs.ObjectRows.{object_value};
 ghost use Rattle.pt_records.specs.LocksInRows.{rwlock_in};
 ghost use Rattle.pt_records.specs.declared.objects.Object.TheVariants.{Rwlock};
+ghost use Rattle.pt_records.specs.Chained.{KeepsChains};
 ghost use Rattle.pt_records.specs.Writes.{WritesObject};
 ghost use Rattle.pt_types.specs.MutexTable.{is_number};
 ghost use Rattle.pt_table.specs.ClientRows.{nth_number};
@@ -41,6 +42,8 @@ pub fn make_row<A: Allocator + Copy>(
         → IsSome (row_of x c) → IsOk result }
     ensures err { (x : RwlockState) → object_value objects.old r ≡ Some (Rwlock x)
         → OnErr result (WritesObject objects.old objects.new r (Rwlock x)) }
+    ensures chains { (x : RwlockState) → object_value objects.old r ≡ Some (Rwlock x)
+        → KeepsChains objects.old objects.new }
     ensures reason { IfErr result (λ refusal. refusal ≡ Refusal.Enomem) }
 {
     if let Some(object) = objects.at_mut(r) {
@@ -58,6 +61,8 @@ pub fn acquire_read<A: Allocator + Copy>(objects: &mut Objects<Object<A>, A>, r:
         → IsTrue (can_acquire_read x c) }
     ensures lock { (x : RwlockState) → object_value objects.old r ≡ Some (Rwlock x)
         → WritesObject objects.old objects.new r (Rwlock (with_reads x c (reads_of x c + 1))) }
+    ensures chains { (x : RwlockState) → object_value objects.old r ≡ Some (Rwlock x)
+        → KeepsChains objects.old objects.new }
     ensures row { (x : RwlockState) → object_value objects.old r ≡ Some (Rwlock x)
         → ChangesRow x (with_reads x c (reads_of x c + 1)) c (Some (reads_of x c + 1)) }
 {
@@ -73,8 +78,10 @@ pub fn acquire_write<A: Allocator + Copy>(objects: &mut Objects<Object<A>, A>, r
     requires there { IsSome (rwlock_in (object_value objects.old r)) }
     requires free { (x : RwlockState) → object_value objects.old r ≡ Some (Rwlock x)
         → IsTrue (nobody_holds x) }
-    ensures { (x : RwlockState) → object_value objects.old r ≡ Some (Rwlock x)
+    ensures lock { (x : RwlockState) → object_value objects.old r ≡ Some (Rwlock x)
         → WritesObject objects.old objects.new r (Rwlock (record x { writer = Some c })) }
+    ensures chains { (x : RwlockState) → object_value objects.old r ≡ Some (Rwlock x)
+        → KeepsChains objects.old objects.new }
 {
     if let Some(object) = objects.at_mut(r) {
         if let Object::Rwlock(lock) = object {
@@ -90,6 +97,8 @@ pub fn release_lock<A: Allocator + Copy>(objects: &mut Objects<Object<A>, A>, r:
         → IsTrue (holds (seen_by x c)) }
     ensures lock { (x : RwlockState) → object_value objects.old r ≡ Some (Rwlock x)
         → WritesObject objects.old objects.new r (Rwlock (released_lock x c)) }
+    ensures chains { (x : RwlockState) → object_value objects.old r ≡ Some (Rwlock x)
+        → KeepsChains objects.old objects.new }
     ensures row { (x : RwlockState) → object_value objects.old r ≡ Some (Rwlock x)
         → is_number x.writer c ≡ false
         → ChangesRow x (released_lock x c) c (Some (reads_of x c - 1)) }

@@ -1,9 +1,15 @@
 use Rattle.std.proofs.Common.{Some}
+use Rattle.pt_records.specs.declared.objects.Object.TheVariants.{Rwlock}
+use Rattle.pt_records.proofs.ChainsKept.{keeps-written}
 use Rattle.pt_records.proofs.ObjectChanges.{writes-lock}
 use Rattle.pt_records.proofs.rwlock.acquire_write.Goals as goal
 
-pub returns-in-Rwlock : goal.returns-in-Rwlock
-returns-in-Rwlock g c =
+pub returns-in-Rwlock-clause-lock : goal.returns-in-Rwlock-clause-lock
+returns-in-Rwlock-clause-lock g c =
     writes-lock (λ x. record x { writer = Some c.args.c }) c.args.objects.now c.args.r
     c.in-Some.object.now c.in-Rwlock.lock c.acquire_write.new.self c.in-Some.ensures.value
     c.in-Rwlock.is c.acquire_write.ensures
+
+pub returns-in-Rwlock-clause-chains : goal.returns-in-Rwlock-clause-chains
+returns-in-Rwlock-clause-chains g c =
+    λ x e. keeps-written c.args.objects.now c.args.r (Rwlock c.acquire_write.new.self)

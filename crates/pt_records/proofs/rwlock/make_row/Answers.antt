@@ -1,4 +1,6 @@
 use Rattle.pt_rwlock.specs.RwlockState.{with_row}
+use Rattle.pt_records.specs.declared.objects.Object.TheVariants.{Rwlock}
+use Rattle.pt_records.proofs.ChainsKept.{keeps-written}
 use Rattle.pt_records.proofs.ObjectChanges.{writes-lock, whenever-err}
 use Rattle.pt_records.proofs.rwlock.make_row.Goals as goal
 
@@ -13,3 +15,11 @@ returns-in_ok-make_row-clause-ok g c =
     writes-lock (λ x. with_row x c.args.c) c.args.objects.now c.args.r c.in-Some.object.now
     c.in-Rwlock.lock c.make_row.new.self c.in-Some.ensures.value c.in-Rwlock.is
     c.in_ok-make_row.ensures.ok
+
+pub returns-in_err-make_row-clause-chains : goal.returns-in_err-make_row-clause-chains
+returns-in_err-make_row-clause-chains g c =
+    λ x e. keeps-written c.args.objects.now c.args.r (Rwlock c.make_row.new.self)
+
+pub returns-in_ok-make_row-clause-chains : goal.returns-in_ok-make_row-clause-chains
+returns-in_ok-make_row-clause-chains g c =
+    λ x e. keeps-written c.args.objects.now c.args.r (Rwlock c.make_row.new.self)

@@ -1,4 +1,6 @@
 use Rattle.pt_rwlock.specs.RwlockState.{released}
+use Rattle.pt_records.specs.declared.objects.Object.TheVariants.{Rwlock}
+use Rattle.pt_records.proofs.ChainsKept.{keeps-written}
 use Rattle.pt_records.proofs.ObjectChanges.{writes-lock}
 use Rattle.pt_records.proofs.rwlock.release_lock.Goals as goal
 
@@ -7,3 +9,7 @@ returns-in-Rwlock-clause-lock g c =
     writes-lock (λ x. released x c.args.c) c.args.objects.now c.args.r
     c.in-Some.object.now c.in-Rwlock.lock c.release.new.self c.in-Some.ensures.value
     c.in-Rwlock.is c.release.ensures.change
+
+pub returns-in-Rwlock-clause-chains : goal.returns-in-Rwlock-clause-chains
+returns-in-Rwlock-clause-chains g c =
+    λ x e. keeps-written c.args.objects.now c.args.r (Rwlock c.release.new.self)

@@ -1,0 +1,92 @@
+-- Chains of objects, as a row is written, added or taken out.
+use Rattle.std.proofs.Common.{◌≡◌, ◌∙◌, ℕ, Bool, true, false, cond, nat_eq, List, [], ◌∷◌, Option, Some, None, refl, sym, ap, true≢false, inl, inr, arith}
+use Rattle.std.specs.Option.{option_map}
+use Rattle.std.proofs.lemmas.Bool.Decides.{eqb_tells, nat_tests}
+use Rattle.pt_table.specs.declared.objects.ObjectRow.{ObjectRow}
+use Rattle.pt_table.specs.ObjectRows.{object_at, link_of, with_object, and_object, without_object, out_of_chains}
+use Rattle.pt_table.specs.Linked.{is_linked, linked_by, next_number, IsChain, IsOneOf}
+use Rattle.pt_table.proofs.ChainCallers.{chain-kept, link-valued, link-added, link-removed}
+use Rattle.pt_records.specs.declared.objects.Object.{Object}
+use Rattle.pt_records.specs.Chained.{KeepsChains}
+use Rattle.pt_records.proofs.RowLemmas.{row-without}
+use Rattle.pt_records.proofs.ObjectWrites.{number_in}
+
+module _ {A : Type 0} where
+  -- all rows of a chain are linked
+  pub chain-linked : (objects : List (ObjectRow (Object A))) (head : Option ℕ) (numbers : List ℕ)
+      → IsChain objects head numbers → (m : ℕ) → IsOneOf numbers m → is_linked objects m ≡ true
+  chain-linked objects head [] l m i = absurd i
+  chain-linked objects head (n ∷ ns) l m (inl e) = ap (is_linked objects) e ∙ l.1
+  chain-linked objects head (n ∷ ns) l m (inr i) =
+      chain-linked objects (next_number objects n) ns l.3 m i
+
+  -- chains stay where the rows that are in one stay where they are
+  pub chain-stays : (old new : List (ObjectRow (Object A))) → KeepsChains old new
+      → (head : Option ℕ) (numbers : List ℕ) → IsChain old head numbers
+      → IsChain new head numbers
+  chain-stays old new k head numbers l =
+      chain-kept old new head numbers
+      (λ m i. k.links m (chain-linked old head numbers l m i)) l
+
+  -- a written value leaves all chains
+  pub keeps-written : (rows : List (ObjectRow (Object A))) (o : ℕ) (x : Object A)
+      → KeepsChains rows (with_object rows o x)
+  keeps-written rows o x = record {
+    linked = λ m. ap linked_by (link-valued rows o x m);
+    links = λ m e. link-valued rows o x m;
+  }
+
+  -- rows that are linked differ from one that isn't
+  apart : (rows : List (ObjectRow (Object A))) (o m : ℕ) → is_linked rows o ≡ false
+      → is_linked rows m ≡ true → nat_eq m o ≡ false
+  apart rows o m free e = elim (eqb_tells m o) [
+    | inl s ↦ absurd (true≢false (sym e ∙ ap (is_linked rows) s.1 ∙ free))
+    | inr s ↦ s.0
+  ]
+
+  -- a new row is in no chain
+  pub keeps-added : (rows : List (ObjectRow (Object A))) (o : ℕ) (name : List ℕ) (x : Object A)
+      → object_at rows o ≡ None → KeepsChains rows (and_object rows o name x)
+  keeps-added rows o name x new =
+      record { linked = linked; links = links }
+    where
+      free : is_linked rows o ≡ false
+      free = ap (λ r. linked_by (option_map (λ (row : ObjectRow (Object A)). row.link) r)) new
+
+      links : (m : ℕ) → is_linked rows m ≡ true
+          → link_of (and_object rows o name x) m ≡ link_of rows m
+      links m e =
+          link-added rows o name x new m
+          ∙ ap (λ b. cond b (Some out_of_chains) (link_of rows m)) (apart rows o m free e)
+
+      linked : (m : ℕ) → is_linked (and_object rows o name x) m ≡ is_linked rows m
+      linked m = ap linked_by (link-added rows o name x new m) ∙ elim (eqb_tells m o) [
+        | inl s ↦ rw s.0 (sym (ap (is_linked rows) s.1 ∙ free))
+        | inr s ↦ rw s.0 refl
+      ]
+
+  -- the link of a row that is found
+  abbrev link_in : Option (ObjectRow (Object A)) → Bool
+  link_in row = linked_by (option_map (λ (r : ObjectRow (Object A)). r.link) row)
+
+  -- a row that is taken out was in no chain
+  pub keeps-removed : (rows : List (ObjectRow (Object A))) (o : ℕ) → is_linked rows o ≡ false
+      → KeepsChains rows (without_object rows o)
+  keeps-removed rows o free =
+      record {
+        linked = linked;
+        links = λ m e. link-removed rows o m (turned m (apart rows o m free e));
+      }
+    where
+      turned : (m : ℕ) → nat_eq m o ≡ false → nat_eq o m ≡ false
+      turned m e = grind (arith, nat_tests)
+
+      linked : (m : ℕ) → is_linked (without_object rows o) m ≡ is_linked rows m
+      linked m = elim (eqb_tells o m) [
+        | inl s ↦
+            ap link_in
+            (row-without number_in rows o m
+            ∙ ap (λ b. cond b None (object_at rows m)) s.0)
+            ∙ sym (ap (is_linked rows) (sym s.1) ∙ free)
+        | inr s ↦ ap linked_by (link-removed rows o m s.0)
+      ]

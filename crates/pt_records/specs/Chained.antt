@@ -1,0 +1,56 @@
+-- Chained: the robust mutexes that a client owns are a chain of rows, and so are those of the dead.
+use Rattle.std.specs.Prelude.{ℕ, ◌≡◌, ◌==◌, Bool, true, List, map, Option, Some, None, is_none, is_some, if◌then◌else◌}
+use Rattle.std.specs.Option.{option_and_then}
+use Rattle.pt_table.specs.declared.clients.ClientRow.{ClientRow}
+use Rattle.pt_table.specs.ClientRows.{client_value}
+use Rattle.pt_table.specs.declared.objects.ObjectRow.{ObjectRow}
+use Rattle.pt_table.specs.ObjectRows.{object_value, link_of}
+use Rattle.pt_table.specs.Linked.{is_linked, IsChain, IsOneOf}
+use Rattle.pt_model.specs.Found.{passes}
+use Rattle.pt_records.specs.declared.clients.Caller.{Caller}
+use Rattle.pt_records.specs.declared.objects.Object.{Object}
+use Rattle.pt_records.specs.declared.objects.Object.TheVariants.{Mutex}
+
+-- a client's row, whatever mutexes it owns
+abbrev pub without_owned : ClientRow Caller → ClientRow Caller
+without_owned row = record row { value = record row.value { owned = None } }
+
+-- the rows of clients, whatever mutexes they own
+abbrev pub unowned : List (ClientRow Caller) → List (ClientRow Caller)
+unowned rows = map without_owned rows
+
+-- whether a client isn't one of the living
+abbrev pub is_gone : List (ClientRow Caller) → ℕ → Bool
+is_gone clients c = is_none (client_value clients c)
+
+module _ {A : Type 0} where
+  -- the owner of a robust mutex  [XSH pthread_mutexattr_getrobust]
+  abbrev pub robust_owner : Object A → Option ℕ
+  robust_owner (Mutex m) = if m.seen.robust then m.seen.owner else None
+  robust_owner _ = None
+
+  -- the owner of an object, if it is a robust mutex
+  abbrev pub robust_owner_at : List (ObjectRow (Object A)) → ℕ → Option ℕ
+  robust_owner_at objects m = option_and_then robust_owner (object_value objects m)
+
+  -- each row that was in a chain is where it was, and no other row is in one
+  pub record KeepsChains (old new : List (ObjectRow (Object A))) : Type 0 where
+    pub linked : (m : ℕ) → is_linked new m ≡ is_linked old m
+    pub links : (m : ℕ) → is_linked old m ≡ true → link_of new m ≡ link_of old m
+
+  -- the chain of this head has the robust mutexes whose owner passes the test, and no others
+  pub record HasOwned (objects : List (ObjectRow (Object A))) (head : Option ℕ) (test : ℕ → Bool) :
+      Type 0 where
+    pub numbers : List ℕ
+    pub chain : IsChain objects head numbers
+    pub listed : (m : ℕ) → IsOneOf numbers m → passes test (robust_owner_at objects m) ≡ true
+    pub whole : (m : ℕ) → passes test (robust_owner_at objects m) ≡ true → IsOneOf numbers m
+
+  -- each living client's row has the head of the chain of the robust mutexes that it owns, and
+  -- those of dead owners have a chain too  [XSH pthread_mutex_lock, EOWNERDEAD]
+  pub record AreChained (clients : List (ClientRow Caller)) (objects : List (ObjectRow (Object A)))
+      (orphans : Option ℕ) : Type 0 where
+    pub living : (c : ℕ) (v : Caller) → client_value clients c ≡ Some v
+        → HasOwned objects v.owned (λ owner. owner == c)
+    pub dead : HasOwned objects orphans (is_gone clients)
+    pub linked : (m : ℕ) → is_linked objects m ≡ is_some (robust_owner_at objects m)
