@@ -96,7 +96,7 @@ module _ (g : Caller → Caller) where
   nth-same (row ∷ rows) (suc i) v e same = ap (λ rs. row ∷ rs) (nth-same rows i v e same)
 
 -- a write by a number that isn't there changes nothing
-with-none : (rows : List (ClientRow Caller)) (n : ℕ) (w : Caller) → client_at rows n ≡ None
+pub with-none : (rows : List (ClientRow Caller)) (n : ℕ) (w : Caller) → client_at rows n ≡ None
     → with_client rows n w ≡ rows
 with-none [] n w e = refl
 with-none (row ∷ rows) n w e = go (with-none rows n w) (nat_eq n row.number) e

@@ -25,7 +25,7 @@ same-turned m n = go (same_name m n) refl (same_name n m) refl
 
 module _ {A : Type 0} where
   -- a change that leaves the names, seen at one name
-  row-named-map : (f : ObjectRow (Object A) → ObjectRow (Object A))
+  pub row-named-map : (f : ObjectRow (Object A) → ObjectRow (Object A))
       → ((r : ObjectRow (Object A)) → (f r).name ≡ r.name)
       → (rows : List (ObjectRow (Object A))) (n : List ℕ)
       → object_named (map f rows) n ≡ option_map f (object_named rows n)

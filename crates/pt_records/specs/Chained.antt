@@ -1,11 +1,11 @@
 -- Chained: the robust mutexes that a client owns are a chain of rows, and so are those of the dead.
-use Rattle.std.specs.Prelude.{ℕ, ◌≡◌, ◌==◌, Bool, true, List, map, Option, Some, None, is_none, is_some, if◌then◌else◌}
+use Rattle.std.specs.Prelude.{ℕ, ◌≡◌, ◌==◌, ◌&&◌, ◌||◌, Bool, true, false, not, nat_eq, nat_lt, List, map, Option, Some, None, is_none, is_some, if◌then◌else◌}
 use Rattle.std.specs.Option.{option_and_then}
 use Rattle.pt_table.specs.declared.clients.ClientRow.{ClientRow}
 use Rattle.pt_table.specs.ClientRows.{client_value}
 use Rattle.pt_table.specs.declared.objects.ObjectRow.{ObjectRow}
 use Rattle.pt_table.specs.ObjectRows.{object_value, link_of}
-use Rattle.pt_table.specs.Linked.{is_linked, IsChain, IsOneOf}
+use Rattle.pt_table.specs.Linked.{is_linked, with_number, but_number, IsChain, IsOneOf, KeepsOthers}
 use Rattle.pt_model.specs.Found.{passes}
 use Rattle.pt_records.specs.declared.clients.Caller.{Caller}
 use Rattle.pt_records.specs.declared.objects.Object.{Object}
@@ -33,10 +33,36 @@ module _ {A : Type 0} where
   abbrev pub robust_owner_at : List (ObjectRow (Object A)) → ℕ → Option ℕ
   robust_owner_at objects m = option_and_then robust_owner (object_value objects m)
 
+  -- whether an object is a robust mutex that nobody owns  [XSH pthread_mutex_lock]
+  abbrev pub is_robust_free : Object A → Bool
+  is_robust_free (Mutex m) = m.seen.robust && is_none m.seen.owner
+  is_robust_free _ = false
+
+  -- whether it is a robust mutex that its owner has locked once  [XSH pthread_mutex_unlock]
+  abbrev pub is_locked_once : Object A → Bool
+  is_locked_once (Mutex m) = m.seen.robust && not (nat_lt 1 m.seen.count)
+  is_locked_once _ = false
+
   -- each row that was in a chain is where it was, and no other row is in one
   pub record KeepsChains (old new : List (ObjectRow (Object A))) : Type 0 where
     pub linked : (m : ℕ) → is_linked new m ≡ is_linked old m
     pub links : (m : ℕ) → is_linked old m ≡ true → link_of new m ≡ link_of old m
+
+  -- an object's row comes into the chain of a head, and its chain has this head then
+  pub record EntersChain (old new : List (ObjectRow (Object A))) (head after : Option ℕ) (m : ℕ) :
+      Type 0 where
+    pub chain : (numbers : List ℕ) → IsChain old head numbers
+        → IsChain new after (with_number numbers m)
+    pub others : KeepsOthers old new head
+    pub linked : (n : ℕ) → is_linked new n ≡ (nat_eq m n || is_linked old n)
+
+  -- an object's row goes out of the chain of a head, which has this head then
+  pub record LeavesChain (old new : List (ObjectRow (Object A))) (head after : Option ℕ) (m : ℕ) :
+      Type 0 where
+    pub chain : (numbers : List ℕ) → IsChain old head numbers
+        → IsChain new after (but_number numbers m)
+    pub others : KeepsOthers old new head
+    pub linked : (n : ℕ) → is_linked new n ≡ (not (nat_eq m n) && is_linked old n)
 
   -- the chain of this head has the robust mutexes whose owner passes the test, and no others
   pub record HasOwned (objects : List (ObjectRow (Object A))) (head : Option ℕ) (test : ℕ → Bool) :

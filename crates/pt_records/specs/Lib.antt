@@ -5,5 +5,6 @@ pub mod Counts
 pub mod LocksInRows
 pub mod Logs
 pub mod OpenRows
+pub mod Moved
 pub mod Objects
 pub mod Writes

@@ -9,6 +9,7 @@ pub mod clients;
 pub mod cond;
 pub mod mutex;
 pub mod objects;
+mod owned;
 pub mod rwlock;
 
 pub use answers::Answered;

@@ -1,18 +1,24 @@
 //! Rows of mutexes: what one says of a call, and how it changes.
 
-ghost use Rattle.std.specs.Prelude.{IsSome, IsTrue, Some, ◌+◌, ◌<◌, ◌≡◌, true};
+ghost use Rattle.std.specs.Prelude.{IsSome, IsTrue, List, None, Option, Some, ◌+◌, ◌<◌, ◌≡◌, true, ℕ};
 ghost use Rattle.pt_records.specs.Counts.{is_last_lock, is_robust_held};
 ghost use Rattle.pt_types.specs.MutexTable.{lock_verdict as lock_table, may_lock as may_lock_it, owns};
 ghost use Rattle.pt_mutex.specs.MutexState.{MutexState, acquired, can_acquire, released, restored, yielded};
 ghost use Rattle.pt_table.specs.ObjectRows.{object_value};
 ghost use Rattle.pt_records.specs.LocksInRows.{mutex_in};
 ghost use Rattle.pt_records.specs.declared.objects.Object.TheVariants.{Mutex};
-ghost use Rattle.pt_records.specs.Chained.{KeepsChains};
+ghost use Rattle.pt_table.specs.declared.clients.ClientRow.{ClientRow};
+ghost use Rattle.pt_table.specs.ClientRows.{has_client};
+ghost use Rattle.pt_records.specs.declared.clients.Caller.{Caller};
+ghost use Rattle.pt_records.specs.Callers.{Once};
+ghost use Rattle.pt_records.specs.Chained.{AreChained, KeepsChains, unowned};
 ghost use Rattle.pt_records.specs.Writes.{WritesObject};
 
+use crate::clients::Caller;
 use crate::objects::Object;
+use crate::owned::{hold, let_go};
 use pt_mutex::MutexObj;
-use pt_table::Objects;
+use pt_table::{Clients, Objects};
 use pt_types::{ClientId, Consistency, How, Verdict};
 use std::alloc::Allocator;
 
@@ -55,8 +61,8 @@ pub fn may_lock(mutex: &MutexObj) -> bool
     mutex.consistency() == Consistency::NotRecoverable || mutex.owner().is_none()
 }
 
-/// The client has the mutex once more.  [XSH pthread_mutex_lock]
-pub fn acquire<A: Allocator + Copy>(objects: &mut Objects<Object<A>, A>, m: u64, c: ClientId)
+// The mutex counts one lock more of the client.  [XSH pthread_mutex_lock]
+fn lock<A: Allocator + Copy>(objects: &mut Objects<Object<A>, A>, m: u64, c: ClientId)
     requires there { IsSome (mutex_in (object_value objects.old m)) }
     requires may { (x : MutexState) → object_value objects.old m ≡ Some (Mutex x)
         → IsTrue (can_acquire x.seen c) }
@@ -72,8 +78,8 @@ pub fn acquire<A: Allocator + Copy>(objects: &mut Objects<Object<A>, A>, m: u64,
     }
 }
 
-/// The client gives one lock on the mutex back.  [XSH pthread_mutex_unlock]
-pub fn release<A: Allocator + Copy>(objects: &mut Objects<Object<A>, A>, m: u64, c: ClientId)
+// The mutex counts one lock less of the client.  [XSH pthread_mutex_unlock]
+fn unlock<A: Allocator + Copy>(objects: &mut Objects<Object<A>, A>, m: u64, c: ClientId)
     requires there { IsSome (mutex_in (object_value objects.old m)) }
     requires owned { (x : MutexState) → object_value objects.old m ≡ Some (Mutex x)
         → IsTrue (owns x.seen c) }
@@ -87,6 +93,66 @@ pub fn release<A: Allocator + Copy>(objects: &mut Objects<Object<A>, A>, m: u64,
             mutex.release(c);
         }
     }
+}
+
+// The mutex has no owner any more.  [XSH pthread_mutex_lock, EOWNERDEAD]
+fn free<A: Allocator + Copy>(objects: &mut Objects<Object<A>, A>, m: u64)
+    requires { IsSome (mutex_in (object_value objects.old m)) }
+    ensures mutex { (x : MutexState) → object_value objects.old m ≡ Some (Mutex x)
+        → WritesObject objects.old objects.new m (Mutex (record x { seen = yielded x.seen })) }
+    ensures chains { (x : MutexState) → object_value objects.old m ≡ Some (Mutex x)
+        → KeepsChains objects.old objects.new }
+{
+    if let Some(object) = objects.at_mut(m) {
+        if let Object::Mutex(mutex) = object {
+            mutex.yield_dead();
+        }
+    }
+}
+
+/// The client has the mutex once more, and owns it.  [XSH pthread_mutex_lock]
+pub fn acquire<A: Allocator + Copy>(
+    clients: &mut Clients<Caller, A>,
+    objects: &mut Objects<Object<A>, A>,
+    m: u64,
+    c: ClientId,
+)
+    requires there { IsSome (mutex_in (object_value objects.old m)) }
+    requires may { (x : MutexState) → object_value objects.old m ≡ Some (Mutex x)
+        → IsTrue (can_acquire x.seen c) }
+    requires client { has_client clients.old c ≡ true }
+    requires chained { (orphans : Option ℕ) × AreChained clients.old objects.old orphans }
+    ensures mutex { (x : MutexState) → object_value objects.old m ≡ Some (Mutex x)
+        → WritesObject objects.old objects.new m (Mutex (record x { seen = acquired x.seen c })) }
+    ensures rows { Once clients.old → unowned clients.new ≡ unowned clients.old }
+    ensures chained { (orphans : Option ℕ) → AreChained clients.old objects.old orphans
+        → AreChained clients.new objects.new orphans }
+{
+    hold(clients, objects, m, c);
+    lock(objects, m, c);
+}
+
+/// The client gives one lock on the mutex back, and with the last one the mutex.
+/// [XSH pthread_mutex_unlock]
+pub fn release<A: Allocator + Copy>(
+    clients: &mut Clients<Caller, A>,
+    objects: &mut Objects<Object<A>, A>,
+    m: u64,
+    c: ClientId,
+)
+    requires there { IsSome (mutex_in (object_value objects.old m)) }
+    requires owned { (x : MutexState) → object_value objects.old m ≡ Some (Mutex x)
+        → IsTrue (owns x.seen c) }
+    requires client { has_client clients.old c ≡ true }
+    requires chained { (orphans : Option ℕ) × AreChained clients.old objects.old orphans }
+    ensures mutex { (x : MutexState) → object_value objects.old m ≡ Some (Mutex x)
+        → WritesObject objects.old objects.new m (Mutex (record x { seen = released x.seen })) }
+    ensures rows { Once clients.old → unowned clients.new ≡ unowned clients.old }
+    ensures chained { (orphans : Option ℕ) → AreChained clients.old objects.old orphans
+        → AreChained clients.new objects.new orphans }
+{
+    let_go(clients, objects, m, c);
+    unlock(objects, m, c);
 }
 
 /// What the mutex guards is in order again.  [XSH pthread_mutex_consistent]
@@ -104,17 +170,18 @@ pub fn restore<A: Allocator + Copy>(objects: &mut Objects<Object<A>, A>, m: u64)
     }
 }
 
-/// The mutex is taken from its dead owner.  [XSH pthread_mutex_lock, EOWNERDEAD]
-pub fn yield_dead<A: Allocator + Copy>(objects: &mut Objects<Object<A>, A>, m: u64)
-    requires { IsSome (mutex_in (object_value objects.old m)) }
+/// The mutex is taken from its dead owner. It is the head of the chain of the robust mutexes whose
+/// owner is dead, and the head that is left is returned.  [XSH pthread_mutex_lock, EOWNERDEAD]
+pub fn yield_dead<A: Allocator + Copy>(objects: &mut Objects<Object<A>, A>, m: u64) -> Option<u64>
+    requires there { IsSome (mutex_in (object_value objects.old m)) }
+    requires chained { (clients : List (ClientRow Caller))
+        × AreChained clients objects.old (Some m) }
     ensures mutex { (x : MutexState) → object_value objects.old m ≡ Some (Mutex x)
         → WritesObject objects.old objects.new m (Mutex (record x { seen = yielded x.seen })) }
-    ensures chains { (x : MutexState) → object_value objects.old m ≡ Some (Mutex x)
-        → KeepsChains objects.old objects.new }
+    ensures chained { (clients : List (ClientRow Caller)) → AreChained clients objects.old (Some m)
+        → AreChained clients objects.new result }
 {
-    if let Some(object) = objects.at_mut(m) {
-        if let Object::Mutex(mutex) = object {
-            mutex.yield_dead();
-        }
-    }
+    let head = objects.unlink(m, m);
+    free(objects, m);
+    head
 }

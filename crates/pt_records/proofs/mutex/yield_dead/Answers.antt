@@ -1,16 +1,41 @@
+use Rattle.std.proofs.Common.{◌∙◌}
 use Rattle.pt_mutex.specs.MutexState.{yielded}
+use Rattle.pt_table.specs.ObjectRows.{object_value}
+use Rattle.pt_table.proofs.ChainCallers.{same-value}
 use Rattle.pt_records.specs.declared.objects.Object.TheVariants.{Mutex}
-use Rattle.pt_records.proofs.ChainsKept.{keeps-written}
-use Rattle.pt_records.proofs.ObjectChanges.{writes-mutex}
+use Rattle.pt_records.proofs.Holding.{mutex-found, head-orphan, freed-chained}
+use Rattle.pt_records.proofs.Relinked.{written-relinked}
 use Rattle.pt_records.proofs.mutex.yield_dead.Goals as goal
 
-pub returns-in-Mutex-clause-mutex : goal.returns-in-Mutex-clause-mutex
-returns-in-Mutex-clause-mutex g c =
-    writes-mutex (λ x. record x { seen = yielded x.seen }) c.args.objects.now c.args.m
-    c.in-Some.object.now c.in-Mutex.mutex c.yield_dead.new.self
-    c.in-Some.ensures.value c.in-Mutex.is
-    c.yield_dead.ensures
+pub unlink-head-requires : goal.unlink-head-requires
+unlink-head-requires g c =
+    (head-orphan c.requires.chained.0 c.args.objects.now c.args.m c.requires.chained.1).0
 
-pub returns-in-Mutex-clause-chains : goal.returns-in-Mutex-clause-chains
-returns-in-Mutex-clause-chains g c =
-    λ x e. keeps-written c.args.objects.now c.args.m (Mutex c.yield_dead.new.self)
+pub free-requires : goal.free-requires
+free-requires g c =
+    rw (same-value c.args.objects.now c.unlink-head.new.self c.unlink-head.ensures.rows c.args.m)
+    c.requires.there
+
+pub returns-clause-mutex : goal.returns-clause-mutex
+returns-clause-mutex g c =
+    let old = c.args.objects.now in
+    let mid = c.unlink-head.new.self in
+    λ x e. written-relinked old mid c.unlink-head.ensures.rows c.free.new.objects c.args.m
+    (Mutex (record x { seen = yielded x.seen }))
+    (c.free.ensures.mutex x (same-value old mid c.unlink-head.ensures.rows c.args.m ∙ e))
+
+pub returns-clause-chained : goal.returns-clause-chained
+returns-clause-chained g c =
+    let old = c.args.objects.now in
+    let mid = c.unlink-head.new.self in
+    let x = mutex-found (object_value old c.args.m) c.requires.there in
+    let there = same-value old mid c.unlink-head.ensures.rows c.args.m ∙ x.1 in
+    λ clients a. freed-chained clients old mid c.free.new.objects c.args.m c.unlink-head.result
+    x.0 a
+    (record {
+      chain = c.unlink-head.ensures.chain;
+      others = c.unlink-head.ensures.others;
+      linked = c.unlink-head.ensures.linked;
+    }) (c.free.ensures.chains x.0 there)
+    (written-relinked old mid c.unlink-head.ensures.rows c.free.new.objects c.args.m
+    (Mutex (record x.0 { seen = yielded x.0.seen })) (c.free.ensures.mutex x.0 there))

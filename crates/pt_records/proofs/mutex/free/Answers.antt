@@ -1,0 +1,16 @@
+use Rattle.pt_mutex.specs.MutexState.{yielded}
+use Rattle.pt_records.specs.declared.objects.Object.TheVariants.{Mutex}
+use Rattle.pt_records.proofs.ChainsKept.{keeps-written}
+use Rattle.pt_records.proofs.ObjectChanges.{writes-mutex}
+use Rattle.pt_records.proofs.mutex.free.Goals as goal
+
+pub returns-in-Mutex-clause-mutex : goal.returns-in-Mutex-clause-mutex
+returns-in-Mutex-clause-mutex g c =
+    writes-mutex (λ x. record x { seen = yielded x.seen }) c.args.objects.now c.args.m
+    c.in-Some.object.now c.in-Mutex.mutex c.yield_dead.new.self
+    c.in-Some.ensures.value c.in-Mutex.is
+    c.yield_dead.ensures
+
+pub returns-in-Mutex-clause-chains : goal.returns-in-Mutex-clause-chains
+returns-in-Mutex-clause-chains g c =
+    λ x e. keeps-written c.args.objects.now c.args.m (Mutex c.yield_dead.new.self)

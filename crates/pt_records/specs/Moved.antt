@@ -1,0 +1,28 @@
+-- Moved: a row that is moved in the chain of a client, if it must be.
+use Rattle.std.specs.Prelude.{ℕ, ◌≡◌, ◌⊎◌, Bool, true, false, List, Option, Some}
+use Rattle.pt_table.specs.declared.clients.ClientRow.{ClientRow}
+use Rattle.pt_table.specs.ClientRows.{client_value}
+use Rattle.pt_table.specs.declared.objects.ObjectRow.{ObjectRow}
+use Rattle.pt_table.specs.Linked.{unlinked}
+use Rattle.pt_records.specs.declared.clients.Caller.{Caller}
+use Rattle.pt_records.specs.declared.objects.Object.{Object}
+use Rattle.pt_records.specs.Callers.{Once}
+use Rattle.pt_records.specs.Chained.{unowned}
+use Rattle.pt_records.specs.Writes.{WritesCaller}
+
+-- how an object's row moves among chains: from rows to rows, and from a head to a head
+abbrev pub Moves : Type 0 → Type 1
+Moves A =
+    List (ObjectRow (Object A)) → List (ObjectRow (Object A)) → Option ℕ → Option ℕ → ℕ → Type 0
+
+module _ {A : Type 0} where
+  -- the row of object m moves so in the chain of client c, and nothing else changes; or if it
+  -- needn't move, nothing changes
+  abbrev pub IsMoved : Moves A → Bool → (clients after : List (ClientRow Caller))
+      → (old new : List (ObjectRow (Object A))) → (c m : ℕ) → Type 0
+  IsMoved moves must clients after old new c m =
+      ((must ≡ false) × ((after ≡ clients) × (new ≡ old)))
+      ⊎ ((must ≡ true) × (((v : Caller) → client_value clients c ≡ Some v
+      → (head : Option ℕ) × (WritesCaller clients after c (record v { owned = head })
+      × moves old new v.owned head m))
+      × ((unlinked new ≡ unlinked old) × (Once clients → unowned after ≡ unowned clients))))

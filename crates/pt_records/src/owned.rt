@@ -1,0 +1,126 @@
+//! The chain of the robust mutexes that a client owns.
+
+ghost use Rattle.std.specs.Prelude.{IsSome, IsTrue, None, Option, Some, ◌<◌, ◌≡◌, false, true, ℕ};
+ghost use Rattle.pt_table.specs.ClientRows.{client_value, has_client};
+ghost use Rattle.pt_table.specs.Linked.{HasChain, IsInChain, is_linked, unlinked};
+ghost use Rattle.pt_table.specs.ObjectRows.{has_object, object_value};
+ghost use Rattle.pt_model.specs.Found.{passes};
+ghost use Rattle.pt_records.specs.Chained.{AreChained, EntersChain, LeavesChain, is_locked_once as is_locked_once_it, is_robust_free as is_robust_free_it, unowned};
+ghost use Rattle.pt_records.specs.Callers.{Once};
+ghost use Rattle.pt_records.specs.LocksInRows.{mutex_in};
+ghost use Rattle.pt_records.specs.Moved.{IsMoved};
+ghost use Rattle.pt_records.specs.Writes.{WritesCaller};
+ghost use Rattle.pt_records.specs.declared.objects.Object.TheVariants.{Mutex};
+ghost use Rattle.pt_mutex.specs.MutexState.{MutexState};
+ghost use Rattle.pt_types.specs.MutexTable.{owns};
+
+use crate::clients::Caller;
+use crate::objects::Object;
+use pt_table::{Clients, Objects};
+use pt_types::ClientId;
+use std::alloc::Allocator;
+
+// Whether an object is a robust mutex that nobody owns.
+fn is_robust_free<A: Allocator + Copy>(objects: &Objects<Object<A>, A>, m: u64) -> bool
+    ensures { result ≡ passes is_robust_free_it (object_value objects.now m) }
+{
+    match objects.at(m) {
+        Some(Object::Mutex(mutex)) => mutex.is_robust() && mutex.owner().is_none(),
+        _ => false,
+    }
+}
+
+// Whether an object is a robust mutex that its owner has locked once.
+fn is_locked_once<A: Allocator + Copy>(objects: &Objects<Object<A>, A>, m: u64) -> bool
+    ensures { result ≡ passes is_locked_once_it (object_value objects.now m) }
+{
+    match objects.at(m) {
+        Some(Object::Mutex(mutex)) => mutex.is_robust() && !(1 < mutex.count()),
+        _ => false,
+    }
+}
+
+// The mutex is one of those that the client owns.
+fn own<A: Allocator + Copy>(
+    clients: &mut Clients<Caller, A>,
+    objects: &mut Objects<Object<A>, A>,
+    m: u64,
+    c: ClientId,
+)
+    requires there { has_object objects.old m ≡ true }
+    requires free { is_linked objects.old m ≡ false }
+    requires client { has_client clients.old c ≡ true }
+    requires chain { (v : Caller) → client_value clients.old c ≡ Some v
+        → HasChain objects.old v.owned }
+    ensures owned { (v : Caller) → client_value clients.old c ≡ Some v
+        → (head : Option ℕ) × (WritesCaller clients.old clients.new c (record v { owned = head })
+        × EntersChain objects.old objects.new v.owned head m) }
+    ensures rows { unlinked objects.new ≡ unlinked objects.old }
+    ensures clients { Once clients.old → unowned clients.new ≡ unowned clients.old }
+{
+    if let Some(row) = clients.at_mut(c.0) {
+        row.owned = Some(objects.link(row.owned, m));
+    }
+}
+
+// The mutex is none of those that the client owns any more.
+fn disown<A: Allocator + Copy>(
+    clients: &mut Clients<Caller, A>,
+    objects: &mut Objects<Object<A>, A>,
+    m: u64,
+    c: ClientId,
+)
+    requires client { has_client clients.old c ≡ true }
+    requires chain { (v : Caller) → client_value clients.old c ≡ Some v
+        → (head : ℕ) × ((v.owned ≡ Some head) × IsInChain objects.old head m) }
+    ensures owned { (v : Caller) → client_value clients.old c ≡ Some v
+        → (head : Option ℕ) × (WritesCaller clients.old clients.new c (record v { owned = head })
+        × LeavesChain objects.old objects.new v.owned head m) }
+    ensures rows { unlinked objects.new ≡ unlinked objects.old }
+    ensures clients { Once clients.old → unowned clients.new ≡ unowned clients.old }
+{
+    if let Some(row) = clients.at_mut(c.0) {
+        if let Some(head) = row.owned {
+            row.owned = objects.unlink(head, m);
+        }
+    }
+}
+
+/// A mutex that is about to be locked is put with those that the client owns, if it is robust and
+/// nobody owns it yet.
+pub(crate) fn hold<A: Allocator + Copy>(
+    clients: &mut Clients<Caller, A>,
+    objects: &mut Objects<Object<A>, A>,
+    m: u64,
+    c: ClientId,
+)
+    requires client { has_client clients.old c ≡ true }
+    requires chained { (orphans : Option ℕ) × AreChained clients.old objects.old orphans }
+    ensures { IsMoved EntersChain (passes is_robust_free_it (object_value objects.old m))
+        clients.old clients.new objects.old objects.new c m }
+{
+    if is_robust_free(objects, m) {
+        own(clients, objects, m, c);
+    }
+}
+
+/// A mutex of which the client is about to give one lock back is taken from those that it owns, if
+/// it is robust and that is its last lock.
+pub(crate) fn let_go<A: Allocator + Copy>(
+    clients: &mut Clients<Caller, A>,
+    objects: &mut Objects<Object<A>, A>,
+    m: u64,
+    c: ClientId,
+)
+    requires there { IsSome (mutex_in (object_value objects.old m)) }
+    requires owned { (x : MutexState) → object_value objects.old m ≡ Some (Mutex x)
+        → IsTrue (owns x.seen c) }
+    requires client { has_client clients.old c ≡ true }
+    requires chained { (orphans : Option ℕ) × AreChained clients.old objects.old orphans }
+    ensures { IsMoved LeavesChain (passes is_locked_once_it (object_value objects.old m))
+        clients.old clients.new objects.old objects.new c m }
+{
+    if is_locked_once(objects, m) {
+        disown(clients, objects, m, c);
+    }
+}
