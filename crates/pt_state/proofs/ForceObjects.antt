@@ -156,7 +156,7 @@ module _ {A : Type 0} (h : History) (f : Follows h) (old : List (ObjectRow (Obje
     granted-mutex-there m e = rw (granted-mutex m e).1 refl
 
     -- and so has its read-write lock
-    read-lock : w.role ≡ ForRead
+    pub read-lock : w.role ≡ ForRead
         → (r : RwlockState) × (object_value old w.object ≡ Some (Rwlock r))
     read-lock role =
         kept-rwlock h (object_value old) t.look w.object
@@ -165,7 +165,7 @@ module _ {A : Type 0} (h : History) (f : Follows h) (old : List (ObjectRow (Obje
     pub read-lock-there : w.role ≡ ForRead → IsSome (rwlock_in (object_value old w.object))
     read-lock-there role = rw (read-lock role).1 refl
 
-    write-lock : w.role ≡ ForWrite
+    pub write-lock : w.role ≡ ForWrite
         → (r : RwlockState) × (object_value old w.object ≡ Some (Rwlock r))
     write-lock role =
         kept-rwlock h (object_value old) t.look w.object

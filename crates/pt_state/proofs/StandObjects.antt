@@ -15,6 +15,7 @@ use Rattle.pt_model.specs.declared.waiting_call.Role.{Role}
 use Rattle.pt_model.specs.declared.waiting_call.Role.TheVariants.{ForMutex, ForRead, ForWrite, ForBarrier, ForCond}
 use Rattle.pt_model.specs.Verdicts.{verdict}
 use Rattle.pt_model.proofs.Effects.{Seated}
+use Rattle.pt_records.specs.Chained.{KeepsChains}
 use Rattle.pt_records.specs.declared.clients.Open.{Open}
 use Rattle.pt_records.specs.declared.objects.Object.{Object}
 use Rattle.pt_records.specs.declared.objects.Object.TheVariants.{Mutex, Rwlock}
@@ -24,6 +25,7 @@ use Rattle.pt_records.specs.Writes.{WritesObject}
 use Rattle.pt_state.specs.Reads.{AreTables}
 use Rattle.pt_state.specs.Adds.{past, Stays, IsReadyFor}
 use Rattle.pt_state.specs.Left.{only_stands, IsLeft}
+use Rattle.pt_records.proofs.Chaining.{chained-written}
 use Rattle.pt_state.proofs.JudgeLemmas.{found-mutex, found-rwlock}
 use Rattle.pt_state.proofs.TableLemmas.{object_rows-kept, object_rows-written}
 use Rattle.pt_state.proofs.ObjectCalls.{is_plain, is_idle, object_rows-idle, object_rows-read, object_rows-row}
@@ -67,14 +69,15 @@ module _ {A : Type 0} where
   -- so no table has changed
   pub stayed-again : (s : State A) (new : List (ObjectRow (Object A))) (o : ℕ) (x : Object A)
       → AreTables s → object_value s.objects o ≡ Some x → WritesObject s.objects new o x
-      → Stays s (record s { objects = new })
-  stayed-again s new o x r at w =
+      → KeepsChains s.objects new → Stays s (record s { objects = new })
+  stayed-again s new o x r at w k =
       record {
         stored = refl;
         read = record {
           follows = r.follows;
           callers = r.callers;
           object_rows = object_rows-again (past s) s.objects new o x r.object_rows at w;
+          chained = chained-written s.clients s.objects new s.orphans r.chained o x x at w refl k;
           clocks = r.clocks;
           answers = r.answers;
         };

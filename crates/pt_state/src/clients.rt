@@ -10,7 +10,7 @@ ghost use Rattle.pt_model.specs.Answers.{open_place as open_place_in};
 ghost use Rattle.pt_model.specs.Verdicts.{is_alive_if as is_alive_if_in};
 ghost use Rattle.pt_state.specs.Adds.{Adds, IsReadyFor, Stays, past};
 ghost use Rattle.pt_model.specs.declared.entry.Entry.TheVariants as entry;
-ghost use Rattle.pt_state.specs.Serving.{is_gone as is_gone_in};
+ghost use Rattle.pt_state.specs.Serving.{owned_in};
 
 use crate::state::State;
 use pt_model::Entry;
@@ -105,28 +105,31 @@ impl<A: Allocator + Copy> State<A> {
             open: None,
             latest: None,
             answer: None,
+            owned: None,
         };
         admit(&mut self.clients, place, caller)?;
         self.stored.push(Entry::Join(ClientId(place), priority));
         Ok(())
     }
 
-    /// A client's process ends, and its row and its open call are gone.
+    // The lowest of the robust mutexes that a client owns.
+    fn owned_by(&self, c: ClientId) -> Option<u64>
+        ensures { result ≡ owned_in (client_value self.now.clients c) }
+    {
+        match self.clients.at(c.0) {
+            Some(caller) => caller.owned,
+            None => None,
+        }
+    }
+
+    /// A client's process ends, and its row and its open call are gone. The robust mutexes that it
+    /// owned have a dead owner from then on.  [XSH pthread_mutex_lock, EOWNERDEAD]
     pub fn push_death(&mut self, c: ClientId)
         requires { IsReadyFor self.old (entry.Death c) }
         ensures { Adds self.old (entry.Death c) self.new }
     {
+        self.orphans = self.owned_by(c);
         dismiss(&mut self.clients, c.0);
         self.stored.push(Entry::Death(c));
-    }
-
-    // Whether an owner isn't one of the living clients.
-    pub(crate) fn is_gone(&self, owner: Option<ClientId>) -> bool
-        ensures { result ≡ is_gone_in self.now.clients owner }
-    {
-        match owner {
-            Some(c) => self.clients.at(c.0).is_none(),
-            None => false,
-        }
     }
 }

@@ -60,7 +60,7 @@ impl<A: Allocator + Copy> State<A> {
         requires role { «open».call.role ≡ ForCond m }
         ensures { Adds self.old (entry.Call c call.now None) self.new }
     {
-        release(&mut self.objects, m.0, c);
+        release(&mut self.clients, &mut self.objects, m.0, c);
         self.leave(c, call, open);
     }
 

@@ -17,7 +17,7 @@ ghost use Rattle.pt_model.specs.Searches.{In, first_below};
 ghost use Rattle.pt_model.specs.WaitingCall.{mutex_of};
 ghost use Rattle.pt_model.specs.Grants.{grant_outcome as grant_outcome_in};
 ghost use Rattle.pt_records.specs.Callers.{opens_of};
-ghost use Rattle.pt_state.specs.Serving.{called, is_orphaned as is_orphaned_in, orphan_nth as orphan_nth_in};
+ghost use Rattle.pt_state.specs.Serving.{called};
 ghost use Rattle.pt_state.specs.Granting.{consistency_in_row, told_at as told_at_in};
 ghost use Rattle.pt_model.specs.Objects.{find as find_in, is_robust, kind_of};
 ghost use Rattle.std.specs.Option.{option_copied};
@@ -58,7 +58,7 @@ impl<A: Allocator + Copy> State<A> {
         ensures { Adds self.old (entry.Call c call.now (Some told.Done)) self.new }
     {
         let m = self.find(n, ObjectClass::Mutex).unwrap();
-        acquire(&mut self.objects, m.0, c);
+        acquire(&mut self.clients, &mut self.objects, m.0, c);
         self.finish(c, call, Outcome::Done);
     }
 
@@ -69,7 +69,7 @@ impl<A: Allocator + Copy> State<A> {
         ensures { Adds self.old (entry.Call c call.now (Some told.Done)) self.new }
     {
         let m = self.find(n, ObjectClass::Mutex).unwrap();
-        release(&mut self.objects, m.0, c);
+        release(&mut self.clients, &mut self.objects, m.0, c);
         self.finish(c, call, Outcome::Done);
     }
 
@@ -101,7 +101,7 @@ impl<A: Allocator + Copy> State<A> {
         requires { IsReadyFor self.old (entry.Yield m) }
         ensures { Adds self.old (entry.Yield m) self.new }
     {
-        yield_dead(&mut self.objects, m.0);
+        self.orphans = yield_dead(&mut self.objects, m.0);
         self.stored.push(Entry::Yield(m));
     }
 
@@ -116,7 +116,8 @@ impl<A: Allocator + Copy> State<A> {
     {
         let outcome = self.grant_outcome(found);
         if is_acquired(outcome) {
-            acquire(&mut self.objects, m.0, ClientId(found.call.client));
+            let c = ClientId(found.call.client);
+            acquire(&mut self.clients, &mut self.objects, m.0, c);
             self.grant(found, outcome);
         } else {
             self.grant(found, outcome);
@@ -213,26 +214,6 @@ impl<A: Allocator + Copy> State<A> {
         }
     }
 
-    // Whether it is a robust mutex with a dead owner.  [XSH pthread_mutex_lock, EOWNERDEAD]
-    fn is_orphaned(&self, object: &Object<A>) -> bool
-        ensures { result ≡ is_orphaned_in self.now.clients object.now }
-    {
-        match object {
-            Object::Mutex(mutex) => mutex.is_robust() && self.is_gone(mutex.owner()),
-            _ => false,
-        }
-    }
-
-    // The number of the object in the row at an index, if it is one.
-    fn orphan_nth(&self, i: usize) -> Option<ObjectId>
-        ensures { result ≡ orphan_nth_in self.now.clients self.now.objects i }
-    {
-        match self.objects.nth(i) {
-            Some((number, object)) if self.is_orphaned(object) => Some(ObjectId(number)),
-            _ => None,
-        }
-    }
-
     /// The robust mutex to take from its dead owner first.
     /// [XSH pthread_mutex_lock, EOWNERDEAD; the lowest first is profile]
     pub fn first_orphan(&self) -> Option<ObjectId>
@@ -241,11 +222,9 @@ impl<A: Allocator + Copy> State<A> {
             ≡ first_below (place (past self.now))
             (is_orphan_in (past self.now)) }
     {
-        for i in 0..self.objects.len() {
-            if let Some(m) = self.orphan_nth(i) {
-                return Some(m);
-            }
+        match self.orphans {
+            Some(m) => Some(ObjectId(m)),
+            None => None,
         }
-        None
     }
 }
