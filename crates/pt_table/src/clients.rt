@@ -6,8 +6,8 @@ ghost use Rattle.pt_table.specs.ClientRows.{client_at, client_value, has_client,
 ghost use Rattle.pt_table.specs.Faults.{IsFault};
 
 use crate::fault::TableFault;
-use crate::rows::{Numbers, make_room, nth_row, put, row_in, slot_of, take_out};
-use indexmap::IndexMap;
+use crate::numbers::Numbers;
+use crate::rows::{make_room, nth_row, put, row_in, slot_of, take_out};
 use pt_types::MOST_CLIENTS;
 use slab::Slab;
 use std::alloc::{Allocator, Global};
@@ -60,7 +60,7 @@ impl<T, A: Allocator + Copy> Clients<T, A> {
     {
         Clients {
             rows: Slab::new(alloc),
-            numbers: IndexMap::new(alloc),
+            numbers: Numbers::new(alloc),
         }
     }
 
@@ -76,7 +76,7 @@ impl<T, A: Allocator + Copy> Clients<T, A> {
     pub fn at(&self, number: u64) -> Option<&T>
         ensures { option_copied result ≡ client_value self.now number }
     {
-        match row_in(&self.rows, self.numbers.get(&number)) {
+        match row_in(&self.rows, self.numbers.get(number)) {
             Some(row) => Some(&row.value),
             None => None,
         }

@@ -13,7 +13,8 @@ ghost use Rattle.pt_table.specs.NameSlots.{IsForgotten};
 
 use crate::fault::TableFault;
 use crate::link::Link;
-use crate::rows::{Numbers, make_room, nth_row, put, row_in, slot_of, take_out};
+use crate::numbers::Numbers;
+use crate::rows::{make_room, nth_row, put, row_in, slot_of, take_out};
 use indexmap::IndexMap;
 use pt_types::{MOST_OBJECTS, Name};
 use slab::Slab;
@@ -78,7 +79,7 @@ fn make_room_named<T, A: Allocator + Copy>(
     ensures numbers { numbers.new.entries ≡ numbers.old.entries }
     ensures names { names.new.entries ≡ names.old.entries }
     ensures row_room { OnOk result (HasRoomFor rows.new 1) }
-    ensures number_room { OnOk result (0 < spare numbers.new) }
+    ensures number_room { OnOk result (0 < numbers.new.room) }
     ensures name_room { OnOk result (0 < spare names.new) }
 {
     make_room(rows, numbers)?;
@@ -93,7 +94,7 @@ fn put_named<T, A: Allocator + Copy>(
     row: ObjectRow<T>,
 ) -> usize
     requires row_room { HasRoomFor rows.old 1 }
-    requires number_room { 0 < spare numbers.old }
+    requires number_room { 0 < numbers.old.room }
     requires name_room { 0 < spare names.old }
     requires number_new { lookup (nat_eq row.number) numbers.old.entries ≡ None }
     requires name_new { lookup (same_name row.name) names.old.entries ≡ None }
@@ -142,7 +143,7 @@ impl<T, A: Allocator + Copy> Objects<T, A> {
     {
         Objects {
             rows: Slab::new(alloc),
-            numbers: IndexMap::new(alloc),
+            numbers: Numbers::new(alloc),
             names: IndexMap::new(alloc),
         }
     }
@@ -159,7 +160,7 @@ impl<T, A: Allocator + Copy> Objects<T, A> {
     pub fn at(&self, number: u64) -> Option<&T>
         ensures { option_copied result ≡ object_value self.now number }
     {
-        match row_in(&self.rows, self.numbers.get(&number)) {
+        match row_in(&self.rows, self.numbers.get(number)) {
             Some(row) => Some(&row.value),
             None => None,
         }
@@ -169,7 +170,7 @@ impl<T, A: Allocator + Copy> Objects<T, A> {
     pub fn find(&self, name: &Name) -> Option<u64>
         ensures { result ≡ number_of self.now name.now }
     {
-        match row_in(&self.rows, self.names.get(name)) {
+        match row_in(&self.rows, self.names.get(name).copied()) {
             Some(row) => Some(row.number),
             None => None,
         }
@@ -227,8 +228,8 @@ impl<T, A: Allocator + Copy> Objects<T, A> {
 
     // The slot of an object's row, or any if there is no such object.
     pub(crate) fn slot_near(&self, number: u64) -> usize {
-        match self.numbers.get(&number) {
-            Some(slot) => *slot,
+        match self.numbers.get(number) {
+            Some(slot) => slot,
             None => 0,
         }
     }
@@ -246,7 +247,7 @@ impl<T, A: Allocator + Copy> Objects<T, A> {
     pub(crate) fn link_of(&self, number: u64) -> Option<Link>
         ensures { result ≡ link_of self.now number }
     {
-        match row_in(&self.rows, self.numbers.get(&number)) {
+        match row_in(&self.rows, self.numbers.get(number)) {
             Some(row) => Some(row.link),
             None => None,
         }
