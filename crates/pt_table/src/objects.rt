@@ -1,4 +1,4 @@
-ghost use Rattle.std.specs.Prelude.{◌≡◌, ◌↔◌, ◌≤◌, ◌<◌, ◌++◌, [], ◌∷◌, Some, None, IsSome, IfErr, OnOk, OnErr, IsTrue, nat_eq, length};
+ghost use Rattle.std.specs.Prelude.{◌≡◌, ◌↔◌, ◌≤◌, ◌<◌, ◌++◌, [], ◌∷◌, Some, None, IsSome, IfSome, IfErr, OnOk, OnErr, IsTrue, is_some, nat_eq, length};
 ghost use Rattle.std.specs.Option.{option_map, option_copied, option_copied_mut};
 ghost use Rattle.std.specs.Borrow.{sem};
 ghost use Rattle.std.specs.Map.{lookup};
@@ -176,6 +176,17 @@ impl<T, A: Allocator + Copy> Objects<T, A> {
         }
     }
 
+    /// The number of the object with this name, and its value.
+    pub fn named(&self, name: &Name) -> Option<(u64, &T)>
+        ensures number { option_map (λ p. p.0) result ≡ number_of self.now name.now }
+        ensures value { IfSome result (λ p. object_value self.now p.0 ≡ Some p.1.now) }
+    {
+        match row_in(&self.rows, self.names.get(name).copied()) {
+            Some(row) => Some((row.number, &row.value)),
+            None => None,
+        }
+    }
+
     /// The number of the object at this index, and its value.
     ///
     /// The objects are in the order in which they were added, from index 0 on.
@@ -203,12 +214,20 @@ impl<T, A: Allocator + Copy> Objects<T, A> {
 
     ghost use Rattle.pt_table.specs.ObjectLends.{lends_at};
 
-    fn value_mut(&mut self, number: u64) -> &mut T
+    // The slot of an object's row, if there is such an object.
+    fn slot_if(&self, number: u64) -> Option<usize>
+        ensures { is_some result ≡ has_object self.now number }
+    {
+        self.numbers.get(number)
+    }
+
+    // The value of an object, whose row is looked for in this slot first.
+    fn value_mut(&mut self, slot: usize, number: u64) -> &mut T
         requires { IsSome (object_at self.old number) }
         ensures* lends { sem 𝓛 (lends_at T.row A.row A.Allocator self.entry number result) }
         ensures value { object_value self.old number ≡ Some result.now }
     {
-        let slot = slot_of(&self.rows, &self.numbers, number);
+        let slot = slot_by(&self.rows, &self.numbers, slot, number);
         self.rows[slot].value_mut()
     }
 
@@ -219,10 +238,9 @@ impl<T, A: Allocator + Copy> Objects<T, A> {
         ensures* lends { sem 𝓛 (lends_if_at T.row A.row A.Allocator self.entry number result) }
         ensures value { option_copied_mut result ≡ object_value self.old number }
     {
-        if self.has(number) {
-            Some(self.value_mut(number))
-        } else {
-            None
+        match self.slot_if(number) {
+            Some(slot) => Some(self.value_mut(slot, number)),
+            None => None,
         }
     }
 
