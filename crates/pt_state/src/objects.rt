@@ -3,12 +3,9 @@
 ghost use Rattle.std.specs.Prelude.{IfErr, None, OnErr, OnOk, Some, ◌≡◌, false, is_some};
 ghost use Rattle.pt_types.specs.ObjectTable.{init_verdict as init_table};
 ghost use Rattle.pt_types.specs.declared.outcome.Outcome.TheVariants as told;
-ghost use Rattle.pt_types.specs.Operations.{Ends, Makes, class_of as class_meant, operation, same_class};
+ghost use Rattle.pt_types.specs.Operations.{Ends, Makes, operation};
 ghost use Rattle.pt_model.specs.declared.entry.Entry.TheVariants as entry;
 ghost use Rattle.pt_state.specs.Adds.{Adds, IsReadyFor, Stays, past};
-ghost use Rattle.pt_table.specs.ObjectRows.{object_value};
-ghost use Rattle.pt_model.specs.Found.{passes};
-ghost use Rattle.pt_records.specs.Objects.{kind_in_row};
 ghost use Rattle.pt_model.specs.Objects.{find as find_in, object_named, objects};
 ghost use Rattle.pt_state.specs.Reads.{AreTables};
 ghost use Rattle.pt_model.specs.Verdicts.{on};
@@ -72,26 +69,14 @@ impl<A: Allocator + Copy> State<A> {
         self.finish(c, call, Outcome::Done);
     }
 
-    /// Whether the number is that of an object of this class.  [XSH 2.9]
-    pub fn is_of_class(&self, number: u64, class: ObjectClass) -> bool
-        ensures { result
-            ≡ passes (λ x. same_class (class_meant (kind_in_row x)) class)
-            (object_value self.now.objects number) }
-    {
-        match self.objects.at(number) {
-            Some(object) => is_same(class_in_row(object), class),
-            None => false,
-        }
-    }
-
     /// The object of this class that bears the name, if one does.
     pub fn find(&self, n: &Name, class: ObjectClass) -> Option<ObjectId>
         requires { AreTables self.now }
         ensures { result ≡ find_in (past self.now) n.now class }
     {
-        match self.objects.find(n) {
-            Some(number) => {
-                if self.is_of_class(number, class) {
+        match self.objects.named(n) {
+            Some((number, object)) => {
+                if is_same(class_in_row(object), class) {
                     Some(ObjectId(number))
                 } else {
                     None

@@ -14,6 +14,8 @@ mod Named
 mod Links
 -- Chained: what the numbers of a chain lead to, as one is put in or taken out
 mod Chained
+-- Places: where a number is listed, and what is left once it is added or taken out
+mod Places
 -- Entered: a number put into a chain
 mod Entered
 -- Taken: a number taken out of a chain

@@ -6,7 +6,7 @@ use Rattle.std.specs.Option.{option_map, option_and_then}
 use Rattle.std.specs.Map.{lookup}
 use Rattle.std.proofs.lemmas.Bool.{eqb-true}
 use Rattle.pt_table.specs.Rows.{row_at}
-use Rattle.pt_table.specs.Slots.{row_in_slot, number_in, rows_listed, Listed, IsNumbered}
+use Rattle.pt_table.specs.Slots.{row_in_slot, row_in_any, number_in, rows_listed, Listed, IsNumbered}
 use Rattle.pt_table.proofs.Lookups.{some_inj, none_some}
 
 -- a slot with a number has a row
@@ -152,3 +152,24 @@ module _ {R : Type 0} {number : R → ℕ} {slots : List (Option R)} {numbers : 
             × IsSome (row_in_slot slots slot)
         by None e s = cc
         by (Some slot) e s = (slot, e, s)
+
+    -- a number has a slot exactly if it has a row
+    pub slot_if_row : (n : ℕ)
+        → is_some (lookup (nat_eq n) numbers) ≡ is_some (row_at number rows n)
+    slot_if_row n = by (lookup (nat_eq n) numbers) refl
+      where
+        by : (o : Option ℕ) → lookup (nat_eq n) numbers ≡ o
+            → is_some o ≡ is_some (row_at number rows n)
+        by None e = sym (ap is_some (row_absent n e))
+        by (Some s) e =
+            let there = listed_lookup number slots numbers n s h.listed e in
+            let r = row_of_number number (row_in_slot slots s) n there in
+            sym (ap is_some (row_there n s r.0 e r.1))
+
+    -- the row in a slot is the one of its number
+    pub row_of_any : (slot : Option ℕ) (row : R) → Some row ≡ row_in_any slots slot
+        → row_at number rows (number row) ≡ Some row
+    row_of_any None row e = absurd (none_some (sym e))
+    row_of_any (Some s) row e =
+        row_there (number row) s row
+        (h.numbered s (number row) (ap (option_map number) (sym e))) (sym e)

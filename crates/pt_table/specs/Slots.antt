@@ -12,6 +12,21 @@ abbrev pub Distinct : List (ℕ × ℕ) → Type 0
 Distinct [] = Unit {0}
 Distinct (e ∷ es) = (lookup (nat_eq e.0) es ≡ None) × Distinct es
 
+-- the number is the one at this index of the entries
+abbrev pub IsListedAt : List (ℕ × ℕ) → ℕ → ℕ → Type 0
+IsListedAt entries number index = option_map (λ e. e.0) (slice_get entries index) ≡ Some number
+
+-- each number has the same slot in both lists, and the second has none twice
+abbrev pub AreNumbers : List (ℕ × ℕ) → List (ℕ × ℕ) → Type 0
+AreNumbers slots order =
+    ((n : ℕ) → lookup (nat_eq n) slots ≡ lookup (nat_eq n) order) × Distinct order
+
+-- the numbers with their slots, in the order in which they were added, and for how many more there
+-- is room
+pub record Numbering : Type 0 where
+  pub entries : List (ℕ × ℕ)
+  pub room : ℕ
+
 module _ {R : Type 0} where
   -- the row in a slot, if there is one
   abbrev pub row_in_slot : List (Option R) → ℕ → Option R

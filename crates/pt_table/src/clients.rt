@@ -1,13 +1,15 @@
-ghost use Rattle.std.specs.Prelude.{◌≡◌, ◌↔◌, ◌≤◌, [], Some, IsSome, IfErr, OnOk, OnErr, IsTrue, length};
+ghost use Rattle.std.specs.Prelude.{◌≡◌, ◌↔◌, ◌≤◌, [], Some, IsSome, IfErr, OnOk, OnErr, IsTrue, is_some, length, nat_eq};
 ghost use Rattle.std.specs.Option.{option_map, option_copied, option_copied_mut};
 ghost use Rattle.std.specs.Borrow.{sem};
 ghost use Rattle.pt_types.specs.Limits.{most_clients};
 ghost use Rattle.pt_table.specs.ClientRows.{client_at, client_value, has_client, nth_number, nth_value, and_client, without_client, IsFullFor};
 ghost use Rattle.pt_table.specs.Faults.{IsFault};
+ghost use Rattle.pt_table.specs.Slots.{row_in_slot, HasRow, IsNumbered};
+ghost use Rattle.std.specs.Map.{lookup};
 
 use crate::fault::TableFault;
-use crate::rows::{Numbers, make_room, nth_row, put, row_in, slot_of, take_out};
-use indexmap::IndexMap;
+use crate::numbers::Numbers;
+use crate::rows::{make_room, nth_row, put, row_in, slot_of, take_out};
 use pt_types::MOST_CLIENTS;
 use slab::Slab;
 use std::alloc::{Allocator, Global};
@@ -28,6 +30,25 @@ impl<T> ClientRow<T> {
         ensures value { result.now ≡ self.old.value }
     {
         &mut self.value
+    }
+}
+
+// The slot of a client's row, which is looked for in this slot first.
+fn slot_by<T, A: Allocator + Copy>(
+    rows: &Slab<ClientRow<T>, A>,
+    numbers: &Numbers<A>,
+    slot: usize,
+    number: u64,
+) -> usize
+    requires numbered { IsNumbered (λ row. row.number)
+        rows.now.slots numbers.now.entries most_clients }
+    requires listed { HasRow rows.now.slots numbers.now.entries number }
+    ensures slot { lookup (nat_eq number) numbers.now.entries ≡ Some result }
+    ensures there { IsSome (row_in_slot rows.now.slots result) }
+{
+    match rows.get(slot) {
+        Some(row) if row.number == number => slot,
+        _ => slot_of(rows, numbers, number),
     }
 }
 
@@ -60,7 +81,7 @@ impl<T, A: Allocator + Copy> Clients<T, A> {
     {
         Clients {
             rows: Slab::new(alloc),
-            numbers: IndexMap::new(alloc),
+            numbers: Numbers::new(alloc),
         }
     }
 
@@ -76,7 +97,7 @@ impl<T, A: Allocator + Copy> Clients<T, A> {
     pub fn at(&self, number: u64) -> Option<&T>
         ensures { option_copied result ≡ client_value self.now number }
     {
-        match row_in(&self.rows, self.numbers.get(&number)) {
+        match row_in(&self.rows, self.numbers.get(number)) {
             Some(row) => Some(&row.value),
             None => None,
         }
@@ -103,12 +124,20 @@ impl<T, A: Allocator + Copy> Clients<T, A> {
 
     ghost use Rattle.pt_table.specs.ClientLends.{lends_at};
 
-    fn value_mut(&mut self, number: u64) -> &mut T
+    // The slot of a client's row, if there is such a client.
+    fn slot_if(&self, number: u64) -> Option<usize>
+        ensures { is_some result ≡ has_client self.now number }
+    {
+        self.numbers.get(number)
+    }
+
+    // The value of a client, whose row is looked for in this slot first.
+    fn value_mut(&mut self, slot: usize, number: u64) -> &mut T
         requires { IsSome (client_at self.old number) }
         ensures* lends { sem 𝓛 (lends_at T.row A.row A.Allocator self.entry number result) }
         ensures value { client_value self.old number ≡ Some result.now }
     {
-        let slot = slot_of(&self.rows, &self.numbers, number);
+        let slot = slot_by(&self.rows, &self.numbers, slot, number);
         self.rows[slot].value_mut()
     }
 
@@ -119,10 +148,9 @@ impl<T, A: Allocator + Copy> Clients<T, A> {
         ensures* lends { sem 𝓛 (lends_if_at T.row A.row A.Allocator self.entry number result) }
         ensures value { option_copied_mut result ≡ client_value self.old number }
     {
-        if self.has(number) {
-            Some(self.value_mut(number))
-        } else {
-            None
+        match self.slot_if(number) {
+            Some(slot) => Some(self.value_mut(slot, number)),
+            None => None,
         }
     }
 

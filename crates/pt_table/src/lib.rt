@@ -11,6 +11,7 @@ mod chains;
 mod clients;
 mod fault;
 mod link;
+mod numbers;
 mod objects;
 mod rows;
 

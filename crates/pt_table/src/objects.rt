@@ -1,4 +1,4 @@
-ghost use Rattle.std.specs.Prelude.{◌≡◌, ◌↔◌, ◌≤◌, ◌<◌, ◌++◌, [], ◌∷◌, Some, None, IsSome, IfErr, OnOk, OnErr, IsTrue, nat_eq, length};
+ghost use Rattle.std.specs.Prelude.{◌≡◌, ◌↔◌, ◌≤◌, ◌<◌, ◌++◌, [], ◌∷◌, Some, None, IsSome, IfSome, IfErr, OnOk, OnErr, IsTrue, is_some, nat_eq, length};
 ghost use Rattle.std.specs.Option.{option_map, option_copied, option_copied_mut};
 ghost use Rattle.std.specs.Borrow.{sem};
 ghost use Rattle.std.specs.Map.{lookup};
@@ -13,7 +13,8 @@ ghost use Rattle.pt_table.specs.NameSlots.{IsForgotten};
 
 use crate::fault::TableFault;
 use crate::link::Link;
-use crate::rows::{Numbers, make_room, nth_row, put, row_in, slot_of, take_out};
+use crate::numbers::Numbers;
+use crate::rows::{make_room, nth_row, put, row_in, slot_of, take_out};
 use indexmap::IndexMap;
 use pt_types::{MOST_OBJECTS, Name};
 use slab::Slab;
@@ -78,7 +79,7 @@ fn make_room_named<T, A: Allocator + Copy>(
     ensures numbers { numbers.new.entries ≡ numbers.old.entries }
     ensures names { names.new.entries ≡ names.old.entries }
     ensures row_room { OnOk result (HasRoomFor rows.new 1) }
-    ensures number_room { OnOk result (0 < spare numbers.new) }
+    ensures number_room { OnOk result (0 < numbers.new.room) }
     ensures name_room { OnOk result (0 < spare names.new) }
 {
     make_room(rows, numbers)?;
@@ -93,7 +94,7 @@ fn put_named<T, A: Allocator + Copy>(
     row: ObjectRow<T>,
 ) -> usize
     requires row_room { HasRoomFor rows.old 1 }
-    requires number_room { 0 < spare numbers.old }
+    requires number_room { 0 < numbers.old.room }
     requires name_room { 0 < spare names.old }
     requires number_new { lookup (nat_eq row.number) numbers.old.entries ≡ None }
     requires name_new { lookup (same_name row.name) names.old.entries ≡ None }
@@ -142,7 +143,7 @@ impl<T, A: Allocator + Copy> Objects<T, A> {
     {
         Objects {
             rows: Slab::new(alloc),
-            numbers: IndexMap::new(alloc),
+            numbers: Numbers::new(alloc),
             names: IndexMap::new(alloc),
         }
     }
@@ -159,7 +160,7 @@ impl<T, A: Allocator + Copy> Objects<T, A> {
     pub fn at(&self, number: u64) -> Option<&T>
         ensures { option_copied result ≡ object_value self.now number }
     {
-        match row_in(&self.rows, self.numbers.get(&number)) {
+        match row_in(&self.rows, self.numbers.get(number)) {
             Some(row) => Some(&row.value),
             None => None,
         }
@@ -169,8 +170,19 @@ impl<T, A: Allocator + Copy> Objects<T, A> {
     pub fn find(&self, name: &Name) -> Option<u64>
         ensures { result ≡ number_of self.now name.now }
     {
-        match row_in(&self.rows, self.names.get(name)) {
+        match row_in(&self.rows, self.names.get(name).copied()) {
             Some(row) => Some(row.number),
+            None => None,
+        }
+    }
+
+    /// The number of the object with this name, and its value.
+    pub fn named(&self, name: &Name) -> Option<(u64, &T)>
+        ensures number { option_map (λ p. p.0) result ≡ number_of self.now name.now }
+        ensures value { IfSome result (λ p. object_value self.now p.0 ≡ Some p.1.now) }
+    {
+        match row_in(&self.rows, self.names.get(name).copied()) {
+            Some(row) => Some((row.number, &row.value)),
             None => None,
         }
     }
@@ -202,12 +214,20 @@ impl<T, A: Allocator + Copy> Objects<T, A> {
 
     ghost use Rattle.pt_table.specs.ObjectLends.{lends_at};
 
-    fn value_mut(&mut self, number: u64) -> &mut T
+    // The slot of an object's row, if there is such an object.
+    fn slot_if(&self, number: u64) -> Option<usize>
+        ensures { is_some result ≡ has_object self.now number }
+    {
+        self.numbers.get(number)
+    }
+
+    // The value of an object, whose row is looked for in this slot first.
+    fn value_mut(&mut self, slot: usize, number: u64) -> &mut T
         requires { IsSome (object_at self.old number) }
         ensures* lends { sem 𝓛 (lends_at T.row A.row A.Allocator self.entry number result) }
         ensures value { object_value self.old number ≡ Some result.now }
     {
-        let slot = slot_of(&self.rows, &self.numbers, number);
+        let slot = slot_by(&self.rows, &self.numbers, slot, number);
         self.rows[slot].value_mut()
     }
 
@@ -218,17 +238,16 @@ impl<T, A: Allocator + Copy> Objects<T, A> {
         ensures* lends { sem 𝓛 (lends_if_at T.row A.row A.Allocator self.entry number result) }
         ensures value { option_copied_mut result ≡ object_value self.old number }
     {
-        if self.has(number) {
-            Some(self.value_mut(number))
-        } else {
-            None
+        match self.slot_if(number) {
+            Some(slot) => Some(self.value_mut(slot, number)),
+            None => None,
         }
     }
 
     // The slot of an object's row, or any if there is no such object.
     pub(crate) fn slot_near(&self, number: u64) -> usize {
-        match self.numbers.get(&number) {
-            Some(slot) => *slot,
+        match self.numbers.get(number) {
+            Some(slot) => slot,
             None => 0,
         }
     }
@@ -246,7 +265,7 @@ impl<T, A: Allocator + Copy> Objects<T, A> {
     pub(crate) fn link_of(&self, number: u64) -> Option<Link>
         ensures { result ≡ link_of self.now number }
     {
-        match row_in(&self.rows, self.numbers.get(&number)) {
+        match row_in(&self.rows, self.numbers.get(number)) {
             Some(row) => Some(row.link),
             None => None,
         }

@@ -3,25 +3,20 @@ ghost use Rattle.std.specs.Prelude.{◌≡◌, ◌<◌, ◌++◌, [], ◌∷◌,
 ghost use Rattle.std.specs.Option.{option_copied};
 ghost use Rattle.std.specs.Map.{lookup};
 ghost use Rattle.slab.specs.Slab.{HasRoomFor};
-ghost use Rattle.indexmap.specs.IndexMap.{spare};
 ghost use Rattle.pt_table.specs.Slots.{row_in_slot, row_in_any, nth_listed, without_number, HasRow, HasRowIfListed, SameBut, Leaves};
 
-use indexmap::IndexMap;
+use crate::numbers::Numbers;
 use slab::Slab;
 use std::alloc::{AllocError, Allocator};
-use std::hash::{BuildHasherDefault, FoldHasher};
-
-/// The slot of each number, in the order in which the numbers were added.
-pub(crate) type Numbers<A> = IndexMap<u64, usize, BuildHasherDefault<FoldHasher>, A>;
 
 pub(crate) fn row_in<'a, R, A: Allocator + Copy>(
     rows: &'a Slab<R, A>,
-    slot: Option<&usize>,
+    slot: Option<usize>,
 ) -> Option<&'a R>
-    ensures { option_copied result ≡ row_in_any rows.now.slots (option_copied slot.entry) }
+    ensures { option_copied result ≡ row_in_any rows.now.slots slot }
 {
     match slot {
-        Some(slot) => rows.get(*slot),
+        Some(slot) => rows.get(slot),
         None => None,
     }
 }
@@ -35,7 +30,7 @@ pub(crate) fn nth_row<'a, R, A: Allocator + Copy>(
     ensures { option_copied result ≡ nth_listed rows.now.slots numbers.now.entries index }
 {
     match numbers.get_index(index) {
-        Some((_, slot)) => rows.get(*slot),
+        Some((_, slot)) => rows.get(slot),
         None => None,
     }
 }
@@ -50,7 +45,7 @@ pub(crate) fn slot_of<R, A: Allocator + Copy>(
     ensures slot { lookup (nat_eq number) numbers.now.entries ≡ Some result }
     ensures there { IsSome (row_in_slot rows.now.slots result) }
 {
-    *numbers.get(&number).unwrap()
+    numbers.get(number).unwrap()
 }
 
 // Makes room for one more row.
@@ -61,10 +56,10 @@ pub(crate) fn make_room<R, A: Allocator + Copy>(
     ensures rows { rows.new.slots ≡ rows.old.slots }
     ensures numbers { numbers.new.entries ≡ numbers.old.entries }
     ensures row_room { OnOk result (HasRoomFor rows.new 1) }
-    ensures number_room { OnOk result (0 < spare numbers.new) }
+    ensures number_room { OnOk result (0 < numbers.new.room) }
 {
     rows.reserve(1)?;
-    numbers.reserve(1)
+    numbers.reserve_one()
 }
 
 // Puts a row with a new number in, if there is room, and returns its slot.
@@ -75,7 +70,7 @@ pub(crate) fn put<R, A: Allocator + Copy>(
     row: R,
 ) -> usize
     requires row_room { HasRoomFor rows.old 1 }
-    requires number_room { 0 < spare numbers.old }
+    requires number_room { 0 < numbers.old.room }
     requires number_new { lookup (nat_eq number) numbers.old.entries ≡ None }
     ensures vacant { row_in_slot rows.old.slots result ≡ None }
     ensures row { row_in_slot rows.new.slots result ≡ Some row }
@@ -83,7 +78,7 @@ pub(crate) fn put<R, A: Allocator + Copy>(
     ensures numbers { numbers.new.entries ≡ numbers.old.entries ++ (number, result) ∷ [] }
 {
     let slot = rows.insert_reserved(row);
-    numbers.insert(number, slot).unwrap();
+    numbers.insert(number, slot);
     slot
 }
 
@@ -100,6 +95,6 @@ pub(crate) fn take_out<R, A: Allocator + Copy>(
     ensures row { IfSome result (Leaves rows.old.slots numbers.old.entries number rows.new.slots) }
     ensures left { OnSome result (numbers.new.entries ≡ without_number numbers.old.entries number) }
 {
-    let slot = numbers.shift_remove(&number)?;
+    let slot = numbers.take(number)?;
     rows.try_remove(slot)
 }

@@ -6,20 +6,20 @@ use Rattle.pt_table.proofs.Listed.{slot_there, number_there, row_there}
 use Rattle.pt_table.proofs.Written.{IsNumbered-written, rows_listed-written}
 use Rattle.pt_table.proofs.clients.Clients.value_mut.Goals as goal
 
-pub slot_of-slot-requires : goal.slot_of-slot-requires
-slot_of-slot-requires g c =
+pub slot_by-slot-requires-clause-listed : goal.slot_by-slot-requires-clause-listed
+slot_by-slot-requires-clause-listed g c =
     slot_there c.self.invariant c.args.self.now c.self.view_is c.args.number c.requires
 
 pub invariant_of-self-lent : goal.invariant_of-self-lent
 invariant_of-self-lent g c = λ w.
-    IsNumbered-written c.index_mut.result.now c.slot_of-slot.result (λ r. record r { value = w })
+    IsNumbered-written c.index_mut.result.now c.slot_by-slot.result (λ r. record r { value = w })
     (λ r. refl) c.self.invariant c.index_mut.ensures.value
 
 pub returns : goal.returns
 returns g c =
     let row = c.index_mut.result.now in
-    let slot = c.slot_of-slot.result in
-    let at = c.slot_of-slot.ensures.slot in
+    let slot = c.slot_by-slot.result in
+    let at = c.slot_by-slot.ensures.slot in
     let here = c.index_mut.ensures.value in
     let change : g.row.T.Denot → ClientRow g.row.T.Denot → ClientRow g.row.T.Denot =
     λ w r. record r { value = w } in

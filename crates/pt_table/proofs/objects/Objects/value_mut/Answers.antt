@@ -7,23 +7,23 @@ use Rattle.pt_table.proofs.Written.{IsNumbered-written, rows_listed-written}
 use Rattle.pt_table.proofs.Named.{IsNamed-written}
 use Rattle.pt_table.proofs.objects.Objects.value_mut.Goals as goal
 
-pub slot_of-slot-requires : goal.slot_of-slot-requires
-slot_of-slot-requires g c =
+pub slot_by-slot-requires-clause-listed : goal.slot_by-slot-requires-clause-listed
+slot_by-slot-requires-clause-listed g c =
     slot_there c.self.invariant.0 c.args.self.now c.self.view_is c.args.number c.requires
 
 pub invariant_of-self-lent : goal.invariant_of-self-lent
 invariant_of-self-lent g c = λ w. (
-  IsNumbered-written c.index_mut.result.now c.slot_of-slot.result (λ r. record r { value = w })
+  IsNumbered-written c.index_mut.result.now c.slot_by-slot.result (λ r. record r { value = w })
       (λ r. refl) c.self.invariant.0 c.index_mut.ensures.value,
-  IsNamed-written c.index_mut.result.now c.slot_of-slot.result (λ r. record r { value = w })
+  IsNamed-written c.index_mut.result.now c.slot_by-slot.result (λ r. record r { value = w })
       (λ r. refl) refl c.self.invariant.0 c.self.invariant.1 c.index_mut.ensures.value,
 )
 
 pub returns : goal.returns
 returns g c =
     let row = c.index_mut.result.now in
-    let slot = c.slot_of-slot.result in
-    let at = c.slot_of-slot.ensures.slot in
+    let slot = c.slot_by-slot.result in
+    let at = c.slot_by-slot.ensures.slot in
     let here = c.index_mut.ensures.value in
     let change : g.row.T.Denot → ObjectRow g.row.T.Denot → ObjectRow g.row.T.Denot =
     λ w r. record r { value = w } in
