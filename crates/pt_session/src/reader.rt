@@ -28,7 +28,8 @@ pub const MOST_READS: u64 = 1 << 40;
 /// How many bytes are read at once, at most.  [profile]
 const PIECE: usize = 4096;
 
-/// How often a reading side looks for room in a full ring before it sleeps between looks.  [profile]
+/// How often a reading side looks for room in a full ring before it sleeps between the looks.
+/// [profile]
 const QUICK_LOOKS: u32 = 200;
 
 /// How often it looks at most, which takes it a second and more.  [profile]
