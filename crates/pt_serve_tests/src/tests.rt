@@ -57,6 +57,32 @@ fn serve_two(rt: HostRuntime) -> Result<(), Fail> {
     Ok(())
 }
 
+// A client that sends more lines at once than may wait. Whether each is answered.
+fn sends_ahead<R: Files + Net + Clock>(rt: &R, alloc: Global, path: &str) -> io::Result<bool> {
+    let mut client = Client::connect(rt, path)?;
+    let lines = "signal c\n".repeat(alloc, 48)?;
+    client.send(lines.as_bytes())?;
+    let mut is_right = true;
+    for n in 1u32..49 {
+        let answer = format!(in alloc; "{n} NOHELLO\n")?;
+        is_right &= client.hears(alloc, answer.as_bytes())?;
+    }
+    Ok(is_right)
+}
+
+#[test]
+fn lines_at_once(rt: HostRuntime) -> Result<(), Fail> {
+    let alloc = rt.alloc();
+    let ((served, _), is_right) = thread::join(
+        &rt,
+        || serve_in_memory(&rt, alloc, "lines_at_once", 1),
+        || sends_ahead(&rt, alloc, "lines_at_once"),
+    );
+    assert!(rt; is_right?);
+    assert!(rt; served.is_ok());
+    Ok(())
+}
+
 #[test]
 fn path_that_exists(rt: HostRuntime) -> Result<(), Fail> {
     let alloc = rt.alloc();

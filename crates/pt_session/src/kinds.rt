@@ -22,7 +22,7 @@ pub enum EndCause {
     InputEnded,
     /// A read failed, or the input did not end within as many reads as there may be.
     InputFailed,
-    /// More lines came than the ring takes ahead of their answers.
+    /// A line found the ring full, and had no room in time: a call is open, or nothing is written.
     RingFull,
     /// A write or a flush failed, or a write took no byte.
     WriteFailed,

@@ -17,13 +17,33 @@ use pt_types::Refusal;
 use rtrb::Producer;
 use std::alloc::Global;
 use std::sync::Wait;
+use std::sync::atomic::AtomicU64;
 use std::sync::ledger::Ledger;
+use std::thread;
+use std::time::Duration;
 
 /// How many reads there may be of one input, the one that reports its end counted.  [profile]
 pub const MOST_READS: u64 = 1 << 40;
 
 /// How many bytes are read at once, at most.  [profile]
 const PIECE: usize = 4096;
+
+/// How often a reading side looks for room in a full ring before it sleeps between the looks.
+/// [profile]
+const QUICK_LOOKS: u32 = 200;
+
+/// How often it looks at most, which takes it a second and more.  [profile]
+const MOST_LOOKS: u32 = 1200;
+
+/// How many milliseconds it sleeps between looks.  [profile]
+const LOOK_MILLIS: u64 = 1;
+
+// Sleeps until the next look for room.
+fn nap<T: Wait>(rt: &T) {
+    // Nobody changes this word, so nobody ends the sleep.
+    let word = AtomicU64::new(0);
+    word.park_timeout(rt, 0, Duration::from_millis(LOOK_MILLIS));
+}
 
 // The end of a session's ring that readings go into, and how many went.
 #[derive(Drop)]
@@ -48,8 +68,29 @@ impl Pusher {
     ghost use Rattle.std.specs.Prelude.{◌≡◌, ◌<◌, ◌^◌, ◌++◌, ◌∷◌, [], ℕ, List, length, false, IsTrue, IfSome, IfNone};
     ghost use Rattle.rtrb.specs.Ring.{sent, SameProducer};
 
-    // Pushes a reading under the lock, and wakes the working side. `false` if the ring is full, or
-    // if no more can be counted, which no input comes to within its reads.
+    // Waits until the ring has room, for a while; not if the working side waits for the answer to a
+    // call, since only a reading side that reads on sees the connection's end then.
+    fn wait_for_room<L: Ledger, T: Wait>(&mut self, rt: &T, shared: &Shared<L>)
+        ensures ring { SameProducer self.old.ring self.new.ring }
+        ensures same { sent self.new.ring ≡ sent self.old.ring }
+        ensures read { self.new.read ≡ self.old.read }
+    {
+        for look in 0..MOST_LOOKS {
+            if !self.ring.is_full() {
+                return;
+            }
+            if look < QUICK_LOOKS {
+                thread::yield_now();
+            } else if shared.is_waiting(rt, self.session) {
+                return;
+            } else {
+                nap(rt);
+            }
+        }
+    }
+
+    // Pushes a reading under the lock, and wakes the working side. `false` if the ring has no room,
+    // or if no more can be counted, which no input comes to within its reads.
     fn push<L: Ledger, T: Wait>(&mut self, rt: &T, shared: &Shared<L>, reading: Reading) -> bool
         ensures ring { SameProducer self.old.ring self.new.ring }
         ensures pushed { IsTrue result
@@ -59,6 +100,7 @@ impl Pusher {
         let Some(read) = self.read.checked_add(1) else {
             return false;
         };
+        self.wait_for_room(rt, shared);
         let room = shared.room.lock(rt);
         let is_pushed = self.ring.push(reading).is_ok();
         if is_pushed {
@@ -70,7 +112,7 @@ impl Pusher {
     }
 }
 
-// Pushes what is read of each line that the cutter has whole. `false` if one finds the ring full.
+// Pushes what is read of each line that the cutter has whole. `false` if one finds no room.
 fn push_lines<L: Ledger, T: Wait>(
     rt: &T,
     shared: &Shared<L>,
@@ -181,8 +223,11 @@ fn read_all<R: Source, L: Ledger, T: Wait>(
 }
 
 /// Reads lines, and pushes what is read of each into the ring, until the input ends or fails, a
-/// line finds the ring full, or a growth is refused. The session's input has ended then. If a read
-/// fails or a growth is refused, a line that has begun is dropped.  [profile]
+/// line finds no room in the ring, or a growth is refused. The session's input has ended then. If a
+/// read fails or a growth is refused, a line that has begun is dropped.  [profile]
+///
+/// A line that finds the ring full waits for room, at most a second and a little, and not while a
+/// call of the session is open.  [profile]
 pub fn read_side<R: Source, L: Ledger, T: Wait>(
     rt: &T,
     alloc: Global,

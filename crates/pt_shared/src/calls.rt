@@ -110,11 +110,13 @@ impl<L: Ledger> Shared<L> {
             room.law_fits();
             if let Some(answer) = room.hub.take(pass) {
                 room.law_fits();
+                room.note_wait(pass.client(), false);
                 return Some(answer);
             }
             if room.hub.input_ended(session) {
                 return None;
             }
+            room.note_wait(pass.client(), true);
             room = self.wait(rt, room, session);
         }
         unreachable!()

@@ -49,6 +49,11 @@ impl<L: Ledger> Shared<L> {
         room.hub.input_ended(session)
     }
 
+    /// Whether a session sleeps until the call of its client is answered.
+    pub fn is_waiting<R: Wait>(&self, rt: &R, session: SessionId) -> bool {
+        self.room.lock(rt).is_waiting(session)
+    }
+
     /// A session isn't open any more.
     pub fn close_session<R: Wait>(&self, rt: &R, session: SessionId)
         ensures { Made (λ old new. Closes old new session.0) }
