@@ -119,6 +119,14 @@ impl<A: Allocator + Copy> RwObj<A> {
         self.writer
     }
 
+    /// The rows of its readers, each by the number of its client, with its read locks; a row may
+    /// have none.  [XSH pthread_rwlock_rdlock]
+    pub fn readers(&self) -> &BTreeMap<u64, u8, A>
+        ensures { result.now.entries ≡ self.now.rows }
+    {
+        &self.reads
+    }
+
     fn is_writer(&self, client: ClientId) -> bool
         ensures { result ≡ (seen_by self.now client).writes }
     {

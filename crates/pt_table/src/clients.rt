@@ -1,4 +1,4 @@
-ghost use Rattle.std.specs.Prelude.{◌≡◌, ◌↔◌, ◌≤◌, [], Some, IsSome, IfErr, OnOk, OnErr, IsTrue, is_some, length, nat_eq};
+ghost use Rattle.std.specs.Prelude.{◌≡◌, ◌↔◌, ◌≤◌, [], Some, IsSome, IfErr, OnOk, OnErr, IsTrue, is_some, length, nat_eq, slice_get};
 ghost use Rattle.std.specs.Option.{option_map, option_copied, option_copied_mut};
 ghost use Rattle.std.specs.Borrow.{sem};
 ghost use Rattle.pt_types.specs.Limits.{most_clients};
@@ -114,6 +114,13 @@ impl<T, A: Allocator + Copy> Clients<T, A> {
             Some(row) => Some((row.number, &row.value)),
             None => None,
         }
+    }
+
+    /// The row at this index, in the order in which the clients were added.
+    pub fn row(&self, index: usize) -> Option<&ClientRow<T>>
+        ensures { option_copied result ≡ slice_get self.now index }
+    {
+        nth_row(&self.rows, &self.numbers, index)
     }
 
     fn has(&self, number: u64) -> bool

@@ -1,4 +1,4 @@
-ghost use Rattle.std.specs.Prelude.{◌≡◌, ◌↔◌, ◌≤◌, ◌<◌, ◌++◌, [], ◌∷◌, Some, None, IsSome, IfSome, IfErr, OnOk, OnErr, IsTrue, is_some, nat_eq, length};
+ghost use Rattle.std.specs.Prelude.{◌≡◌, ◌↔◌, ◌≤◌, ◌<◌, ◌++◌, [], ◌∷◌, Some, None, IsSome, IfSome, IfErr, OnOk, OnErr, IsTrue, is_some, nat_eq, length, slice_get};
 ghost use Rattle.std.specs.Option.{option_map, option_copied, option_copied_mut};
 ghost use Rattle.std.specs.Borrow.{sem};
 ghost use Rattle.std.specs.Map.{lookup};
@@ -198,6 +198,13 @@ impl<T, A: Allocator + Copy> Objects<T, A> {
             Some(row) => Some((row.number, &row.value)),
             None => None,
         }
+    }
+
+    /// The row at this index, in the order in which the objects were added.
+    pub fn row(&self, index: usize) -> Option<&ObjectRow<T>>
+        ensures { option_copied result ≡ slice_get self.now index }
+    {
+        nth_row(&self.rows, &self.numbers, index)
     }
 
     fn has(&self, number: u64) -> bool

@@ -1,0 +1,21 @@
+-- Sealed: a state whose history goes on from its seal.
+use Rattle.std.specs.Prelude.{◌≡◌, [], vec_len, vec_capacity}
+use Rattle.pt_model.specs.StartRows.{reads_of}
+use Rattle.pt_model.specs.Seals.{seal}
+use Rattle.pt_state.specs.declared.state.State.{State}
+use Rattle.pt_state.specs.Adds.{past}
+use Rattle.pt_state.specs.Reads.{AreTables}
+
+-- the entries and the answers were dropped, and the history begins with the seal of what it was;
+-- clients, objects and clocks stay, and so do the limit, the room and the memory for answers
+pub record Seals {A : Type 0} (old new : State A) : Type 0 where
+  pub starts : reads_of new.stored.start ≡ seal (past old)
+  pub entries : new.stored.entries ≡ []
+  pub limit : new.stored.limit ≡ old.stored.limit
+  pub room : new.stored.room ≡ old.stored.room
+  pub read : AreTables new
+  pub clients : new.clients ≡ old.clients
+  pub objects : new.objects ≡ old.objects
+  pub clocks : new.clocks ≡ old.clocks
+  pub answers : vec_len new.answers ≡ 0
+  pub held : vec_capacity new.answers ≡ vec_capacity old.answers
