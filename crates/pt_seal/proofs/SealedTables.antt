@@ -17,18 +17,20 @@ module _ {A : Type 0} where
   -- the tables are those of the seal
   pub tables-sealed : (old new : State A) → AreTables old
       → reads_of new.stored.start ≡ seal (past old) → new.stored.entries ≡ []
-      → new.clients ≡ old.clients → new.objects ≡ old.objects → new.clocks ≡ old.clocks
-      → new.answers.items ≡ [] → AreTables new
-  tables-sealed old new read starts entries clients objects clocks answers =
+      → new.clients ≡ old.clients → new.objects ≡ old.objects → new.orphans ≡ old.orphans
+      → new.clocks ≡ old.clocks → new.answers.items ≡ [] → AreTables new
+  tables-sealed old new read starts entries clients objects orphans clocks answers =
       let h = begins-there new.stored entries ∙ ap Begin starts in
-      let was : Reads (Begin (seal (past old))) old.clients old.objects old.clocks [] =
-      reads-seal (past old) old.clients old.objects old.clocks old.answers.items read in
-      subst (λ h. Reads h new.clients new.objects new.clocks new.answers.items) (sym h)
-      (subst (λ rows. Reads (Begin (seal (past old))) rows new.objects new.clocks
+      let was : Reads (Begin (seal (past old))) old.clients old.objects old.orphans old.clocks [] =
+      reads-seal (past old) old.clients old.objects old.orphans old.clocks old.answers.items read in
+      subst (λ h. Reads h new.clients new.objects new.orphans new.clocks new.answers.items) (sym h)
+      (subst (λ rows. Reads (Begin (seal (past old))) rows new.objects new.orphans new.clocks
       new.answers.items) (sym clients)
-      (subst (λ rows. Reads (Begin (seal (past old))) old.clients rows new.clocks
+      (subst (λ rows. Reads (Begin (seal (past old))) old.clients rows new.orphans new.clocks
       new.answers.items) (sym objects)
-      (subst (λ kept. Reads (Begin (seal (past old))) old.clients old.objects kept
+      (subst (λ head. Reads (Begin (seal (past old))) old.clients old.objects head new.clocks
+      new.answers.items) (sym orphans)
+      (subst (λ kept. Reads (Begin (seal (past old))) old.clients old.objects old.orphans kept
       new.answers.items) (sym clocks)
-      (subst (λ told. Reads (Begin (seal (past old))) old.clients old.objects old.clocks told)
-      (sym answers) was))))
+      (subst (λ told. Reads (Begin (seal (past old))) old.clients old.objects old.orphans
+      old.clocks told) (sym answers) was)))))

@@ -16,6 +16,7 @@ pub record Seals {A : Type 0} (old new : State A) : Type 0 where
   pub read : AreTables new
   pub clients : new.clients ≡ old.clients
   pub objects : new.objects ≡ old.objects
+  pub orphans : new.orphans ≡ old.orphans
   pub clocks : new.clocks ≡ old.clocks
   pub answers : vec_len new.answers ≡ 0
   pub held : vec_capacity new.answers ≡ vec_capacity old.answers

@@ -15,9 +15,10 @@ returns-clause-ok g c =
       limit = ap (λ s. s.limit) c.seal.ensures;
       room = ap (λ s. s.room) c.seal.ensures;
       read = tables-sealed old new c.requires.read starts entries refl refl refl
-          c.clear.ensures.items;
+          refl c.clear.ensures.items;
       clients = refl;
       objects = refl;
+      orphans = refl;
       clocks = refl;
       answers = c.clear.ensures.len;
       held = c.clear.ensures.capacity;
