@@ -99,8 +99,6 @@ pub mod NeedLimits
 pub mod NeedSteps
 -- NeedUses: what an entry that must follow uses of what was reserved
 pub mod NeedUses
--- OrphanSteps: no entry but a Death leaves a robust mutex with a dead owner
-pub mod OrphanSteps
 -- WaitMoves: no open call is moved but a wait
 pub mod WaitMoves
 -- Others:

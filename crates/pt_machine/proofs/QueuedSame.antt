@@ -1,5 +1,5 @@
 -- Queues that are right still: nothing that they are read off has changed.
-use Rattle.std.proofs.Common.{◌≡◌, ℕ, Bool, List, Option, is_some, sym, ap, ◌∙◌, subst}
+use Rattle.std.proofs.Common.{◌≡◌, ℕ, Bool, List, Option, is_some, Result, Ok, Err, OnOk, OnErr, sym, ap, ◌∙◌, subst}
 use Rattle.pt_waitq.specs.declared.waiter.Waiter.{Waiter}
 use Rattle.pt_waitq.specs.Queues.{queues_of, IsInKeyOrder}
 use Rattle.pt_waitq.specs.Members.{Members}
@@ -13,7 +13,8 @@ use Rattle.pt_model.specs.declared.waiting_call.WaitingCall.{WaitingCall}
 use Rattle.pt_model.specs.declared.waiting_call.Move.{Move}
 use Rattle.pt_model.specs.Answers.{open_calls}
 use Rattle.pt_model.specs.Moves.{moved, object_by, at_object}
-use Rattle.pt_history.specs.Stored.{past_of}
+use Rattle.pt_types.specs.declared.outcome.Refusal.{Refusal}
+use Rattle.pt_history.specs.Stored.{Stored, past_of}
 use Rattle.pt_state.specs.declared.state.State.{State}
 use Rattle.pt_state.specs.Adds.{Adds, Stays, past}
 use Rattle.pt_machine.specs.Queued.{waiter_by, waiter, IsQueued}
@@ -82,6 +83,13 @@ queued-kept h queue queue' admitted admitted' made made' queues rooms places k =
       admits = λ c. rooms c ∙ k.admits c;
       makes = λ o. places o ∙ k.makes o;
     }
+
+-- room that is made leaves the history, and so does a refusal
+pub past-reserved : {T : Type 0} (answer : Result T Refusal) (old new : Stored) (room : ℕ)
+    → OnOk answer (new ≡ record old { room = room }) → OnErr answer (new ≡ old)
+    → past_of new ≡ past_of old
+past-reserved (Ok v) old new room made same = ap past_of made
+past-reserved (Err e) old new room made same = ap past_of same
 
 module _ {A : Type 0} (old new : State A) where
   -- the history of a state with one entry more

@@ -4,7 +4,6 @@ ghost use Rattle.pt_state.specs.Adds.{Adds, IsReadyFor, Stays, past};
 ghost use Rattle.std.specs.Prelude.{IfErr, IsOk, OnErr, OnOk, ◌+◌, ◌<◌, ◌≡◌, false, vec_len};
 ghost use Rattle.pt_model.specs.Histories.{is_forced};
 ghost use Rattle.pt_machine.specs.Memory.{needs_memory};
-ghost use Rattle.pt_machine.specs.Reserved.{is_death as is_death_in};
 ghost use Rattle.pt_records.specs.Callers.{opens_of};
 ghost use Rattle.pt_state.specs.Serving.{IsFor, entry_of};
 ghost use Rattle.pt_model.specs.Answers.{open_place as open_place_in};
@@ -25,8 +24,7 @@ use std::marker::Model;
 ///
 /// `touched` is the one object at which a call may be served now, if one may, and `entering` the
 /// client whose call came last. `need` is how many entries are reserved for what must follow.
-/// `dying` says whether the last event was a Death: only then may an owner be dead. Contracts see
-/// the tables.
+/// Contracts see the tables.
 #[derive(Drop)]
 pub struct Body<Q: WaitList, A: Allocator + Copy = Global> {
     pub(crate) state: State<A>,
@@ -35,7 +33,6 @@ pub struct Body<Q: WaitList, A: Allocator + Copy = Global> {
     pub(crate) touched: Option<ObjectId>,
     pub(crate) entering: Option<ClientId>,
     pub(crate) need: u64,
-    pub(crate) dying: bool,
 }
 
 impl<Q: WaitList, A: Allocator + Copy> Model for Body<Q, A> {
@@ -53,14 +50,7 @@ impl<Q: WaitList, A: Allocator + Copy> Model for Body<Q, A> {
     ghost invariant = { λ b. IsQueued (past b.state) (Q.seen b.queues)
         × AreTimed (past b.state) b.timers
         × IsTouched (past b.state) b.touched b.entering
-        × IsReserved (past b.state) b.need b.dying };
-}
-
-// Whether an entry is the death of a client.
-fn is_death(entry: &Entry) -> bool
-    ensures { result ≡ is_death_in entry.now }
-{
-    matches!(entry, Entry::Death(_))
+        × IsReserved (past b.state) b.need };
 }
 
 impl<Q: WaitList, A: Allocator + Copy> Body<Q, A> {
@@ -76,12 +66,10 @@ impl<Q: WaitList, A: Allocator + Copy> Body<Q, A> {
     {
         let touched = self.touched_by(entry);
         let need = self.need + added(entry) - self.used(entry);
-        let dying = is_death(entry);
         clock::push_outer(&mut self.state, &mut self.queues, &mut self.timers, entry)?;
         self.touched = touched;
         self.entering = caller_of(entry);
         self.need = need;
-        self.dying = dying;
         Ok(())
     }
 
@@ -122,7 +110,6 @@ impl<A: Allocator + Copy> Body<Chains<A>, A> {
             touched: None,
             entering: None,
             need: 0,
-            dying: false,
         }
     }
 }

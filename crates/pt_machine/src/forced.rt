@@ -129,17 +129,13 @@ impl<Q: WaitList, A: Allocator + Copy> Body<Q, A> {
         self.candidate(self.touched?)
     }
 
-    // The robust mutex to take from its dead owner first: there is none, unless a client has died.
+    // The robust mutex to take from its dead owner first.
     // [XSH pthread_mutex_lock, EOWNERDEAD; the lowest first is profile]
     fn first_yield(&self) -> Option<ObjectId>
         requires { AreTables self.now }
         ensures { result ≡ first_below (place (past self.now)) (is_orphan (past self.now)) }
     {
-        if self.dying {
-            self.state.first_orphan()
-        } else {
-            None
-        }
+        self.state.first_orphan()
     }
 
     /// What must follow, if anything: service, then yields, then deadlines.

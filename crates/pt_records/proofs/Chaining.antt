@@ -13,7 +13,7 @@ use Rattle.pt_model.specs.Found.{passes}
 use Rattle.pt_records.specs.declared.clients.Caller.{Caller}
 use Rattle.pt_records.specs.declared.objects.Object.{Object}
 use Rattle.pt_records.specs.Chained.{is_gone, robust_owner, robust_owner_at, KeepsChains, HasOwned, AreChained}
-use Rattle.pt_records.specs.Writes.{WritesCaller, AddsCaller, RewritesCallers, ChangesCaller, WritesObject, AddsObject, RemovesObject, new_object}
+use Rattle.pt_records.specs.Writes.{WritesCaller, AddsCaller, RewritesCallers, WritesObject, AddsObject, RemovesObject, new_object}
 use Rattle.pt_records.proofs.ChainsKept.{chain-stays}
 
 -- what passes a test is there
@@ -127,7 +127,9 @@ module _ {A : Type 0} where
         ≡ option_map (λ (v : Caller). v.owned) (client_value old c)) where
       owned-of : (c : ℕ) (v : Caller) → client_value new c ≡ Some v
           → HasOwned objects v.owned (λ owner. owner == c)
-      owned-of c v e = go (client_value old c) refl (sym (same c) ∙ ap (option_map (λ (w : Caller). w.owned)) e)
+      owned-of c v e =
+          go (client_value old c) refl
+          (sym (same c) ∙ ap (option_map (λ (w : Caller). w.owned)) e)
         where
           go : (o : Option Caller) → client_value old c ≡ o
               → option_map (λ (w : Caller). w.owned) o ≡ Some v.owned
@@ -174,18 +176,7 @@ module _ {A : Type 0} where
     kept-by g keeps None = refl
     kept-by g keeps (Some v) = ap Some (keeps v)
 
-    -- a client's row is changed so, or all rows are
-    pub chained-changed : (c : ℕ) (g : Caller → Caller) → ((v : Caller) → (g v).owned ≡ v.owned)
-        → ChangesCaller old new c g → AreChained new objects orphans
-    chained-changed c g keeps w = chained-callers same
-      where
-        same : (d : ℕ) → option_map (λ (x : Caller). x.owned) (client_value new d)
-            ≡ option_map (λ (x : Caller). x.owned) (client_value old d)
-        same d = ap (option_map (λ (x : Caller). x.owned)) (w.look d) ∙ elim (eqb_tells c d) [
-          | inl s ↦ rw s.0 (kept-by g keeps (client_value old d))
-          | inr s ↦ rw s.0 refl
-        ]
-
+    -- all rows are changed so
     pub chained-rewritten : (g : Caller → Caller) → ((v : Caller) → (g v).owned ≡ v.owned)
         → RewritesCallers old new g → AreChained new objects orphans
     chained-rewritten g keeps w = chained-callers (λ c.
@@ -205,6 +196,12 @@ module _ {A : Type 0} where
         → v.owned ≡ None → AreChained new objects None
     chained-joined c v w none owned = record { living = living; dead = dead; linked = a.linked }
       where
+        at : (d : ℕ) → nat_eq c d ≡ true → client_value new d ≡ Some v
+        at d s = w.look d ∙ ap (λ b. cond b (Some v) (client_value old d)) s
+
+        off : (d : ℕ) → nat_eq c d ≡ false → client_value new d ≡ client_value old d
+        off d s = w.look d ∙ ap (λ b. cond b (Some v) (client_value old d)) s
+
         nothing : (d : ℕ) → c ≡ d → HasOwned objects None (λ owner. owner == d)
         nothing d same = record {
           numbers = [];
@@ -222,12 +219,11 @@ module _ {A : Type 0} where
             → HasOwned objects u.owned (λ owner. owner == d)
         living d u e = elim (eqb_tells c d) [
           | inl s ↦
-              let is : Some v ≡ Some u = sym (ap (λ b. cond b (Some v) (client_value old d)) s.0) ∙ sym (w.look d) ∙ e in
-              let head : u.owned ≡ None = ap (option_and_then (λ (x : Caller). x.owned)) (sym is) ∙ owned in
+              let is : Some u ≡ Some v = sym e ∙ at d s.0 in
+              let head : u.owned ≡ None =
+              ap (option_and_then (λ (x : Caller). x.owned)) is ∙ owned in
               subst (λ h. HasOwned objects h (λ owner. owner == d)) (sym head) (nothing d s.1)
-          | inr s ↦
-              let is : client_value old d ≡ Some u = sym (ap (λ b. cond b (Some v) (client_value old d)) s.0) ∙ sym (w.look d) ∙ e in
-              a.living d u is
+          | inr s ↦ a.living d u (sym (off d s.0) ∙ e)
         ]
 
         dead : HasOwned objects None (is_gone new)
@@ -246,5 +242,7 @@ module _ {A : Type 0} where
                 go : ((nat_eq c d ≡ true) × (c ≡ d)) ⊎ ((nat_eq c d ≡ false) × (c ≡ d → ⊥))
                     → (o : Option Caller) → client_value old d ≡ o → o ≡ None
                 go t None found = refl
-                go (inl s) (Some u) found = absurd (true≢false (sym e ∙ ap is_none (w.look d ∙ ap (λ b. cond b (Some v) (client_value old d)) s.0)))
-                go (inr s) (Some u) found = absurd (true≢false (sym e ∙ ap is_none (w.look d ∙ ap (λ b. cond b (Some v) (client_value old d)) s.0 ∙ found)))
+                go (inl s) (Some u) found =
+                    absurd (true≢false (sym e ∙ ap is_none (at d s.0)))
+                go (inr s) (Some u) found =
+                    absurd (true≢false (sym e ∙ ap is_none (off d s.0 ∙ found)))

@@ -10,8 +10,7 @@ use Rattle.pt_table.specs.declared.clients.ClientRow.{ClientRow}
 use Rattle.pt_table.specs.ClientRows.{client_at, client_value, has_client}
 use Rattle.pt_table.specs.declared.objects.ObjectRow.{ObjectRow}
 use Rattle.pt_table.specs.ObjectRows.{object_value}
-use Rattle.pt_table.specs.Linked.{is_linked, unlinked, with_number, but_number, HasChain, IsInChain, IsChain, IsOneOf}
-use Rattle.pt_table.proofs.ChainCallers.{same-value}
+use Rattle.pt_table.specs.Linked.{unlinked, with_number, but_number, HasChain, IsInChain, IsChain, IsOneOf}
 use Rattle.pt_model.specs.Found.{passes}
 use Rattle.pt_records.specs.declared.clients.Caller.{Caller}
 use Rattle.pt_records.specs.declared.objects.Object.{Object}
@@ -20,7 +19,7 @@ use Rattle.pt_records.specs.Chained.{is_gone, is_robust_free, is_locked_once, ro
 use Rattle.pt_records.specs.Callers.{Once}
 use Rattle.pt_records.specs.LocksInRows.{mutex_in}
 use Rattle.pt_records.specs.Moved.{Moves, IsMoved}
-use Rattle.pt_records.specs.Writes.{WritesCaller, WritesObject}
+use Rattle.pt_records.specs.Writes.{WritesObject}
 use Rattle.pt_records.proofs.ChainsKept.{chain-stays}
 use Rattle.pt_records.proofs.Chaining.{passed, chained-written}
 use Rattle.pt_records.proofs.Owning.{Owned, chained-entered, chained-left, chained-yielded}
@@ -277,8 +276,8 @@ module _ {A : Type 0} where
           )
 
   -- once it is taken from its owner
-  pub freed-chained : (clients : List (ClientRow Caller)) (old mid new : List (ObjectRow (Object A)))
-      (m : ℕ) (after : Option ℕ) (x : MutexState) → AreChained clients old (Some m)
+  pub freed-chained : (clients : List (ClientRow Caller))
+      (old mid new : List (ObjectRow (Object A))) (m : ℕ) (after : Option ℕ) (x : MutexState) → AreChained clients old (Some m)
       → LeavesChain old mid (Some m) after m → KeepsChains mid new
       → WritesObject old new m (Mutex (record x { seen = yielded x.seen }))
       → AreChained clients new after

@@ -1,5 +1,5 @@
 -- A robust mutex comes into the chain of its owner, or goes out of it.
-use Rattle.std.proofs.Common.{◌≡◌, ◌∙◌, ℕ, Bool, true, false, ◌==◌, ◌||◌, ◌&&◌, not, cond, nat_eq, List, Option, Some, None, is_none, is_some, refl, sym, ap, subst, true≢false, inl, inr, arith}
+use Rattle.std.proofs.Common.{◌≡◌, ◌∙◌, ℕ, Bool, true, false, ◌==◌, cond, nat_eq, List, Option, Some, None, is_none, is_some, refl, sym, ap, subst, true≢false, inl, inr, arith}
 use Rattle.std.specs.Option.{option_and_then}
 use Rattle.std.proofs.lemmas.Bool.Decides.{eqb_tells, nat_tests}
 use Rattle.pt_table.specs.declared.clients.ClientRow.{ClientRow}
@@ -61,7 +61,7 @@ module _ {A : Type 0} where
       )
 
   -- the owners, but for an object that has another one now
-  abbrev pub Owned : List (ObjectRow (Object A)) → List (ObjectRow (Object A)) → ℕ → Option ℕ → Type 0
+  abbrev pub Owned : (old new : List (ObjectRow (Object A))) → ℕ → Option ℕ → Type 0
   Owned old new m owner =
       (p : ℕ) → robust_owner_at new p ≡ cond (nat_eq m p) owner (robust_owner_at old p)
 

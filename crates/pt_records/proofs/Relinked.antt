@@ -1,11 +1,10 @@
 -- Rows of objects that differ in nothing but the chains that they are in.
-use Rattle.std.proofs.Common.{◌≡◌, ◌∙◌, ℕ, ◌<◌, List, [], ◌∷◌, length, Option, Some, None, option_map, refl, sym, ap, subst, cond, nat_eq, arith}
+use Rattle.std.proofs.Common.{◌≡◌, ◌∙◌, ℕ, ◌<◌, List, [], ◌∷◌, length, Option, Some, None, option_map, refl, sym, ap, subst, cond, nat_eq}
 use Rattle.std.specs.List.{AllByRecursion as Each}
 use Rattle.pt_table.specs.declared.objects.ObjectRow.{ObjectRow}
-use Rattle.pt_table.specs.ObjectRows.{object_named, object_value, number_of, out_of_chains}
+use Rattle.pt_table.specs.ObjectRows.{object_named, number_of, out_of_chains}
 use Rattle.pt_table.specs.Linked.{unlinked}
 use Rattle.pt_table.proofs.ChainCallers.{same-value}
-use Rattle.pt_model.specs.Histories.{History}
 use Rattle.pt_records.specs.declared.objects.Object.{Object}
 use Rattle.pt_records.specs.Objects.{Rising}
 use Rattle.pt_records.specs.Writes.{NamesOnce, WritesObject}

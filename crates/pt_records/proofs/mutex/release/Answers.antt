@@ -1,4 +1,4 @@
-use Rattle.std.proofs.Common.{◌∙◌, sym, Bool}
+use Rattle.std.proofs.Common.{◌∙◌, sym}
 use Rattle.pt_mutex.specs.MutexState.{released}
 use Rattle.pt_table.specs.ObjectRows.{object_value}
 use Rattle.pt_table.proofs.ChainCallers.{same-value}

@@ -14,4 +14,5 @@ returns-then-is_robust_free g c =
     )
 
 pub returns-else-is_robust_free : goal.returns-else-is_robust_free
-returns-else-is_robust_free g c = inl (sym c.is_robust_free.ensures ∙ c.if-is_robust_free.false, (refl, refl))
+returns-else-is_robust_free g c =
+    inl (sym c.is_robust_free.ensures ∙ c.if-is_robust_free.false, (refl, refl))

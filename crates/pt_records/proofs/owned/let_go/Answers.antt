@@ -17,4 +17,5 @@ returns-then-is_locked_once g c =
     )
 
 pub returns-else-is_locked_once : goal.returns-else-is_locked_once
-returns-else-is_locked_once g c = inl (sym c.is_locked_once.ensures ∙ c.if-is_locked_once.false, (refl, refl))
+returns-else-is_locked_once g c =
+    inl (sym c.is_locked_once.ensures ∙ c.if-is_locked_once.false, (refl, refl))

@@ -47,6 +47,5 @@ invariant_of-self-2 g c =
           c.requires.outer touches c.caller_of-self-inside.ensures,
       reserved-outer old c.push_outer.new.state c.args.entry.now
           c.in_ok-push_outer.ensures.ok follows step c.requires.outer c.self.inside.need
-          c.added.result c.used.result c.is_death-dying.result c.self.invariant.3.needs
-          c.added.ensures.value used c.is_death-dying.ensures,
+          c.added.result c.used.result c.self.invariant.3.needs c.added.ensures.value used,
     )
