@@ -72,8 +72,9 @@ fn ask_by<L: Ledger, T: Wait>(
 ) -> Option<Word>
     ensures { AsksOf pass.old call result pass.new }
 {
-    match shared.call(rt, pass, call) {
-        Ok(_) => match shared.wait_for_answer(rt, session, pass) {
+    match shared.ask(rt, pass, call) {
+        Ok((_, Some(answer))) => Some(Word::Outcome(answer.outcome)),
+        Ok((_, None)) => match shared.wait_for_answer(rt, session, pass) {
             Some(answer) => Some(Word::Outcome(answer.outcome)),
             None => None,
         },

@@ -9,6 +9,7 @@ mod gates;
 mod kinds;
 mod reader;
 mod transcript;
+mod watch;
 mod whole;
 mod worker;
 

@@ -89,8 +89,8 @@ impl Pusher {
         }
     }
 
-    // Pushes a reading under the lock, and wakes the working side. `false` if the ring has no room,
-    // or if no more can be counted, which no input comes to within its reads.
+    // Pushes a reading, and wakes the working side. `false` if the ring has no room, or if no more
+    // can be counted, which no input comes to within its reads.
     fn push<L: Ledger, T: Wait>(&mut self, rt: &T, shared: &Shared<L>, reading: Reading) -> bool
         ensures ring { SameProducer self.old.ring self.new.ring }
         ensures pushed { IsTrue result
@@ -101,13 +101,11 @@ impl Pusher {
             return false;
         };
         self.wait_for_room(rt, shared);
-        let room = shared.room.lock(rt);
         let is_pushed = self.ring.push(reading).is_ok();
         if is_pushed {
             self.read = read;
             shared.ring(self.session);
         }
-        drop(room);
         is_pushed
     }
 }

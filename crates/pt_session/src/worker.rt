@@ -11,6 +11,7 @@ use crate::delivery::answer;
 use crate::ends::WorkEnd;
 use crate::gates::Gate;
 use crate::kinds::{EndCause, Reading};
+use crate::watch::Watch;
 use pt_hub::{ClockPass, SessionId};
 use pt_io::Sink;
 use pt_shared::Shared;
@@ -54,30 +55,6 @@ impl Tally {
     }
 }
 
-// The next reading, or `None` if the input has ended and the ring is empty.
-fn take_next<L: Ledger, T: Wait>(
-    rt: &T,
-    shared: &Shared<L>,
-    session: SessionId,
-    ring: &mut Consumer<Reading>,
-) -> Option<Reading>
-    ensures ring { SameConsumer ring.old ring.new }
-    ensures next { MatchOption result (received ring.new ≡ received ring.old)
-        (λ line. received ring.new ≡ received ring.old ++ line ∷ []) }
-{
-    let mut room = shared.room.lock(rt);
-    for _ in rt.forever() {
-        if let Ok(line) = ring.pop() {
-            return Some(line);
-        }
-        if room.hub.input_ended(session) {
-            return None;
-        }
-        room = shared.wait(rt, room, session);
-    }
-    unreachable!()
-}
-
 // Submits the readings in the ring and writes their words, until the input ends or a cause comes.
 fn work_all<W: Sink, G: Gate, L: Ledger, T: Wait>(
     rt: &T,
@@ -100,8 +77,9 @@ fn work_all<W: Sink, G: Gate, L: Ledger, T: Wait>(
         (output W.taken W.flushed W.failures W.rejections writer.old writer.new)) result.cause }
 {
     let mut buffer = Vec::new(alloc);
+    let mut watch = Watch::new();
     for answered in 0..u64::MAX {
-        let Some(line) = take_next(rt, shared, session, ring) else {
+        let Some(line) = watch.next(rt, shared, session, ring) else {
             return Tally::ended(answered, answered);
         };
         let n = answered + 1;

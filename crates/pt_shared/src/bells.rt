@@ -1,78 +1,74 @@
 //! The bells that sessions sleep at. No contract speaks of who wakes.
 
-use crate::shared::Room;
-use pt_hub::SessionId;
-use pt_types::ClientId;
 use std::alloc::Global;
-use std::sync::Condvar;
-use std::sync::ledger::Ledger;
+use std::sync::Wait;
+use std::sync::atomic::{AtomicU64, Ordering};
 
 /// How many bells there are. Sessions with the same remainder share one.  [profile]
 const MOST_BELLS: usize = 1024;
 
-/// The session that takes a client's answers.
-#[derive(Clone, Copy, Debug, PartialEq, Eq)]
-pub(crate) struct Attached {
-    client: ClientId,
-    session: SessionId,
-    /// Whether the session sleeps until the client's call is answered.
-    waits: bool,
+/// A bell that counts how often it was rung.
+///
+/// A thread that waits reads the count, then looks for what it waits for, and then sleeps, unless
+/// the count has changed meanwhile. Who brings what it waits for rings afterwards. So no wake-up is
+/// lost, and nobody needs a lock to ring.
+#[derive(Drop)]
+pub(crate) struct Bell {
+    rings: AtomicU64,
+    sleepers: AtomicU64,
+    ends: AtomicU64,
+}
+
+impl Bell {
+    /// A bell that was not rung yet.
+    pub fn new() -> Bell {
+        Bell {
+            rings: AtomicU64::new(0),
+            sleepers: AtomicU64::new(0),
+            ends: AtomicU64::new(0),
+        }
+    }
+
+    /// How often it was rung.
+    pub fn rings(&self) -> u64 {
+        self.rings.load(Ordering::SeqCst)
+    }
+
+    /// Wakes all who sleep at it.
+    pub fn ring(&self) {
+        self.rings.fetch_add(1, Ordering::SeqCst);
+        if self.sleepers.load(Ordering::SeqCst) != 0 {
+            self.rings.wake_all();
+        }
+    }
+
+    /// Sleeps until it is rung, unless it was rung since this was its count. It may return though
+    /// nobody rang.
+    pub fn sleep<R: Wait>(&self, rt: &R, rings: u64) {
+        self.sleepers.fetch_add(1, Ordering::SeqCst);
+        self.rings.park(rt, (rings & 0xffff_ffff) as u32);
+        self.sleepers.fetch_sub(1, Ordering::SeqCst);
+    }
+
+    /// How many inputs have ended, of the sessions that sleep at it.
+    pub fn ends(&self) -> u64 {
+        self.ends.load(Ordering::SeqCst)
+    }
+
+    /// The input of a session that sleeps at it has ended.
+    pub fn end(&self) {
+        self.ends.fetch_add(1, Ordering::SeqCst);
+        self.ring();
+    }
 }
 
 /// The bells, or as many of them as there is memory for.
-pub(crate) fn bells(alloc: Global) -> Vec<Condvar> {
+pub(crate) fn bells(alloc: Global) -> Vec<Bell> {
     let mut bells = Vec::new(alloc);
     for _ in 0..MOST_BELLS {
-        if bells.push(Condvar::new()).is_err() {
+        if bells.push(Bell::new()).is_err() {
             break;
         }
     }
     bells
-}
-
-impl<L: Ledger> Room<L> {
-    ghost use Rattle.std.specs.Prelude.{◌<◌, IfSome, vec_len};
-
-    /// A client's answers are taken by this session. It isn't noted if a growth is refused.
-    pub(crate) fn attach(&mut self, session: SessionId, client: ClientId) {
-        let _ = self.attached.push(Attached {
-            client,
-            session,
-            waits: false,
-        });
-    }
-
-    // Where the session of a client is noted.
-    fn place_of(&self, client: ClientId) -> Option<usize>
-        ensures { IfSome result (λ k. k < vec_len self.now.attached) }
-    {
-        self.attached.iter().position(|it| it.client == client)
-    }
-
-    /// A client takes no more answers.
-    pub(crate) fn detach(&mut self, client: ClientId) {
-        if let Some(k) = self.place_of(client) {
-            let _ = self.attached.swap_remove(k);
-        }
-    }
-
-    /// Notes whether a client's session sleeps until its call is answered.
-    pub(crate) fn note_wait(&mut self, client: ClientId, waits: bool) {
-        if let Some(k) = self.place_of(client) {
-            self.attached[k].waits = waits;
-        }
-    }
-
-    /// Whether a session sleeps until a call is answered, if that was noted.
-    pub(crate) fn is_waiting(&self, session: SessionId) -> bool {
-        self.attached
-            .iter()
-            .any(|it| it.session == session && it.waits)
-    }
-
-    /// The session that takes a client's answers, if it was noted.
-    pub(crate) fn session_of(&self, client: ClientId) -> Option<SessionId> {
-        let found = self.attached.iter().find(|it| it.client == client)?;
-        Some(found.session)
-    }
 }

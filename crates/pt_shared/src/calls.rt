@@ -8,6 +8,7 @@ ghost use Rattle.pt_model.specs.Room.{refusal_within};
 ghost use Rattle.pt_core.specs.Cores.{past};
 ghost use Rattle.pt_hub.specs.Desks.{kept, IsRefusedAs, call_refusal};
 ghost use Rattle.pt_hub.specs.Hubs.{Joins, Leaves, Sends, Takes, Ticks, answered, has_ended, takeable};
+ghost use Rattle.pt_shared.specs.Asking.{Asks, asked_receipts};
 ghost use Rattle.pt_shared.specs.Stays.{Found, Made};
 
 use crate::shared::Shared;
@@ -90,6 +91,43 @@ impl<L: Ledger> Shared<L> {
         }
     }
 
+    /// A client makes a call, which is in its receipts from then on, and takes its answer if that
+    /// is there at once: `call` and then `take`, with no other event between them.
+    pub fn ask<R: Wait>(
+        &self,
+        rt: &R,
+        pass: &mut Pass<L>,
+        call: Call,
+    ) -> Result<(Sent, Option<Answer>), Refusal>
+        ensures pass { IfOk result (λ r. pass.new ≡ record pass.old {
+          receipts = asked_receipts (pass.old.receipts
+              ++ record { place = r.0.place; call = call; answer = None } ∷ []) r.1;
+        }) }
+        ensures ok { IfOk result (λ r.
+            Made (λ old new. Asks old pass.old call new pass.new r.0 r.1)) }
+        ensures err { IfErr result (λ refusal. Found (λ hub.
+            IsRefusedAs (call_refusal hub.desk pass.old.client call) refusal)) }
+        ensures unchanged { OnErr result (pass.new ≡ pass.old) }
+    {
+        let mut room = self.room.lock(rt);
+        room.law_fits();
+        let place = room.hub.len();
+        match room.hub.call(pass, call) {
+            Ok(sent) => {
+                room.law_fits();
+                self.ring_since(&room, place);
+                match room.hub.take(pass) {
+                    Some(answer) => {
+                        room.law_fits();
+                        Ok((sent, Some(answer)))
+                    }
+                    None => Ok((sent, None)),
+                }
+            }
+            Err(refusal) => Err(refusal),
+        }
+    }
+
     /// Waits for the answer to the client's last call. `None` if the session's input ends first.
     pub fn wait_for_answer<R: Wait>(
         &self,
@@ -105,8 +143,9 @@ impl<L: Ledger> Shared<L> {
             (takeable hub pass.old ≡ None) × (has_ended hub session.0 ≡ true))) }
         ensures same { IfNone result (pass.new ≡ pass.old) }
     {
-        let mut room = self.room.lock(rt);
         for _ in rt.forever() {
+            let rings = self.rings(session);
+            let mut room = self.room.lock(rt);
             room.law_fits();
             if let Some(answer) = room.hub.take(pass) {
                 room.law_fits();
@@ -117,7 +156,8 @@ impl<L: Ledger> Shared<L> {
                 return None;
             }
             room.note_wait(pass.client(), true);
-            room = self.wait(rt, room, session);
+            drop(room);
+            self.sleep(rt, session, rings);
         }
         unreachable!()
     }

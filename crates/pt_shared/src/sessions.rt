@@ -37,7 +37,7 @@ impl<L: Ledger> Shared<L> {
         room.law_fits();
         room.hub.end_input(session);
         room.law_fits();
-        self.ring(session);
+        self.bell_of(session).end();
     }
 
     /// Whether the input of a session has ended, or the session isn't open.

@@ -2,10 +2,11 @@
 
 ghost use Rattle.pt_hub.specs.Hubs.{Fits};
 
-use crate::bells::{Attached, bells};
+use crate::attached::Attached;
+use crate::bells::{Bell, bells};
 use pt_hub::{Audience, Hub, SessionId};
 use std::sync::ledger::Ledger;
-use std::sync::{Condvar, Mutex, MutexGuard, Wait};
+use std::sync::{Mutex, Wait};
 
 /// What lies under the lock: the hub, whether the server ends, which ends its clock, and which
 /// session takes whose answers.
@@ -26,13 +27,13 @@ impl<L: Ledger> Room<L> {
 }
 
 /// The lock, and the bells. A session sleeps at one of `bells`, or at `bell` if memory for them was
-/// refused. Bells are rung under the lock, and who sleeps at one has looked under the lock at what
-/// it waits for.
+/// refused. Who rings has done before what the sleeper waits for, and who sleeps has read the
+/// bell's count before it looked for that.
 #[derive(Drop)]
 pub struct Shared<L: Ledger> {
     pub room: Mutex<Room<L>>,
-    pub bell: Condvar,
-    bells: Vec<Condvar>,
+    bell: Bell,
+    bells: Vec<Bell>,
 }
 
 impl<L: Ledger> Shared<L> {
@@ -45,13 +46,13 @@ impl<L: Ledger> Shared<L> {
                 done: false,
                 attached: Vec::new(alloc),
             }),
-            bell: Condvar::new(),
+            bell: Bell::new(),
             bells: bells(alloc),
         }
     }
 
-    // The bell that a session sleeps at.
-    fn bell_of(&self, session: SessionId) -> &Condvar {
+    /// The bell that a session sleeps at.
+    pub(crate) fn bell_of(&self, session: SessionId) -> &Bell {
         let number = session.0 as usize;
         match number.checked_rem(self.bells.len()) {
             Some(k) => &self.bells[k],
@@ -59,17 +60,17 @@ impl<L: Ledger> Shared<L> {
         }
     }
 
-    /// Wakes a session. It is called while the lock is held.
+    /// Wakes a session.
     pub fn ring(&self, session: SessionId) {
-        self.bell_of(session).notify_all();
+        self.bell_of(session).ring();
     }
 
     // Wakes all sessions.
     fn ring_all(&self) {
         for bell in &self.bells {
-            bell.notify_all();
+            bell.ring();
         }
-        self.bell.notify_all();
+        self.bell.ring();
     }
 
     // Wakes the sessions whose calls the entry at a place answers.
@@ -91,15 +92,20 @@ impl<L: Ledger> Shared<L> {
         }
     }
 
-    /// Gives the lock back, sleeps until the session is woken, and takes the lock again. It may
+    /// How often a session's bell was rung.
+    pub fn rings(&self, session: SessionId) -> u64 {
+        self.bell_of(session).rings()
+    }
+
+    /// Sleeps until a session's bell is rung, unless it was rung since this was its count. It may
     /// return though nobody rang.
-    pub fn wait<'a, R: Wait>(
-        &'a self,
-        rt: &R,
-        room: MutexGuard<'a, Room<L>>,
-        session: SessionId,
-    ) -> MutexGuard<'a, Room<L>> {
-        self.bell_of(session).wait(rt, room)
+    pub fn sleep<R: Wait>(&self, rt: &R, session: SessionId, rings: u64) {
+        self.bell_of(session).sleep(rt, rings);
+    }
+
+    /// How many inputs have ended, of this session and of those that share its bell.
+    pub fn ends(&self, session: SessionId) -> u64 {
+        self.bell_of(session).ends()
     }
 
     /// The server ends.

@@ -15,7 +15,7 @@ returns-in_default-clause-labour g c =
     let o : Output =
     output g.W.Sink.taken g.W.Sink.flushed g.W.Sink.failures g.W.Sink.rejections
     c.args.writer.now c.loop-answered.writer in
-    let all = received c.take_next.new.ring in
+    let all = received c.next.new.ring in
     subst (λ (t : Tally). IsLabour (tallied t xs all o)) (sym c.ended.ensures)
     (labour_whole xs c.loop-answered.answered all o
     c.loop-answered.invariant.count (
@@ -31,7 +31,7 @@ returns-then-not-ask-clause-labour g c =
     let o : Output =
     output g.W.Sink.taken g.W.Sink.flushed g.W.Sink.failures g.W.Sink.rejections
     c.args.writer.now c.loop-answered.writer in
-    let all = received c.take_next.new.ring in
+    let all = received c.next.new.ring in
     subst (λ (t : Tally). IsLabour (tallied t xs all o)) (sym c.stopped.ensures)
     (labour_whole xs c.loop-answered.answered all o
     c.loop-answered.invariant.count (
@@ -46,7 +46,7 @@ returns-in_default-submit-clause-labour g c =
     let xs = c.loop-answered.dealings.exchanges in
     let n = c.loop-answered.answered in
     let line = c.in-Some.line in
-    let all = received c.take_next.new.ring in
+    let all = received c.next.new.ring in
     let o : Output =
     output g.W.Sink.taken g.W.Sink.flushed g.W.Sink.failures g.W.Sink.rejections
     c.args.writer.now c.loop-answered.writer in
@@ -69,7 +69,7 @@ returns-in_default-submit-clause-stops g c =
     let xs = c.loop-answered.dealings.exchanges in
     let n = c.loop-answered.answered in
     let line = c.in-Some.line in
-    let all = received c.take_next.new.ring in
+    let all = received c.next.new.ring in
     let o : Output =
     output g.W.Sink.taken g.W.Sink.flushed g.W.Sink.failures g.W.Sink.rejections
     c.args.writer.now c.loop-answered.writer in
@@ -95,7 +95,7 @@ returns-in-Some-answer-clause-labour g c =
     let n = c.loop-answered.answered in
     let line = c.in-Some.line in
     let word = c.in-Some-submit.word in
-    let all = received c.take_next.new.ring in
+    let all = received c.next.new.ring in
     let o : Output =
     output g.W.Sink.taken g.W.Sink.flushed g.W.Sink.failures g.W.Sink.rejections
     c.args.writer.now c.answer.new.writer in

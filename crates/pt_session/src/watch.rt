@@ -1,0 +1,147 @@
+//! How a working side waits for its next reading.
+
+ghost use Rattle.std.specs.Prelude.{◌≡◌, ◌∷◌, ◌++◌, [], MatchOption};
+ghost use Rattle.rtrb.specs.Ring.{received, SameConsumer};
+
+use crate::kinds::Reading;
+use pt_hub::SessionId;
+use pt_shared::Shared;
+use rtrb::Consumer;
+use std::hint::spin_loop;
+use std::sync::Wait;
+use std::sync::ledger::Ledger;
+
+/// How often the ring is looked at before the thread sleeps: some 30 microseconds.  [profile]
+const LOOKS: u32 = 500;
+
+/// The most credit there is.  [profile]
+const MOST_CREDIT: u32 = 16;
+
+/// How much credit it costs if no reading came while the ring was looked at.  [profile]
+const COST: u32 = 4;
+
+/// Without credit the ring is looked at once in so many waits.  [profile]
+const TRIES: u32 = 64;
+
+/// Whether it pays to look for the next reading before the thread sleeps, by what that brought of
+/// late, and whether the session's input has ended.
+#[derive(Drop)]
+pub(crate) struct Watch {
+    credit: u32,
+    waits: u32,
+    looked_at: Option<u64>,
+    has_ended: bool,
+}
+
+// The next reading, if it comes while the ring is looked at.
+fn look_for(ring: &mut Consumer<Reading>) -> Option<Reading>
+    ensures ring { SameConsumer ring.old ring.new }
+    ensures next { MatchOption result (received ring.new ≡ received ring.old)
+        (λ line. received ring.new ≡ received ring.old ++ line ∷ []) }
+{
+    for _ in 0..LOOKS {
+        if let Ok(line) = ring.pop() {
+            return Some(line);
+        }
+        spin_loop();
+    }
+    None
+}
+
+impl Watch {
+    ghost use Rattle.std.specs.Prelude.{◌≡◌, ◌∷◌, ◌++◌, [], MatchOption};
+    ghost use Rattle.rtrb.specs.Ring.{received, SameConsumer};
+
+    /// Nothing is known yet.
+    pub fn new() -> Watch {
+        Watch {
+            credit: MOST_CREDIT,
+            waits: 0,
+            looked_at: None,
+            has_ended: false,
+        }
+    }
+
+    // Whether the ring is to be looked at before the thread sleeps.
+    fn pays(&mut self) -> bool {
+        self.waits = self.waits.wrapping_add(1);
+        self.credit >= COST || self.waits % TRIES == 0
+    }
+
+    // Notes whether a reading came.
+    fn note(&mut self, came: bool) {
+        self.credit = if came {
+            self.credit.saturating_add(1).min(MOST_CREDIT)
+        } else {
+            self.credit.saturating_sub(COST)
+        };
+    }
+
+    // Whether the session's input has ended. The lock is taken only if an input has ended since the
+    // last time, of the sessions that share a bell.
+    fn input_ended<L: Ledger, T: Wait>(
+        &mut self,
+        rt: &T,
+        shared: &Shared<L>,
+        session: SessionId,
+    ) -> bool {
+        let ends = shared.ends(session);
+        if self.looked_at != Some(ends) {
+            self.has_ended = shared.input_ended(rt, session);
+            self.looked_at = Some(ends);
+        }
+        self.has_ended
+    }
+
+    // The next reading: for it the thread sleeps. `None` if the input has ended and the ring is
+    // empty.
+    fn sleep_for<L: Ledger, T: Wait>(
+        &mut self,
+        rt: &T,
+        shared: &Shared<L>,
+        session: SessionId,
+        ring: &mut Consumer<Reading>,
+    ) -> Option<Reading>
+        ensures ring { SameConsumer ring.old ring.new }
+        ensures next { MatchOption result (received ring.new ≡ received ring.old)
+            (λ line. received ring.new ≡ received ring.old ++ line ∷ []) }
+    {
+        for _ in rt.forever() {
+            let rings = shared.rings(session);
+            let has_ended = self.input_ended(rt, shared, session);
+            if let Ok(line) = ring.pop() {
+                return Some(line);
+            }
+            if has_ended {
+                return None;
+            }
+            shared.sleep(rt, session, rings);
+        }
+        unreachable!()
+    }
+
+    /// The next reading, or `None` if the input has ended and the ring is empty.
+    pub fn next<L: Ledger, T: Wait>(
+        &mut self,
+        rt: &T,
+        shared: &Shared<L>,
+        session: SessionId,
+        ring: &mut Consumer<Reading>,
+    ) -> Option<Reading>
+        ensures ring { SameConsumer ring.old ring.new }
+        ensures next { MatchOption result (received ring.new ≡ received ring.old)
+            (λ line. received ring.new ≡ received ring.old ++ line ∷ []) }
+    {
+        if let Ok(line) = ring.pop() {
+            return Some(line);
+        }
+        if self.pays() {
+            let found = look_for(ring);
+            self.note(found.is_some());
+            if let Some(line) = found {
+                return Some(line);
+            }
+        }
+        self.sleep_for(rt, shared, session, ring)
+    }
+}

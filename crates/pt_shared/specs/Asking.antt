@@ -1,0 +1,27 @@
+-- Asking: a call, and its answer if it is there at once, in one stay under the lock.
+use Rattle.std.specs.Prelude.{◌≡◌, List, Option, Some, None}
+use Rattle.pt_types.specs.declared.call.Call.{Call as Asked}
+use Rattle.pt_hub.specs.declared.pass.Receipt.{Receipt}
+use Rattle.pt_hub.specs.declared.pass.Sent.{Sent}
+use Rattle.pt_hub.specs.declared.pass.Answer.{Answer}
+use Rattle.pt_hub.specs.Passes.{PassView}
+use Rattle.pt_hub.specs.Hubs.{HubView, Sends, Takes, answered, takeable}
+
+-- the receipts, of which the last gets the answer that was taken
+abbrev pub asked_receipts : List Receipt → Option Answer → List Receipt
+asked_receipts rs None = rs
+asked_receipts rs (Some a) = answered rs a.outcome
+
+-- a client's call was sent, and then its answer was taken
+pub record SendsAndTakes (old : HubView) (before : PassView) (call : Asked) (new : HubView)
+    (after : PassView) (s : Sent) (a : Answer) : Type 0 where
+  pub between : HubView
+  pub pending : PassView
+  pub sends : Sends old before call between pending s
+  pub takes : Takes between pending new after a
+
+-- a client's call was sent, and its answer was taken if there was one
+abbrev pub Asks : HubView → PassView → Asked → HubView → PassView → Sent → Option Answer → Type 0
+Asks old before call new after s None =
+    Sends old before call new after s × (takeable new after ≡ None)
+Asks old before call new after s (Some a) = SendsAndTakes old before call new after s a

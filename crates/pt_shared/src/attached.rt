@@ -1,0 +1,62 @@
+//! Which session takes whose answers, and which of them sleep.
+
+use crate::shared::Room;
+use pt_hub::SessionId;
+use pt_types::ClientId;
+use std::sync::ledger::Ledger;
+
+/// The session that takes a client's answers.
+#[derive(Clone, Copy, Debug, PartialEq, Eq)]
+pub(crate) struct Attached {
+    client: ClientId,
+    session: SessionId,
+    /// Whether the session sleeps until the client's call is answered.
+    waits: bool,
+}
+
+impl<L: Ledger> Room<L> {
+    ghost use Rattle.std.specs.Prelude.{◌<◌, IfSome, vec_len};
+
+    /// A client's answers are taken by this session. It isn't noted if a growth is refused.
+    pub(crate) fn attach(&mut self, session: SessionId, client: ClientId) {
+        let _ = self.attached.push(Attached {
+            client,
+            session,
+            waits: false,
+        });
+    }
+
+    // Where the session of a client is noted.
+    fn place_of(&self, client: ClientId) -> Option<usize>
+        ensures { IfSome result (λ k. k < vec_len self.now.attached) }
+    {
+        self.attached.iter().position(|it| it.client == client)
+    }
+
+    /// A client takes no more answers.
+    pub(crate) fn detach(&mut self, client: ClientId) {
+        if let Some(k) = self.place_of(client) {
+            let _ = self.attached.swap_remove(k);
+        }
+    }
+
+    /// Notes whether a client's session sleeps until its call is answered.
+    pub(crate) fn note_wait(&mut self, client: ClientId, waits: bool) {
+        if let Some(k) = self.place_of(client) {
+            self.attached[k].waits = waits;
+        }
+    }
+
+    /// Whether a session sleeps until a call is answered, if that was noted.
+    pub(crate) fn is_waiting(&self, session: SessionId) -> bool {
+        self.attached
+            .iter()
+            .any(|it| it.session == session && it.waits)
+    }
+
+    /// The session that takes a client's answers, if it was noted.
+    pub(crate) fn session_of(&self, client: ClientId) -> Option<SessionId> {
+        let found = self.attached.iter().find(|it| it.client == client)?;
+        Some(found.session)
+    }
+}
