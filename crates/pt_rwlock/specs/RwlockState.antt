@@ -1,5 +1,5 @@
 -- RwlockState: a read-write lock with its rows of read locks and its waiting writers.
-use Rattle.std.specs.Prelude.{ℕ, ◌≡◌, ◌<◌, ◌≤◌, length, Bool, true, false, not, ◌&&◌, ◌-◌, ◌==◌, ◌↔◌, nat_lt, IsTrue, List, [], Option, Some, None, is_some, is_none, unwrap_or, if◌then◌else◌, replicate, slice_index, slice_set}
+use Rattle.std.specs.Prelude.{ℕ, ◌≡◌, ◌<◌, ◌≤◌, length, Bool, true, false, not, ◌&&◌, ◌-◌, ◌+◌, ◌==◌, ◌↔◌, nat_lt, IsTrue, List, [], ◌∷◌, Option, Some, None, is_some, is_none, unwrap_or, if◌then◌else◌, replicate, slice_index, slice_set}
 use Rattle.std.specs.List.{list_any}
 use Rattle.std.specs.Ordering.{nat_cmp}
 use Rattle.std.specs.Map.{lookup, set_value, keys_of}
@@ -36,6 +36,11 @@ reads_of r c = unwrap_or (row_of r c) 0
 -- whether anybody has a read lock  [XSH pthread_rwlock_wrlock]
 abbrev pub is_read : RwlockState → Bool
 is_read r = list_any (λ c. nat_lt 0 (reads_of r c)) (keys_of r.rows)
+
+-- how many of these rows have read locks
+abbrev pub readers_in : List (ℕ × ℕ) → ℕ
+readers_in [] = 0
+readers_in (e ∷ es) = (if nat_lt 0 e.1 then 1 else 0) + readers_in es
 
 -- a lock is read exactly if a client has read locks  [XSH pthread_rwlock_wrlock]
 abbrev pub ReadBySomebody : Type 0

@@ -1,7 +1,7 @@
-ghost use Rattle.std.specs.Prelude.{◌≡◌, ◌==◌, ◌<◌, length, ◌+◌, ◌-◌, Bool, IsTrue, IsSome, IsOk, IfErr, IfSome, IfNone, OnOk, OnErr, is_some, nat_lt, false};
-ghost use Rattle.std.specs.List.{list_any};
+ghost use Rattle.std.specs.Prelude.{◌≡◌, ◌==◌, ◌<◌, length, ◌+◌, ◌-◌, Bool, IsTrue, IsSome, IsOk, IfErr, IfSome, IfNone, OnOk, OnErr, Some, is_some, false, if◌then◌else◌, ℕ};
+ghost use Rattle.std.specs.Map.{lookup, set_value};
 ghost use Rattle.std.specs.Ordering.{nat_cmp};
-ghost use Rattle.std.specs.BTreeMap.{values, IsOrdered};
+ghost use Rattle.std.specs.BTreeMap.{is_at};
 ghost use Rattle.pt_types.specs.Limits.{most_priority};
 ghost use Rattle.pt_types.specs.MutexTable.{is_number};
 ghost use Rattle.pt_types.specs.RwlockTable.{read_verdict, write_verdict, rwunlock_verdict, holds, is_free};
@@ -37,20 +37,53 @@ pub struct RwObj<A: Allocator + Copy = Global> {
     writer: Option<ClientId>,
     /// By the number of the client.
     reads: BTreeMap<u64, u8, A>,
+    /// How many clients have read locks.
+    readers: usize,
     /// Priority p is at index p - 1.
     waiting_writers: [u32; MOST_PRIORITY],
 }
 
-// Whether a row has a read lock.
-fn any_reads<A: Allocator + Copy>(rows: &BTreeMap<u64, u8, A>) -> bool
-    ensures any { result ≡ list_any (λ reads. nat_lt 0 reads) (values rows.now) }
-    ensures ordered { IsOrdered nat_cmp rows.now }
+// Adds one to a row, and returns what it was.
+fn add_read<A: Allocator + Copy>(rows: &mut BTreeMap<u64, u8, A>, client: u64) -> u8
+    requires few { IfSome (lookup (is_at (nat_cmp client)) rows.old.entries) (λ reads. reads < 255) }
+    requires there { IsSome (lookup (is_at (nat_cmp client)) rows.old.entries) }
+    ensures before { lookup (is_at (nat_cmp client)) rows.old.entries ≡ Some result }
+    ensures rows { rows.new.entries
+        ≡ set_value (is_at (nat_cmp client)) rows.old.entries (result + 1) }
+    ensures others { (other : ℕ)
+        → lookup (is_at (nat_cmp other)) rows.new.entries
+        ≡ (if client == other
+        then Some (result + 1)
+        else lookup (is_at (nat_cmp other)) rows.old.entries) }
 {
-    rows.values().any(|reads| *reads > 0)
+    let reads = rows.get_mut(&client).unwrap();
+    let before = *reads;
+    *reads = before + 1;
+    before
+}
+
+// Takes one off a row, and returns what it was.
+fn take_read<A: Allocator + Copy>(rows: &mut BTreeMap<u64, u8, A>, client: u64) -> u8
+    requires some { IfSome (lookup (is_at (nat_cmp client)) rows.old.entries) (λ reads. 0 < reads) }
+    requires there { IsSome (lookup (is_at (nat_cmp client)) rows.old.entries) }
+    ensures before { lookup (is_at (nat_cmp client)) rows.old.entries ≡ Some result }
+    ensures rows { rows.new.entries
+        ≡ set_value (is_at (nat_cmp client)) rows.old.entries (result - 1) }
+    ensures others { (other : ℕ)
+        → lookup (is_at (nat_cmp other)) rows.new.entries
+        ≡ (if client == other
+        then Some (result - 1)
+        else lookup (is_at (nat_cmp other)) rows.old.entries) }
+{
+    let reads = rows.get_mut(&client).unwrap();
+    let before = *reads;
+    *reads = before - 1;
+    before
 }
 
 impl<A: Allocator + Copy> Model for RwObj<A> {
-    ghost use Rattle.pt_rwlock.specs.RwlockState.{RwlockState};
+    ghost use Rattle.std.specs.Prelude.{◌≡◌};
+    ghost use Rattle.pt_rwlock.specs.RwlockState.{RwlockState, readers_in};
 
     ghost Value = { RwlockState };
 
@@ -59,6 +92,8 @@ impl<A: Allocator + Copy> Model for RwObj<A> {
       rows = r.reads.entries;
       waiting = r.waiting_writers;
     } };
+
+    ghost invariant = { λ r. readers_in r.reads.entries ≡ r.readers };
 }
 
 impl<A: Allocator + Copy> RwObj<A> {
@@ -71,6 +106,7 @@ impl<A: Allocator + Copy> RwObj<A> {
         RwObj {
             writer: None,
             reads: BTreeMap::new(alloc),
+            readers: 0,
             waiting_writers: [0; MOST_PRIORITY],
         }
     }
@@ -85,11 +121,13 @@ impl<A: Allocator + Copy> RwObj<A> {
         ensures reason { IfErr result (λ refusal. refusal ≡ Refusal.Enomem) }
         ensures err { OnErr result (self.new ≡ self.old) }
     {
-        if !self.has_row(client) {
-            let row = self.reads.insert(client.0, 0);
-            row.map_err(|_| Refusal::Enomem)?;
+        if self.has_row(client) {
+            return Ok(());
         }
-        Ok(())
+        match self.reads.insert(client.0, 0) {
+            Ok(_) => Ok(()),
+            Err(_) => Err(Refusal::Enomem),
+        }
     }
 
     // Whether the client has a row.
@@ -142,7 +180,9 @@ impl<A: Allocator + Copy> RwObj<A> {
     fn is_read(&self) -> bool
         ensures { result ≡ is_read self.now }
     {
-        any_reads(&self.reads)
+        // It is the length that says that the rows are in order.
+        let _rows = self.reads.len();
+        self.readers > 0
     }
 
     /// Whether nobody holds the lock, dead or alive.  [XSH pthread_rwlock_wrlock]
@@ -271,7 +311,11 @@ impl<A: Allocator + Copy> RwObj<A> {
         ensures change { self.new ≡ with_reads self.old client (reads_of self.old client + 1) }
         ensures row { ChangesRow self.old self.new client (Some (reads_of self.old client + 1)) }
     {
-        *self.reads.get_mut(&client.0).unwrap() += 1;
+        // It is the length that says that one reader more can be counted.
+        let _rows = self.reads.len();
+        if add_read(&mut self.reads, client.0) == 0 {
+            self.readers += 1;
+        }
     }
 
     /// The client has the write lock.  [XSH pthread_rwlock_wrlock]
@@ -291,8 +335,8 @@ impl<A: Allocator + Copy> RwObj<A> {
     {
         if self.is_writer(client) {
             self.writer = None;
-        } else {
-            *self.reads.get_mut(&client.0).unwrap() -= 1;
+        } else if take_read(&mut self.reads, client.0) == 1 {
+            self.readers -= 1;
         }
     }
 }
