@@ -1,6 +1,6 @@
 //! The numbers of the rows, and the slot of each row.
 
-ghost use Rattle.std.specs.Prelude.{◌≡◌, ◌<◌, ◌++◌, [], ◌∷◌, None, IsSome, IfNone, OnOk, OnSome, length, nat_eq, slice_get};
+ghost use Rattle.std.specs.Prelude.{◌≡◌, ◌<◌, ◌++◌, [], ◌∷◌, None, IsSome, IfNone, OnOk, OnSome, drop, length, remove, take, vec_len, nat_eq, slice_get};
 ghost use Rattle.std.specs.Map.{lookup};
 ghost use Rattle.pt_table.specs.Slots.{IsListedAt, without_number};
 
@@ -8,6 +8,9 @@ use indexmap::IndexMap;
 use std::alloc::{AllocError, Allocator};
 use std::hash::{BuildHasherDefault, FoldHasher};
 use std::marker::Model;
+
+/// How many entries are moved at once.
+const BLOCK: usize = 256;
 
 /// The numbers in the order in which they were added, each with the slot of its row.
 ///
@@ -57,6 +60,40 @@ fn index_of(entries: &[(u64, usize)], number: u64) -> usize
         Some(entry) if entry.0 == number => near,
         _ => scan(entries, number),
     }
+}
+
+// Takes the first entry to the end.
+fn turn(entries: &mut [(u64, usize)])
+    ensures { entries.new ≡ drop 1 entries.old ++ take 1 entries.old }
+{
+    if !entries.is_empty() {
+        entries.rotate_left(1);
+    }
+}
+
+// Takes the first entry to the end, past one block of entries after the other: a long run is slow
+// to move by one place.
+fn first_to_end(entries: &mut [(u64, usize)])
+    ensures { entries.new ≡ drop 1 entries.old ++ take 1 entries.old }
+{
+    if entries.len() <= BLOCK {
+        turn(entries);
+        return;
+    }
+    let (block, _) = entries.split_at_mut(BLOCK);
+    turn(block);
+    let (_, behind) = entries.split_at_mut(BLOCK - 1);
+    first_to_end(behind);
+}
+
+// Takes the entry at an index out.
+fn take_at<A: Allocator + Copy>(entries: &mut Vec<(u64, usize), A>, index: usize)
+    requires { index < vec_len entries.old }
+    ensures { entries.new.items ≡ remove entries.old.items index }
+{
+    let (_, behind) = entries.as_mut_slice().split_at_mut(index);
+    first_to_end(behind);
+    entries.pop();
 }
 
 impl<A: Allocator + Copy> Numbers<A> {
@@ -124,7 +161,7 @@ impl<A: Allocator + Copy> Numbers<A> {
     {
         let slot = self.get(number)?;
         let index = index_of(self.order.as_slice(), number);
-        self.order.remove(index);
+        take_at(&mut self.order, index);
         let _ = self.slots.swap_remove(&number);
         Some(slot)
     }
