@@ -277,7 +277,8 @@ module _ {A : Type 0} where
 
   -- once it is taken from its owner
   pub freed-chained : (clients : List (ClientRow Caller))
-      (old mid new : List (ObjectRow (Object A))) (m : ℕ) (after : Option ℕ) (x : MutexState) → AreChained clients old (Some m)
+      (old mid new : List (ObjectRow (Object A))) (m : ℕ) (after : Option ℕ) (x : MutexState)
+      → AreChained clients old (Some m)
       → LeavesChain old mid (Some m) after m → KeepsChains mid new
       → WritesObject old new m (Mutex (record x { seen = yielded x.seen }))
       → AreChained clients new after
