@@ -95,7 +95,8 @@ module _ {T : Type 0} where
     where
       go : (b : Bool)
           → option_map (λ (row : ObjectRow T). row.link)
-          (cond b (Some (record { number = n; name = name; value = value; link = out_of_chains })) None)
+          (cond b
+          (Some (record { number = n; name = name; value = value; link = out_of_chains })) None)
           ≡ cond b (Some out_of_chains) None
       go true = refl
       go false = refl
