@@ -15,7 +15,7 @@ const BLOCK: usize = 256;
 /// The numbers in the order in which they were added, each with the slot of its row.
 ///
 /// A number is found by its hash. One that is taken out is also found in the order, by a binary
-/// search where the numbers rise, so that taking it out moves the entries behind it and no more.
+/// search if the numbers rise, so that taking it out moves the entries behind it and no more.
 #[derive(Drop)]
 pub(crate) struct Numbers<A: Allocator + Copy> {
     order: Vec<(u64, usize), A>,
