@@ -1,7 +1,7 @@
 //! The Start with which a history goes on once its entries are dropped, copied from the tables.
 //!
-//! Contracts see the rows of the Start, and that the seal of the history is read off them. That
-//! ENOMEM follows a refused growth is shown by tests alone.
+//! Contracts see the rows of the Start, and that the seal of the history is read off them. No
+//! contract and no test shows that an error comes only if a growth is refused.
 #![tactic(auto)]
 
 mod calls;
