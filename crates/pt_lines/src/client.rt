@@ -1,13 +1,15 @@
-ghost use Rattle.std.specs.Prelude.{◌≡◌};
-ghost use Rattle.pt_lines.specs.ClientNames.{is_client_byte};
+ghost use Rattle.std.specs.Prelude.{◌≡◌, ◌↔◌, IsTrue};
+ghost use Rattle.std.specs.List.{list_all};
+ghost use Rattle.pt_lines.specs.ClientNames.{is_client_byte, IsClientName};
 
 use arrayvec::ArrayVec;
+use std::hash::{Hash, Hasher};
 use std::marker::Model;
 
 /// The name of a client in a script: 1 to 8 ASCII letters or digits.
 ///
 /// Contracts see it as its bytes.
-#[derive(Clone, Debug, PartialEq, Eq, Hash, Drop)]
+#[derive(Clone, Debug, PartialEq, Eq, Drop)]
 pub struct ClientName {
     text: ArrayVec<u8, 8>,
 }
@@ -31,25 +33,36 @@ fn may_stand(byte: u8) -> bool
     matches!(byte, b'a'..=b'z' | b'A'..=b'Z' | b'0'..=b'9')
 }
 
+fn may_all_stand(bytes: &[u8]) -> bool
+    ensures { result ≡ list_all is_client_byte bytes.now }
+{
+    for byte in bytes {
+        if !may_stand(*byte) {
+            return false;
+        }
+    }
+    true
+}
+
+// Whether these bytes are a client's name.
+fn is_name(bytes: &[u8]) -> bool
+    ensures { IsTrue result ↔ IsClientName bytes.now }
+{
+    !bytes.is_empty() && bytes.len() <= 8 && may_all_stand(bytes)
+}
+
 impl ClientName {
-    ghost use Rattle.std.specs.Prelude.{◌↔◌, IsSome, IfSome};
-    ghost use Rattle.pt_lines.specs.ClientNames.{IsClientName};
+    ghost use Rattle.std.specs.Prelude.{IsSome, IfSome};
 
     /// The name of these bytes; None if they are no name.
     pub fn new(bytes: &[u8]) -> Option<ClientName>
         ensures valid { IsSome result ↔ IsClientName bytes.now }
         ensures value { IfSome result (λ name. name ≡ bytes.now) }
     {
-        if bytes.is_empty() || bytes.len() > 8 {
+        if !is_name(bytes) {
             return None;
         }
-        let mut text = ArrayVec::new();
-        for byte in bytes {
-            if !may_stand(*byte) {
-                return None;
-            }
-            text.push(*byte);
-        }
+        let text = ArrayVec::try_from(bytes).unwrap();
         Some(ClientName { text })
     }
 
@@ -65,7 +78,22 @@ impl ClientName {
     pub fn copied(&self) -> ClientName
         ensures { result ≡ self.now }
     {
-        self.clone().unwrap()
+        let text = ArrayVec::try_from(self.as_bytes()).unwrap();
+        ClientName { text }
+    }
+}
+
+// The bytes are hashed at once, and not one after the other.
+impl Hash for ClientName {
+    ghost use Rattle.std.specs.Prelude.{[], ◌∷◌};
+    ghost use Rattle.std.proofs.Common.{rules};
+
+    ghost hash_input = { λ n. n ∷ [] };
+
+    ghost respects_eq = { Prim.search rules };
+
+    fn hash<H: Hasher>(&self, state: &mut H) {
+        state.write(self.as_bytes());
     }
 }
 
