@@ -1,6 +1,6 @@
 -- What nodes and the ends of chains say of the queues.
-use Rattle.std.proofs.Common.{◌≡◌, ◌≢◌, ℕ, ◌==◌, ◌<◌, ◌≤◌, ◌+◌, ◌^◌, Bool, true, false, cond, ◌&&◌, ◌||◌, not, List, [], ◌∷◌, ◌++◌, map, length, filter, Option, Some, None, is_some, unwrap_or, nat_eq, inl, inr, refl, sym, ap, ◌∙◌, subst, arith, eq-eqb}
-use Rattle.std.specs.Prelude.{IfSome, IfNone, IsSome}
+use Rattle.std.proofs.Common.{◌≡◌, ℕ, ◌==◌, ◌+◌, Bool, true, false, cond, ◌||◌, List, [], ◌∷◌, length, filter, Option, Some, None, is_some, unwrap_or, nat_eq, inl, inr, refl, sym, ap, ◌∙◌, subst, arith, eq-eqb}
+use Rattle.std.specs.Prelude.{IfSome, IfNone}
 use Rattle.std.specs.Option.{option_map, option_and_then}
 use Rattle.std.specs.Map.{lookup}
 use Rattle.std.specs.List.{AllByRecursion as Each, list_any}
@@ -10,10 +10,9 @@ use Rattle.pt_waitq.specs.declared.waiter.Waiter.{Waiter}
 use Rattle.pt_waitq.specs.declared.nodes.Node.{Node}
 use Rattle.pt_waitq.specs.declared.sides.Queue.{Queue}
 use Rattle.pt_waitq.specs.Queues.{In}
-use Rattle.pt_waitq.specs.Waits.{is_listed, has_waiter, queue_of, queue_from, AllStand, IsOnce}
-use Rattle.pt_waitq.specs.ListLemmas.{Each-in, any-in, any-out, In-filter, filter-none}
-use Rattle.pt_waitq.specs.Chains.{numbers, first_entry, is_at, side_of, IsChain, chain_of, in_chain, nodes_of, node_in, next_in, before_in, entry_in, home_of, index_of, entry_of, AreHomes, AreChains}
-use Rattle.pt_waitq.proofs.LinkLemmas.{or_parts, eq_true, eq_turned}
+use Rattle.pt_waitq.specs.Waits.{is_listed, has_waiter, queue_of}
+use Rattle.pt_waitq.specs.ListLemmas.{any-in, In-filter}
+use Rattle.pt_waitq.specs.Chains.{numbers, first_entry, side_of, IsChain, in_chain, nodes_of, node_in, next_in, before_in, entry_in, home_of, index_of, entry_of, AreHomes, AreChains}
 use Rattle.pt_waitq.proofs.EndLemmas.{chain-kept}
 
 none_first : (es : List (ℕ × Waiter)) → None ≡ first_entry es → es ≡ []

@@ -1,27 +1,28 @@
 -- The first of a queue and its writers, found by the counts of its chains.
-use Rattle.std.proofs.Common.{◌≡◌, ◌≢◌, ◌⊎◌, ℕ, ◌==◌, nat_lt, nat_le, ◌<◌, ◌≤◌, ◌+◌, ◌-◌, Bool, true, false, cond, ◌&&◌, ◌||◌, not, List, [], ◌∷◌, map, length, filter, Option, Some, None, is_some, slice_index_or, nat_eq, inl, inr, refl, sym, ap, ◌∙◌, subst, arith, eq-eqb}
+use Rattle.std.proofs.Common.{◌≡◌, ◌≢◌, ℕ, ◌==◌, nat_lt, nat_le, ◌<◌, ◌≤◌, ◌+◌, ◌-◌, Bool, true, false, cond, ◌&&◌, ◌||◌, List, [], ◌∷◌, map, length, filter, Option, Some, None, is_some, slice_index_or, nat_eq, inl, inr, refl, sym, ap, ◌∙◌, arith, eq-eqb}
 use Rattle.std.specs.Prelude.{slice_index, IsTrue, ◌↔◌}
 use Rattle.std.specs.Option.{option_map, option_and_then}
 use Rattle.std.specs.Map.{lookup}
 use Rattle.std.specs.List.{AllByRecursion as Each, list_any}
 use Rattle.std.proofs.lemmas.Bool.Decides.{nat_tests}
-use Rattle.std.proofs.lemmas.Bool.{false≢true, and_from, and_parts}
+use Rattle.std.proofs.lemmas.Bool.{false≢true, and_parts}
+use Rattle.std.proofs.lemmas.List.{length-map}
 use Rattle.pt_types.specs.KeyOrder.{rank}
 use Rattle.pt_types.specs.Limits.{most_priority}
 use Rattle.pt_waitq.specs.declared.waiter.Waiter.{Waiter}
 use Rattle.pt_waitq.specs.declared.nodes.Node.{Node}
 use Rattle.pt_waitq.specs.declared.sides.Queue.{Queue}
 use Rattle.pt_waitq.specs.Queues.{In, head_of, first_writer_of, holds_back}
-use Rattle.pt_waitq.specs.Waits.{is_listed, queue_of}
+use Rattle.pt_waitq.specs.Waits.{queue_of}
 use Rattle.pt_waitq.specs.ListLemmas.{Each-in, any-in, any-out, In-filter, filter-none}
 use Rattle.pt_waitq.specs.OrderLemmas.{filter-in-order}
 use Rattle.pt_waitq.specs.QueueLemmas.{any-queue_of, queue_of-in-order}
 use Rattle.pt_waitq.specs.WaitingLemmas.{one_entry}
-use Rattle.pt_waitq.specs.Chains.{numbers, first_entry, first_in, side_of, is_kind, chain_of, in_chain, nodes_of, entry_in, home_of, index_of, AreChains, IsFirst, IsFirstWriter, IsFirstChain, HasWriterFrom}
+use Rattle.pt_waitq.specs.Chains.{numbers, first_entry, first_in, side_of, is_kind, chain_of, in_chain, nodes_of, entry_in, index_of, AreChains, HasNoWaiter, IsFirst, IsFirstWriter, IsFirstChain, HasWriterFrom}
 use Rattle.pt_waitq.proofs.MemberLemmas.{filter-in}
 use Rattle.pt_waitq.proofs.SortedLemmas.{kind-of}
 use Rattle.pt_waitq.proofs.HeadLemmas.{goes_ahead, top-head, queue-head}
-use Rattle.pt_waitq.proofs.ChainLemmas.{some_same, entry-there, not-listed, listed-lookup, unmade-none, queue-none, index-there}
+use Rattle.pt_waitq.proofs.ChainLemmas.{entry-there, listed-lookup, unmade-none, queue-none, index-there}
 
 any-each : {X : Type 0} (p : X → Bool) (xs : List X) → list_any p xs ≡ false
     → Each (λ x. p x ≡ false) xs
@@ -280,6 +281,24 @@ module _ (homes : List (ℕ × ℕ)) (nodes : List (Option Node)) (queues : List
         let r = some-there e i own in
         let le : p ≤ r.0 = grind (arith, nat_tests, both.1, r.2, is) in
         absurd (false≢true (h.1 (r.0, le, r.1, writer-chain e r.0 both.0 r.3)))))
+
+-- no chain of an empty queue has a waiter
+pub no-waiter : (homes : List (ℕ × ℕ)) (nodes : List (Option Node)) (queues : List (ℕ × Queue))
+    (es : List (ℕ × Waiter)) → AreChains homes nodes queues es → (o : ℕ) (q : Queue)
+    → lookup (nat_eq o) queues ≡ Some q → q.len ≡ 0 → HasNoWaiter q
+no-waiter homes nodes queues es a o q there none k p within =
+    (a.chains o q there k p within).count
+    ∙ (length-map chain (λ e. index_of homes e.1.client)
+    ∙ (sym (length-map chain (λ e. e.1))
+    ∙ (ap length (sym (a.sorted o k (p + 1)) ∙ kind-of o k (p + 1) es)
+    ∙ passed (queue_of o es) (sym (a.len o q there) ∙ none))))
+  where
+    chain : List (ℕ × Waiter)
+    chain = chain_of o k (p + 1) es
+
+    passed : (ws : List Waiter) → length ws ≡ 0 → length (filter (is_kind k (p + 1)) ws) ≡ 0
+    passed [] h = refl
+    passed (w ∷ ws) h = absurd (omega (arith, h))
 
 -- the same where the queue may not be there
 module _ (homes : List (ℕ × ℕ)) (nodes : List (Option Node)) (queues : List (ℕ × Queue))

@@ -1,18 +1,16 @@
 -- Queues as they are made and discarded.
-use Rattle.std.proofs.Common.{◌≡◌, ℕ, ◌==◌, ◌<◌, ◌+◌, Bool, true, false, cond, ◌&&◌, not, List, [], ◌∷◌, ◌++◌, length, filter, Option, Some, None, is_some, slice_index_or, nat_eq, inl, inr, refl, sym, ap, ◌∙◌, subst, arith}
-use Rattle.std.specs.Prelude.{slice_index}
+use Rattle.std.proofs.Common.{◌≡◌, ℕ, ◌==◌, ◌<◌, ◌+◌, Bool, true, false, cond, ◌&&◌, not, List, [], ◌∷◌, ◌++◌, length, Option, Some, None, is_some, nat_eq, refl, sym, ap, ◌∙◌, subst, arith}
 use Rattle.std.specs.Map.{lookup}
 use Rattle.std.specs.List.{AllByRecursion as Each}
 use Rattle.std.proofs.lemmas.Bool.Decides.{nat_tests}
-use Rattle.std.proofs.lemmas.Bool.{false≢true}
 use Rattle.pt_types.specs.Limits.{most_priority}
 use Rattle.pt_waitq.specs.declared.waiter.Waiter.{Waiter}
 use Rattle.pt_waitq.specs.declared.nodes.Node.{Node}
 use Rattle.pt_waitq.specs.declared.sides.Queue.{Queue}
 use Rattle.pt_waitq.specs.Waits.{is_listed, queue_of, AllStand}
-use Rattle.pt_waitq.specs.Chains.{numbers, side_of, IsChain, is_kind, chain_of, nodes_of, next_in, before_in, index_of, AreChains, HasNone}
+use Rattle.pt_waitq.specs.Chains.{numbers, side_of, IsChain, chain_of, nodes_of, next_in, before_in, index_of, AreChains, HasNone}
 use Rattle.pt_waitq.proofs.ChangeLemmas.{stand-more, stand-fewer}
-use Rattle.pt_waitq.proofs.ChainLemmas.{some_same, listed-lookup, unmade-none, queue-none}
+use Rattle.pt_waitq.proofs.ChainLemmas.{listed-lookup, unmade-none, queue-none}
 
 none_some : {X : Type 0} (x : X) → None ≡ Some x → ⊥
 none_some x e = cc

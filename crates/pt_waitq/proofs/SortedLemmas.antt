@@ -1,15 +1,12 @@
 -- Chains in the order of arrival, and the queues that they make.
-use Rattle.std.proofs.Common.{◌≡◌, ℕ, ◌==◌, nat_lt, ◌≤◌, Bool, true, false, cond, ◌&&◌, ◌||◌, not, List, [], ◌∷◌, ◌++◌, map, filter, Option, Some, None, inl, inr, refl, sym, ap, ◌∙◌, arith}
+use Rattle.std.proofs.Common.{◌≡◌, ℕ, ◌==◌, Bool, true, false, cond, ◌&&◌, List, [], ◌∷◌, ◌++◌, map, filter, Some, refl, sym, ap, ◌∙◌, arith}
 use Rattle.std.proofs.lemmas.Bool.Decides.{nat_tests}
-use Rattle.std.proofs.lemmas.Bool.{false≢true}
 use Rattle.std.specs.List.{AllByRecursion as Each}
 use Rattle.pt_types.specs.Times.{pair_before}
-use Rattle.pt_types.specs.KeyOrder.{rank}
 use Rattle.pt_waitq.specs.declared.waiter.Waiter.{Waiter}
-use Rattle.pt_waitq.specs.Queues.{In, arrival, comes_before, is_like, IsLatest, insert_in_order, head_of, IsInKeyOrder}
+use Rattle.pt_waitq.specs.Queues.{arrival, comes_before, is_like, IsLatest, insert_in_order, head_of}
 use Rattle.pt_waitq.specs.Waits.{queue_of, queue_from}
-use Rattle.pt_waitq.specs.ListLemmas.{Each-in, Each-filter, Each-weaker}
-use Rattle.pt_waitq.specs.QueueLemmas.{queue_of-more, queue_of-filter, queue_of-in-order}
+use Rattle.pt_waitq.specs.QueueLemmas.{queue_of-more, queue_of-filter}
 use Rattle.pt_waitq.specs.Chains.{is_kind, in_chain, chain_of}
 
 pub insert-last : (w : Waiter) (vs : List Waiter) → Each (λ v. comes_before w v ≡ false) vs

@@ -1,5 +1,5 @@
 -- A waiter put in or taken out: from what the calls below say to what is true of all.
-use Rattle.std.proofs.Common.{◌≡◌, ◌⊎◌, ℕ, ◌==◌, ◌<◌, ◌≤◌, ◌+◌, ◌^◌, Bool, true, false, cond, ◌&&◌, ◌||◌, not, List, [], ◌∷◌, ◌++◌, length, filter, Option, Some, None, is_some, unwrap_or, slice_index_or, nat_eq, inl, inr, refl, sym, ap, ◌∙◌, subst, arith}
+use Rattle.std.proofs.Common.{◌≡◌, ℕ, ◌==◌, ◌<◌, ◌≤◌, ◌+◌, ◌^◌, Bool, true, false, cond, ◌&&◌, ◌||◌, not, List, [], ◌∷◌, ◌++◌, filter, Option, Some, None, is_some, unwrap_or, slice_index_or, nat_eq, refl, sym, ap, ◌∙◌, subst, arith}
 use Rattle.std.specs.Prelude.{slice_index, IfSome, IsSome}
 use Rattle.std.specs.Option.{option_and_then}
 use Rattle.std.specs.Map.{lookup}
@@ -17,7 +17,7 @@ use Rattle.pt_waitq.proofs.ChangeLemmas.{stand-in, stand-out}
 use Rattle.pt_waitq.proofs.LinkLemmas.{eq_true}
 use Rattle.pt_waitq.proofs.ChainLemmas.{chain-member, is-listed, listed-lookup, index-there}
 use Rattle.pt_waitq.proofs.InsertLemmas.{chain-room, queue-room}
-use Rattle.pt_waitq.proofs.PutLemmas.{chains-put, own-kind}
+use Rattle.pt_waitq.proofs.PutLemmas.{chains-put}
 use Rattle.pt_waitq.proofs.TakeLemmas.{chains-taken, count-own, len-own, listed-own}
 
 -- those that stand after one more call

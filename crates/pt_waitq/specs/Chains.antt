@@ -167,6 +167,10 @@ pub record HasNone (q : Queue) : Type 0 where
   pub tails : (k : Bool) (p : ℕ) → p < most_priority
       → slice_index_or (side_of k q).tails p None ≡ None
 
+-- each chain of a queue is empty
+abbrev pub HasNoWaiter : Queue → Type 0
+HasNoWaiter q = (k : Bool) (p : ℕ) → p < most_priority → slice_index (side_of k q).counts p ≡ 0
+
 -- a chain that isn't empty, and no chain of another kind or priority that isn't empty goes ahead
 -- of it  [XSH pthread_rwlock_unlock, 2.8.4]
 pub record IsFirstChain (q : Queue) (k : Bool) (p : ℕ) : Type 0 where
@@ -181,8 +185,7 @@ abbrev pub IsFirst : Queue → Option ℕ → Type 0
 IsFirst q head =
     ((k : Bool) × (p : ℕ) × IsFirstChain q k p
     × (head ≡ slice_index_or (side_of k q).heads p None))
-    ⊎ (((k : Bool) (p : ℕ) → p < most_priority → slice_index (side_of k q).counts p ≡ 0)
-    × (head ≡ None))
+    ⊎ (HasNoWaiter q × (head ≡ None))
 
 -- the head of the first chain of writers, if one isn't empty  [XSH pthread_rwlock_unlock]
 abbrev pub IsFirstWriter : Queue → Option ℕ → Type 0

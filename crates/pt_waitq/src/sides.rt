@@ -5,7 +5,7 @@ ghost use Rattle.std.specs.Map.{lookup};
 ghost use Rattle.std.specs.Option.{option_map};
 ghost use Rattle.pt_types.specs.Limits.{most_priority};
 ghost use Rattle.pt_waitq.specs.declared.sides.Queue.{Queue};
-ghost use Rattle.pt_waitq.specs.Chains.{numbers, side_of, IsPut, IsTaken, HasNone, IsFirst, IsFirstWriter, HasWriterFrom};
+ghost use Rattle.pt_waitq.specs.Chains.{numbers, side_of, IsPut, IsTaken, HasNone, HasNoWaiter, IsFirst, IsFirstWriter, HasWriterFrom};
 
 use crate::nodes::Rows;
 use pt_lanes::{any_from, highest};
@@ -297,8 +297,12 @@ pub(crate) fn discard<A: Allocator + Copy>(queues: &mut Rows<BoxedQueue<A>, A>, 
 
 /// The head of the first chain, by priority and then by kind.
 fn first_in(queue: &Queue) -> Option<usize>
+    requires { queue.now.len ≡ 0 → HasNoWaiter queue.now }
     ensures { IsFirst queue.now result }
 {
+    if queue.len == 0 {
+        return None;
+    }
     let writer = highest(&queue.writers.counts);
     let reader = highest(&queue.readers.counts);
     match (writer, reader) {
@@ -331,6 +335,10 @@ pub(crate) fn first_of<A: Allocator + Copy>(
     queues: &Rows<BoxedQueue<A>, A>,
     object: u64,
 ) -> Option<usize>
+    requires { (queue : Queue)
+        → lookup (nat_eq object) queues.now.entries ≡ Some queue
+        → queue.len ≡ 0
+        → HasNoWaiter queue }
     ensures none { lookup (nat_eq object) queues.now.entries ≡ None → result ≡ None }
     ensures queue { (queue : Queue)
         → lookup (nat_eq object) queues.now.entries ≡ Some queue

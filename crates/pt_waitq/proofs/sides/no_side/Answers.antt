@@ -1,12 +1,6 @@
-use Rattle.std.proofs.Common.{◌≡◌, ℕ, ◌<◌, None, arith}
+use Rattle.std.proofs.Common.{None}
 use Rattle.std.proofs.lemmas.List.{get_or-replicate}
 use Rattle.pt_types.specs.Limits.{most_priority}
-use Rattle.pt_waitq.proofs.ChainLemmas.{chains-agree}
-use Rattle.pt_waitq.proofs.HomeLemmas.{chains-admitted, chains-dismissed}
-use Rattle.pt_waitq.proofs.HeadLemmas.{queue-head}
-use Rattle.pt_waitq.proofs.PutLemmas.{chains-put}
-use Rattle.pt_waitq.proofs.TakeLemmas.{chains-taken}
-use Rattle.pt_waitq.proofs.StepLemmas.{step-put, step-take}
 use Rattle.pt_waitq.proofs.sides.no_side.Goals as goal
 
 pub returns-clause-counts : goal.returns-clause-counts

@@ -1,7 +1,6 @@
-use Rattle.std.proofs.Common.{◌≡◌, ◌<◌, length, inl, inr, ap, ◌∙◌, arith}
-use Rattle.std.specs.Option.{is_some}
+use Rattle.std.proofs.Common.{◌≡◌, ◌<◌, length, ap, ◌∙◌, arith}
 use Rattle.pt_waitq.specs.declared.sides.Side.{Side}
-use Rattle.pt_waitq.proofs.ReadLemmas.{read-less, read-if}
+use Rattle.pt_waitq.proofs.ReadLemmas.{read-less}
 use Rattle.pt_waitq.proofs.sides.take.Goals as goal
 use Rattle.pt_waitq.proofs.sides.take.Goals.{then-is_none, else-is_none, then-is_none-2, else-is_none-2}
 

@@ -1,6 +1,6 @@
-use Rattle.std.proofs.Common.{◌≡◌, ◌+◌, ◌<◌, ◌^◌, ℕ, length, refl, sym, ap, ◌∙◌, subst, arith}
+use Rattle.std.proofs.Common.{◌+◌, ◌<◌, ◌^◌, length, ap, ◌∙◌, arith}
 use Rattle.pt_waitq.specs.Waits.{is_admitted, is_listed, has_waiter}
-use Rattle.pt_waitq.specs.Chains.{numbers, waiting_by, home_of, AreChains}
+use Rattle.pt_waitq.specs.Chains.{numbers, waiting_by, home_of}
 use Rattle.pt_waitq.proofs.ChainLemmas.{not-listed}
 use Rattle.pt_waitq.proofs.LinkLemmas.{or_parts}
 use Rattle.pt_waitq.proofs.HomeLemmas.{chains-joined}

@@ -1,4 +1,4 @@
-use Rattle.std.proofs.Common.{◌≡◌, ℕ, ◌==◌, not, ◌&&◌, List, [], refl, sym, ap, ◌∙◌}
+use Rattle.std.proofs.Common.{◌==◌, not, ◌&&◌, refl, ap, ◌∙◌}
 use Rattle.pt_waitq.specs.Waits.{queue_of, is_made, is_listed}
 use Rattle.pt_waitq.specs.Chains.{numbers, waiting_by}
 use Rattle.pt_waitq.proofs.ChangeLemmas.{queue-change, read-as}

@@ -1,4 +1,4 @@
-use Rattle.std.proofs.Common.{◌≡◌, ℕ, ◌==◌, not, ◌&&◌, ◌||◌, refl, sym, ap, ◌∙◌}
+use Rattle.std.proofs.Common.{◌==◌, not, ◌&&◌, ◌||◌, ap, ◌∙◌}
 use Rattle.pt_waitq.specs.Waits.{is_admitted, is_listed, has_waiter}
 use Rattle.pt_waitq.specs.Chains.{waiting_by, numbers}
 use Rattle.pt_waitq.proofs.ChangeLemmas.{none-stands}

@@ -1,14 +1,15 @@
-use Rattle.std.proofs.Common.{◌≡◌, ℕ, Option, Some, None, nat_eq, refl, sym, ap, ◌∙◌}
-use Rattle.std.specs.Option.{option_map, option_and_then}
-use Rattle.std.specs.Map.{lookup}
-use Rattle.pt_waitq.specs.declared.waiter.Waiter.{Waiter}
-use Rattle.pt_waitq.specs.declared.sides.Queue.{Queue}
+use Rattle.std.proofs.Common.{refl, ap, ◌∙◌}
 use Rattle.pt_waitq.specs.Queues.{head_of}
 use Rattle.pt_waitq.specs.Waits.{queue_of}
-use Rattle.pt_waitq.specs.Chains.{waiting_by, entry_in}
+use Rattle.pt_waitq.specs.Chains.{waiting_by}
 use Rattle.pt_waitq.proofs.ChangeLemmas.{read-as}
-use Rattle.pt_waitq.proofs.FirstLemmas.{first-told}
+use Rattle.pt_waitq.proofs.FirstLemmas.{first-told, no-waiter}
 use Rattle.pt_waitq.proofs.chains.ChainsWaitList.first.Goals as goal
+
+pub first_of-requires : goal.first_of-requires
+first_of-requires g c =
+    no-waiter c.self.inside.homes.entries c.self.inside.nodes.slots c.self.inside.queues.entries
+    (waiting_by c.self.inside.log.items) c.self.invariant c.object.inside.0
 
 pub returns : goal.returns
 returns g c =

@@ -1,4 +1,4 @@
-use Rattle.std.proofs.Common.{◌≡◌, ℕ, refl, sym, ap, ◌∙◌}
+use Rattle.std.proofs.Common.{refl, ap, ◌∙◌}
 use Rattle.pt_waitq.specs.Queues.{first_writer_of}
 use Rattle.pt_waitq.specs.Waits.{queue_of}
 use Rattle.pt_waitq.specs.Chains.{waiting_by}

@@ -1,9 +1,8 @@
-use Rattle.std.proofs.Common.{◌≡◌, ◌+◌, ◌-◌, ◌<◌, ◌||◌, ℕ, ◌==◌, cond, Some, refl, sym, ap, ◌∙◌, subst, arith}
+use Rattle.std.proofs.Common.{◌≡◌, ◌+◌, ◌-◌, ◌<◌, ◌||◌, ◌==◌, cond, Some, refl, sym, ap, ◌∙◌, subst, arith}
 use Rattle.std.specs.Prelude.{IsSome}
 use Rattle.pt_types.specs.Limits.{most_priority}
-use Rattle.pt_waitq.specs.declared.waiter.Waiter.{Waiter}
 use Rattle.pt_waitq.specs.Queues.{IsLatest, insert_in_order}
-use Rattle.pt_waitq.specs.Waits.{queue_of, queue_in, is_listed, is_admitted, is_made, has_waiter, AllStand}
+use Rattle.pt_waitq.specs.Waits.{queue_of, is_listed, is_admitted, is_made, has_waiter, AllStand}
 use Rattle.pt_waitq.specs.QueueLemmas.{queue_of-more}
 use Rattle.pt_waitq.specs.Chains.{numbers, waiting_by, home_of, AreChains}
 use Rattle.pt_waitq.proofs.ChangeLemmas.{none-stands, idle-if, queue-change, read-as}

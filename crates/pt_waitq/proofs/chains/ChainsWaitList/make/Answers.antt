@@ -1,4 +1,4 @@
-use Rattle.std.proofs.Common.{◌≡◌, ℕ, refl, sym, ap, ◌∙◌}
+use Rattle.std.proofs.Common.{refl, ap, ◌∙◌}
 use Rattle.pt_waitq.specs.Waits.{is_made}
 use Rattle.pt_waitq.specs.Chains.{waiting_by}
 use Rattle.pt_waitq.proofs.ChangeLemmas.{queue-change}
