@@ -27,8 +27,8 @@ pub mod QueueReads
 pub mod QueueCounts
 -- QueueFirsts: the first of a queue is the first of the calls that wait there
 pub mod QueueFirsts
--- QueueClears: A queue whose first is taken out until none is left
-pub mod QueueClears
+-- BarrierArrivals: the waiters of a barrier's queue are those of the calls that wait at it
+pub mod BarrierArrivals
 -- Bindings: a condition's mutex is that of the first wait of its queue
 pub mod Bindings
 -- Queues after each entry:

@@ -43,15 +43,12 @@ module _ {A : Type 0} (old new : State A) (o : Open) (queue queue' : ℕ → Lis
       admitted admitted' made made' read.follows open_call gone room there k)
 
   -- a full barrier tripped
-  pub queued-tripped : Adds old (service (past old) (called o)) new
+  pub queued-tripped : Adds old (Trip o.call.object) new
       → is_arrival (called o).role ≡ true
       → ((q : ℕ) → queue' q ≡ cond (o.call.object == q) [] (queue q))
       → IsQueued (past new) (queues_of queue' admitted' made')
   queued-tripped a arrival gone =
-      queued-adds old new (Trip o.call.object) queue' admitted' made'
-      (subst (λ e. Adds old e new)
-      (ap (λ b. cond b (Trip o.call.object)
-      (Grant o.call.place (grant_outcome (past old) (called o)))) arrival) a)
+      queued-adds old new (Trip o.call.object) queue' admitted' made' a
       (queued-trip (past old) (called o) queue queue' admitted admitted' made made' read.follows
       open_call arrival gone room there k)
 

@@ -165,7 +165,7 @@ members-clear {X} at waiter calls b queue queue' f k =
         no false e p = cc
 
 -- who stands at a barrier has arrived at it
-arrived : (h : History) (role : Role) (o : Option Move) (object b : ℕ)
+pub arrived : (h : History) (role : Role) (o : Option Move) (object b : ℕ)
     → HousedBy h role o object → exists_as h BarrierClass b ≡ true
     → (object_by role o object == b) ≡ (is_arrival role && (object == b))
 arrived h role o object b housed_at barrier = go role refl
@@ -196,6 +196,21 @@ arrived h role o object b housed_at barrier = go role refl
     go ForWrite e = rw e (at_other ForWrite e (λ s. cc))
     go (ForCond m) e = rw e (at_other (ForCond m) e (of_wait m o))
 
+-- a call that arrived waits at a barrier
+pub barrier-of : (h : History) → Follows h → (u : WaitingCall) → In u (open_calls h)
+    → is_arrival u.role ≡ true → exists_as h BarrierClass u.object ≡ true
+barrier-of h f u i arrival = barrier u.role refl arrival
+  where
+    barrier : (r : Role) → u.role ≡ r → is_arrival u.role ≡ true
+        → exists_as h BarrierClass u.object ≡ true
+    barrier ForBarrier e t =
+        (subst (λ (x : Role). HousedBy h x (moved h u.place) u.object) e (housed h f u i)).0
+    barrier ForMutex e t = let no : is_arrival ForMutex ≡ true = ap is_arrival (sym e) ∙ t in cc
+    barrier ForRead e t = let no : is_arrival ForRead ≡ true = ap is_arrival (sym e) ∙ t in cc
+    barrier ForWrite e t = let no : is_arrival ForWrite ≡ true = ap is_arrival (sym e) ∙ t in cc
+    barrier (ForCond m) e t =
+        let no : is_arrival (ForCond m) ≡ true = ap is_arrival (sym e) ∙ t in cc
+
 -- the calls at a full barrier go
 pub queued-trip : (h : History) (u : WaitingCall) (queue queue' : ℕ → List Waiter)
     (admitted admitted' made made' : ℕ → Bool) → Follows h → In u (open_calls h)
@@ -214,15 +229,5 @@ queued-trip h u queue queue' admitted admitted' made made' f i arrival gone room
     (Each-from_in (λ (w : WaitingCall). not (stands_at_barrier u.object w)
     ≡ not (at_object h w == u.object)) (open_calls h)
     (λ w j. ap not (sym (arrived h w.role (moved h w.place) w.object u.object (housed h f w j)
-    (barrier u.role refl arrival)))))))
+    (barrier-of h f u i arrival)))))))
     (members-clear (at_object h) (waiter h) (open_calls h) u.object queue queue' gone k.members))
-  where
-    barrier : (r : Role) → u.role ≡ r → is_arrival u.role ≡ true
-        → exists_as h BarrierClass u.object ≡ true
-    barrier ForBarrier e t =
-        (subst (λ (x : Role). HousedBy h x (moved h u.place) u.object) e (housed h f u i)).0
-    barrier ForMutex e t = let no : is_arrival ForMutex ≡ true = ap is_arrival (sym e) ∙ t in cc
-    barrier ForRead e t = let no : is_arrival ForRead ≡ true = ap is_arrival (sym e) ∙ t in cc
-    barrier ForWrite e t = let no : is_arrival ForWrite ≡ true = ap is_arrival (sym e) ∙ t in cc
-    barrier (ForCond m) e t =
-        let no : is_arrival (ForCond m) ≡ true = ap is_arrival (sym e) ∙ t in cc

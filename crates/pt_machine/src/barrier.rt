@@ -15,7 +15,6 @@ ghost use Rattle.pt_model.specs.Answers.{at_barrier, open_calls};
 ghost use Rattle.pt_state.specs.Reads.{AreTables};
 
 use crate::body::Body;
-use crate::queues::clear;
 use pt_records::Open;
 use pt_state::State;
 use pt_types::ObjectId;
@@ -35,8 +34,7 @@ pub(crate) fn push_tripped<Q: WaitList, A: Allocator + Copy>(
     ensures adds { Adds state.old (service (past state.old) (called found.now)) state.new }
     ensures queued { IsQueued (past state.new) (Q.seen queues.new) }
 {
-    state.push_served(found);
-    clear(queues, ObjectId(found.call.object));
+    state.push_trip(ObjectId(found.call.object), queues);
 }
 
 impl<Q: WaitList, A: Allocator + Copy> Body<Q, A> {

@@ -37,7 +37,7 @@ fn push_granted<Q: WaitList, A: Allocator + Copy>(
     ensures adds { Adds state.old (service (past state.old) (called found.now)) state.new }
     ensures queued { IsQueued (past state.new) (Q.seen queues.new) }
 {
-    state.push_served(found);
+    state.push_granted(found);
     queues.remove(ClientId(found.call.client));
 }
 

@@ -1,6 +1,6 @@
 //! The queues of waiting calls: who takes a place, and who leaves it.
 
-ghost use Rattle.std.specs.Prelude.{Some, [], ℕ, ◌==◌, ◌≡◌, if◌then◌else◌};
+ghost use Rattle.std.specs.Prelude.{Some, ℕ, ◌==◌, ◌≡◌, if◌then◌else◌};
 ghost use Rattle.pt_machine.specs.Queued.{CanStand, waiter, waiter_by};
 ghost use Rattle.pt_model.specs.Searches.{In};
 ghost use Rattle.pt_model.specs.declared.waiting_call.WaitingCall.{WaitingCall};
@@ -61,18 +61,6 @@ pub(crate) fn take_place<Q: WaitList, A: Allocator + Copy>(
         if let Some(prio) = state.priority(c) {
             queues.insert(at_object(&open), waiter_of(&open, prio));
         }
-    }
-}
-
-/// All calls leave a queue.  [XSH pthread_barrier_wait]
-pub(crate) fn clear<Q: WaitList>(queues: &mut Q, object: ObjectId)
-    ensures queues { (q : ℕ)
-        → (Q.seen queues.new).queue q ≡ (if object == q then [] else (Q.seen queues.old).queue q) }
-    ensures admitted { (c : ℕ) → (Q.seen queues.new).admitted c ≡ (Q.seen queues.old).admitted c }
-    ensures made { (o : ℕ) → (Q.seen queues.new).made o ≡ (Q.seen queues.old).made o }
-{
-    while let Some(first) = queues.first(object) {
-        queues.remove(first.client);
     }
 }
 

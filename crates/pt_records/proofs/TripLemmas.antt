@@ -2,13 +2,15 @@
 use Rattle.std.proofs.Common.{◌≡◌, ℕ, zero, suc, ◌<◌, ◌≤◌, Bool, true, false, cond, ◌==◌, List, [], ◌∷◌, ◌++◌, Option, Some, None, map, length, drop, take, ◌-◌, length-drop, refl, sym, ap, ◌∙◌, subst, arith, inl, inr}
 use Rattle.std.specs.Prelude.{option_map, slice_index_or, slice_set}
 use Rattle.pt_types.specs.declared.outcome.Outcome.{Outcome}
-use Rattle.pt_types.specs.declared.outcome.Outcome.TheVariants.{Serial}
+use Rattle.pt_types.specs.declared.outcome.Outcome.TheVariants.{Done, Serial}
 use Rattle.std.specs.Option.{option_and_then, option_or}
 use Rattle.std.specs.List.Sorted.{IsPermutation, IsNonDecreasingBy}
 use Rattle.std.proofs.lemmas.List.{length-map}
 use Rattle.std.proofs.lemmas.Bool.{cases_eq, eq-eqb, ne_eqb, false≢true}
 use Rattle.pt_table.specs.declared.clients.ClientRow.{ClientRow}
 use Rattle.pt_table.specs.ClientRows.{client_value, with_client}
+use Rattle.pt_waitq.specs.declared.waiter.Waiter.{Waiter}
+use Rattle.pt_waitq.specs.Queues.{of_client}
 use Rattle.pt_model.specs.Searches.{In}
 use Rattle.pt_model.specs.Histories.{History, place}
 use Rattle.pt_model.specs.Records.{Told}
@@ -22,11 +24,11 @@ use Rattle.pt_model.proofs.OneEach.{one_each}
 use Rattle.pt_records.specs.declared.answers.Answered.{Answered}
 use Rattle.pt_records.specs.declared.clients.Caller.{Caller}
 use Rattle.pt_records.specs.declared.clients.Open.{Open}
-use Rattle.pt_records.specs.Arrivals.{ClosesBy, arrivals_in, arrives_at, closed_by, closed_by_all, passed_at, with_serial}
+use Rattle.pt_records.specs.Arrivals.{AreArrivals, ClosesBy, WaitsAs, closed_by, closed_by_all, passed_at, passed_to, with_serial}
 use Rattle.pt_records.specs.Callers.{AreCallers, Once, call_in, call_of, closed}
 use Rattle.pt_records.specs.Logs.{last_to, logged, outcome_in_log, said_by, told_at}
 use Rattle.pt_records.specs.Writes.{ChangesCaller, RewritesCallers, arrived_at, closed_at}
-use Rattle.pt_records.proofs.ArrivalLemmas.{arrival-open, arrivals-ascend, arrivals-lone, one-place, open-arrival}
+use Rattle.pt_records.proofs.ArrivalLemmas.{arrivals-ascend, arrivals-lone, arrives_at, one-place}
 use Rattle.pt_records.proofs.CallerWrites.{changes-some}
 use Rattle.pt_records.proofs.LogLemmas.{last_to-append}
 use Rattle.pt_records.proofs.OpenRows.{call_of-in, call_of-open}
@@ -36,25 +38,44 @@ passed-climbs : (k n : ℕ) (ws : List WaitingCall) → Ascends n ws → Climbs 
 passed-climbs k n [] a = tt
 passed-climbs k n (w ∷ ws) a = (a.0, passed-climbs k (suc w.place) ws a.1)
 
-passed-in : (k : ℕ) (ws : List WaitingCall) (w : WaitingCall) → In w ws
-    → In (passed_at k w) (map (passed_at k) ws)
-passed-in k [] w i = absurd i
-passed-in k (v ∷ vs) w (inl e) = inl (ap (passed_at k) e)
-passed-in k (v ∷ vs) w (inr i) = inr (passed-in k vs w i)
+module _ {X : Type 0} (f : X → Answered) where
+  map-in : (xs : List X) (x : X) → In x xs → In (f x) (map f xs)
+  map-in [] x i = absurd i
+  map-in (y ∷ ys) x (inl e) = inl (ap f e)
+  map-in (y ∷ ys) x (inr i) = inr (map-in ys x i)
 
-in-passed : (k : ℕ) (ws : List WaitingCall) (a : Answered) → In a (map (passed_at k) ws)
-    → (w : WaitingCall) × (In w ws × (a ≡ passed_at k w))
-in-passed k [] a i = absurd i
-in-passed k (v ∷ vs) a (inl e) = (v, (inl refl, e))
-in-passed k (v ∷ vs) a (inr i) =
-    let found = in-passed k vs a i in (found.0, (inr found.1.0, found.1.1))
+  in-map : (xs : List X) (a : Answered) → In a (map f xs) → (x : X) × (In x xs × (a ≡ f x))
+  in-map [] a i = absurd i
+  in-map (y ∷ ys) a (inl e) = (y, (inl refl, e))
+  in-map (y ∷ ys) a (inr i) =
+      let found = in-map ys a i in (found.0, (inr found.1.0, found.1.1))
 
-passed-kept : (k : ℕ) (vs ws : List WaitingCall) → ((w : WaitingCall) → In w vs → In w ws)
-    → (a : Answered) → In a (map (passed_at k) vs) → In a (map (passed_at k) ws)
-passed-kept k vs ws f a i =
-    let found = in-passed k vs a i in
-    subst (λ x. In x (map (passed_at k) ws)) (sym found.1.1)
-    (passed-in k ws found.0 (f found.0 found.1.0))
+-- a call has the answer of its waiter
+passed-same : (k : ℕ) (w : WaitingCall) (v : Waiter) → WaitsAs w v → passed_to k v ≡ passed_at k w
+passed-same k w v e = ap (to v.place) e.0 ∙ ap (λ n. to n w.client) e.1
+  where
+    to : ℕ → ℕ → Answered
+    to n c = record { at = k; client = c; place = n; outcome = Done }
+
+module _ (h : History) (b k : ℕ) (vs : List Waiter) (a : AreArrivals h b vs) where
+  -- the waiters at the barrier have the answers of the calls there, and the other way round
+  waiter-passed : (x : Answered) → In x (map (passed_to k) vs)
+      → In x (map (passed_at k) (at_barrier b (open_calls h)))
+  waiter-passed x i =
+      let found = in-map (passed_to k) vs x i in
+      let call = a.known found.0 found.1.0 in
+      subst (λ y. In y (map (passed_at k) (at_barrier b (open_calls h))))
+      (sym (found.1.1 ∙ passed-same k call.0 found.0 call.1.1))
+      (map-in (passed_at k) (at_barrier b (open_calls h)) call.0 call.1.0)
+
+  passed-waiter : (x : Answered) → In x (map (passed_at k) (at_barrier b (open_calls h)))
+      → In x (map (passed_to k) vs)
+  passed-waiter x i =
+      let found = in-map (passed_at k) (at_barrier b (open_calls h)) x i in
+      let own = a.held found.0 found.1.0 in
+      subst (λ y. In y (map (passed_to k) vs))
+      (sym (found.1.1 ∙ sym (passed-same k found.0 own.0 own.1.1)))
+      (map-in (passed_to k) vs own.0 own.1.0)
 
 -- in order of places, and with the last one serial, these are a Trip's answers
 serial-told : (k : ℕ) (ws : List WaitingCall)
@@ -73,11 +94,11 @@ serial-set (a ∷ b ∷ ts) zero d e = absurd (omega (arith, e))
 serial-set (a ∷ b ∷ ts) (suc n) d e =
     ap (λ xs. a ∷ xs) (serial-set (b ∷ ts) n d (omega (arith, e)))
 
-pub trip-told : (h : History) (rows : List (ClientRow Caller)) (b k : ℕ) (ys : List Answered)
-    → Follows h → AreCallers h rows → IsPermutation (map (passed_at k) (arrivals_in rows b)) ys
-    → IsNonDecreasingBy place_of ys
+pub trip-told : (h : History) (b k : ℕ) (vs : List Waiter) (ys : List Answered)
+    → AreArrivals h b vs → ((c : ℕ) → length (of_client c vs) ≤ 1)
+    → IsPermutation (map (passed_to k) vs) ys → IsNonDecreasingBy place_of ys
     → map logged (with_serial ys) ≡ told_at k (told_by_trip (at_barrier b (open_calls h)))
-trip-told h rows b k ys f a p r =
+trip-told h b k vs ys a once p r =
     ap (λ ts. map logged (with_serial ts)) same ∙ serial-told k ws
   where
     ws : List WaitingCall
@@ -85,23 +106,23 @@ trip-told h rows b k ys f a p r =
 
     same : ys ≡ map (passed_at k) ws
     same =
-        sorted-same (map (passed_at k) (arrivals_in rows b)) ys (map (passed_at k) ws) p r
-        (λ n. arrivals-lone h rows b k n a) (passed-climbs k 0 ws (arrivals-ascend h b))
-        (passed-kept k (arrivals_in rows b) ws (arrival-open h rows b a))
-        (passed-kept k ws (arrivals_in rows b) (open-arrival h rows b f a))
+        sorted-same (map (passed_to k) vs) ys (map (passed_at k) ws) p r
+        (λ n. arrivals-lone h b k n vs once a.known)
+        (passed-climbs k 0 ws (arrivals-ascend h b)) (waiter-passed h b k vs a)
+        (passed-waiter h b k vs a)
 
 -- the new answers, and the room for them
-pub arrivals-room : (h : History) (rows : List (ClientRow Caller)) (b k : ℕ) → AreCallers h rows
-    → length (arrivals_in rows b) ≤ length (at_barrier b (open_calls h))
-arrivals-room h rows b k a =
+pub arrivals-room : (h : History) (b k : ℕ) (vs : List Waiter) → AreArrivals h b vs
+    → ((c : ℕ) → length (of_client c vs) ≤ 1)
+    → length vs ≤ length (at_barrier b (open_calls h))
+arrivals-room h b k vs a once =
     let ws = at_barrier b (open_calls h) in
     omega (
       arith,
-      length-map (arrivals_in rows b) (passed_at k),
+      length-map vs (passed_to k),
       length-map ws (passed_at k),
-      lone-length (map (passed_at k) (arrivals_in rows b)) (map (passed_at k) ws)
-          (λ n. arrivals-lone h rows b k n a)
-          (passed-kept k (arrivals_in rows b) ws (arrival-open h rows b a)),
+      lone-length (map (passed_to k) vs) (map (passed_at k) ws)
+          (λ n. arrivals-lone h b k n vs once a.known) (waiter-passed h b k vs a),
     )
 
 pub drop_front : (xs ys : List Answered) → drop (length xs) (xs ++ ys) ≡ ys

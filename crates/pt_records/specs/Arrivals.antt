@@ -1,31 +1,44 @@
--- Arrivals: the calls that wait at a barrier, as the rows have them, and what a Trip answers them.
-use Rattle.std.specs.Prelude.{ℕ, ◌≡◌, ◌==◌, Bool, ◌&&◌, List, [], ◌∷◌, Some, length, map, option_map, if◌then◌else◌}
-use Rattle.std.specs.List.{filter}
+-- Arrivals: the calls that wait at a barrier, as its queue has them, and what a Trip answers them.
+use Rattle.std.specs.Prelude.{ℕ, ◌≡◌, ◌==◌, List, [], ◌∷◌, Some, length, option_map, if◌then◌else◌}
 use Rattle.pt_table.specs.declared.clients.ClientRow.{ClientRow}
 use Rattle.pt_table.specs.ClientRows.{client_value}
 use Rattle.pt_types.specs.declared.outcome.Outcome.TheVariants.{Done, Serial}
+use Rattle.pt_waitq.specs.declared.waiter.Waiter.{Waiter}
+use Rattle.pt_waitq.specs.Queues.{QueuesView}
+use Rattle.pt_model.specs.Searches.{In}
+use Rattle.pt_model.specs.Histories.{History}
 use Rattle.pt_model.specs.declared.waiting_call.WaitingCall.{WaitingCall}
-use Rattle.pt_model.specs.WaitingCall.{is_arrival}
+use Rattle.pt_model.specs.Answers.{at_barrier, open_calls}
 use Rattle.pt_records.specs.declared.answers.Answered.{Answered}
 use Rattle.pt_records.specs.declared.clients.Caller.{Caller}
-use Rattle.pt_records.specs.Callers.{Once, closed, opens_of}
-
--- the open calls in all rows
-abbrev pub calls_of : List (ClientRow Caller) → List WaitingCall
-calls_of rows = map (λ o. o.call) (opens_of rows)
-
--- whether a call waits at the barrier  [XSH pthread_barrier_wait]
-abbrev pub arrives_at : ℕ → WaitingCall → Bool
-arrives_at b w = is_arrival w.role && (w.object == b)
-
--- the calls in the rows that wait at the barrier, in order of the rows
-abbrev pub arrivals_in : List (ClientRow Caller) → ℕ → List WaitingCall
-arrivals_in rows b = filter (arrives_at b) (calls_of rows)
+use Rattle.pt_records.specs.Callers.{Once, closed}
 
 -- a call's answer by the entry at place k, if another call follows it
 -- [XSH pthread_barrier_wait]
 abbrev pub passed_at : ℕ → WaitingCall → Answered
 passed_at k w = record { at = k; client = w.client; place = w.place; outcome = Done }
+
+-- the answer to a waiter's call by the entry at place k, if another call follows it
+-- [XSH pthread_barrier_wait]
+abbrev pub passed_to : ℕ → Waiter → Answered
+passed_to k v = record { at = k; client = v.client; place = v.place; outcome = Done }
+
+-- the call waits as this waiter
+abbrev pub WaitsAs : WaitingCall → Waiter → Type 0
+WaitsAs w v = (v.client ≡ w.client) × (v.place ≡ w.place)
+
+-- the waiters are those of the calls that wait at the barrier  [XSH pthread_barrier_wait]
+pub record AreArrivals (h : History) (b : ℕ) (vs : List Waiter) : Type 0 where
+  pub known : (v : Waiter) → In v vs
+      → (w : WaitingCall) × (In w (at_barrier b (open_calls h)) × WaitsAs w v)
+  pub held : (w : WaitingCall) → In w (at_barrier b (open_calls h))
+      → (v : Waiter) × (In v vs × WaitsAs w v)
+
+-- the barrier's queue is empty, and nothing else has changed  [XSH pthread_barrier_wait]
+pub record Empties (b : ℕ) (old new : QueuesView) : Type 0 where
+  pub queues : (q : ℕ) → new.queue q ≡ if b == q then [] else old.queue q
+  pub admitted : (c : ℕ) → new.admitted c ≡ old.admitted c
+  pub made : (o : ℕ) → new.made o ≡ old.made o
 
 -- these answers, where the last one is serial
 abbrev pub with_serial : List Answered → List Answered

@@ -1,13 +1,11 @@
 //! Barriers: the calls that a Trip lets go, and their answers.
 
-ghost use Rattle.std.specs.Prelude.{◌++◌, ◌+◌, ◌≡◌, ◌≤◌, length, map, option_map, vec_capacity, vec_len};
+ghost use Rattle.std.specs.Prelude.{◌++◌, ◌+◌, ◌≡◌, ◌≤◌, length, map, vec_capacity, vec_len};
 ghost use Rattle.std.specs.List.Sorted.{IsNonDecreasingBy, IsPermutation};
-ghost use Rattle.pt_records.specs.Callers.{AreCallers, open_in};
+ghost use Rattle.pt_records.specs.Callers.{AreCallers};
 ghost use Rattle.pt_records.specs.Writes.{ChangesCaller, RewritesCallers, closed_at};
 ghost use Rattle.pt_model.specs.Histories.{place};
-ghost use Rattle.pt_model.specs.Found.{keep};
-ghost use Rattle.pt_records.specs.Arrivals.{ClosesBy, arrivals_in, arrives_at, closed_by, passed_at, with_serial};
-ghost use Rattle.pt_table.specs.ClientRows.{nth_value};
+ghost use Rattle.pt_records.specs.Arrivals.{AreArrivals, ClosesBy, Empties, closed_by, passed_to, with_serial};
 ghost use Rattle.pt_records.specs.Logs.{logged, told_at};
 ghost use Rattle.pt_model.specs.declared.entry.Entry.{Entry as AnyEntry};
 ghost use Rattle.pt_model.specs.Answers.{at_barrier, open_calls, told};
@@ -15,66 +13,42 @@ ghost use Rattle.pt_model.specs.Steps.{Follows};
 ghost use Rattle.pt_history.specs.Stored.{past_of};
 
 use crate::answers::Answered;
-use crate::clients::{Caller, Open};
+use crate::clients::Caller;
 use pt_history::History;
-use pt_model::waiting_call::{WaitingCall, is_arrival};
 use pt_table::Clients;
-use pt_types::{ClientId, ObjectId, Outcome};
+use pt_types::{ObjectId, Outcome};
+use pt_waitq::{WaitList, Waiter};
 use std::alloc::Allocator;
 
-// The open call, if it waits at the barrier.
-fn arrival(open: Option<Open>, b: ObjectId) -> Option<WaitingCall>
-    ensures { result ≡ keep (arrives_at b) (option_map (λ o. o.call) «open») }
-{
-    match open {
-        Some(open) if is_arrival(open.call.role) && open.call.object == b.0 => Some(open.call),
-        _ => None,
-    }
-}
-
-// The open call in the row at an index, if it waits at the barrier.
-fn arrival_nth<A: Allocator + Copy>(
-    clients: &Clients<Caller, A>,
-    index: usize,
-    b: ObjectId,
-) -> Option<WaitingCall>
-    ensures { result
-        ≡ keep (arrives_at b) (option_map (λ o. o.call) (open_in (nth_value clients.now index))) }
-{
-    match clients.nth(index) {
-        Some((_, caller)) => arrival(caller.open, b),
-        None => None,
-    }
-}
-
 // What a call at a barrier is answered, if another one follows it.  [XSH pthread_barrier_wait]
-fn passed(at: u64, call: &WaitingCall) -> Answered
-    ensures { result ≡ passed_at at call.now }
+fn passed(at: u64, waiter: &Waiter) -> Answered
+    ensures { result ≡ passed_to at waiter.now }
 {
     Answered {
         at,
-        client: ClientId(call.client),
-        place: call.place,
+        client: waiter.client,
+        place: waiter.place,
         outcome: Outcome::Done,
     }
 }
 
-// Adds an answer to each call that waits at the barrier, in order of the rows.
-fn tell_in_rows<A: Allocator + Copy>(
-    clients: &Clients<Caller, A>,
+// Adds an answer to each waiter of a queue, in order of the queue, and all of them leave it.
+fn tell_queue<Q: WaitList, A: Allocator + Copy>(
+    queues: &mut Q,
     answers: &mut Vec<Answered, A>,
     at: u64,
     b: ObjectId,
 )
-    requires { vec_len answers.old + length (arrivals_in clients.now b) ≤ vec_capacity answers.old }
+    requires { vec_len answers.old + length ((Q.seen queues.old).queue b)
+        ≤ vec_capacity answers.old }
     ensures told { answers.new.items
-        ≡ answers.old.items ++ map (passed_at at) (arrivals_in clients.now b) }
+        ≡ answers.old.items ++ map (passed_to at) ((Q.seen queues.old).queue b) }
     ensures capacity { vec_capacity answers.new ≡ vec_capacity answers.old }
+    ensures emptied { Empties b (Q.seen queues.old) (Q.seen queues.new) }
 {
-    for i in 0..clients.len() {
-        if let Some(call) = arrival_nth(clients, i, b) {
-            answers.push_reserved(passed(at, &call));
-        }
+    while let Some(first) = queues.first(b) {
+        queues.remove(first.client);
+        answers.push_reserved(passed(at, &first));
     }
 }
 
@@ -113,39 +87,43 @@ fn close_all<A: Allocator + Copy>(clients: &mut Clients<Caller, A>, answers: &[A
     }
 }
 
-/// Adds what the barrier's Trip after this history answers, in room that was made for it.
-fn tell_trip<A: Allocator + Copy>(
+// Adds what the barrier's Trip after this history answers, in room that was made for it. The calls
+// leave the barrier's queue.
+fn tell_trip<Q: WaitList, A: Allocator + Copy>(
     history: &History<A>,
-    clients: &Clients<Caller, A>,
+    queues: &mut Q,
     answers: &mut Vec<Answered, A>,
     b: ObjectId,
 )
     requires follows { Follows (past_of history.now) }
-    requires callers { AreCallers (past_of history.now) clients.now }
+    requires arrived { AreArrivals (past_of history.now) b ((Q.seen queues.old).queue b) }
     requires room { vec_len answers.old + length (at_barrier b (open_calls (past_of history.now)))
         ≤ vec_capacity answers.old }
     ensures told { let past = past_of history.now in
         map logged answers.new.items
         ≡ map logged answers.old.items ++ told_at (place past) (told past (AnyEntry.Trip b)) }
     ensures capacity { vec_capacity answers.new ≡ vec_capacity answers.old }
+    ensures emptied { Empties b (Q.seen queues.old) (Q.seen queues.new) }
 {
     let from = answers.len();
-    tell_in_rows(clients, answers, history.len(), b);
+    tell_queue(queues, answers, history.len(), b);
     let (_, new) = answers.as_mut_slice().split_at_mut(from);
     sort_by_place(new);
     make_last_serial(new);
 }
 
 /// Adds what the barrier's Trip after this history answers, in room that was made for it. The calls
-/// are open no more, and each has its answer.
-pub fn trip<A: Allocator + Copy>(
+/// are open no more, each has its answer, and they leave the barrier's queue.
+pub fn trip<Q: WaitList, A: Allocator + Copy>(
     history: &History<A>,
     clients: &mut Clients<Caller, A>,
+    queues: &mut Q,
     answers: &mut Vec<Answered, A>,
     b: ObjectId,
 )
     requires follows { Follows (past_of history.now) }
     requires callers { AreCallers (past_of history.now) clients.old }
+    requires arrived { AreArrivals (past_of history.now) b ((Q.seen queues.old).queue b) }
     requires room { vec_len answers.old + length (at_barrier b (open_calls (past_of history.now)))
         ≤ vec_capacity answers.old }
     ensures told { let past = past_of history.now in
@@ -154,8 +132,9 @@ pub fn trip<A: Allocator + Copy>(
     ensures capacity { vec_capacity answers.new ≡ vec_capacity answers.old }
     ensures closed { RewritesCallers clients.old clients.new
         (closed_at b (map logged answers.new.items)) }
+    ensures emptied { Empties b (Q.seen queues.old) (Q.seen queues.new) }
 {
     let from = answers.len();
-    tell_trip(history, clients, answers, b);
+    tell_trip(history, queues, answers, b);
     close_all(clients, &answers[from..]);
 }

@@ -2,7 +2,8 @@
 
 ghost use Rattle.std.specs.Prelude.{None, ◌≡◌};
 ghost use Rattle.pt_model.specs.declared.entry.Entry.TheVariants as entry;
-ghost use Rattle.pt_state.specs.Adds.{Adds, IsReadyFor};
+ghost use Rattle.pt_state.specs.Adds.{Adds, IsReadyFor, past};
+ghost use Rattle.pt_records.specs.Arrivals.{AreArrivals, Empties};
 ghost use Rattle.pt_types.specs.Operations.{Arrives, operation};
 
 use crate::state::State;
@@ -11,15 +12,25 @@ use pt_model::waiting_call::Role;
 use pt_records::barrier::trip;
 use pt_types::operations::{ObjectClass, clock_of};
 use pt_types::{Call, ClientId, Name, ObjectId};
+use pt_waitq::WaitList;
 use std::alloc::Allocator;
 
 impl<A: Allocator + Copy> State<A> {
-    /// A full barrier lets the calls that wait at it go on.  [XSH pthread_barrier_wait]
-    pub fn push_trip(&mut self, b: ObjectId)
-        requires { IsReadyFor self.old (entry.Trip b) }
-        ensures { Adds self.old (entry.Trip b) self.new }
+    /// A full barrier lets the calls that wait at it go on, and they leave its queue.
+    /// [XSH pthread_barrier_wait]
+    pub fn push_trip<Q: WaitList>(&mut self, b: ObjectId, queues: &mut Q)
+        requires ready { IsReadyFor self.old (entry.Trip b) }
+        requires arrived { AreArrivals (past self.old) b ((Q.seen queues.old).queue b) }
+        ensures adds { Adds self.old (entry.Trip b) self.new }
+        ensures emptied { Empties b (Q.seen queues.old) (Q.seen queues.new) }
     {
-        trip(&self.stored, &mut self.clients, &mut self.answers, b);
+        trip(
+            &self.stored,
+            &mut self.clients,
+            queues,
+            &mut self.answers,
+            b,
+        );
         self.stored.push(Entry::Trip(b));
     }
 

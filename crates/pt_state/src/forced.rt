@@ -1,6 +1,6 @@
 //! Forced entries: grants, what they answer, and the calls that they serve.
 
-ghost use Rattle.std.specs.Prelude.{◌<◌, ◌≡◌};
+ghost use Rattle.std.specs.Prelude.{◌<◌, ◌≡◌, false};
 ghost use Rattle.pt_model.specs.declared.entry.Entry.TheVariants as entry;
 ghost use Rattle.pt_model.specs.Searches.{In};
 ghost use Rattle.pt_state.specs.Adds.{Adds, IsReadyFor, past};
@@ -8,7 +8,8 @@ ghost use Rattle.pt_records.specs.Callers.{opens_of};
 ghost use Rattle.pt_state.specs.Forcing.{IsGranted};
 ghost use Rattle.pt_model.specs.declared.waiting_call.Role.TheVariants.{ForRead, ForWrite};
 ghost use Rattle.pt_model.specs.Forced.{service};
-ghost use Rattle.pt_state.specs.Serving.{IsFor, called, entry_of};
+ghost use Rattle.pt_model.specs.WaitingCall.{is_arrival};
+ghost use Rattle.pt_state.specs.Serving.{called};
 ghost use Rattle.pt_state.specs.Granting.{outcome_by_role as outcome_by_role_in};
 ghost use Rattle.pt_model.specs.Grants.{grant_outcome as grant_outcome_in};
 ghost use Rattle.pt_state.specs.Reads.{AreTables};
@@ -58,34 +59,20 @@ impl<A: Allocator + Copy> State<A> {
         self.stored.push(Entry::Grant(found.call.place, outcome));
     }
 
-    /// A call is served: a full barrier trips, another call is granted.
-    /// [XSH pthread_barrier_wait, pthread_mutex_unlock, pthread_rwlock_unlock]
-    pub fn push_served(&mut self, found: &Open)
+    /// A call that waits at no barrier gets what it is for.
+    /// [XSH pthread_mutex_unlock, pthread_rwlock_unlock]
+    pub fn push_granted(&mut self, found: &Open)
         requires ready { IsReadyFor self.old (service (past self.old) (called found.now)) }
         requires known { In found.now (opens_of self.old.clients) }
+        requires other { is_arrival (called found.now).role ≡ false }
         ensures { Adds self.old (service (past self.old) (called found.now)) self.new }
     {
-        let o = ObjectId(found.call.object);
         match found.call.role {
-            Role::ForMutex => self.push_grant_mutex(found, o),
+            Role::ForMutex => self.push_grant_mutex(found, ObjectId(found.call.object)),
             Role::ForCond(m) => self.push_grant_mutex(found, ObjectId(m)),
             Role::ForRead => self.push_grant_read(found),
             Role::ForWrite => self.push_grant_write(found),
-            Role::ForBarrier => self.push_trip(o),
-        }
-    }
-
-    /// What must follow is pushed.
-    /// [XSH pthread_mutex_unlock, pthread_mutex_lock EOWNERDEAD, pthread_mutex_timedlock]
-    pub fn push_forced(&mut self, forced: &Forced)
-        requires ready { IsReadyFor self.old (entry_of (past self.old) forced.now) }
-        requires known { IsFor (opens_of self.old.clients) forced.now }
-        ensures { Adds self.old (entry_of (past self.old) forced.now) self.new }
-    {
-        match forced {
-            Forced::Serve(found) => self.push_served(found),
-            Forced::Yield(m) => self.push_yield(*m),
-            Forced::Expire(found) => self.push_expire(found),
+            Role::ForBarrier => unreachable!(),
         }
     }
 

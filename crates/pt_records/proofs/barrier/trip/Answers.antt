@@ -18,6 +18,7 @@ returns g c =
     record {
       told = c.tell_trip.ensures.told;
       capacity = c.tell_trip.ensures.capacity;
+      emptied = c.tell_trip.ensures.emptied;
       closed = closes-rewrites h rows c.args.b c.requires.follows c.requires.callers
           (map logged old) c.close_all.new.clients (drop c.len-from.result new) (map logged new)
           tail c.tell_trip.ensures.told

@@ -1,0 +1,100 @@
+-- A queue whose first is taken out until none is left.
+use Rattle.std.proofs.Common.{◌≡◌, ℕ, ◌<◌, ◌≤◌, length, ◌==◌, Bool, true, false, cond, not, ◌||◌, filter, List, [], ◌∷◌, ◌++◌, map, Some, None, refl, sym, ap, ◌∙◌, subst, append_assoc, arith, eq-eqb}
+use Rattle.std.specs.List.{list_any}
+use Rattle.std.proofs.lemmas.Bool.{false≢true}
+use Rattle.std.proofs.lemmas.Bool.Decides.{nat_tests}
+use Rattle.pt_waitq.specs.declared.waiter.Waiter.{Waiter}
+use Rattle.pt_waitq.specs.Queues.{head_of, of_client, stands_in, without}
+use Rattle.pt_waitq.specs.ListLemmas.{filter-rest}
+use Rattle.pt_waitq.proofs.CallerLemmas.{head-stands}
+
+-- a queue is no longer without a client's waiters
+without-length : (c : ℕ) (ws : List Waiter) → length (without c ws) ≤ length ws
+without-length c [] = omega arith
+without-length c (w ∷ ws) = go (not (w.client == c)) (without-length c ws)
+  where
+    go : (b : Bool) → length (without c ws) ≤ length ws
+        → length (cond b (w ∷ without c ws) (without c ws)) ≤ length (w ∷ ws)
+    go true ih = omega (arith, ih)
+    go false ih = omega (arith, ih)
+
+-- a queue is shorter without its first
+pub first-out : (ws : List Waiter) (w : Waiter) → head_of ws ≡ Some w
+    → length (without w.client ws) < length ws
+first-out [] w e = absurd cc
+first-out (v ∷ vs) w e =
+    let same : v ≡ w = cc in
+    let own : v.client ≡ w.client = ap (λ (x : Waiter). x.client) same in
+    rw (eq-eqb v.client w.client own) (omega (arith, without-length w.client vs))
+
+-- the first of one queue stands in no other
+pub others-stay :
+    (queue : ℕ → List Waiter)
+    → ((c q r : ℕ) → stands_in c (queue q) ≡ true → stands_in c (queue r) ≡ true → q ≡ r)
+    → (object : ℕ) (w : Waiter) → head_of (queue object) ≡ Some w
+    → (q : ℕ) → (object == q) ≡ false → without w.client (queue q) ≡ queue q
+others-stay queue one object w e q ne =
+    filter-rest (λ (v : Waiter). v.client == w.client) (queue q)
+    (none (stands_in w.client (queue q)) refl)
+  where
+    none : (b : Bool) → stands_in w.client (queue q) ≡ b → stands_in w.client (queue q) ≡ false
+    none false k = k
+    none true k =
+        let same : object ≡ q =
+        one w.client object q (head-stands (queue object) w e) k in
+        absurd (false≢true (sym ne ∙ eq-eqb object q same))
+
+none-any : (p : Waiter → Bool) (ws : List Waiter) → length (filter p ws) ≤ 0
+    → list_any p ws ≡ false
+none-any p [] le = refl
+none-any p (w ∷ ws) le = go (p w) le (none-any p ws)
+  where
+    go : (b : Bool) → length (cond b (w ∷ filter p ws) (filter p ws)) ≤ 0
+        → (length (filter p ws) ≤ 0 → list_any p ws ≡ false) → (b || list_any p ws) ≡ false
+    go true few ih = absurd (omega (arith, few))
+    go false few ih = ih few
+
+-- a queue in which its first's client has one waiter is the first, and all without that client
+pub first-split : (ws : List Waiter) (w : Waiter) → head_of ws ≡ Some w
+    → length (of_client w.client ws) ≤ 1 → ws ≡ w ∷ without w.client ws
+first-split [] w e le = absurd cc
+first-split (v ∷ vs) w e le =
+    let same : v ≡ w = cc in
+    let own : (v.client == w.client) ≡ true =
+    eq-eqb v.client w.client (ap (λ (x : Waiter). x.client) same) in
+    go (v.client == w.client) own same le
+  where
+    go : (b : Bool) → b ≡ true → v ≡ w
+        → length (cond b (v ∷ of_client w.client vs) (of_client w.client vs)) ≤ 1
+        → v ∷ vs ≡ w ∷ cond (not b) (v ∷ without w.client vs) (without w.client vs)
+    go false t same few = absurd (false≢true t)
+    go true t same few =
+        let none = none-any (λ (x : Waiter). x.client == w.client) vs (omega (arith, few)) in
+        ap (λ x. x ∷ vs) same
+        ∙ ap (λ xs. w ∷ xs)
+        (sym (filter-rest (λ (x : Waiter). x.client == w.client) vs none))
+
+-- a queue without a first is empty
+pub emptied : (ws : List Waiter) → head_of ws ≡ None → ws ≡ []
+emptied [] e = refl
+emptied (w ∷ ws) e = absurd cc
+
+-- the queue's first was answered, and has left it
+pub told-first : {X : Type 0} (f : Waiter → X) (now then : List X) (ws left : List Waiter)
+    (w : Waiter) → then ≡ now ++ f w ∷ [] → ws ≡ w ∷ left
+    → then ++ map f left ≡ now ++ map f ws
+told-first f now then ws left w is split =
+    ap (λ ts. ts ++ map f left) is
+    ∙ (append_assoc now (f w ∷ []) (map f left)
+    ∙ ap (λ vs. now ++ map f vs) (sym split))
+
+-- the queue that was emptied is empty, and the others are as they were
+pub emptied-one : (b q : ℕ) (queue old : ℕ → List Waiter) → queue b ≡ []
+    → ((r : ℕ) → (b == r) ≡ false → queue r ≡ old r) → queue q ≡ cond (b == q) [] (old q)
+emptied-one b q queue old none others = go (b == q) refl
+  where
+    go : (t : Bool) → (b == q) ≡ t → queue q ≡ cond t [] (old q)
+    go false ne = others q ne
+    go true e =
+        let same : b ≡ q = grind (arith, nat_tests) in
+        subst (λ (r : ℕ). queue r ≡ []) same none
