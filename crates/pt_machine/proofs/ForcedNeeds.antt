@@ -18,7 +18,7 @@ use Rattle.pt_model.specs.Mutexes.{owner}
 use Rattle.pt_model.specs.Grants.{grant_outcome}
 use Rattle.pt_model.specs.Forced.{is_dead_if, is_orphan}
 use Rattle.pt_model.specs.Room.{is_robust_owned, need, reserved_for}
-use Rattle.pt_model.specs.Steps.{Step, calls, expires, Follows}
+use Rattle.pt_model.specs.Steps.{Step, expires, Follows}
 use Rattle.pt_machine.specs.Reserved.{gives_owner}
 use Rattle.pt_model.proofs.Apart.{Apart, mutex-exists, open_apart, total-one}
 use Rattle.pt_model.proofs.Counting.{count_below-same, total}

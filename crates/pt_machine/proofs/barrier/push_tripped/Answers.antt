@@ -1,5 +1,4 @@
 use Rattle.std.proofs.Common.{subst, sym}
-use Rattle.pt_model.specs.declared.entry.Entry.TheVariants.{Trip}
 use Rattle.pt_state.specs.Adds.{Adds, IsReadyFor, past}
 use Rattle.pt_machine.proofs.BarrierArrivals.{are-arrivals, service-trip}
 use Rattle.pt_machine.proofs.QueuedForced.{queued-tripped}

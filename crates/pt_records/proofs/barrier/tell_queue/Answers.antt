@@ -1,5 +1,4 @@
-use Rattle.std.proofs.Common.{ℕ, ◌≡◌, ◌==◌, ◌<◌, ◌∷◌, ◌++◌, [], Bool, true, false, cond, length, map, vec_len, vec_capacity, append_assoc, append-nil, ap, sym, ◌∙◌, subst, arith}
-use Rattle.pt_waitq.specs.Queues.{of_client}
+use Rattle.std.proofs.Common.{ℕ, ◌<◌, ◌∷◌, ◌++◌, [], length, map, append-nil, ap, sym, ◌∙◌, subst, arith}
 use Rattle.pt_records.specs.Arrivals.{passed_to}
 use Rattle.pt_records.proofs.QueueClears.{emptied, emptied-one, first-out, first-split, others-stay, told-first}
 use Rattle.pt_records.proofs.barrier.tell_queue.Goals as goal

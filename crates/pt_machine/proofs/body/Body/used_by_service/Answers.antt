@@ -1,5 +1,4 @@
-use Rattle.std.proofs.Common.{true, false, sym, ◌∙◌, arith}
-use Rattle.pt_model.specs.WaitingCall.{is_arrival}
+use Rattle.std.proofs.Common.{sym, ◌∙◌, arith}
 use Rattle.pt_state.specs.Adds.{past}
 use Rattle.pt_state.specs.Serving.{called}
 use Rattle.pt_state.proofs.ForceCallers.{known-open}
