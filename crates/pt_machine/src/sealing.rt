@@ -15,8 +15,8 @@ use pt_waitq::WaitList;
 use std::alloc::Allocator;
 
 impl<Q: WaitList, A: Allocator + Copy> Body<Q, A> {
-    /// Drops the entries and the answers, if nothing must follow: the history goes on from its seal,
-    /// with the place that comes next. ENOMEM if a growth is refused: then nothing changes.
+    /// Drops the entries and the answers, if nothing must follow: the history goes on from its
+    /// seal, with the place that comes next. ENOMEM if a growth is refused: then nothing changes.
     pub fn seal(&mut self) -> Result<(), Refusal>
         requires read { AreTables self.old }
         requires settled { forced (past self.old) ≡ None }
