@@ -90,6 +90,8 @@ pub mod TimerDrops
 -- Seals:
 -- SealedQueues: the queues and the deadlines are those of the seal too, where nothing must follow
 pub mod SealedQueues
+-- SealedBodies: what is touched and what is reserved after a seal
+pub mod SealedBodies
 -- Room:
 -- ForcedNeeds: what must still be written after an entry that must follow: exactly
 pub mod ForcedNeeds

@@ -15,4 +15,4 @@ mod SealedStart
 -- OuterPlaces: there are no more outer entries than places
 mod OuterPlaces
 -- SealedTables: the tables of a state whose entries are dropped
-mod SealedTables
+pub mod SealedTables

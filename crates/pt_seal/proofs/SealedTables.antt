@@ -8,6 +8,7 @@ use Rattle.pt_state.specs.declared.state.State.{State}
 use Rattle.pt_state.specs.Adds.{past}
 use Rattle.pt_state.specs.Reads.{AreTables, Reads}
 use Rattle.pt_state.proofs.SealLemmas.{reads-seal}
+use Rattle.pt_seal.specs.Sealed.{Seals}
 
 -- a stored history without entries is its Start
 begins-there : (s : Stored) → s.entries ≡ [] → past_of s ≡ Begin (reads_of s.start)
@@ -34,3 +35,7 @@ module _ {A : Type 0} where
       new.answers.items) (sym clocks)
       (subst (λ told. Reads (Begin (seal (past old))) old.clients old.objects old.orphans
       old.clocks told) (sym answers) was)))))
+
+  -- the history begins with the seal
+  pub past-sealed : (old new : State A) → Seals old new → past new ≡ Begin (seal (past old))
+  past-sealed old new s = begins-there new.stored s.entries ∙ ap Begin s.starts

@@ -1,0 +1,27 @@
+-- What is touched and what is reserved after a seal, where nothing must follow.
+use Rattle.std.proofs.Common.{◌≡◌, ℕ, None, sym, ◌∙◌}
+use Rattle.pt_model.specs.Histories.{History, Begin}
+use Rattle.pt_model.specs.Forced.{forced}
+use Rattle.pt_model.specs.Seals.{seal}
+use Rattle.pt_model.specs.SealLaws.{GoesAlike}
+use Rattle.pt_model.specs.Steps.{Follows}
+use Rattle.pt_model.proofs.Agreeing.{seal_agrees}
+use Rattle.pt_model.proofs.GoesAlike.{agrees_on}
+use Rattle.pt_model.proofs.Induction.{start-seal}
+use Rattle.pt_touched.proofs.Candidates.{begins_untouched}
+use Rattle.pt_machine.specs.LastTouched.{IsTouched}
+use Rattle.pt_machine.specs.Reserved.{IsReserved}
+
+module _ (h : History) (f : Follows h) (quiet : forced h ≡ None) where
+  alike : GoesAlike h (Begin (seal h))
+  alike = agrees_on h (Begin (seal h)) f (start-seal h f) (seal_agrees h f)
+
+  -- nothing is touched
+  pub touched-seal : IsTouched (Begin (seal h)) None None
+  touched-seal =
+      let law = begins_untouched (seal h) (start-seal h f) (sym alike.forces ∙ quiet) in
+      record { touches = sym law.0; enters = sym law.1 }
+
+  -- as much is reserved
+  pub reserved-seal : (reserved : ℕ) → IsReserved h reserved → IsReserved (Begin (seal h)) reserved
+  reserved-seal reserved r = record { needs = r.needs ∙ alike.needs }

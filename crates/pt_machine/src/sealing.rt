@@ -1,0 +1,35 @@
+//! A body whose entries are dropped.
+
+ghost use Rattle.std.specs.Prelude.{IfErr, None, OnErr, OnOk, ◌≡◌, ◌≤◌};
+ghost use Rattle.pt_types.specs.Limits.{most_places};
+ghost use Rattle.pt_model.specs.Forced.{forced};
+ghost use Rattle.pt_model.specs.Histories.{place};
+ghost use Rattle.pt_state.specs.Adds.{past};
+ghost use Rattle.pt_state.specs.Reads.{AreTables};
+ghost use Rattle.pt_seal.specs.Sealed.{Seals};
+
+use crate::body::Body;
+use pt_seal::seal;
+use pt_types::Refusal;
+use pt_waitq::WaitList;
+use std::alloc::Allocator;
+
+impl<Q: WaitList, A: Allocator + Copy> Body<Q, A> {
+    /// Drops the entries and the answers, if nothing must follow: the history goes on from its
+    /// seal, with the place that comes next. ENOMEM if a growth is refused: then nothing changes.
+    pub fn seal(&mut self) -> Result<(), Refusal>
+        requires read { AreTables self.old }
+        requires settled { forced (past self.old) ≡ None }
+        requires places { place (past self.old) ≤ most_places }
+        ensures ok { OnOk result (Seals self.old self.new) }
+        ensures err { OnErr result (self.new ≡ self.old) }
+        ensures reason { IfErr result (λ refusal. refusal ≡ Refusal.Enomem) }
+    {
+        if let Err(_) = seal(&mut self.state) {
+            return Err(Refusal::Enomem);
+        }
+        self.touched = None;
+        self.entering = None;
+        Ok(())
+    }
+}
