@@ -45,7 +45,8 @@ pub struct RwObj<A: Allocator + Copy = Global> {
 
 // Adds one to a row, and returns what it was.
 fn add_read<A: Allocator + Copy>(rows: &mut BTreeMap<u64, u8, A>, client: u64) -> u8
-    requires few { IfSome (lookup (is_at (nat_cmp client)) rows.old.entries) (λ reads. reads < 255) }
+    requires few { IfSome (lookup (is_at (nat_cmp client)) rows.old.entries)
+        (λ reads. reads < 255) }
     requires there { IsSome (lookup (is_at (nat_cmp client)) rows.old.entries) }
     ensures before { lookup (is_at (nat_cmp client)) rows.old.entries ≡ Some result }
     ensures rows { rows.new.entries

@@ -15,7 +15,7 @@ use std::thread;
 use std::thread::Threads;
 use std::time::Clock;
 
-// Serves one connection, and keeps what its session leaves, if that is asked for. The end of the
+// Serves one connection, and stores what its session leaves, if that is asked for. The end of the
 // session, or its refusal, closes the connection.
 fn converse<L: Ledger + Send + Sync, R: Threads + Wait + Sync>(
     rt: &R,
@@ -23,14 +23,14 @@ fn converse<L: Ledger + Send + Sync, R: Threads + Wait + Sync>(
     stream: UnixStream,
     shared: &Shared<L>,
     mode: ClockMode,
-    kept: Option<&Mutex<Remains<L>>>,
+    store: Option<&Mutex<Remains<L>>>,
 ) {
     let reader = Counted::new(&stream);
     let writer = Counted::new(&stream);
     let Ok(end) = session(rt, alloc, reader, writer, shared, &OpenGate, mode) else {
         return;
     };
-    if let Some(remains) = kept {
+    if let Some(remains) = store {
         remains.lock(rt).add(Remain {
             left: end.left,
             clock: end.clock,
@@ -50,7 +50,7 @@ fn accept<L: Ledger + Send + Sync, R: Threads + Wait + Sync>(
     sessions: u64,
 ) -> Result<(), HostFault> {
     // What is left is needed for the close alone.
-    let kept = if sessions > 0 { Some(remains) } else { None };
+    let store = if sessions > 0 { Some(remains) } else { None };
     thread::scope(
         thread::scope_env(),
         rt,
@@ -60,7 +60,7 @@ fn accept<L: Ledger + Send + Sync, R: Threads + Wait + Sync>(
                 let Ok(stream) = stream else {
                     return Err(HostFault::Accept);
                 };
-                let thread = scope.spawn(move || converse(rt, alloc, stream, shared, mode, kept));
+                let thread = scope.spawn(move || converse(rt, alloc, stream, shared, mode, store));
                 if thread.is_err() {
                     return Err(HostFault::Thread);
                 }

@@ -12,6 +12,7 @@ returns-in-Death-clause-value g c =
     let s = c.args.self.now in
     add-one c.reserved_of.result
     ∙ (ap suc (c.reserved_of.ensures.value
-    ∙ (ap (λ t. counted reserved_open (open_in (client_value t.clients c.in-Death.c))) c.self.view_is
+    ∙ (ap (λ t. counted reserved_open (open_in (client_value t.clients c.in-Death.c)))
+    c.self.view_is
     ∙ reserved-client (past s) s.clients c.requires.follows c.requires.callers c.in-Death.c))
     ∙ ap (used_by (past s)) (sym c.in-Death.is))
