@@ -1,0 +1,96 @@
+-- A core whose entries were dropped.
+use Rattle.std.proofs.Common.{◌≡◌, ◌≤◌, ◌<◌, ℕ, Bool, true, false, cond, nat_le, List, [], None, length, refl, sym, ap, ◌∙◌, subst, arith, vec_len}
+use Rattle.std.proofs.lemmas.Bool.Decides.{nat_tests}
+use Rattle.pt_types.specs.declared.outcome.Refusal.TheVariants.{Enomem, Full}
+use Rattle.pt_history.specs.Stored.{Stored}
+use Rattle.pt_model.specs.Histories.{place}
+use Rattle.pt_types.specs.Limits.{most_places}
+use Rattle.pt_history.specs.Stored.{past_of}
+use Rattle.pt_model.specs.declared.entry.Entry.{Entry}
+use Rattle.pt_model.specs.Histories.{Begin}
+use Rattle.pt_model.specs.Forced.{forced}
+use Rattle.pt_model.specs.Legal.{LegalBehind, events_of}
+use Rattle.pt_model.specs.Room.{need}
+use Rattle.pt_model.specs.Seals.{seal}
+use Rattle.pt_model.specs.SealLaws.{GoesAlike}
+use Rattle.pt_model.specs.StartRows.{reads_of}
+use Rattle.pt_model.specs.Starts.{Start}
+use Rattle.pt_model.specs.Steps.{IsStart, Follows}
+use Rattle.pt_model.proofs.Agreeing.{seal_agrees}
+use Rattle.pt_model.proofs.GoesAlike.{agrees_on}
+use Rattle.pt_model.proofs.Induction.{start-seal}
+use Rattle.pt_model.proofs.Legality.{behind-settled}
+use Rattle.pt_state.specs.declared.state.State.{State}
+use Rattle.pt_state.specs.Adds.{past}
+use Rattle.pt_seal.specs.Sealed.{Seals}
+use Rattle.pt_seal.proofs.SealedTables.{past-sealed}
+use Rattle.pt_core.specs.Cores.{Kept, kept}
+use Rattle.pt_core.specs.Sealing.{sealed, seal_refusal}
+use Rattle.pt_core.specs.Wholes.{IsWhole}
+
+le-false : (a b : ℕ) → b < a → nat_le a b ≡ false
+le-false a b l = grind (arith, nat_tests)
+
+le-true : (a b : ℕ) → a ≤ b → nat_le a b ≡ true
+le-true a b l = grind (arith, nat_tests)
+
+-- no numbers are left for places
+pub refused-full : (s : Stored) → most_places < place (past_of s) → Full ≡ seal_refusal (kept s)
+refused-full s l = ap (λ b. cond b Enomem Full) (sym (le-false (place (past_of s)) most_places l))
+
+-- there are, and memory lacks
+pub refused-memory : (s : Stored) → place (past_of s) ≤ most_places
+    → Enomem ≡ seal_refusal (kept s)
+refused-memory s l = ap (λ b. cond b Enomem Full) (sym (le-true (place (past_of s)) most_places l))
+
+module _ {A : Type 0} (old : State A) (whole : IsWhole old) where
+  -- nothing must follow what is stored
+  pub settled : forced (past old) ≡ None
+  settled =
+      behind-settled (reads_of old.stored.start) old.stored.entries (events_of old.stored.entries)
+      whole.kept.starts whole.kept.legal
+
+  module _ (new : State A) (s : Seals old new) where
+    follows : Follows (past old)
+    follows = whole.read.follows
+
+    alike : GoesAlike (past old) (Begin (seal (past old)))
+    alike = agrees_on (past old) (Begin (seal (past old))) follows (start-seal (past old) follows)
+        (seal_agrees (past old) follows)
+
+    -- as much is needed as before
+    needed : need (past new) ≡ need (past old)
+    needed = ap need (past-sealed old new s) ∙ sym alike.needs
+
+    starts : IsStart (reads_of new.stored.start)
+    starts = subst IsStart (sym s.starts) (start-seal (past old) follows)
+
+    legal : LegalBehind (reads_of new.stored.start) new.stored.entries
+        (events_of new.stored.entries)
+    legal =
+        subst (λ es. LegalBehind (reads_of new.stored.start) es (events_of es)) (sym s.entries)
+        (subst (λ (st : Start). LegalBehind st [] []) (sym s.starts)
+        (sym alike.forces ∙ settled, refl))
+
+    pub whole-sealed : IsWhole new
+    whole-sealed =
+        record {
+          kept = record {
+            starts = starts;
+            legal = legal;
+            room = omega (arith, needed, whole.kept.room, s.room);
+            fits = omega (arith, ap length s.entries, whole.kept.fits, s.room, s.limit);
+            limit = omega (arith, whole.kept.limit, s.limit);
+          };
+          read = s.read;
+          spare = omega (arith, needed, s.answers, s.held, whole.spare);
+        }
+
+    pub kept-sealed : kept new.stored ≡ sealed (kept old.stored)
+    kept-sealed =
+        ap (λ (st : Start). record (kept new.stored) { start = st }) s.starts
+        ∙ (ap (λ es. with_entries es new.stored.limit) s.entries
+        ∙ ap (λ limit. with_entries [] limit) s.limit)
+      where
+        with_entries : List Entry → ℕ → Kept
+        with_entries es limit = record { start = seal (past old); entries = es; limit = limit }

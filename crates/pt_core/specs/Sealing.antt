@@ -1,0 +1,22 @@
+-- Sealing: a core whose entries are dropped, and when it can't be.
+use Rattle.std.specs.Prelude.{ℕ, ◌≡◌, ◌≤◌, [], nat_le, if◌then◌else◌}
+use Rattle.pt_types.specs.Limits.{most_places}
+use Rattle.pt_types.specs.declared.outcome.Refusal.{Refusal}
+use Rattle.pt_types.specs.declared.outcome.Refusal.TheVariants.{Enomem, Full}
+use Rattle.pt_model.specs.Histories.{place}
+use Rattle.pt_model.specs.Seals.{seal}
+use Rattle.pt_core.specs.Cores.{Kept, past}
+
+-- the core with its history sealed: it begins with the seal, without entries
+abbrev pub sealed : Kept → Kept
+sealed k = record k { start = seal (past k); entries = [] }
+
+-- the history was sealed, and goes on with this place
+pub record IsSealed (old new : Kept) (at : ℕ) : Type 0 where
+  pub told : at ≡ place (past old)
+  pub kept : new ≡ sealed old
+  pub within : at ≤ most_places
+
+-- no numbers are left for the places of a history that goes on; else lack of memory  [profile]
+abbrev pub seal_refusal : Kept → Refusal
+seal_refusal k = if nat_le (place (past k)) most_places then Enomem else Full
