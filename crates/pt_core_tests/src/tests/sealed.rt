@@ -20,8 +20,14 @@ fn play_row_39(rt: &impl Abort, core: &mut Core) -> Result<(), Fail> {
     let m = name(b"m")?;
     let k = name(b"k")?;
     let before = [
-        when(ask(0, Call::MutexInit(m.copied(), MutexKind::Normal, true)), &[(0, Done)]),
-        when(ask(0, Call::MutexInit(k.copied(), MutexKind::Normal, false)), &[(0, Done)]),
+        when(
+            ask(0, Call::MutexInit(m.copied(), MutexKind::Normal, true)),
+            &[(0, Done)],
+        ),
+        when(
+            ask(0, Call::MutexInit(k.copied(), MutexKind::Normal, false)),
+            &[(0, Done)],
+        ),
         when(ask(0, Call::Lock(m.copied())), &[(0, Done)]),
         when(ask(0, Call::Lock(k.copied())), &[(0, Done)]),
         when(die(0), &[]),
@@ -52,7 +58,10 @@ fn play_row_40(rt: &impl Abort, core: &mut Core) -> Result<(), Fail> {
         when(ask(0, Call::Lock(m.copied())), &[(0, Done)]),
         when(ask(0, Call::Wait(c.copied(), m.copied())), &[]),
         when(ask(1, Call::Lock(m.copied())), &[(1, Done)]),
-        when(ask(1, Call::Timedwait(c.copied(), m.copied(), deadline(5, 0)?)), &[]),
+        when(
+            ask(1, Call::Timedwait(c.copied(), m.copied(), deadline(5, 0)?)),
+            &[],
+        ),
         when(ask(2, Call::Lock(m.copied())), &[(2, Done)]),
         when(moment(5, 0)?, &[]),
         when(ask(3, Call::Lock(m.copied())), &[]),
@@ -61,7 +70,10 @@ fn play_row_40(rt: &impl Abort, core: &mut Core) -> Result<(), Fail> {
     plays(rt, core, &before)?;
     seals(rt, core)?;
     let after = [
-        when(ask(2, Call::Unlock(m.copied())), &[(2, Done), (1, Etimedout)]),
+        when(
+            ask(2, Call::Unlock(m.copied())),
+            &[(2, Done), (1, Etimedout)],
+        ),
         when(ask(1, Call::Unlock(m.copied())), &[(1, Done), (3, Done)]),
         when(ask(3, Call::Unlock(m)), &[(3, Done), (0, Done)]),
     ];
