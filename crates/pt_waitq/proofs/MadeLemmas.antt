@@ -3,14 +3,16 @@ use Rattle.std.proofs.Common.{◌≡◌, ℕ, ◌==◌, ◌<◌, ◌+◌, Bool, 
 use Rattle.std.specs.Map.{lookup}
 use Rattle.std.specs.List.{AllByRecursion as Each}
 use Rattle.std.proofs.lemmas.Bool.Decides.{nat_tests}
+use Rattle.std.proofs.lemmas.List.{nil_from_length}
 use Rattle.pt_types.specs.Limits.{most_priority}
 use Rattle.pt_waitq.specs.declared.waiter.Waiter.{Waiter}
 use Rattle.pt_waitq.specs.declared.nodes.Node.{Node}
 use Rattle.pt_waitq.specs.declared.sides.Queue.{Queue}
 use Rattle.pt_waitq.specs.Waits.{is_listed, queue_of, AllStand}
-use Rattle.pt_waitq.specs.Chains.{numbers, side_of, IsChain, chain_of, nodes_of, next_in, before_in, index_of, AreChains, HasNone}
+use Rattle.pt_waitq.specs.Chains.{numbers, first_in, last_in, side_of, IsChain, chain_of, nodes_of, next_in, before_in, index_of, AreChains, HasNone, HasNoWaiter}
 use Rattle.pt_waitq.proofs.ChangeLemmas.{stand-more, stand-fewer}
 use Rattle.pt_waitq.proofs.ChainLemmas.{listed-lookup, unmade-none, queue-none}
+use Rattle.pt_waitq.proofs.FirstLemmas.{no-waiter}
 
 none_some : {X : Type 0} (x : X) → None ≡ Some x → ⊥
 none_some x e = cc
@@ -79,6 +81,28 @@ module _ (homes : List (ℕ × ℕ)) (nodes : List (Option Node)) (queues queues
         sorted = a.sorted;
         chains = λ x q h k p lt. made-chain x q (o == x) refl h k p lt;
       }
+
+-- all chains of an empty queue are empty
+pub empty-none : (homes : List (ℕ × ℕ)) (nodes : List (Option Node)) (queues : List (ℕ × Queue))
+    (es : List (ℕ × Waiter)) → AreChains homes nodes queues es → (o : ℕ) → queue_of o es ≡ []
+    → (q : Queue) → lookup (nat_eq o) queues ≡ Some q → HasNone q
+empty-none homes nodes queues es a o empty q there =
+    record {
+      len = len;
+      counts = none;
+      heads = λ k p lt. (a.chains o q there k p lt).head ∙ ap first_in (gone k p lt);
+      tails = λ k p lt. (a.chains o q there k p lt).tail ∙ ap (last_in None) (gone k p lt);
+    }
+  where
+    len : q.len ≡ 0
+    len = a.len o q there ∙ ap length empty
+
+    none : HasNoWaiter q
+    none = no-waiter homes nodes queues es a o q there len
+
+    gone : (k : Bool) (p : ℕ) → p < most_priority
+        → nodes_of (index_of homes) (chain_of o k (p + 1) es) ≡ []
+    gone k p lt = nil_from_length _ (sym (a.chains o q there k p lt).count ∙ none k p lt)
 
 -- an empty queue is discarded
 module _ (homes : List (ℕ × ℕ)) (nodes : List (Option Node)) (queues queues' : List (ℕ × Queue))

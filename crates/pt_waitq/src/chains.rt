@@ -4,6 +4,7 @@ ghost use Rattle.pt_waitq.specs.Waits.{no_waits};
 
 use crate::nodes::{self, Node, Rows};
 use crate::sides::{self, BoxedQueue};
+use crate::spares::Spares;
 use crate::wait_list::WaitList;
 use crate::waiter::Waiter;
 use http_server::Log;
@@ -24,6 +25,7 @@ pub struct Chains<A: Allocator + Copy = Global> {
     homes: Rows<usize, A>,
     nodes: Slab<Node, A>,
     queues: Rows<BoxedQueue<A>, A>,
+    spares: Spares<A>,
     /// What was put in and taken out. Only proofs read it.
     log: Log<Option<u64>, Waiter>,
 }
@@ -50,6 +52,7 @@ impl<A: Allocator + Copy> Chains<A> {
             homes: IndexMap::new(alloc),
             nodes: Slab::new(alloc),
             queues: IndexMap::new(alloc),
+            spares: Spares::new(alloc),
             log: Log::new(),
         }
     }
@@ -86,7 +89,7 @@ impl<A: Allocator + Copy> WaitList for Chains<A> {
     }
 
     fn make(&mut self, object: ObjectId) -> Result<(), Refusal> {
-        if sides::make(&mut self.queues, object.0) {
+        if sides::make(&mut self.queues, &mut self.spares, object.0) {
             Ok(())
         } else {
             Err(Refusal::Enomem)
@@ -94,7 +97,7 @@ impl<A: Allocator + Copy> WaitList for Chains<A> {
     }
 
     fn discard(&mut self, object: ObjectId) {
-        sides::discard(&mut self.queues, object.0);
+        sides::discard(&mut self.queues, &mut self.spares, object.0);
     }
 
     fn insert(&mut self, object: ObjectId, waiter: Waiter) {

@@ -11,6 +11,7 @@ mod entries;
 mod nodes;
 mod plain_list;
 mod sides;
+mod spares;
 mod wait_list;
 mod waiter;
 

@@ -8,6 +8,7 @@ ghost use Rattle.pt_waitq.specs.declared.sides.Queue.{Queue};
 ghost use Rattle.pt_waitq.specs.Chains.{numbers, side_of, IsPut, IsTaken, HasNone, HasNoWaiter, IsFirst, IsFirstWriter, HasWriterFrom};
 
 use crate::nodes::Rows;
+use crate::spares::Spares;
 use pt_lanes::{any_from, highest};
 use pt_types::MOST_PRIORITY;
 use std::alloc::{AllocError, Allocator};
@@ -54,8 +55,8 @@ pub(crate) fn no_side() -> Side
     }
 }
 
-/// A queue with no waiter.
-fn no_queue<A: Allocator>(alloc: A) -> Result<BoxedQueue<A>, AllocError>
+/// A new queue with no waiter.
+pub(crate) fn no_queue<A: Allocator>(alloc: A) -> Result<BoxedQueue<A>, AllocError>
     ensures { IfOk result HasNone }
 {
     let queue = Queue {
@@ -264,7 +265,11 @@ pub(crate) fn remove<A: Allocator + Copy>(
 }
 
 /// Adds an empty queue, and returns whether there was memory.
-pub(crate) fn make<A: Allocator + Copy>(queues: &mut Rows<BoxedQueue<A>, A>, object: u64) -> bool
+pub(crate) fn make<A: Allocator + Copy>(
+    queues: &mut Rows<BoxedQueue<A>, A>,
+    spares: &mut Spares<A>,
+    object: u64,
+) -> bool
     requires { lookup (nat_eq object) queues.old.entries ≡ None }
     ensures numbers { numbers queues.new.entries
         ≡ (if result
@@ -277,7 +282,7 @@ pub(crate) fn make<A: Allocator + Copy>(queues: &mut Rows<BoxedQueue<A>, A>, obj
         → lookup (nat_eq object) queues.new.entries ≡ Some new
         → HasNone new }
 {
-    let Ok(queue) = no_queue(*queues.allocator()) else {
+    let Ok(queue) = spares.take(queues.capacity()) else {
         return false;
     };
     match queues.insert(object, queue) {
@@ -286,13 +291,22 @@ pub(crate) fn make<A: Allocator + Copy>(queues: &mut Rows<BoxedQueue<A>, A>, obj
     }
 }
 
-/// Takes a queue away.
-pub(crate) fn discard<A: Allocator + Copy>(queues: &mut Rows<BoxedQueue<A>, A>, object: u64)
+/// Takes a queue away that has no waiter, if it is there.
+pub(crate) fn discard<A: Allocator + Copy>(
+    queues: &mut Rows<BoxedQueue<A>, A>,
+    spares: &mut Spares<A>,
+    object: u64,
+)
+    requires { (queue : Queue)
+        → lookup (nat_eq object) queues.old.entries ≡ Some queue
+        → HasNone queue }
     ensures { (x : ℕ)
         → lookup (nat_eq x) queues.new.entries
         ≡ (if object == x then None else lookup (nat_eq x) queues.old.entries) }
 {
-    queues.swap_remove(&object);
+    if let Some(queue) = queues.swap_remove(&object) {
+        spares.put(queue);
+    }
 }
 
 /// The head of the first chain, by priority and then by kind.

@@ -2,8 +2,16 @@ use Rattle.std.proofs.Common.{◌==◌, not, ◌&&◌, refl, ap, ◌∙◌}
 use Rattle.pt_waitq.specs.Waits.{queue_of, is_made, is_listed}
 use Rattle.pt_waitq.specs.Chains.{numbers, waiting_by}
 use Rattle.pt_waitq.proofs.ChangeLemmas.{queue-change, read-as}
-use Rattle.pt_waitq.proofs.MadeLemmas.{discard-made, discard-stand, chains-discarded}
+use Rattle.pt_waitq.proofs.MadeLemmas.{empty-none, discard-made, discard-stand, chains-discarded}
 use Rattle.pt_waitq.proofs.chains.ChainsWaitList.discard.Goals as goal
+
+pub discard-requires : goal.discard-requires
+discard-requires g c =
+    let es = waiting_by c.self.inside.log.items in
+    let empty = ap (λ o. queue_of o es) c.object.view_is
+    ∙ (read-as _ _ es es _ c.self.view_is c.self.invariant.stand refl c.args.object
+    ∙ c.requires.empty) in
+    empty-none _ _ c.self.inside.queues.entries es c.self.invariant c.object.inside.0 empty
 
 pub invariant_of-self : goal.invariant_of-self
 invariant_of-self g c =
