@@ -14,15 +14,12 @@ use slab::Slab;
 use std::alloc::{Allocator, Global};
 use std::marker::Model;
 
-/// How many clients may have a node.
-const MOST_NODES: usize = 4294967295;
-
 /// All queues as chains of nodes, each linked both ways by the nodes' indices.
 ///
 /// A queue counts its writers and its readers by priority.
 #[derive(Drop)]
 pub struct Chains<A: Allocator + Copy = Global> {
-    homes: Rows<usize, A>,
+    homes: Rows<u32, A>,
     nodes: Slab<Node, A>,
     queues: Rows<BoxedQueue<A>, A>,
     spares: Spares<A>,
@@ -75,13 +72,13 @@ impl<A: Allocator + Copy> WaitList for Chains<A> {
     ghost makes = { makes };
 
     fn admit(&mut self, client: ClientId) -> Result<(), Refusal> {
-        if self.homes.len() >= MOST_NODES
-            || nodes::make_room(&mut self.homes, &mut self.nodes).is_err()
-        {
-            return Err(Refusal::Enomem);
+        match nodes::make_room(&mut self.homes, &mut self.nodes) {
+            Ok(()) => {
+                nodes::admit(&mut self.homes, &mut self.nodes, client.0);
+                Ok(())
+            }
+            Err(_) => Err(Refusal::Enomem),
         }
-        nodes::admit(&mut self.homes, &mut self.nodes, client.0);
-        Ok(())
     }
 
     fn dismiss(&mut self, client: ClientId) {

@@ -17,30 +17,29 @@ use std::hash::{BuildHasherDefault, FoldHasher};
 /// Rows by number.
 pub(crate) type Rows<T, A> = IndexMap<u64, T, BuildHasherDefault<FoldHasher>, A>;
 
+/// How many clients may have a node.
+const MOST_NODES: usize = 4294967295;
+
 /// A client's place in a chain, if it is in one.
 #[derive(Clone, Copy)]
 pub(crate) struct Node {
     pub(crate) entry: Option<(u64, Waiter)>,
-    pub(crate) next: Option<usize>,
-    pub(crate) before: Option<usize>,
+    pub(crate) next: Option<u32>,
+    pub(crate) before: Option<u32>,
 }
 
 /// A waiter in its chain: its node, its queue's number, and the nodes next to it.
 #[derive(Clone, Copy)]
 pub(crate) struct Place {
-    pub(crate) node: usize,
+    pub(crate) node: u32,
     pub(crate) object: u64,
     pub(crate) waiter: Waiter,
-    pub(crate) before: Option<usize>,
-    pub(crate) next: Option<usize>,
+    pub(crate) before: Option<u32>,
+    pub(crate) next: Option<u32>,
 }
 
 /// Lets a node lead to this one.
-pub(crate) fn set_next<A: Allocator + Copy>(
-    nodes: &mut Slab<Node, A>,
-    node: usize,
-    next: Option<usize>,
-)
+pub(crate) fn set_next<A: Allocator + Copy>(nodes: &mut Slab<Node, A>, node: u32, next: Option<u32>)
     requires { IsSome (node_in nodes.old.slots node) }
     ensures there { (n : ℕ)
         → is_some (node_in nodes.new.slots n) ≡ is_some (node_in nodes.old.slots n) }
@@ -49,14 +48,14 @@ pub(crate) fn set_next<A: Allocator + Copy>(
     ensures before { (n : ℕ) → before_in nodes.new.slots n ≡ before_in nodes.old.slots n }
     ensures entry { (n : ℕ) → entry_in nodes.new.slots n ≡ entry_in nodes.old.slots n }
 {
-    nodes.get_mut(node).unwrap().next = next;
+    nodes.get_mut(node as usize).unwrap().next = next;
 }
 
 /// Lets a node lead back to this one.
 pub(crate) fn set_before<A: Allocator + Copy>(
     nodes: &mut Slab<Node, A>,
-    node: usize,
-    before: Option<usize>,
+    node: u32,
+    before: Option<u32>,
 )
     requires { IsSome (node_in nodes.old.slots node) }
     ensures there { (n : ℕ)
@@ -67,11 +66,11 @@ pub(crate) fn set_before<A: Allocator + Copy>(
         ≡ (if node == n then before else before_in nodes.old.slots n) }
     ensures entry { (n : ℕ) → entry_in nodes.new.slots n ≡ entry_in nodes.old.slots n }
 {
-    nodes.get_mut(node).unwrap().before = before;
+    nodes.get_mut(node as usize).unwrap().before = before;
 }
 
 /// Writes a node anew.
-pub(crate) fn set_node<A: Allocator + Copy>(nodes: &mut Slab<Node, A>, node: usize, value: Node)
+pub(crate) fn set_node<A: Allocator + Copy>(nodes: &mut Slab<Node, A>, node: u32, value: Node)
     requires { IsSome (node_in nodes.old.slots node) }
     ensures there { (n : ℕ)
         → is_some (node_in nodes.new.slots n) ≡ is_some (node_in nodes.old.slots n) }
@@ -85,26 +84,26 @@ pub(crate) fn set_node<A: Allocator + Copy>(nodes: &mut Slab<Node, A>, node: usi
         → entry_in nodes.new.slots n
         ≡ (if node == n then value.entry else entry_in nodes.old.slots n) }
 {
-    *nodes.get_mut(node).unwrap() = value;
+    *nodes.get_mut(node as usize).unwrap() = value;
 }
 
 /// The waiter of a node that is in a chain.
 pub(crate) fn waiter_of<A: Allocator + Copy>(
     nodes: &Slab<Node, A>,
-    node: Option<usize>,
+    node: Option<u32>,
 ) -> Option<Waiter>
     ensures { result
         ≡ option_map (λ e. e.1) (option_and_then (λ n. entry_in nodes.now.slots n) node) }
 {
-    let (_, waiter) = nodes.get(node?)?.entry?;
+    let (_, waiter) = nodes.get(node? as usize)?.entry?;
     Some(waiter)
 }
 
 /// Puts a node after the last of its chain.
 pub(crate) fn insert<A: Allocator + Copy>(
     nodes: &mut Slab<Node, A>,
-    last: Option<usize>,
-    node: usize,
+    last: Option<u32>,
+    node: u32,
     entry: (u64, Waiter),
 )
     requires there { IsSome (node_in nodes.old.slots node) }
@@ -136,9 +135,9 @@ pub(crate) fn insert<A: Allocator + Copy>(
 /// Takes a node out from between these two.
 pub(crate) fn remove<A: Allocator + Copy>(
     nodes: &mut Slab<Node, A>,
-    node: usize,
-    before: Option<usize>,
-    next: Option<usize>,
+    node: u32,
+    before: Option<u32>,
+    next: Option<u32>,
 )
     requires there { IsSome (node_in nodes.old.slots node) }
     requires before { IfSome before (λ n. IsSome (node_in nodes.old.slots n)) }
@@ -173,7 +172,7 @@ pub(crate) fn remove<A: Allocator + Copy>(
 }
 
 /// The index of a client's node, which it has.
-pub(crate) fn home_of<A: Allocator + Copy>(homes: &Rows<usize, A>, client: u64) -> usize
+pub(crate) fn home_of<A: Allocator + Copy>(homes: &Rows<u32, A>, client: u64) -> u32
     requires { IsSome (home_of homes.now.entries client) }
     ensures { home_of homes.now.entries client ≡ Some result }
 {
@@ -182,7 +181,7 @@ pub(crate) fn home_of<A: Allocator + Copy>(homes: &Rows<usize, A>, client: u64) 
 
 /// Where a client waits, if it does.
 pub(crate) fn place_of<A: Allocator + Copy>(
-    homes: &Rows<usize, A>,
+    homes: &Rows<u32, A>,
     nodes: &Slab<Node, A>,
     client: u64,
 ) -> Option<Place>
@@ -192,7 +191,7 @@ pub(crate) fn place_of<A: Allocator + Copy>(
         ≡ Some (record { entry = Some (p.object, p.waiter); next = p.next; before = p.before })) }
 {
     let index = *homes.get(&client)?;
-    let node = *nodes.get(index)?;
+    let node = *nodes.get(index as usize)?;
     let (object, waiter) = node.entry?;
     Some(Place {
         node: index,
@@ -203,29 +202,35 @@ pub(crate) fn place_of<A: Allocator + Copy>(
     })
 }
 
-/// Makes room for one more node.
+/// Makes room for one more node, if there are not too many.
 pub(crate) fn make_room<A: Allocator + Copy>(
-    homes: &mut Rows<usize, A>,
+    homes: &mut Rows<u32, A>,
     nodes: &mut Slab<Node, A>,
 ) -> Result<(), AllocError>
     ensures homes { homes.new.entries ≡ homes.old.entries }
+    ensures few { OnOk result (length homes.old.entries + 1 < 2 ^ 32) }
     ensures nodes { nodes.new.slots ≡ nodes.old.slots }
     ensures home_room { OnOk result (0 < spare homes.new) }
     ensures node_room { OnOk result (HasRoomFor nodes.new 1) }
+    ensures index { OnOk result (nodes.new.vacant_key < 2 ^ 32) }
 {
+    if homes.len() >= MOST_NODES || nodes.vacant_key() >= MOST_NODES {
+        return Err(AllocError);
+    }
     homes.reserve(1)?;
     nodes.reserve(1)
 }
 
 /// Adds a node that is in no chain, and returns its index.
 pub(crate) fn admit<A: Allocator + Copy>(
-    homes: &mut Rows<usize, A>,
+    homes: &mut Rows<u32, A>,
     nodes: &mut Slab<Node, A>,
     client: u64,
-) -> usize
+) -> u32
     requires new { lookup (nat_eq client) homes.old.entries ≡ None }
     requires home_room { 0 < spare homes.old }
     requires node_room { HasRoomFor nodes.old 1 }
+    requires index { nodes.old.vacant_key < 2 ^ 32 }
     ensures homes { homes.new.entries ≡ homes.old.entries ++ (client, result) ∷ [] }
     ensures vacant { node_in nodes.old.slots result ≡ None }
     ensures node { node_in nodes.new.slots result
@@ -239,14 +244,14 @@ pub(crate) fn admit<A: Allocator + Copy>(
         next: None,
         before: None,
     };
-    let node = nodes.insert_reserved(value);
+    let node = nodes.insert_reserved(value) as u32;
     homes.insert(client, node).unwrap();
     node
 }
 
 /// Takes a client's node away.
 pub(crate) fn dismiss<A: Allocator + Copy>(
-    homes: &mut Rows<usize, A>,
+    homes: &mut Rows<u32, A>,
     nodes: &mut Slab<Node, A>,
     client: u64,
 )
@@ -259,6 +264,6 @@ pub(crate) fn dismiss<A: Allocator + Copy>(
     ensures len { length homes.new.entries ≤ length homes.old.entries }
 {
     if let Some(node) = homes.swap_remove(&client) {
-        nodes.try_remove(node);
+        nodes.try_remove(node as usize);
     }
 }

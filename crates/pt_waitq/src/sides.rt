@@ -18,8 +18,8 @@ use std::marker::Model;
 #[derive(Clone, Copy)]
 pub(crate) struct Side {
     pub(crate) counts: [u32; MOST_PRIORITY],
-    pub(crate) heads: [Option<usize>; MOST_PRIORITY],
-    pub(crate) tails: [Option<usize>; MOST_PRIORITY],
+    pub(crate) heads: [Option<u32>; MOST_PRIORITY],
+    pub(crate) tails: [Option<u32>; MOST_PRIORITY],
 }
 
 /// A queue's chains of both kinds.
@@ -30,7 +30,7 @@ pub(crate) struct Queue {
     pub(crate) len: usize,
 }
 
-/// A queue on the heap, so that the map of queues moves a pointer and not 7 kB.
+/// A queue on the heap, so that the map of queues moves a pointer and not 4 kB.
 #[derive(Drop)]
 pub(crate) struct BoxedQueue<A: Allocator> {
     queue: Box<Queue, A>,
@@ -69,7 +69,7 @@ pub(crate) fn no_queue<A: Allocator>(alloc: A) -> Result<BoxedQueue<A>, AllocErr
 }
 
 /// Makes this node the tail of a chain, and returns the tail before.
-pub(crate) fn add(side: &mut Side, p: usize, node: usize) -> Option<usize>
+pub(crate) fn add(side: &mut Side, p: usize, node: u32) -> Option<u32>
     requires index { p < most_priority }
     requires room { slice_index side.old.counts p + 1 < 2 ^ 32 }
     ensures last { result ≡ slice_index_or side.old.tails p None }
@@ -98,7 +98,7 @@ pub(crate) fn add(side: &mut Side, p: usize, node: usize) -> Option<usize>
 }
 
 /// Takes a node out of a chain, which was between these two.
-pub(crate) fn take(side: &mut Side, p: usize, before: Option<usize>, next: Option<usize>)
+pub(crate) fn take(side: &mut Side, p: usize, before: Option<u32>, next: Option<u32>)
     requires index { p < most_priority }
     requires stands { 1 ≤ slice_index side.old.counts p }
     ensures counts { (i : ℕ)
@@ -128,7 +128,7 @@ pub(crate) fn take(side: &mut Side, p: usize, before: Option<usize>, next: Optio
 }
 
 /// Makes a node the tail of one of a queue's chains, and returns the tail before.
-pub(crate) fn put_in(queue: &mut Queue, writer: bool, p: usize, node: usize) -> Option<usize>
+pub(crate) fn put_in(queue: &mut Queue, writer: bool, p: usize, node: u32) -> Option<u32>
     requires index { p < most_priority }
     requires room { slice_index (side_of writer queue.old).counts p + 1 < 2 ^ 32 }
     requires len { queue.old.len + 1 < 2 ^ 64 }
@@ -165,8 +165,8 @@ pub(crate) fn take_out(
     queue: &mut Queue,
     writer: bool,
     p: usize,
-    before: Option<usize>,
-    next: Option<usize>,
+    before: Option<u32>,
+    next: Option<u32>,
 )
     requires index { p < most_priority }
     requires stands { 1 ≤ slice_index (side_of writer queue.old).counts p }
@@ -217,8 +217,8 @@ pub(crate) fn insert<A: Allocator + Copy>(
     object: u64,
     writer: bool,
     p: usize,
-    node: usize,
-) -> Option<usize>
+    node: u32,
+) -> Option<u32>
     requires index { p < most_priority }
     requires there { IsSome (lookup (nat_eq object) queues.old.entries) }
     requires room { IfSome (lookup (nat_eq object) queues.old.entries) (λ q.
@@ -243,8 +243,8 @@ pub(crate) fn remove<A: Allocator + Copy>(
     object: u64,
     writer: bool,
     p: usize,
-    before: Option<usize>,
-    next: Option<usize>,
+    before: Option<u32>,
+    next: Option<u32>,
 )
     requires index { p < most_priority }
     requires there { IsSome (lookup (nat_eq object) queues.old.entries) }
@@ -310,7 +310,7 @@ pub(crate) fn discard<A: Allocator + Copy>(
 }
 
 /// The head of the first chain, by priority and then by kind.
-fn first_in(queue: &Queue) -> Option<usize>
+fn first_in(queue: &Queue) -> Option<u32>
     requires { queue.now.len ≡ 0 → HasNoWaiter queue.now }
     ensures { IsFirst queue.now result }
 {
@@ -328,7 +328,7 @@ fn first_in(queue: &Queue) -> Option<usize>
 }
 
 /// The head of the first chain of writers.
-fn first_writer_in(queue: &Queue) -> Option<usize>
+fn first_writer_in(queue: &Queue) -> Option<u32>
     ensures { IsFirstWriter queue.now result }
 {
     match highest(&queue.writers.counts) {
@@ -348,7 +348,7 @@ fn writer_from_in(queue: &Queue, p: usize) -> bool
 pub(crate) fn first_of<A: Allocator + Copy>(
     queues: &Rows<BoxedQueue<A>, A>,
     object: u64,
-) -> Option<usize>
+) -> Option<u32>
     requires { (queue : Queue)
         → lookup (nat_eq object) queues.now.entries ≡ Some queue
         → queue.len ≡ 0
@@ -365,7 +365,7 @@ pub(crate) fn first_of<A: Allocator + Copy>(
 pub(crate) fn first_writer_of<A: Allocator + Copy>(
     queues: &Rows<BoxedQueue<A>, A>,
     object: u64,
-) -> Option<usize>
+) -> Option<u32>
     ensures none { lookup (nat_eq object) queues.now.entries ≡ None → result ≡ None }
     ensures queue { (queue : Queue)
         → lookup (nat_eq object) queues.now.entries ≡ Some queue

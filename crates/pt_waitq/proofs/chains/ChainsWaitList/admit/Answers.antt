@@ -1,4 +1,4 @@
-use Rattle.std.proofs.Common.{◌+◌, ◌<◌, ◌^◌, length, ap, ◌∙◌, arith}
+use Rattle.std.proofs.Common.{ap, ◌∙◌}
 use Rattle.pt_waitq.specs.Waits.{is_admitted, is_listed, has_waiter}
 use Rattle.pt_waitq.specs.Chains.{numbers, waiting_by, home_of}
 use Rattle.pt_waitq.proofs.ChainLemmas.{not-listed}
@@ -17,8 +17,8 @@ admit-requires-clause-new g c =
     (or_parts (is_listed k (numbers homes))
     (has_waiter k (waiting_by c.self.inside.log.items)) out).0
 
-pub invariant_of-self-2 : goal.invariant_of-self-2
-invariant_of-self-2 g c =
+pub invariant_of-self : goal.invariant_of-self
+invariant_of-self g c =
     let homes = c.self.inside.homes.entries in
     let k = c.client.inside.0 in
     let es = waiting_by c.self.inside.log.items in
@@ -26,11 +26,9 @@ invariant_of-self-2 g c =
     ∙ (ap (is_admitted c.args.self.now) c.client.view_is ∙ c.requires) in
     let none = not-listed homes k (or_parts (is_listed k (numbers homes))
     (has_waiter k es) out).0 in
-    let few : length homes + 1 < 2 ^ 32 =
-    omega (arith, c.len.ensures.len, c.if-len-ge-MOST_NODES.false) in
     let room = c.make_room.ensures in
     let done = c.admit.ensures in
     chains-joined homes c.make_room.new.homes.entries c.admit.new.homes.entries
     c.self.inside.nodes.slots c.make_room.new.nodes.slots c.admit.new.nodes.slots
-    c.self.inside.queues.entries es k c.admit.result c.self.invariant none few room.homes
-    room.nodes done.homes done.vacant done.node done.others
+    c.self.inside.queues.entries es k c.admit.result c.self.invariant none c.in-Ok.ensures.few
+    room.homes room.nodes done.homes done.vacant done.node done.others
