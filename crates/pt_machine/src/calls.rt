@@ -5,9 +5,9 @@ ghost use Rattle.pt_types.specs.Operations.{Acquires, Awaits, Broadcasts, Ends, 
 ghost use Rattle.pt_types.specs.declared.operations.LockKind.TheVariants.{ReadLock, WriteLock};
 ghost use Rattle.pt_model.specs.declared.entry.Entry.TheVariants as entry;
 ghost use Rattle.pt_state.specs.Adds.{Adds, IsReadyFor, Stays, past};
+ghost use Rattle.pt_state.specs.Calling.{is_plain};
 ghost use Rattle.pt_state.specs.Outer.{asks_to_read, makes_object};
 ghost use Rattle.pt_machine.specs.Queued.{IsQueued};
-ghost use Rattle.pt_state.specs.Calling.{is_plain as is_plain_operation};
 ghost use Rattle.pt_types.specs.declared.outcome.Outcome.TheVariants as told;
 ghost use Rattle.pt_model.specs.Verdicts.{operation_verdict as said_of, verdict as verdict_in};
 ghost use Rattle.pt_state.specs.Reads.{AreTables};
@@ -47,17 +47,21 @@ pub(crate) fn push_left<Q: WaitList, A: Allocator + Copy>(
     }
 }
 
-// Whether a call makes no object, ends none and wakes no wait.
-fn is_plain(call: &Call) -> bool
-    ensures { result ≡ is_plain_operation (operation call.now) }
+// A call that is answered 0, makes no object, ends none and wakes no wait: the queues stay.
+// [XSH, the call's page]
+fn push_plain<Q: WaitList, A: Allocator + Copy>(
+    state: &mut State<A>,
+    queues: &mut Q,
+    c: ClientId,
+    call: &Call,
+)
+    requires ready { IsReadyFor state.old (entry.Call c call.now (Some told.Done)) }
+    requires queued { IsQueued (past state.old) (Q.seen queues.old) }
+    requires plain { is_plain (operation call.now) ≡ true }
+    ensures adds { Adds state.old (entry.Call c call.now (Some told.Done)) state.new }
+    ensures queued { IsQueued (past state.new) (Q.seen queues.new) }
 {
-    match operation_of(call) {
-        Operation::Makes(..)
-        | Operation::Ends(..)
-        | Operation::Signals(_)
-        | Operation::Broadcasts(_) => false,
-        _ => true,
-    }
+    state.push_plain(c, call);
 }
 
 // A call that is answered 0, with what it does. ENOMEM if there is no memory for the object that
@@ -77,10 +81,6 @@ fn push_done<Q: WaitList, A: Allocator + Copy>(
     ensures enough { makes_object (operation call.now) ≡ false → IsOk result }
     ensures queued { IsQueued (past state.new) (Q.seen queues.new) }
 {
-    if is_plain(call) {
-        state.push_plain(c, call);
-        return Ok(());
-    }
     match operation_of(call) {
         Operation::Makes(n, kind) => push_made(state, queues, c, call, n, kind),
         Operation::Ends(n, class) => {
@@ -95,7 +95,15 @@ fn push_done<Q: WaitList, A: Allocator + Copy>(
             push_broadcast(state, queues, c, call, n);
             Ok(())
         }
-        _ => Ok(()),
+        Operation::Acquires(..)
+        | Operation::Unlocks(_)
+        | Operation::Restores(_)
+        | Operation::Rwunlocks(_)
+        | Operation::Awaits(..)
+        | Operation::Arrives(_) => {
+            push_plain(state, queues, c, call);
+            Ok(())
+        }
     }
 }
 
