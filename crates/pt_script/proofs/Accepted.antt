@@ -1,5 +1,5 @@
 -- What is answered of an event: it is refused, or accepted.
-use Rattle.std.proofs.Common.{◌≡◌, ℕ, suc, ◌<◌, Bool, true, false, cond, List, [], ◌∷◌, ◌++◌, length, drop, Option, Some, None, nat_eq, refl, sym, ap, subst, ◌∙◌, append_assoc, length-append, arith}
+use Rattle.std.proofs.Common.{◌≡◌, ℕ, suc, ◌<◌, Bool, true, false, cond, List, [], ◌∷◌, ◌++◌, length, drop, Option, Some, None, nat_eq, refl, sym, ap, subst, ◌∙◌, append_assoc, arith}
 use Rattle.std.proofs.Math.Seq.{take-append_seam, drop-append_seam}
 use Rattle.std.specs.Option.{option_or, MatchOption}
 use Rattle.std.proofs.lemmas.Bool.Decides.{Decides-eqb}
@@ -68,7 +68,7 @@ answers_added old added =
     ∙ ap (λ es. replies_from (history old) es) (drop-append_seam old added)
 
 -- a core whose history has these entries, before which there was nothing
-abbrev first : List Entry → Kept
+abbrev pub first : List Entry → Kept
 first es = record { start = nothing; entries = es; limit = most_entries }
 
 -- before a core's entries there was nothing, and it has the greatest limit
@@ -83,29 +83,22 @@ limited core same =
     same.1
 
 -- an event that is applied to such a core leaves such a core
-applied_first : (core next : Kept) (v : Event) (a : Applied) → IsFirst core
+pub applied_first : (core next : Kept) (v : Event) (a : Applied) → IsFirst core
     → IsApplied core v next a → IsApplied (first core.entries) v (first next.entries) a
 applied_first core next v a is applied =
     let from = subst (λ k. IsApplied k v next a) (limited core is) applied in
     subst (λ k. IsApplied (first core.entries) v k a)
     (limited next (from.applies.starts, from.applies.same_limit)) from
 
-first_next : (core next : Kept) (v : Event) (a : Applied) → IsFirst core
+pub first_next : (core next : Kept) (v : Event) (a : Applied) → IsFirst core
     → IsApplied core v next a → IsFirst next
 first_next core next v a is applied =
     (applied.applies.starts ∙ is.0, applied.applies.same_limit ∙ is.1)
 
 -- its place is the number of entries
-place_first : (core : Kept) (at : ℕ) → at ≡ place (history core.entries) → at ≡ length core.entries
+pub place_first : (core : Kept) (at : ℕ) → at ≡ place (history core.entries)
+    → at ≡ length core.entries
 place_first core at is = is ∙ place-history core.entries
-
--- no call is noted yet at the place of an accepted event's entry
-pub fresh_here : (core next : Kept) (calls rows : List (ℕ × LineId)) (v : Event) (a : Applied)
-    → IsFirst core → IsFresh calls (length core.entries) → IsApplied core v next a → rows ≡ calls
-    → line_at rows a.first ≡ None
-fresh_here core next calls rows v a whole fresh applies same =
-    let here = place_first core a.first (applied_first core next v a whole applies).first in
-    ap (λ cs. line_at cs a.first) same ∙ fresh a.first (omega (arith, here))
 
 -- the answers of a core before whose entries there was nothing
 pub answers_first : (core : Kept) (k : ℕ) → IsFirst core
@@ -113,6 +106,23 @@ pub answers_first : (core : Kept) (k : ℕ) → IsFirst core
 answers_first core k is =
     ap (λ s. answers_behind s k core.entries) is.0
     ∙ ap (λ n. answers_from n core.entries) (less_none k)
+
+-- the answers of an accepted event are those of its entries
+pub answers_are : (core next : Kept) (v : Event) (a : Applied) (is : IsFirst core)
+    (applies : IsApplied core v next a)
+    → answers_behind next.start a.first next.entries
+    ≡ replies_from (history core.entries)
+    (entry_for (history core.entries) v
+    ∷ (applied_first core next v a is applies).applies.extends.0)
+answers_are core next v a is applies =
+    answers_first next a.first (first_next core next v a is applies)
+    ∙ ap (λ n. answers_from n next.entries) (place_first core a.first applied.first)
+    ∙ ap (λ es. answers_from (length core.entries) es) applied.applies.extends.1
+    ∙ answers_added core.entries
+    (entry_for (history core.entries) v ∷ applied.applies.extends.0)
+  where
+    applied : IsApplied (first core.entries) v (first next.entries) a
+    applied = applied_first core next v a is applies
 
 -- an accepted event: its parts were noted, and its answers appended
 pub accepted : (s : Script) (core next : Kept) (names known : Known)
@@ -131,7 +141,7 @@ accepted s core next names known calls noted v line a m out greeted told is whol
       text = greeting_marked m line ++ answers;
       grows =
           tells
-          ∙ ap (λ ts. greeted ++ told_text noted ts) (answers_first next a.first whole_next)
+          ∙ ap (λ ts. greeted ++ told_text noted ts) (answers_are core next v a whole applies)
           ∙ ap (λ xs. xs ++ answers) greets
           ∙ append_assoc out (greeting_marked m line) answers;
       holds = accepts (record {
@@ -151,19 +161,12 @@ accepted s core next names known calls noted v line a m out greeted told is whol
             ∙ calls_as v line (length core.entries) calls;
         written =
             ap (λ n. greeting_marked n line ++ answers) marks
-            ∙ ap (λ g. g ++ answers) (greeting_as v line)
-            ∙ ap (λ n. greeting v line ++ told_text noted (answers_from n next.entries)) here
-            ∙ ap (λ es. greeting v line ++ told_text noted (answers_from (length core.entries) es))
-            applied.applies.extends.1
-            ∙ ap (λ ts. greeting v line ++ told_text noted ts) (answers_added core.entries added);
+            ∙ ap (λ g. g ++ answers) (greeting_as v line);
       });
     })
   where
     applied : IsApplied (first core.entries) v (first next.entries) a
     applied = applied_first core next v a whole applies
-
-    whole_next : IsFirst next
-    whole_next = first_next core next v a whole applies
 
     here : a.first ≡ length core.entries
     here = place_first core a.first applied.first
@@ -172,7 +175,7 @@ accepted s core next names known calls noted v line a m out greeted told is whol
     added = entry_for (history core.entries) v ∷ applied.applies.extends.0
 
     answers : List ℕ
-    answers = told_text noted (answers_from a.first next.entries)
+    answers = told_text noted (replies_from (history core.entries) added)
 
 -- a refused event: its refusal was appended, and nothing else changed
 pub refused : (s : Script) (core next : Kept) (names : Known)
@@ -226,7 +229,7 @@ fresh_noted calls noted m line place next fresh below notes = λ j far.
     by : (n : Mark) (j : ℕ) → line_at calls j ≡ None → nat_eq j place ≡ false
         → line_at (calls_marked n line place calls) j ≡ None
     by mark.Client j none other = none
-    by mark.Call j none other =
+    by (mark.Call c) j none other =
         lookup_push (nat_eq j) calls place line
         ∙ ap (λ o. option_or o (cond (nat_eq j place) (Some line) None)) none
         ∙ ap (λ b. cond b (Some line) None) other
@@ -243,19 +246,3 @@ some_seen seen who =
     let count = count_by_push (λ w. same_who w who) seen who
     ∙ ap (λ b. cond b (suc (lines_of_who seen who)) (lines_of_who seen who)) (same_as_itself who) in
     omega (arith, count)
-
--- what a core and its calls keep, after an accepted event
-pub kept_noted : (core next : Kept) (calls noted : List (ℕ × LineId)) (v : Event) (line : LineId)
-    (a : Applied) (m : Mark) → IsFirst core → IsFresh calls (length core.entries)
-    → IsApplied core v next a → noted ≡ calls_marked m line a.first calls
-    → IsFirst next × IsFresh noted (length next.entries)
-kept_noted core next calls noted v line a m whole fresh applies notes =
-    let applied = applied_first core next v a whole applies in
-    let longer = ap length applied.applies.extends.1 ∙ length-append core.entries
-    (entry_for (history core.entries) v ∷ applied.applies.extends.0) in
-    let here = place_first core a.first applied.first in
-    let below : a.first < length next.entries = omega (arith, longer, here) in (
-      first_next core next v a whole applies,
-      fresh_noted calls noted m line a.first (length next.entries)
-          (subst (λ n. IsFresh calls n) (sym here) fresh) below notes,
-    )

@@ -1,31 +1,31 @@
 -- Who made the call of each answer.
-use Rattle.std.proofs.Common.{◌≡◌, ℕ, ◌<◌, ◌==◌, ◌⊎◌, inl, inr, Bool, true, false, ◌&&◌, cond, List, [], ◌∷◌, Option, Some, None, sym, ap, ◌∙◌, subst, arith}
+use Rattle.std.proofs.Common.{◌≡◌, ℕ, ◌<◌, ◌==◌, ◌⊎◌, inl, inr, true, false, cond, List, [], ◌∷◌, Option, Some, sym, ap, ◌∙◌, subst, arith}
 use Rattle.std.proofs.lemmas.Bool.Decides.{nat_tests}
 use Rattle.pt_types.specs.declared.call.Call.{Call as Asked}
 use Rattle.pt_types.specs.declared.outcome.Outcome.{Outcome}
 use Rattle.pt_types.specs.Tables.{reply}
 use Rattle.pt_model.specs.declared.entry.Entry.{Entry}
-use Rattle.pt_model.specs.declared.entry.Entry.TheVariants.{Call, Grant, Trip, Expire}
+use Rattle.pt_model.specs.declared.entry.Entry.TheVariants.{Call}
 use Rattle.pt_model.specs.Searches.{In, Each}
 use Rattle.pt_model.specs.Histories.{History, Begin, ◌▷◌, onto, place}
 use Rattle.pt_model.specs.Records.{Told}
 use Rattle.pt_model.specs.declared.waiting_call.WaitingCall.{WaitingCall}
-use Rattle.pt_model.specs.WaitingCall.{at_place, stood, stood_by, is_arrival, is_wait_if}
-use Rattle.pt_model.specs.Answers.{at_barrier, client_if, told, told_by_trip, told_by_expiry, told_by, open_calls, replies_from}
-use Rattle.pt_model.specs.Grants.{grant_outcome}
+use Rattle.pt_model.specs.WaitingCall.{stood, stood_by}
+use Rattle.pt_model.specs.Answers.{told, replies_from}
 use Rattle.pt_model.specs.Queries.{caller, client_at}
 use Rattle.pt_model.specs.Verdicts.{verdict}
-use Rattle.pt_model.specs.Steps.{Step, calls, grants, trips, expires, Follows}
+use Rattle.pt_model.specs.Steps.{Step, calls, Follows}
 use Rattle.pt_model.specs.Seals.{seal}
 use Rattle.pt_model.proofs.Allowances.{allowed}
 use Rattle.pt_model.proofs.Changes.{left_by}
 use Rattle.pt_model.proofs.Effects.{Effect, Idle, Creates, Removes, Relocks, Frees, Mends, Returns, Wakes, Waits, effect, Allowed}
-use Rattle.pt_model.proofs.Found.{found, found_open, newest_call, stood_open}
+use Rattle.pt_model.proofs.Found.{found, newest_call, stood_open}
 use Rattle.pt_model.proofs.Histories.{follows-part}
 use Rattle.pt_model.proofs.Induction.{by_steps, start-seal}
-use Rattle.pt_model.proofs.Lists.{Each-in, Each-from_in, Each-append, Each-weaker, In-append_cases, In-filter}
+use Rattle.pt_model.proofs.Lists.{Each-in, Each-append, Each-weaker, In-append_cases}
 use Rattle.pt_model.proofs.Readings.{stood-call}
 use Rattle.pt_model.proofs.Sound.{Below, Fresh-follows}
+use Rattle.pt_script.proofs.Answered.{IsForAnswered, told_each}
 
 -- the client of the call at a place, which came before this one
 abbrev pub IsCalled : History → ℕ → ℕ → Type 0
@@ -112,43 +112,14 @@ stood_called h f =
 abbrev pub IsOwn : History → Told → Type 0
 IsOwn h t = IsCalled h t.place t.client
 
-replied_own : (h : History) (c : ℕ) (call : Asked) (r : Option Outcome) (ws : List WaitingCall)
-    → Each (IsOwn (h ▷ Call c call r)) (told_by h ws (Call c call r))
-replied_own h c call None ws = tt
-replied_own h c call (Some x) ws = (called_here h c call (Some x), tt)
-
-found_own : (h : History) (e : Entry) → Follows h → (w : WaitingCall) → In w (open_calls h)
-    → IsCalled (h ▷ e) w.place (client_if (at_place w.place (stood h)))
-found_own h e f w i =
-    subst (λ o. IsCalled (h ▷ e) w.place (client_if o)) (sym (found_open h f w i))
-    (called_on h e w.place w.client (stood_called h f w (stood_open h w i)))
-
-tripped_own : (h : History) (ws : List WaitingCall) → Each (λ w. IsCalled h w.place w.client) ws
-    → Each (IsOwn h) (told_by_trip ws)
-tripped_own h [] all = tt
-tripped_own h (w ∷ ws) all = (all.0, tripped_own h ws all.1)
-
-expired_own : (h : History) (j : ℕ) (call : Option WaitingCall) (waits : Bool)
-    → IsCalled h j (client_if call) → Each (IsOwn h) (told_by_expiry j call waits)
-expired_own h j call true is = tt
-expired_own h j call false is = (is, tt)
+called_answered : (h : History) (e : Entry) → Follows h → IsForAnswered (IsCalled (h ▷ e)) h e
+called_answered h (Call c call r) f = called_here h c call r
+called_answered h e f = λ w i.
+    called_on h e w.place w.client (stood_called h f w (stood_open h w i))
 
 -- so are all that an entry gives
 told_own : (h : History) (e : Entry) → Follows h → Step h e → Each (IsOwn (h ▷ e)) (told h e)
-told_own h _ f (calls c call n a o) =
-    replied_own h c call (reply (verdict h c call)) (open_calls h)
-told_own h _ f (grants w s i g) = (found_own h (Grant w.place (grant_outcome h w)) f w i, tt)
-told_own h _ f (trips w s i t) =
-    tripped_own (h ▷ Trip w.object) (at_barrier w.object (open_calls h))
-    (Each-from_in (λ v. IsCalled (h ▷ Trip w.object) v.place v.client)
-    (at_barrier w.object (open_calls h))
-    (λ v j. called_on h (Trip w.object) v.place v.client
-    (stood_called h f v (stood_open h v
-    (In-filter (λ u. is_arrival u.role && (u.object == w.object)) (open_calls h) v j).0))))
-told_own h _ f (expires w s i t) =
-    expired_own (h ▷ Expire w.place) w.place (at_place w.place (stood h))
-    (is_wait_if (at_place w.place (stood h))) (found_own h (Expire w.place) f w i)
-told_own h _ f _ = tt
+told_own h e f s = told_each (IsCalled (h ▷ e)) h e f s (called_answered h e f)
 
 -- and all that these entries give
 pub replies_own : (h : History) (es : List Entry) → Follows (onto h es)

@@ -10,10 +10,16 @@ mod Accepted
 mod Runs
 -- Wholes: A whole script, as its pieces come
 mod Wholes
+-- Answered: what holds of each answer that an entry gives
+mod Answered
 -- Callers: who made the call of each answer
 mod Callers
 -- Noted: the line that made a call is noted at its place, and is the line of the call's client
 mod Noted
+-- Latest: the answers that one event gives are to the latest calls of their clients
+mod Latest
+-- Asked: the line that is stored for a client is that of its latest call, to which it is answered
+mod Asked
 -- Settled: A history goes on by forced entries until nothing is forced
 mod Settled
 -- OneTexts: there is one text for all lines, and each of its beginnings begins it

@@ -52,7 +52,7 @@ number_on (event.Join p) Unknown other place c clients is = is
 number_on _ who other place c clients is = is
 
 -- a line is found, once more are noted
-line_on : (v : Event) (line found : LineId) (place j : ℕ) (calls : List (ℕ × LineId))
+pub line_on : (v : Event) (line found : LineId) (place j : ℕ) (calls : List (ℕ × LineId))
     → line_at calls j ≡ Some found → line_at (calls_with v line place calls) j ≡ Some found
 line_on (event.Call c call) line found place j calls is =
     lookup_push (nat_eq j) calls place line
@@ -60,7 +60,7 @@ line_on (event.Call c call) line found place j calls is =
 line_on _ line found place j calls is = is
 
 -- the line that is noted now
-line_here : (c : ℕ) (call : Asked) (line : LineId) (place : ℕ) (calls : List (ℕ × LineId))
+pub line_here : (c : ℕ) (call : Asked) (line : LineId) (place : ℕ) (calls : List (ℕ × LineId))
     → line_at calls place ≡ None
     → line_at (calls_with (event.Call c call) line place calls) place ≡ Some line
 line_here c call line place calls none =
@@ -81,7 +81,7 @@ noted_on v line place j c calls clients is = (
 )
 
 -- no call comes by entries of no event
-cons_none : (o : Option Event) (vs : List Event) → cons_option o vs ≡ [] → vs ≡ []
+pub cons_none : (o : Option Event) (vs : List Event) → cons_option o vs ≡ [] → vs ≡ []
 cons_none None vs e = e
 cons_none (Some v) vs e = absurd cc
 
@@ -144,7 +144,7 @@ events_apart (x ∷ xs) ys =
     joins (Some v) us vs = refl
 
 -- what follows the entry of an event has no event
-none_forced : (old new fs : List Entry) (v : Event)
+pub none_forced : (old new fs : List Entry) (v : Event)
     → new ≡ old ++ entry_for (history old) v ∷ fs → Legal new (events_of old ++ v ∷ [])
     → events_of fs ≡ []
 none_forced old new fs v extends legal =

@@ -1,19 +1,32 @@
 -- Texts of answers, and how they are written.
-use Rattle.std.proofs.Common.{◌≡◌, ℕ, ◌<◌, ◌≤◌, List, [], ◌∷◌, ◌++◌, length, take, drop, append-nil, sym, ap, ◌∙◌}
+use Rattle.std.proofs.Common.{◌≡◌, ℕ, ◌<◌, ◌≤◌, List, [], ◌∷◌, ◌++◌, length, take, drop, append-nil, refl, sym, ap, ◌∙◌}
 use Rattle.std.proofs.lemmas.Grind.{flat_map-append}
 use Rattle.std.proofs.lemmas.List.{take-append-drop, take-append-le, drop-append-le}
 use Rattle.std.proofs.Math.Seq.{take-append_seam, drop-append_seam}
+use Rattle.pt_model.specs.Searches.{Each}
 use Rattle.pt_model.specs.Records.{Told}
 use Rattle.pt_script.specs.declared.line_id.LineId.{LineId}
 use Rattle.pt_script.specs.Scripts.{line_at, told_line, told_text}
+use Rattle.pt_script.specs.Engines.{IsLineOf, latest_line, latest_text}
 use Rattle.pt_script.specs.Texts.{IsCutShort}
 
-pub told_more : (calls : List (ℕ × LineId)) (ts : List Told) (t : Told)
-    → told_text calls (ts ++ t ∷ [])
-    ≡ told_text calls ts ++ told_line (line_at calls t.place) t.outcome
-told_more calls ts t =
-    flat_map-append (λ u. told_line (line_at calls u.place) u.outcome) ts (t ∷ [])
-    ∙ ap (λ ys. told_text calls ts ++ ys) (append-nil (told_line (line_at calls t.place) t.outcome))
+pub latest_more : (asked : List (ℕ × LineId)) (ts : List Told) (t : Told)
+    → latest_text asked (ts ++ t ∷ [])
+    ≡ latest_text asked ts ++ told_line (latest_line asked t.client) t.outcome
+latest_more asked ts t =
+    flat_map-append (λ u. told_line (latest_line asked u.client) u.outcome) ts (t ∷ [])
+    ∙ ap (λ ys. latest_text asked ts ++ ys)
+    (append-nil (told_line (latest_line asked t.client) t.outcome))
+
+-- answers are under the lines of their calls, if those are the ones that are stored
+pub same_text : (asked calls : List (ℕ × LineId)) (ts : List Told)
+    → Each (λ t. IsLineOf asked calls t.client t.place) ts
+    → latest_text asked ts ≡ told_text calls ts
+same_text asked calls [] each = refl
+same_text asked calls (t ∷ ts) each =
+    ap (λ o. told_line o t.outcome ++ latest_text asked ts) (each.0.1.0 ∙ sym each.0.1.1)
+    ∙ ap (λ xs. told_line (line_at calls t.place) t.outcome ++ xs)
+    (same_text asked calls ts each.1)
 
 -- what grew to a longer text, and what is left of it
 pub cut_short : (old bytes text rest : List ℕ) → text ++ rest ≡ old ++ bytes

@@ -1,5 +1,7 @@
 -- Engines: what the parts of the engine do, one line at a time.
-use Rattle.std.specs.Prelude.{◌≡◌, ℕ, ◌≤◌, ◌++◌, List, [], ◌∷◌, length, map, Option, Some, None, Result, Ok, Err}
+use Rattle.std.specs.Prelude.{◌≡◌, ℕ, ◌≤◌, ◌++◌, List, [], ◌∷◌, length, map, nat_eq, Option, Some, None, Result, Ok, Err, if◌then◌else◌}
+use Rattle.std.specs.List.{flat_map}
+use Rattle.std.specs.Map.{lookup}
 use Rattle.pt_types.specs.declared.outcome.Outcome.TheVariants.{Done}
 use Rattle.pt_types.specs.declared.outcome.Refusal.{Refusal}
 use Rattle.pt_types.specs.declared.outcome.Refusal.TheVariants.{Nohello}
@@ -9,14 +11,18 @@ use Rattle.pt_lines.specs.declared.reply.Word.TheVariants as word
 use Rattle.pt_lines.specs.Replies.{reply_line}
 use Rattle.pt_lines.specs.Lines.{Held, to_come}
 use Rattle.pt_lines.specs.Script.{script_of}
+use Rattle.pt_model.specs.declared.entry.Entry.{Entry}
 use Rattle.pt_model.specs.declared.entry.Event.{Event}
 use Rattle.pt_model.specs.declared.entry.Event.TheVariants as event
+use Rattle.pt_model.specs.Histories.{history}
+use Rattle.pt_model.specs.Records.{Told}
+use Rattle.pt_model.specs.Queries.{latest}
 use Rattle.pt_script.specs.declared.line_id.LineId.{LineId}
 use Rattle.pt_script.specs.declared.fault.ScriptFault.{ScriptFault}
 use Rattle.pt_script.specs.declared.fault.ScriptFault.TheVariants.{Read, Write, Memory}
 use Rattle.pt_script.specs.declared.engine.Mark.{Mark}
 use Rattle.pt_script.specs.declared.engine.Mark.TheVariants.{Client, Call, Nothing}
-use Rattle.pt_script.specs.Scripts.{Script, line_at, clients_joined}
+use Rattle.pt_script.specs.Scripts.{Script, line_at, told_line, clients_joined}
 use Rattle.pt_script.specs.Says.{SaysAll}
 use Rattle.pt_script.specs.Texts.{BreaksOff, IsUntouched, Writing}
 
@@ -30,10 +36,29 @@ pub record Adds (Holds : List ℕ → Type 0) (old new : List ℕ) : Type 0 wher
 abbrev pub IsFresh : List (ℕ × LineId) → ℕ → Type 0
 IsFresh calls next = (j : ℕ) → next ≤ j → line_at calls j ≡ None
 
+-- the line that is stored for a client
+abbrev pub latest_line : List (ℕ × LineId) → ℕ → Option LineId
+latest_line asked c = lookup (nat_eq c) asked
+
+-- all these answers, in order, each under the line that is stored for its client
+abbrev pub latest_text : List (ℕ × LineId) → List Told → List ℕ
+latest_text asked ts = flat_map (λ t. told_line (latest_line asked t.client) t.outcome) ts
+
+-- a client's line is stored, and it is the one that made the call at this place
+abbrev pub IsLineOf : List (ℕ × LineId) → List (ℕ × LineId) → ℕ → ℕ → Type 0
+IsLineOf asked calls c j =
+    (line : LineId) × ((latest_line asked c ≡ Some line) × (line_at calls j ≡ Some line))
+
+-- after these entries the line of each client's latest call is stored, and no call is noted at a
+-- place that comes
+pub record AreLines (asked calls : List (ℕ × LineId)) (entries : List Entry) : Type 0 where
+  pub fresh : IsFresh calls (length entries)
+  pub stored : (c j : ℕ) → latest (history entries) c ≡ Some j → IsLineOf asked calls c j
+
 -- what is noted of an event, once it is accepted
 abbrev pub mark_of : Event → Mark
 mark_of (event.Join p) = Client
-mark_of (event.Call c call) = Call
+mark_of (event.Call c call) = Call c
 mark_of _ = Nothing
 
 -- the clients after a line of this mark
@@ -43,8 +68,14 @@ clients_marked _ who place rows = rows
 
 -- the lines of calls after it
 abbrev pub calls_marked : Mark → LineId → ℕ → List (ℕ × LineId) → List (ℕ × LineId)
-calls_marked Call line place rows = rows ++ (place, line) ∷ []
+calls_marked (Call c) line place rows = rows ++ (place, line) ∷ []
 calls_marked _ line place rows = rows
+
+-- after a call this line is stored for its client; else nothing changes
+abbrev pub IsAsked : Mark → LineId → List (ℕ × LineId) → List (ℕ × LineId) → Type 0
+IsAsked (Call c) line old new =
+    (d : ℕ) → latest_line new d ≡ (if nat_eq c d then Some line else latest_line old d)
+IsAsked _ line old new = new ≡ old
 
 -- the greeting that a line is written for
 abbrev pub greeting_marked : Mark → LineId → List ℕ

@@ -2,13 +2,14 @@ ghost use Rattle.std.specs.Prelude.{◌≡◌, ◌<◌, ◌+◌, ◌^◌, ◌++�
 ghost use Rattle.pt_model.specs.Queries.{answers_behind};
 ghost use Rattle.pt_core.specs.Cores.{shown};
 ghost use Rattle.indexmap.specs.IndexMap.{spare};
-ghost use Rattle.pt_script.specs.Scripts.{lines_of_who, number_of, line_at, told_text};
-ghost use Rattle.pt_script.specs.Engines.{mark_of, clients_marked, calls_marked, greeting_marked};
+ghost use Rattle.pt_script.specs.Scripts.{lines_of_who, number_of};
+ghost use Rattle.pt_script.specs.Engines.{mark_of, clients_marked, calls_marked, greeting_marked, latest_text, IsAsked};
 
 use crate::fault::ScriptFault;
 use crate::line_id::LineId;
 use crate::names::Names;
-use crate::text::{Calls, tell, tell_all};
+use crate::text::{Asked, tell, tell_all};
+use http_server::Log;
 use indexmap::IndexMap;
 use pt_core::Core;
 use pt_lines::{ClientName, Cutter, ScriptBody, ScriptLine, Who, Word};
@@ -17,11 +18,14 @@ use pt_types::{ClientId, Outcome, Priority, Refusal};
 use std::alloc::{Allocator, Global};
 use std::marker::Model;
 
+// The line that made the call at each place. It is for proofs alone and takes no memory.
+type Calls = Log<u64, LineId>;
+
 // What is noted of an event, once it is accepted.
-#[derive(Clone, Copy, Debug, PartialEq, Eq)]
+#[derive(Debug, PartialEq, Eq, Drop)]
 enum Mark {
     Client,
-    Call,
+    Call(ClientId),
     Nothing,
 }
 
@@ -30,7 +34,7 @@ fn mark_of(event: &Event) -> Mark
 {
     match event {
         Event::Join(_) => Mark::Client,
-        Event::Call(_, _) => Mark::Call,
+        Event::Call(client, _) => Mark::Call(*client),
         Event::Death(_) | Event::Moment(_, _) => Mark::Nothing,
     }
 }
@@ -38,24 +42,26 @@ fn mark_of(event: &Event) -> Mark
 // Notes an accepted line, whose entry is at this place.
 fn note<A: Allocator + Copy>(
     names: &mut Names<A>,
-    calls: &mut Calls<A>,
-    mark: Mark,
-    line: LineId,
+    asked: &mut Asked<A>,
+    calls: &mut Calls,
+    mark: &Mark,
+    line: &LineId,
     place: u64,
 )
-    requires room { 0 < spare calls.old }
-    requires fresh { line_at calls.old.entries place ≡ None }
-    requires counted { 0 < lines_of_who names.old.seen line.who }
-    requires first { mark ≡ Mark.Client → number_of names.old.clients line.who ≡ None }
+    requires room { 0 < spare asked.old }
+    requires counted { 0 < lines_of_who names.old.seen line.now.who }
+    requires first { mark.now ≡ Mark.Client → number_of names.old.clients line.now.who ≡ None }
     ensures names { names.new ≡ record names.old {
-      clients = clients_marked mark line.who place names.old.clients;
+      clients = clients_marked mark.now line.now.who place names.old.clients;
     } }
-    ensures calls { calls.new.entries ≡ calls_marked mark line place calls.old.entries }
+    ensures asked { IsAsked mark.now line.now asked.old.entries asked.new.entries }
+    ensures calls { calls.new.items ≡ calls_marked mark.now line.now place calls.old.items }
 {
     match mark {
         Mark::Client => names.join(&line.who, ClientId(place)),
-        Mark::Call => {
-            let _ = calls.insert(place, line).unwrap();
+        Mark::Call(client) => {
+            let _ = asked.insert(client.0, line.copied()).unwrap();
+            *calls = calls.and(&place, line);
         }
         Mark::Nothing => {}
     }
@@ -64,15 +70,15 @@ fn note<A: Allocator + Copy>(
 // An accepted hello is answered 0.
 fn greet<A: Allocator + Copy>(
     out: &mut Vec<u8, A>,
-    mark: Mark,
+    mark: &Mark,
     line: &LineId,
 ) -> Result<(), ScriptFault>
-    ensures ok { OnOk result (out.new.items ≡ out.old.items ++ greeting_marked mark line.now) }
+    ensures ok { OnOk result (out.new.items ≡ out.old.items ++ greeting_marked mark.now line.now) }
     ensures why { IfErr result (λ fault. fault ≡ ScriptFault.Memory) }
 {
     match mark {
         Mark::Client => tell(out, line, Word::Outcome(Outcome::Done)),
-        Mark::Call | Mark::Nothing => Ok(()),
+        Mark::Call(_) | Mark::Nothing => Ok(()),
     }
 }
 
@@ -80,37 +86,39 @@ fn greet<A: Allocator + Copy>(
 fn tell_from<A: Allocator + Copy>(
     out: &mut Vec<u8, A>,
     core: &Core<A>,
-    calls: &Calls<A>,
+    asked: &Asked<A>,
     place: u64,
 ) -> Result<(), ScriptFault>
     ensures ok { OnOk result (out.new.items ≡ out.old.items
-        ++ told_text calls.now.entries
+        ++ latest_text asked.now.entries
         (answers_behind (shown core.now).start place core.now.entries)) }
     ensures why { IfErr result (λ fault. fault ≡ ScriptFault.Memory) }
 {
     match core.answers_from(place) {
-        Ok(replies) => tell_all(out, calls, &replies),
+        Ok(replies) => tell_all(out, asked, &replies),
         Err(_) => Err(ScriptFault::Memory),
     }
 }
 
 /// All clients of a script, the lines that they sent, and the core that these asked.
 ///
-/// Contracts see what is known after the lines so far.
+/// Of each client one line is stored: that of its latest call, since no other can still be answered.
+/// Contracts see what is known after the lines so far, the lines of all calls too.
 #[derive(Drop)]
 pub struct Engine<A: Allocator + Copy = Global> {
     core: Core<A>,
     names: Names<A>,
-    calls: Calls<A>,
+    asked: Asked<A>,
+    calls: Calls,
 }
 
 impl<A: Allocator + Copy> Model for Engine<A> {
-    ghost use Rattle.std.specs.Prelude.{◌≡◌, length};
+    ghost use Rattle.std.specs.Prelude.{◌≡◌};
     ghost use Rattle.pt_types.specs.Limits.{most_entries};
     ghost use Rattle.pt_model.specs.Starts.{nothing};
     ghost use Rattle.pt_core.specs.Cores.{shown};
     ghost use Rattle.pt_script.specs.Scripts.{Script};
-    ghost use Rattle.pt_script.specs.Engines.{IsFresh};
+    ghost use Rattle.pt_script.specs.Engines.{AreLines};
 
     ghost Value = { Script };
 
@@ -118,12 +126,12 @@ impl<A: Allocator + Copy> Model for Engine<A> {
       entries = e.core.entries;
       seen = e.names.seen;
       clients = e.names.clients;
-      calls = e.calls.entries;
+      calls = e.calls.items;
     } };
 
     ghost invariant = { λ e.
         (((shown e.core).start ≡ nothing) × (e.core.limit ≡ most_entries))
-        × IsFresh e.calls.entries (length e.core.entries) };
+        × AreLines e.asked.entries e.calls.items e.core.entries };
 }
 
 impl<A: Allocator + Copy> Engine<A> {
@@ -144,7 +152,8 @@ impl<A: Allocator + Copy> Engine<A> {
             Ok(core) => Ok(Engine {
                 core,
                 names: Names::new(alloc),
-                calls: IndexMap::new(alloc),
+                asked: IndexMap::new(alloc),
+                calls: Log::new(),
             }),
             Err(_) => Err(ScriptFault::Memory),
         }
@@ -227,15 +236,23 @@ impl<A: Allocator + Copy> Engine<A> {
             (Adds (SaysOf self.old event line self.new) out.old.items out.new.items) }
         ensures why { IfErr result (λ fault. fault ≡ ScriptFault.Memory) }
     {
-        if self.calls.reserve(1).is_err() {
+        if self.asked.reserve(1).is_err() {
             return Err(ScriptFault::Memory);
         }
         let mark = mark_of(&event);
         match self.core.apply(event) {
             Ok(applied) => {
-                greet(out, mark, &line)?;
-                note(&mut self.names, &mut self.calls, mark, line, applied.first);
-                tell_from(out, &self.core, &self.calls, applied.first)?;
+                let place = applied.first;
+                note(
+                    &mut self.names,
+                    &mut self.asked,
+                    &mut self.calls,
+                    &mark,
+                    &line,
+                    place,
+                );
+                greet(out, &mark, &line)?;
+                tell_from(out, &self.core, &self.asked, place)?;
                 Ok(())
             }
             Err(refusal) => {

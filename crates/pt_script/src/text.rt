@@ -1,7 +1,7 @@
 ghost use Rattle.std.specs.Prelude.{◌≡◌, ◌<◌, ◌≤◌, ◌+◌, ◌-◌, ◌++◌, length, map, take, vec_len, vec_capacity, IsOk, OnOk, OnErr, IfOk, IfErr, Some};
 ghost use Rattle.pt_lines.specs.Replies.{reply_line};
 ghost use Rattle.pt_core.specs.Replies.{told_of};
-ghost use Rattle.pt_script.specs.Scripts.{told_text};
+ghost use Rattle.pt_script.specs.Engines.{latest_text};
 ghost use Rattle.pt_script.specs.Texts.{BreaksOff, IsBroken, IsCutShort, writing};
 
 use crate::fault::ScriptFault;
@@ -13,8 +13,8 @@ use pt_lines::{Word, write_reply};
 use std::alloc::Allocator;
 use std::hash::{BuildHasherDefault, FoldHasher};
 
-/// The line that made the call at each place.
-pub type Calls<A> = IndexMap<u64, LineId, BuildHasherDefault<FoldHasher>, A>;
+/// The line that made the latest call of each client, by the client's number.
+pub type Asked<A> = IndexMap<u64, LineId, BuildHasherDefault<FoldHasher>, A>;
 
 /// Appends the answer to a line.
 pub fn tell<A: Allocator + Copy>(
@@ -36,19 +36,19 @@ pub fn tell<A: Allocator + Copy>(
     }
 }
 
-/// Appends answers of the core, each under the line that made its call.
-#[tactic(auto, using(crate::proofs::Texts::told_more))]
+/// Appends answers of the core, each under the line that made its client's latest call.
+#[tactic(auto, using(crate::proofs::Texts::latest_more))]
 pub fn tell_all<A: Allocator + Copy>(
     out: &mut Vec<u8, A>,
-    calls: &Calls<A>,
+    asked: &Asked<A>,
     replies: &[Reply],
 ) -> Result<(), ScriptFault>
     ensures ok { OnOk result (out.new.items
-        ≡ out.old.items ++ told_text calls.now.entries (map told_of replies.now)) }
+        ≡ out.old.items ++ latest_text asked.now.entries (map told_of replies.now)) }
     ensures why { IfErr result (λ fault. fault ≡ ScriptFault.Memory) }
 {
     for reply in replies {
-        if let Some(line) = calls.get(&reply.place) {
+        if let Some(line) = asked.get(&reply.client.0) {
             tell(out, line, Word::Outcome(reply.outcome))?;
         }
     }
