@@ -9,6 +9,7 @@ use Rattle.pt_table.specs.ClientRows.{client_value}
 use Rattle.pt_table.specs.declared.objects.ObjectRow.{ObjectRow}
 use Rattle.pt_table.specs.ObjectRows.{object_value}
 use Rattle.pt_table.specs.Linked.{is_linked, IsChain, IsOneOf}
+use Rattle.pt_table.proofs.ChainCallers.{rising-kept}
 use Rattle.pt_model.specs.Found.{passes}
 use Rattle.pt_records.specs.declared.clients.Caller.{Caller}
 use Rattle.pt_records.specs.declared.objects.Object.{Object}
@@ -71,6 +72,8 @@ module _ {A : Type 0} where
       chained-kept = record {
         living = λ c v e. owned-kept v.owned (λ owner. owner == c) (a.living c v e);
         dead = owned-kept orphans (is_gone clients) a.dead;
+        rising = rising-kept old new orphans a.dead.numbers a.dead.chain
+            (chain-stays old new k orphans a.dead.numbers a.dead.chain) a.rising;
         linked = λ m. k.linked m ∙ a.linked m ∙ sym (ap is_some (same m));
       }
 
@@ -151,6 +154,7 @@ module _ {A : Type 0} where
       chained-callers = record {
         living = owned-of;
         dead = owned-by objects orphans (is_gone old) (is_gone new) gone a.dead;
+        rising = a.rising;
         linked = a.linked;
       }
 
@@ -194,7 +198,8 @@ module _ {A : Type 0} where
     -- a client joins that owns nothing
     pub chained-joined : (c : ℕ) (v : Caller) → AddsCaller old new c v → client_value old c ≡ None
         → v.owned ≡ None → AreChained new objects None
-    chained-joined c v w none owned = record { living = living; dead = dead; linked = a.linked }
+    chained-joined c v w none owned =
+        record { living = living; dead = dead; rising = a.rising; linked = a.linked }
       where
         at : (d : ℕ) → nat_eq c d ≡ true → client_value new d ≡ Some v
         at d s = w.look d ∙ ap (λ b. cond b (Some v) (client_value old d)) s

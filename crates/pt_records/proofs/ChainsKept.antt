@@ -1,25 +1,17 @@
 -- Chains of objects, as a row is written, added or taken out.
-use Rattle.std.proofs.Common.{◌≡◌, ◌∙◌, ℕ, Bool, true, false, cond, nat_eq, List, [], ◌∷◌, Option, Some, None, refl, sym, ap, true≢false, inl, inr, arith}
+use Rattle.std.proofs.Common.{◌≡◌, ◌∙◌, ℕ, Bool, true, false, cond, nat_eq, List, Option, Some, None, refl, sym, ap, true≢false, inl, inr, arith}
 use Rattle.std.specs.Option.{option_map}
 use Rattle.std.proofs.lemmas.Bool.Decides.{eqb_tells, nat_tests}
 use Rattle.pt_table.specs.declared.objects.ObjectRow.{ObjectRow}
 use Rattle.pt_table.specs.ObjectRows.{object_at, link_of, with_object, and_object, without_object, out_of_chains}
-use Rattle.pt_table.specs.Linked.{is_linked, linked_by, next_number, IsChain, IsOneOf}
-use Rattle.pt_table.proofs.ChainCallers.{chain-kept, link-valued, link-added, link-removed}
+use Rattle.pt_table.specs.Linked.{is_linked, linked_by, IsChain}
+use Rattle.pt_table.proofs.ChainCallers.{chain-kept, chain-linked, link-valued, link-added, link-removed}
 use Rattle.pt_records.specs.declared.objects.Object.{Object}
 use Rattle.pt_records.specs.Chained.{KeepsChains}
 use Rattle.pt_records.proofs.RowLemmas.{row-without}
 use Rattle.pt_records.proofs.ObjectWrites.{number_in}
 
 module _ {A : Type 0} where
-  -- all rows of a chain are linked
-  pub chain-linked : (objects : List (ObjectRow (Object A))) (head : Option ℕ) (numbers : List ℕ)
-      → IsChain objects head numbers → (m : ℕ) → IsOneOf numbers m → is_linked objects m ≡ true
-  chain-linked objects head [] l m i = absurd i
-  chain-linked objects head (n ∷ ns) l m (inl e) = ap (is_linked objects) e ∙ l.1
-  chain-linked objects head (n ∷ ns) l m (inr i) =
-      chain-linked objects (next_number objects n) ns l.3 m i
-
   -- chains stay where the rows that are in one stay where they are
   pub chain-stays : (old new : List (ObjectRow (Object A))) → KeepsChains old new
       → (head : Option ℕ) (numbers : List ℕ) → IsChain old head numbers

@@ -10,7 +10,7 @@ use Rattle.pt_table.specs.declared.clients.ClientRow.{ClientRow}
 use Rattle.pt_table.specs.ClientRows.{client_at, client_value, has_client}
 use Rattle.pt_table.specs.declared.objects.ObjectRow.{ObjectRow}
 use Rattle.pt_table.specs.ObjectRows.{object_value}
-use Rattle.pt_table.specs.Linked.{unlinked, with_number, but_number, HasChain, IsInChain, IsChain, IsOneOf}
+use Rattle.pt_table.specs.Linked.{unlinked, but_number, HasChain, IsInChain, IsChain, IsOneOf}
 use Rattle.pt_model.specs.Found.{passes}
 use Rattle.pt_records.specs.declared.clients.Caller.{Caller}
 use Rattle.pt_records.specs.declared.objects.Object.{Object}
@@ -121,7 +121,7 @@ module _ {A : Type 0} where
   enters-then : (old mid new : List (ObjectRow (Object A))) (head after : Option ℕ) (m : ℕ)
       → KeepsChains mid new → EntersChain old mid head after m → EntersChain old new head after m
   enters-then old mid new head after m k w = record {
-    chain = λ ns l. chain-stays mid new k after (with_number ns m) (w.chain ns l);
+    chain = λ ns l. chain-stays mid new k after (m ∷ ns) (w.chain ns l);
     others = λ ns l other its o apart.
         chain-stays mid new k other its (w.others ns l other its o apart);
     linked = λ n. k.linked n ∙ w.linked n;

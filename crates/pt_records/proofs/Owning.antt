@@ -1,11 +1,12 @@
 -- A robust mutex comes into the chain of its owner, or goes out of it.
-use Rattle.std.proofs.Common.{◌≡◌, ◌∙◌, ℕ, Bool, true, false, ◌==◌, cond, nat_eq, List, Option, Some, None, is_none, is_some, refl, sym, ap, subst, true≢false, inl, inr, arith}
+use Rattle.std.proofs.Common.{◌≡◌, ◌∙◌, ℕ, Bool, true, false, ◌==◌, cond, nat_eq, List, ◌∷◌, Option, Some, None, is_none, is_some, refl, sym, ap, subst, true≢false, inl, inr, arith}
 use Rattle.std.specs.Option.{option_and_then}
 use Rattle.std.proofs.lemmas.Bool.Decides.{eqb_tells, nat_tests}
 use Rattle.pt_table.specs.declared.clients.ClientRow.{ClientRow}
 use Rattle.pt_table.specs.ClientRows.{client_value, with_client}
 use Rattle.pt_table.specs.declared.objects.ObjectRow.{ObjectRow}
-use Rattle.pt_table.specs.Linked.{is_linked, IsOneOf, with_number, but_number, KeepsOthers, AreApart}
+use Rattle.pt_table.specs.Linked.{is_linked, IsChain, IsRising, but_number, KeepsOthers, AreApart}
+use Rattle.pt_table.proofs.ChainCallers.{rising-kept, rising-left}
 use Rattle.pt_model.specs.Found.{passes}
 use Rattle.pt_records.specs.declared.clients.Caller.{Caller}
 use Rattle.pt_records.specs.declared.objects.Object.{Object}
@@ -13,10 +14,10 @@ use Rattle.pt_records.specs.Chained.{is_gone, robust_owner_at, HasOwned, AreChai
 use Rattle.pt_records.specs.Writes.{WritesCaller}
 use Rattle.pt_records.proofs.CallerWrites.{writes-by}
 use Rattle.pt_records.proofs.Chaining.{passed}
-use Rattle.pt_records.proofs.Listing.{with-own, with-kept, with-either, but-kept, but-listed}
+use Rattle.pt_records.proofs.Listing.{but-kept, but-listed}
 
 -- an owner is one of two clients at most
-two : (k c d : ℕ) → (c ≡ d → ⊥) → (k == c) ≡ true → (k == d) ≡ true → ⊥
+pub two : (k c d : ℕ) → (c ≡ d → ⊥) → (k == c) ≡ true → (k == d) ≡ true → ⊥
 two k c d apart e f = grind (arith, nat_tests)
 
 module _ {A : Type 0} where
@@ -65,25 +66,55 @@ module _ {A : Type 0} where
   Owned old new m owner =
       (p : ℕ) → robust_owner_at new p ≡ cond (nat_eq m p) owner (robust_owner_at old p)
 
+  module _ (old new : List (ObjectRow (Object A))) (head : Option ℕ) (test : ℕ → Bool)
+      (h : HasOwned old head test) where
+    -- a chain of owners that the test refuses has nothing in common with this one
+    others-apart : (other : Option ℕ) (its : ℕ → Bool) (o : HasOwned old other its)
+        → ((k : ℕ) → test k ≡ true → its k ≡ true → ⊥) → AreApart h.numbers o.numbers
+    others-apart other its o differ n i j =
+        let p = passed test (robust_owner_at old n) (h.listed n i) in
+        differ p.0 p.1.1 (sym (ap (passes its) p.1.0) ∙ o.listed n j)
+
+    -- another chain that rises, of owners that the test refuses
+    others-rise : KeepsOthers old new head → (other : Option ℕ) (its : ℕ → Bool)
+        → (o : HasOwned old other its) → ((k : ℕ) → test k ≡ true → its k ≡ true → ⊥)
+        → ((ns : List ℕ) → IsChain old other ns → IsRising ns)
+        → (ns : List ℕ) → IsChain new other ns → IsRising ns
+    others-rise kept other its o differ rise =
+        rising-kept old new other o.numbers o.chain
+        (kept h.numbers h.chain other o.numbers o.chain (others-apart other its o differ)) rise
+
+    -- another chain, of owners that the test refuses
+    pub others : KeepsOthers old new head → (other : Option ℕ) (its : ℕ → Bool)
+        → HasOwned old other its → ((k : ℕ) → test k ≡ true → its k ≡ true → ⊥)
+        → ((p : ℕ) → passes its (robust_owner_at new p) ≡ passes its (robust_owner_at old p))
+        → HasOwned new other its
+    others kept other its o differ owners = record {
+      numbers = o.numbers;
+      chain = kept h.numbers h.chain other o.numbers o.chain (others-apart other its o differ);
+      listed = λ p i. owners p ∙ o.listed p i;
+      whole = λ p e. o.whole p (sym (owners p) ∙ e);
+    }
+
   module _ (old new : List (ObjectRow (Object A))) (head after : Option ℕ) (test : ℕ → Bool)
       (m : ℕ) (h : HasOwned old head test) where
     -- the chain that it comes into
     entered : EntersChain old new head after m → (c : ℕ) → test c ≡ true → Owned old new m (Some c)
         → HasOwned new after test
     entered w c passing owners = record {
-      numbers = with_number h.numbers m;
+      numbers = m ∷ h.numbers;
       chain = w.chain h.numbers h.chain;
       listed = λ p i. ap (passes test) (owners p) ∙ elim (eqb_tells m p) [
         | inl s ↦ rw s.0 passing
-        | inr s ↦ rw s.0 (elim (with-either h.numbers m p i) [
+        | inr s ↦ rw s.0 (elim i [
           | inl e ↦ absurd (s.1 (sym e))
           | inr j ↦ h.listed p j
         ])
       ];
       whole = λ p e. elim (eqb_tells m p) [
-        | inl s ↦ subst (λ q. IsOneOf (with_number h.numbers m) q) s.1 (with-own h.numbers m)
+        | inl s ↦ inl (sym s.1)
         | inr s ↦
-            with-kept h.numbers m p
+            inr
             (h.whole p
             (sym (ap (passes test)
             (owners p ∙ ap (λ b. cond b (Some c) (robust_owner_at old p)) s.0)) ∙ e))
@@ -110,23 +141,6 @@ module _ {A : Type 0} where
             (owners p ∙ ap (λ b. cond b None (robust_owner_at old p)) s.0)) ∙ e))
       ];
     }
-
-    -- another chain, of owners that the test refuses
-    others : KeepsOthers old new head → (other : Option ℕ) (its : ℕ → Bool)
-        → HasOwned old other its → ((k : ℕ) → test k ≡ true → its k ≡ true → ⊥)
-        → ((p : ℕ) → passes its (robust_owner_at new p) ≡ passes its (robust_owner_at old p))
-        → HasOwned new other its
-    others kept other its o differ owners = record {
-      numbers = o.numbers;
-      chain = kept h.numbers h.chain other o.numbers o.chain apart;
-      listed = λ p i. owners p ∙ o.listed p i;
-      whole = λ p e. o.whole p (sym (owners p) ∙ e);
-    }
-      where
-        apart : AreApart h.numbers o.numbers
-        apart n i j =
-            let p = passed test (robust_owner_at old n) (h.listed n i) in
-            differ p.0 p.1.1 (sym (ap (passes its) p.1.0) ∙ o.listed n j)
 
   module _ (clients : List (ClientRow Caller)) (old new : List (ObjectRow (Object A)))
       (orphans : Option ℕ) (a : AreChained clients old orphans) (c m : ℕ) (v : Caller)
@@ -159,9 +173,10 @@ module _ {A : Type 0} where
           → ((d : ℕ) (u : Caller) → (c ≡ d → ⊥) → client_value clients d ≡ Some u
           → HasOwned new u.owned (λ owner. owner == d))
           → HasOwned new orphans (is_gone clients)
+          → ((ns : List ℕ) → IsChain new orphans ns → IsRising ns)
           → ((p : ℕ) → is_linked new p ≡ is_some (robust_owner_at new p))
           → AreChained after new orphans
-      rechained own other dead linked = record {
+      rechained own other dead rising linked = record {
         living = living;
         dead = record {
           numbers = dead.numbers;
@@ -169,6 +184,7 @@ module _ {A : Type 0} where
           listed = λ p i. agree (robust_owner_at new p) ∙ dead.listed p i;
           whole = λ p e. dead.whole p (sym (agree (robust_owner_at new p)) ∙ e);
         };
+        rising = rising;
         linked = linked;
       }
         where
@@ -200,11 +216,13 @@ module _ {A : Type 0} where
       chained-entered none enters owners =
           rechained
           (entered old new v.owned head (λ owner. owner == c) m own enters c (same c) owners)
-          (λ d u apart e. others old new v.owned head (λ owner. owner == c) m own enters.others
+          (λ d u apart e. others old new v.owned (λ owner. owner == c) own enters.others
           u.owned (λ owner. owner == d) (a.living d u e) (λ k. two k c d apart)
           (kept (λ owner. owner == d) (not-other d apart)))
-          (others old new v.owned head (λ owner. owner == c) m own enters.others
+          (others old new v.owned (λ owner. owner == c) own enters.others
           orphans (is_gone clients) a.dead not-dead (kept (is_gone clients) lives))
+          (others-rise old new v.owned (λ owner. owner == c) own enters.others orphans
+          (is_gone clients) a.dead not-dead a.rising)
           linked
         where
           own : HasOwned old v.owned (λ owner. owner == c)
@@ -238,11 +256,13 @@ module _ {A : Type 0} where
       chained-left its_own leaves owners =
           rechained
           (left old new v.owned head (λ owner. owner == c) m own leaves owners)
-          (λ d u apart e. others old new v.owned head (λ owner. owner == c) m own leaves.others
+          (λ d u apart e. others old new v.owned (λ owner. owner == c) own leaves.others
           u.owned (λ owner. owner == d) (a.living d u e) (λ k. two k c d apart)
           (kept (λ owner. owner == d) (not-other d apart)))
-          (others old new v.owned head (λ owner. owner == c) m own leaves.others
+          (others old new v.owned (λ owner. owner == c) own leaves.others
           orphans (is_gone clients) a.dead not-dead (kept (is_gone clients) lives))
+          (others-rise old new v.owned (λ owner. owner == c) own leaves.others orphans
+          (is_gone clients) a.dead not-dead a.rising)
           linked
         where
           own : HasOwned old v.owned (λ owner. owner == c)
@@ -273,9 +293,11 @@ module _ {A : Type 0} where
       → LeavesChain old new orphans after m → Owned old new m None → AreChained clients new after
   chained-yielded clients old new orphans after m d a its_own dead leaves owners = record {
     living = λ c v e.
-        others old new orphans after (is_gone clients) m a.dead leaves.others v.owned
+        others old new orphans (is_gone clients) a.dead leaves.others v.owned
         (λ owner. owner == c) (a.living c v e) (apart c v e) (kept c v e);
     dead = left old new orphans after (is_gone clients) m a.dead leaves owners;
+    rising = rising-left old new orphans after m a.dead.numbers a.dead.chain
+        (leaves.chain a.dead.numbers a.dead.chain) a.rising;
     linked = linked;
   }
     where

@@ -5,8 +5,9 @@ use Rattle.pt_table.specs.declared.objects.ObjectRow.{ObjectRow}
 use Rattle.pt_table.specs.ObjectRows.{object_named, number_of, out_of_chains}
 use Rattle.pt_table.specs.Linked.{unlinked}
 use Rattle.pt_table.proofs.ChainCallers.{same-value}
+use Rattle.pt_model.specs.Histories.{History, place}
 use Rattle.pt_records.specs.declared.objects.Object.{Object}
-use Rattle.pt_records.specs.Objects.{Rising}
+use Rattle.pt_records.specs.Objects.{kind_in_row, Rising, AreObjects}
 use Rattle.pt_records.specs.Writes.{NamesOnce, WritesObject}
 use Rattle.pt_records.proofs.RowLemmas.{length-map}
 use Rattle.pt_records.proofs.ObjectWrites.{number_in, rising-map}
@@ -66,4 +67,17 @@ module _ {A : Type 0} where
       rising = λ k r. w.rising k (same-rising k r);
       many = w.many ∙ same-many;
       once = λ n. w.once (same-once n);
+    }
+
+    -- the rows are those of the objects that exist still
+    pub objects-relinked : (h : History) → AreObjects h old → AreObjects h new
+    objects-relinked h a = record {
+      look = record {
+        kinds = λ o. ap (option_map kind_in_row) (same-value old new e o) ∙ a.look.kinds o;
+        mutexes = λ o m is. a.look.mutexes o m (sym (same-value old new e o) ∙ is);
+        rwlocks = λ o r is. a.look.rwlocks o r (sym (same-value old new e o) ∙ is);
+      };
+      names = λ n. same-names n ∙ a.names n;
+      rising = same-rising (place h) a.rising;
+      many = same-many ∙ a.many;
     }

@@ -1,11 +1,11 @@
 -- Chained: the robust mutexes that a client owns are a chain of rows, and so are those of the dead.
-use Rattle.std.specs.Prelude.{ℕ, ◌≡◌, ◌==◌, ◌&&◌, ◌||◌, Bool, true, false, not, nat_eq, nat_lt, List, map, Option, Some, None, is_none, is_some, if◌then◌else◌}
+use Rattle.std.specs.Prelude.{ℕ, ◌≡◌, ◌==◌, ◌&&◌, ◌||◌, Bool, true, false, not, nat_eq, nat_lt, List, ◌∷◌, map, Option, Some, None, is_none, is_some, if◌then◌else◌}
 use Rattle.std.specs.Option.{option_and_then}
 use Rattle.pt_table.specs.declared.clients.ClientRow.{ClientRow}
 use Rattle.pt_table.specs.ClientRows.{client_value}
 use Rattle.pt_table.specs.declared.objects.ObjectRow.{ObjectRow}
 use Rattle.pt_table.specs.ObjectRows.{object_value, link_of}
-use Rattle.pt_table.specs.Linked.{is_linked, with_number, but_number, IsChain, IsOneOf, KeepsOthers}
+use Rattle.pt_table.specs.Linked.{is_linked, but_number, IsChain, IsOneOf, IsRising, KeepsOthers}
 use Rattle.pt_model.specs.Found.{passes}
 use Rattle.pt_records.specs.declared.clients.Caller.{Caller}
 use Rattle.pt_records.specs.declared.objects.Object.{Object}
@@ -52,7 +52,7 @@ module _ {A : Type 0} where
   pub record EntersChain (old new : List (ObjectRow (Object A))) (head after : Option ℕ) (m : ℕ) :
       Type 0 where
     pub chain : (numbers : List ℕ) → IsChain old head numbers
-        → IsChain new after (with_number numbers m)
+        → IsChain new after (m ∷ numbers)
     pub others : KeepsOthers old new head
     pub linked : (n : ℕ) → is_linked new n ≡ (nat_eq m n || is_linked old n)
 
@@ -73,10 +73,11 @@ module _ {A : Type 0} where
     pub whole : (m : ℕ) → passes test (robust_owner_at objects m) ≡ true → IsOneOf numbers m
 
   -- each living client's row has the head of the chain of the robust mutexes that it owns, and
-  -- those of dead owners have a chain too  [XSH pthread_mutex_lock, EOWNERDEAD]
+  -- those of dead owners have a chain too, in rising order  [XSH pthread_mutex_lock, EOWNERDEAD]
   pub record AreChained (clients : List (ClientRow Caller)) (objects : List (ObjectRow (Object A)))
       (orphans : Option ℕ) : Type 0 where
     pub living : (c : ℕ) (v : Caller) → client_value clients c ≡ Some v
         → HasOwned objects v.owned (λ owner. owner == c)
     pub dead : HasOwned objects orphans (is_gone clients)
+    pub rising : (numbers : List ℕ) → IsChain objects orphans numbers → IsRising numbers
     pub linked : (m : ℕ) → is_linked objects m ≡ is_some (robust_owner_at objects m)

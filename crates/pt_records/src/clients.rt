@@ -70,6 +70,6 @@ pub struct Caller {
     pub open: Option<Open>,
     pub latest: Option<u64>,
     pub answer: Option<Outcome>,
-    /// The lowest number of a robust mutex that it owns: the head of their chain.
+    /// The robust mutex that it got last, of those that it owns: the head of their chain.
     pub owned: Option<u64>,
 }

@@ -1,10 +1,11 @@
 //! Living clients: who lives, with which priority, and what a join and a death change.
 
-ghost use Rattle.std.specs.Prelude.{IfErr, OnErr, OnOk, Some, ◌≡◌, false, unwrap_or};
+ghost use Rattle.std.specs.Prelude.{IfErr, OnErr, OnOk, Some, ℕ, ◌≡◌, false, unwrap_or};
 ghost use Rattle.pt_model.specs.Histories.{place};
 ghost use Rattle.pt_model.specs.Clients.{client, is_alive as is_alive_in, living as living_in};
 ghost use Rattle.pt_state.specs.Reads.{AreTables};
 ghost use Rattle.pt_table.specs.ClientRows.{client_value};
+ghost use Rattle.pt_table.specs.Linked.{is_linked, unlinked, HasChain, IsSortedTo, KeepsOthers};
 ghost use Rattle.pt_records.specs.Callers.{open_in};
 ghost use Rattle.pt_model.specs.Answers.{open_place as open_place_in};
 ghost use Rattle.pt_model.specs.Verdicts.{is_alive_if as is_alive_if_in};
@@ -15,9 +16,37 @@ ghost use Rattle.pt_state.specs.Serving.{owned_in};
 use crate::state::State;
 use pt_model::Entry;
 use pt_records::clients::{admit, dismiss};
-use pt_records::{Caller, Open};
+use pt_records::{Caller, Object, Open};
+use pt_table::{Clients, Objects};
 use pt_types::{ClientId, Priority, Refusal};
 use std::alloc::Allocator;
+
+// The robust mutex that a client got last, of those that it owns.
+fn owned_by<A: Allocator + Copy>(clients: &Clients<Caller, A>, c: ClientId) -> Option<u64>
+    ensures { result ≡ owned_in (client_value clients.now c) }
+{
+    match clients.at(c.0) {
+        Some(caller) => caller.owned,
+        None => None,
+    }
+}
+
+// The robust mutexes that a client owns, put in rising order for the dead.
+fn orphans_of<A: Allocator + Copy>(
+    clients: &Clients<Caller, A>,
+    objects: &mut Objects<Object<A>, A>,
+    c: ClientId,
+) -> Option<u64>
+    requires { HasChain objects.old (owned_in (client_value clients.now c)) }
+    ensures chain { IsSortedTo objects.old objects.new
+        (owned_in (client_value clients.now c)) result }
+    ensures others { KeepsOthers objects.old objects.new (owned_in (client_value clients.now c)) }
+    ensures linked { (n : ℕ) → is_linked objects.new n ≡ is_linked objects.old n }
+    ensures rows { unlinked objects.new ≡ unlinked objects.old }
+{
+    let owned = owned_by(clients, c);
+    objects.sort(owned)
+}
 
 impl<A: Allocator + Copy> State<A> {
     /// Whether a client lives.
@@ -112,23 +141,13 @@ impl<A: Allocator + Copy> State<A> {
         Ok(())
     }
 
-    // The lowest of the robust mutexes that a client owns.
-    fn owned_by(&self, c: ClientId) -> Option<u64>
-        ensures { result ≡ owned_in (client_value self.now.clients c) }
-    {
-        match self.clients.at(c.0) {
-            Some(caller) => caller.owned,
-            None => None,
-        }
-    }
-
     /// A client's process ends, and its row and its open call are gone. The robust mutexes that it
     /// owned have a dead owner from then on.  [XSH pthread_mutex_lock, EOWNERDEAD]
     pub fn push_death(&mut self, c: ClientId)
         requires { IsReadyFor self.old (entry.Death c) }
         ensures { Adds self.old (entry.Death c) self.new }
     {
-        self.orphans = self.owned_by(c);
+        self.orphans = orphans_of(&self.clients, &mut self.objects, c);
         dismiss(&mut self.clients, c.0);
         self.stored.push(Entry::Death(c));
     }

@@ -1,13 +1,14 @@
 -- For callers: chains and rows, as rows are linked, and as they are written, added or taken out.
-use Rattle.std.proofs.Common.{◌≡◌, ◌∙◌, ℕ, Bool, true, false, cond, not, nat_eq, List, [], ◌∷◌, Option, Some, None, is_some, refl, sym, ap, arith, true≢false}
+use Rattle.std.proofs.Common.{◌≡◌, ◌∙◌, ℕ, Bool, true, false, cond, not, nat_eq, List, [], ◌∷◌, Option, Some, None, is_some, refl, sym, ap, subst, arith, true≢false}
 use Rattle.std.specs.Option.{option_map, option_and_then}
 use Rattle.std.proofs.lemmas.Bool.{eqb-true}
 use Rattle.std.proofs.lemmas.Bool.Decides.{nat_tests}
 use Rattle.pt_table.specs.declared.link.Link.{Link}
 use Rattle.pt_table.specs.declared.objects.ObjectRow.{ObjectRow}
 use Rattle.pt_table.specs.ObjectRows.{object_at, object_value, link_of, has_object, with_object, and_object, without_object, out_of_chains}
-use Rattle.pt_table.specs.Linked.{is_linked, next_number, linked_by, unlinked, IsChain, IsOneOf}
-use Rattle.pt_table.proofs.Chained.{all-linked, Leads-agree}
+use Rattle.pt_table.specs.Linked.{is_linked, next_number, number_before, linked_by, unlinked, but_number, IsChain, IsOneOf, IsRising}
+use Rattle.pt_table.proofs.Members.{rising-but}
+use Rattle.pt_table.proofs.Chained.{same-list, all-linked, Leads-agree}
 
 module _ {T : Type 0} where
   abbrev bare : ObjectRow T → ObjectRow T
@@ -57,14 +58,46 @@ module _ {T : Type 0} where
   same-value old new e n =
       sym (bare-value new n) ∙ ap (λ rows. object_value rows n) e ∙ bare-value old n
 
+  -- all rows of a chain are linked
+  pub chain-linked : (rows : List (ObjectRow T)) (head : Option ℕ) (numbers : List ℕ)
+      → IsChain rows head numbers → (m : ℕ) → IsOneOf numbers m → is_linked rows m ≡ true
+  chain-linked rows head numbers l m i =
+      all-linked (next_number rows) (number_before rows) (is_linked rows) None head numbers l m i
+
+  -- a head has one chain, which rises if these numbers of it do
+  pub rising-each : (rows : List (ObjectRow T)) (head : Option ℕ) (ns : List ℕ)
+      → IsChain rows head ns → IsRising ns
+      → (ms : List ℕ) → IsChain rows head ms → IsRising ms
+  rising-each rows head ns is rising ms l =
+      subst IsRising
+      (same-list (next_number rows) (number_before rows) (is_linked rows) None head ns ms is l)
+      rising
+
+  -- a chain that rises still does if it stays
+  pub rising-kept : (old new : List (ObjectRow T)) (head : Option ℕ) (ns : List ℕ)
+      → IsChain old head ns → IsChain new head ns
+      → ((ms : List ℕ) → IsChain old head ms → IsRising ms)
+      → (ms : List ℕ) → IsChain new head ms → IsRising ms
+  rising-kept old new head ns was is rise = rising-each new head ns is (rise ns was)
+
+  -- so does one without a number of it
+  pub rising-left : (old new : List (ObjectRow T)) (head after : Option ℕ) (m : ℕ) (ns : List ℕ)
+      → IsChain old head ns → IsChain new after (but_number ns m)
+      → ((ms : List ℕ) → IsChain old head ms → IsRising ms)
+      → (ms : List ℕ) → IsChain new after ms → IsRising ms
+  rising-left old new head after m ns was is rise =
+      rising-each new after (but_number ns m) is (rising-but m ns (rise ns was))
+
   -- a chain stays if its rows' links do
   pub chain-kept : (old new : List (ObjectRow T)) (h : Option ℕ) (ns : List ℕ)
       → ((m : ℕ) → IsOneOf ns m → link_of new m ≡ link_of old m) → IsChain old h ns
       → IsChain new h ns
   chain-kept old new h ns kept l =
-      Leads-agree (next_number old) (is_linked old) (next_number new) (is_linked new) h ns
+      Leads-agree (next_number old) (number_before old) (is_linked old) (next_number new)
+      (number_before new) (is_linked new) None h ns
       (λ m i. (
         ap (option_and_then (λ (link : Link). link.next)) (kept m i),
+        ap (option_and_then (λ (link : Link). link.before)) (kept m i),
         ap linked_by (kept m i),
       )) l
 
@@ -156,7 +189,8 @@ module _ {T : Type 0} where
       go : (b : Bool) → nat_eq m n ≡ b → b ≡ false
       go false e = refl
       go true e =
-          let linked = all-linked (next_number rows) (is_linked rows) h ns l m i in
+          let linked =
+          all-linked (next_number rows) (number_before rows) (is_linked rows) None h ns l m i in
           absurd (true≢false (sym linked ∙ ap (is_linked rows) (eqb-true m n e) ∙ free))
 
   pub chain-added : (rows : List (ObjectRow T)) (n : ℕ) (name : List ℕ) (value : T)

@@ -1,126 +1,72 @@
--- A number put into a chain: what leads to what before, and then.
-use Rattle.std.proofs.Common.{◌≡◌, ◌<◌, ◌≤◌, ◌∙◌, ℕ, Bool, true, false, cond, nat_eq, List, [], ◌∷◌, Option, Some, refl, sym, ap, subst, inl, inr, arith}
-use Rattle.std.specs.List.{AllByRecursion as Each}
-use Rattle.pt_table.specs.Linked.{IsOneOf, with_number, Leads}
-use Rattle.pt_table.proofs.Chained.{differs, same, less, more, Each-one, with-first, with-later, Each-with, all-above, Leads-agree, not-listed}
+-- A number put first in a chain: what leads to what before, and then.
+use Rattle.std.proofs.Common.{◌≡◌, ◌∙◌, ℕ, Bool, true, false, cond, nat_eq, List, ◌∷◌, Option, Some, None, refl, sym, ap, subst}
+use Rattle.pt_table.specs.Linked.{IsOneOf, AreApart, is_number, Leads}
+use Rattle.pt_table.proofs.Chained.{differs, same, other, own, head-listed, all-linked, not-listed, Agrees, Leads-agree, Leads-under}
 
-module _ (nx : ℕ → Option ℕ) (lk : ℕ → Bool) (nx' : ℕ → Option ℕ) (lk' : ℕ → Bool) where
-  module _ (number : ℕ) (free : lk number ≡ false)
-      (hl : (n : ℕ) → lk' n ≡ cond (nat_eq number n) true (lk n)) where
-    linked-now : lk' number ≡ true
-    linked-now = hl number ∙ ap (λ b. cond b true (lk number)) (same number)
+-- the head of a chain is linked, whichever row is linked beside it
+pub head-linked : (nx bf : ℕ → Option ℕ) (lk : ℕ → Bool) (number : ℕ) (h : Option ℕ)
+    (ns : List ℕ) → Leads nx bf lk None h ns → (n : ℕ) → h ≡ Some n
+    → cond (nat_eq number n) true (lk n) ≡ true
+head-linked nx bf lk number h ns l n e =
+    go (nat_eq number n) (all-linked nx bf lk None h ns l n (head-listed nx bf lk None h ns l n e))
+  where
+    go : (b : Bool) → lk n ≡ true → cond b true (lk n) ≡ true
+    go true t = refl
+    go false t = t
 
-    linked-still : (n : ℕ) → (number ≡ n → ⊥) → lk' n ≡ lk n
-    linked-still n apart = hl n ∙ ap (λ b. cond b true (lk n)) (differs number n apart)
+module _ (nx bf : ℕ → Option ℕ) (lk : ℕ → Bool) (nx' bf' : ℕ → Option ℕ) (lk' : ℕ → Bool)
+    (number : ℕ) (free : lk number ≡ false) (h : Option ℕ)
+    (hl : (n : ℕ) → lk' n ≡ cond (nat_eq number n) true (lk n))
+    (hn : (n : ℕ) → nx' n ≡ cond (nat_eq number n) h (nx n))
+    (hb : (n : ℕ) → bf' n
+    ≡ cond (is_number h n) (Some number) (cond (nat_eq number n) None (bf n))) where
+  linked-still : (n : ℕ) → (number ≡ n → ⊥) → lk' n ≡ lk n
+  linked-still n apart = hl n ∙ ap (λ b. cond b true (lk n)) (differs number n apart)
 
-    -- a number is put before all
-    pub put-first : (h : Option ℕ) (hn : (n : ℕ) → nx' n ≡ cond (nat_eq number n) h (nx n))
-        (ns : List ℕ) → Leads nx lk h ns → Each (λ m. number < m) ns
-        → Leads nx' lk' (Some number) (with_number ns number)
-    put-first h hn ns l least =
-        subst (Leads nx' lk' (Some number)) (sym (with-first number ns least)) (
-          refl,
-          linked-now,
-          least,
-          subst (λ x. Leads nx' lk' x ns)
-              (sym (hn number ∙ ap (λ b. cond b h (nx number)) (same number)))
-              (Leads-agree nx lk nx' lk' h ns others l),
-        )
-      where
-        others : (m : ℕ) → IsOneOf ns m → (nx' m ≡ nx m) × (lk' m ≡ lk m)
-        others m i =
-            let apart = not-listed nx lk number free h ns l m i in
-            (hn m ∙ ap (λ b. cond b h (nx m)) (differs number m apart), linked-still m apart)
+  next-still : (n : ℕ) → (number ≡ n → ⊥) → nx' n ≡ nx n
+  next-still n apart = hn n ∙ ap (λ b. cond b h (nx n)) (differs number n apart)
 
-    pub keeps-first : (first : Option ℕ)
-        (hn : (n : ℕ) → nx' n ≡ cond (nat_eq number n) first (nx n))
-        (h : Option ℕ) (ns : List ℕ) → Leads nx lk h ns → Leads nx' lk' h ns
-    keeps-first first hn h ns l =
-        Leads-agree nx lk nx' lk' h ns (λ m i. (
-          hn m ∙ ap (λ b. cond b first (nx m))
-              (differs number m (not-listed nx lk number free h ns l m i)),
-          linked-still m (not-listed nx lk number free h ns l m i),
-        )) l
+  before-still : (n : ℕ) → (number ≡ n → ⊥) → (h ≡ Some n → ⊥) → bf' n ≡ bf n
+  before-still n apart off =
+      hb n
+      ∙ ap (λ b. cond b (Some number) (cond (nat_eq number n) None (bf n))) (other h n off)
+      ∙ ap (λ b. cond b None (bf n)) (differs number n apart)
 
-    -- a number is put after the last one below it
-    module _ (at : ℕ) (lt : at < number) (last : (m : ℕ) → nx at ≡ Some m → number ≤ m)
-        (hn : (n : ℕ)
-        → nx' n ≡ cond (nat_eq at n) (Some number) (cond (nat_eq number n) (nx at) (nx n))) where
-      next-still : (n : ℕ) → (at ≡ n → ⊥) → (number ≡ n → ⊥) → nx' n ≡ nx n
-      next-still n a b =
-          hn n
-          ∙ ap (λ t. cond t (Some number) (cond (nat_eq number n) (nx at) (nx n))) (differs at n a)
-          ∙ ap (λ t. cond t (nx at) (nx n)) (differs number n b)
+  agrees : (n : ℕ) → (number ≡ n → ⊥) → (h ≡ Some n → ⊥) → Agrees nx bf lk nx' bf' lk' n
+  agrees n apart off = (next-still n apart, before-still n apart off, linked-still n apart)
 
-      next-at : nx' at ≡ Some number
-      next-at =
-          hn at
-          ∙ ap (λ t. cond t (Some number) (cond (nat_eq number at) (nx at) (nx at))) (same at)
+  -- the chain of the head follows the number
+  pub put-first : (ns : List ℕ) → Leads nx bf lk None h ns
+      → Leads nx' bf' lk' None (Some number) (number ∷ ns)
+  put-first ns l = (
+    refl,
+    hl number ∙ ap (λ b. cond b true (lk number)) (same number),
+    hb number
+        ∙ ap (λ b. cond b (Some number) (cond (nat_eq number number) None (bf number)))
+        (other h number not-head)
+        ∙ ap (λ b. cond b None (bf number)) (same number),
+    λ i. out number i refl,
+    subst (λ x. Leads nx' bf' lk' (Some number) x ns)
+        (sym (hn number ∙ ap (λ b. cond b h (nx number)) (same number)))
+        (Leads-under nx bf lk nx' bf' lk' None (Some number) h ns
+        (λ m i off. agrees m (out m i) off)
+        (λ m e. (
+          next-still m (out m (head-listed nx bf lk None h ns l m e)),
+          hb m ∙ ap (λ b. cond b (Some number) (cond (nat_eq number m) None (bf m))) (own h m e),
+          linked-still m (out m (head-listed nx bf lk None h ns l m e)),
+        )) l),
+  )
+    where
+      out : (m : ℕ) → IsOneOf ns m → number ≡ m → ⊥
+      out m i = not-listed nx bf lk number free None h ns l m i
 
-      next-of : nx' number ≡ nx at
-      next-of =
-          hn number
-          ∙ ap (λ t. cond t (Some number) (cond (nat_eq number number) (nx at) (nx number)))
-          (differs at number (less at number lt))
-          ∙ ap (λ t. cond t (nx at) (nx number)) (same number)
+      not-head : h ≡ Some number → ⊥
+      not-head e = out number (head-listed nx bf lk None h ns l number e) refl
 
-      here : (n : ℕ) (ns : List ℕ) → at ≡ n → Each (λ m. n < m) ns → Leads nx lk (nx n) ns
-          → Leads nx' lk' (nx' n) (with_number ns number)
-      here n ns s rising l =
-          let least = all-above nx lk number free (nx n) ns l (λ m e. last m (ap nx s ∙ e)) in
-          subst (Leads nx' lk' (nx' n)) (sym (with-first number ns least)) (
-            ap nx' (sym s) ∙ next-at,
-            linked-now,
-            least,
-            subst (λ x. Leads nx' lk' x ns) (sym (next-of ∙ ap nx s))
-                (Leads-agree nx lk nx' lk' (nx n) ns others l),
-          )
-        where
-          others : (m : ℕ) → IsOneOf ns m → (nx' m ≡ nx m) × (lk' m ≡ lk m)
-          others m i =
-              let apart = not-listed nx lk number free (nx n) ns l m i in
-              let later : n < m = Each-one (λ x. n < x) ns rising m i in (
-                next-still m (λ e. less n m later (sym s ∙ e)) apart,
-                linked-still m apart,
-              )
-
-      pub put-after : (h : Option ℕ) (ns : List ℕ) → Leads nx lk h ns → IsOneOf ns at
-          → Leads nx' lk' h (with_number ns number)
-      put-after h [] l i = absurd i
-      put-after h (n ∷ ns) l i =
-          subst (Leads nx' lk' h) (sym (with-later number n ns below)) (
-            l.0,
-            linked-still n (more number n below) ∙ l.1,
-            Each-with n number ns below l.2,
-            rest (λ j. put-after (nx n) ns l.3 j) i,
-          )
-        where
-          within : IsOneOf (n ∷ ns) at → n ≤ at
-          within (inl s) = omega (arith, s)
-          within (inr j) =
-              let first : n < at = Each-one (λ x. n < x) ns l.2 at j in
-              omega (arith, first)
-
-          below : n < number
-          below =
-              let le : n ≤ at = within i in
-              omega (arith, le, lt)
-
-          rest : (IsOneOf ns at → Leads nx' lk' (nx n) (with_number ns number))
-              → IsOneOf (n ∷ ns) at → Leads nx' lk' (nx' n) (with_number ns number)
-          rest ih (inl s) = here n ns s l.2 l.3
-          rest ih (inr j) =
-              let first : n < at = Each-one (λ x. n < x) ns l.2 at j in
-              subst (λ x. Leads nx' lk' x (with_number ns number))
-              (sym (next-still n (more at n first) (more number n below)))
-              (ih j)
-
-      -- the chains that the number before is not in stay
-      pub keeps-after : (h : Option ℕ) (ns : List ℕ) → Leads nx lk h ns → (IsOneOf ns at → ⊥)
-          → Leads nx' lk' h ns
-      keeps-after h ns l out =
-          Leads-agree nx lk nx' lk' h ns (λ m i. (
-            next-still m (λ e. out (subst (IsOneOf ns) (sym e) i))
-                (not-listed nx lk number free h ns l m i),
-            linked-still m (not-listed nx lk number free h ns l m i),
-          )) l
+  -- a chain apart from that one stays
+  pub keeps-first : (ns : List ℕ) → Leads nx bf lk None h ns → (o : Option ℕ) (os : List ℕ)
+      → Leads nx bf lk None o os → AreApart ns os → Leads nx' bf' lk' None o os
+  keeps-first ns l o os m apart =
+      Leads-agree nx bf lk nx' bf' lk' None o os
+      (λ k i. agrees k (not-listed nx bf lk number free None o os m k i)
+      (λ e. apart k (head-listed nx bf lk None h ns l k e) i)) m

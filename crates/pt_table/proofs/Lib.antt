@@ -18,11 +18,19 @@ mod Chained
 mod Places
 -- Carried: the first entry, carried past blocks of entries to the end
 mod Carried
--- Entered: a number put into a chain
+-- Entered: a number put first in a chain
 mod Entered
 -- Taken: a number taken out of a chain
 mod Taken
--- Walked: walks along a chain, up to a bound
-mod Walked
+-- Counted: how long a chain is
+mod Counted
+-- Members: the numbers of a list, of two lists, and of one in another order
+mod Members
+-- Drained: a chain whose rows are taken out one by one
+mod Drained
+-- Gathered: a chain that is made of numbers, the last one first
+mod Gathered
+-- Sorted: a chain whose numbers are taken apart, sorted, and linked again
+mod Sorted
 -- ChainCallers: for callers: chains and rows as rows are linked, written, added or taken out
 pub mod ChainCallers

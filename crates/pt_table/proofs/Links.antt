@@ -6,7 +6,7 @@ use Rattle.std.proofs.lemmas.Bool.Decides.{nat_tests}
 use Rattle.pt_table.specs.declared.link.Link.{Link}
 use Rattle.pt_table.specs.declared.objects.ObjectRow.{ObjectRow}
 use Rattle.pt_table.specs.ObjectRows.{object_at, link_of, has_object, with_link, out_of_chains}
-use Rattle.pt_table.specs.Linked.{is_linked, next_number, linked_by, unlinked}
+use Rattle.pt_table.specs.Linked.{is_linked, next_number, number_before, linked_by, unlinked}
 
 module _ {T : Type 0} where
   -- the row that is found has the number
@@ -84,6 +84,19 @@ module _ {T : Type 0} where
       go true = refl
       go false = refl
 
+  pub before-written : (rows : List (ObjectRow T)) (n : ℕ) (link : Link)
+      → has_object rows n ≡ true → (m : ℕ) → number_before (with_link rows n link) m
+      ≡ cond (nat_eq n m) link.before (number_before rows m)
+  before-written rows n link has m =
+      ap (option_and_then (λ (l : Link). l.before)) (link-written rows n link has m)
+      ∙ go (nat_eq n m)
+    where
+      go : (b : Bool)
+          → option_and_then (λ (l : Link). l.before) (cond b (Some link) (link_of rows m))
+          ≡ cond b link.before (number_before rows m)
+      go true = refl
+      go false = refl
+
   pub linked-written : (rows : List (ObjectRow T)) (n : ℕ) (link : Link)
       → has_object rows n ≡ true → (m : ℕ) → is_linked (with_link rows n link) m
       ≡ cond (nat_eq n m) link.linked (is_linked rows m)
@@ -132,15 +145,13 @@ module _ {T : Type 0} where
       → link.next ≡ next_number rows n
   next-found rows n link e = sym (ap (option_and_then (λ (l : Link). l.next)) e)
 
+  pub before-found : (rows : List (ObjectRow T)) (n : ℕ) (link : Link)
+      → link_of rows n ≡ Some link → link.before ≡ number_before rows n
+  before-found rows n link e = sym (ap (option_and_then (λ (l : Link). l.before)) e)
+
   pub linked-found : (rows : List (ObjectRow T)) (n : ℕ) (link : Link) → link_of rows n ≡ Some link
       → link.linked ≡ is_linked rows n
   linked-found rows n link e = sym (ap linked_by e)
-
-  -- who has a row has one after a link is written
-  pub has-second : (rows one : List (ObjectRow T)) (n m : ℕ) (link : Link)
-      → has_object rows m ≡ true → one ≡ with_link rows n link → has_object one m ≡ true
-  has-second rows one n m link has to_one =
-      ap (λ rs. has_object rs m) to_one ∙ has-written rows n link m ∙ has
 
   -- one link is written
   module _ (rows one : List (ObjectRow T)) (n : ℕ) (link : Link)
@@ -148,49 +159,21 @@ module _ {T : Type 0} where
     pub next-once : (k : ℕ) → next_number one k ≡ cond (nat_eq n k) link.next (next_number rows k)
     next-once k = ap (λ rs. next_number rs k) to_one ∙ next-written rows n link has k
 
+    pub before-once : (k : ℕ)
+        → number_before one k ≡ cond (nat_eq n k) link.before (number_before rows k)
+    before-once k = ap (λ rs. number_before rs k) to_one ∙ before-written rows n link has k
+
     pub linked-once : (k : ℕ) → is_linked one k ≡ cond (nat_eq n k) link.linked (is_linked rows k)
     linked-once k = ap (λ rs. is_linked rs k) to_one ∙ linked-written rows n link has k
 
     pub unlinked-once : unlinked one ≡ unlinked rows
     unlinked-once = ap unlinked to_one ∙ unlinked-written rows n link
 
-  -- and then another one
-  module _ (rows one two : List (ObjectRow T)) (n m : ℕ) (first second : Link)
-      (has : has_object rows n ≡ true) (too : has_object rows m ≡ true)
-      (to_one : one ≡ with_link rows n first) (to_two : two ≡ with_link one m second) where
-    pub next-twice : (k : ℕ) → next_number two k
-        ≡ cond (nat_eq m k) second.next (cond (nat_eq n k) first.next (next_number rows k))
-    next-twice k =
-        next-once one two m second (has-second rows one n m first too to_one) to_two k
-        ∙ ap (λ x. cond (nat_eq m k) second.next x) (next-once rows one n first has to_one k)
-
-    pub linked-twice : (k : ℕ) → is_linked two k
-        ≡ cond (nat_eq m k) second.linked (cond (nat_eq n k) first.linked (is_linked rows k))
-    linked-twice k =
-        linked-once one two m second (has-second rows one n m first too to_one) to_two k
-        ∙ ap (λ x. cond (nat_eq m k) second.linked x) (linked-once rows one n first has to_one k)
-
-    pub unlinked-twice : unlinked two ≡ unlinked rows
-    unlinked-twice =
-        unlinked-once one two m second (has-second rows one n m first too to_one) to_two
-        ∙ unlinked-once rows one n first has to_one
-
--- what is true at a number stays what it is if that is written there
-pub written-true : (n k : ℕ) (linked : ℕ → Bool) → linked n ≡ true → (b : Bool) → b ≡ true
-    → cond (nat_eq n k) b (linked k) ≡ linked k
-written-true n k linked e b t = go (nat_eq n k) refl
+-- what is written at a number as it was leaves all as it was
+pub written-same : {X : Type 0} (f : ℕ → X) (n : ℕ) (x : X) → x ≡ f n → (k : ℕ)
+    → cond (nat_eq n k) x (f k) ≡ f k
+written-same f n x e k = go (nat_eq n k) refl
   where
-    go : (c : Bool) → nat_eq n k ≡ c → cond c b (linked k) ≡ linked k
-    go true s = t ∙ sym (ap linked (sym (eqb-true n k s)) ∙ e)
+    go : (b : Bool) → nat_eq n k ≡ b → cond b x (f k) ≡ f k
+    go true s = e ∙ ap f (eqb-true n k s)
     go false s = refl
-
-pub written-later : (n m k : ℕ) (linked : ℕ → Bool) → linked n ≡ true
-    → cond (nat_eq n k) true (cond (nat_eq m k) true (linked k))
-    ≡ cond (nat_eq m k) true (linked k)
-written-later n m k linked e = go (nat_eq n k) refl (nat_eq m k)
-  where
-    go : (c : Bool) → nat_eq n k ≡ c → (d : Bool)
-        → cond c true (cond d true (linked k)) ≡ cond d true (linked k)
-    go true s true = refl
-    go true s false = sym (ap linked (sym (eqb-true n k s)) ∙ e)
-    go false s d = refl

@@ -1,112 +1,129 @@
 -- A number taken out of a chain: what leads to what before, and then.
-use Rattle.std.proofs.Common.{◌≡◌, ◌<◌, ◌≤◌, ◌∙◌, ℕ, Bool, false, cond, nat_eq, List, [], ◌∷◌, Option, Some, None, sym, ap, subst, inl, inr, arith}
-use Rattle.std.specs.List.{AllByRecursion as Each}
-use Rattle.pt_table.specs.Linked.{IsOneOf, but_number, Leads}
+use Rattle.std.proofs.Common.{◌≡◌, ◌∙◌, ℕ, Bool, false, cond, nat_eq, List, [], ◌∷◌, Option, Some, None, sym, ap, subst, inl, inr}
+use Rattle.pt_table.specs.Linked.{IsOneOf, AreApart, but_number, is_number, Leads}
 use Rattle.pt_table.proofs.Lookups.{some_inj, none_some}
-use Rattle.pt_table.proofs.Chained.{differs, same, less, more, Each-one, but-other, but-first, Each-but, Leads-agree}
+use Rattle.pt_table.proofs.Chained.{differs, other, own, but-other, but-first, but-there, head-listed, next-listed, before-listed, Agrees, Leads-agree, Leads-under}
 
-module _ (nx : ℕ → Option ℕ) (lk : ℕ → Bool) (nx' : ℕ → Option ℕ) (lk' : ℕ → Bool) where
-  module _ (number : ℕ) (hl : (n : ℕ) → lk' n ≡ cond (nat_eq number n) false (lk n)) where
-    linked-yet : (n : ℕ) → (number ≡ n → ⊥) → lk' n ≡ lk n
-    linked-yet n apart = hl n ∙ ap (λ b. cond b false (lk n)) (differs number n apart)
+module _ (nx bf : ℕ → Option ℕ) (lk : ℕ → Bool) (nx' bf' : ℕ → Option ℕ) (lk' : ℕ → Bool)
+    (number : ℕ)
+    (hl : (n : ℕ) → lk' n ≡ cond (nat_eq number n) false (lk n))
+    (hn : (n : ℕ) → nx' n
+    ≡ cond (nat_eq number n) None (cond (is_number (bf number) n) (nx number) (nx n)))
+    (hb : (n : ℕ) → bf' n
+    ≡ cond (nat_eq number n) None (cond (is_number (nx number) n) (bf number) (bf n))) where
+  linked-yet : (n : ℕ) → (number ≡ n → ⊥) → lk' n ≡ lk n
+  linked-yet n apart = hl n ∙ ap (λ b. cond b false (lk n)) (differs number n apart)
 
-    -- the first number is taken out
-    pub take-first : (hn : (n : ℕ) → nx' n ≡ cond (nat_eq number n) None (nx n)) (ns : List ℕ)
-        → Leads nx lk (Some number) ns → Leads nx' lk' (nx number) (but_number ns number)
-    take-first hn [] l = absurd (none_some (sym l))
-    take-first hn (g ∷ gs) l =
-        subst (Leads nx' lk' (nx number)) (sym (but-first number g gs own l.2))
-        (Leads-agree nx lk nx' lk' (nx number) gs others
-        (subst (λ x. Leads nx lk (nx x) gs) (sym own) l.3))
-      where
-        own : number ≡ g
-        own = some_inj l.0
+  next-yet : (n : ℕ) → (number ≡ n → ⊥) → (bf number ≡ Some n → ⊥) → nx' n ≡ nx n
+  next-yet n apart off =
+      hn n
+      ∙ ap (λ b. cond b None (cond (is_number (bf number) n) (nx number) (nx n)))
+      (differs number n apart)
+      ∙ ap (λ b. cond b (nx number) (nx n)) (other (bf number) n off)
 
-        others : (m : ℕ) → IsOneOf gs m → (nx' m ≡ nx m) × (lk' m ≡ lk m)
-        others m i =
-            let later : g < m = Each-one (λ x. g < x) gs l.2 m i in
-            let apart : number ≡ m → ⊥ = λ e. less g m later (sym own ∙ e) in
-            (hn m ∙ ap (λ b. cond b None (nx m)) (differs number m apart), linked-yet m apart)
+  next-past : (n : ℕ) → (number ≡ n → ⊥) → bf number ≡ Some n → nx' n ≡ nx number
+  next-past n apart e =
+      hn n
+      ∙ ap (λ b. cond b None (cond (is_number (bf number) n) (nx number) (nx n)))
+      (differs number n apart)
+      ∙ ap (λ b. cond b (nx number) (nx n)) (own (bf number) n e)
 
-    pub keeps-out : (hn : (n : ℕ) → nx' n ≡ cond (nat_eq number n) None (nx n)) (h : Option ℕ)
-        (ns : List ℕ) → Leads nx lk h ns → (IsOneOf ns number → ⊥) → Leads nx' lk' h ns
-    keeps-out hn h ns l out =
-        Leads-agree nx lk nx' lk' h ns (λ m i.
-        let apart : number ≡ m → ⊥ = λ e. out (subst (IsOneOf ns) (sym e) i) in
-        (hn m ∙ ap (λ b. cond b None (nx m)) (differs number m apart), linked-yet m apart)) l
+  before-yet : (n : ℕ) → (number ≡ n → ⊥) → (nx number ≡ Some n → ⊥) → bf' n ≡ bf n
+  before-yet n apart off =
+      hb n
+      ∙ ap (λ b. cond b None (cond (is_number (nx number) n) (bf number) (bf n)))
+      (differs number n apart)
+      ∙ ap (λ b. cond b (bf number) (bf n)) (other (nx number) n off)
 
-    -- a number is taken out that another one leads to
-    module _ (at : ℕ) (lt : at < number) (leads : nx at ≡ Some number)
-        (hn : (n : ℕ)
-        → nx' n ≡ cond (nat_eq number n) None (cond (nat_eq at n) (nx number) (nx n))) where
-      next-yet : (n : ℕ) → (at ≡ n → ⊥) → (number ≡ n → ⊥) → nx' n ≡ nx n
-      next-yet n a b =
-          hn n
-          ∙ ap (λ t. cond t None (cond (nat_eq at n) (nx number) (nx n))) (differs number n b)
-          ∙ ap (λ t. cond t (nx number) (nx n)) (differs at n a)
+  before-past : (n : ℕ) → (number ≡ n → ⊥) → nx number ≡ Some n → bf' n ≡ bf number
+  before-past n apart e =
+      hb n
+      ∙ ap (λ b. cond b None (cond (is_number (nx number) n) (bf number) (bf n)))
+      (differs number n apart)
+      ∙ ap (λ b. cond b (bf number) (bf n)) (own (nx number) n e)
 
-      next-past : nx' at ≡ nx number
-      next-past =
-          hn at
-          ∙ ap (λ t. cond t None (cond (nat_eq at at) (nx number) (nx at)))
-          (differs number at (more number at lt))
-          ∙ ap (λ t. cond t (nx number) (nx at)) (same at)
+  agrees : (n : ℕ) → (number ≡ n → ⊥) → (bf number ≡ Some n → ⊥) → (nx number ≡ Some n → ⊥)
+      → Agrees nx bf lk nx' bf' lk' n
+  agrees n apart off past = (next-yet n apart off, before-yet n apart past, linked-yet n apart)
 
-      past : (n : ℕ) (ns : List ℕ) → at ≡ n → Each (λ m. n < m) ns → Leads nx lk (nx n) ns
-          → Leads nx' lk' (nx' n) (but_number ns number)
-      past n [] s rising l = absurd (none_some (sym l ∙ ap nx (sym s) ∙ leads))
-      past n (g ∷ gs) s rising l =
-          subst (Leads nx' lk' (nx' n)) (sym (but-first number g gs own l.2))
-          (subst (λ x. Leads nx' lk' x gs) (sym (ap nx' (sym s) ∙ next-past ∙ ap nx own))
-          (Leads-agree nx lk nx' lk' (nx g) gs others l.3))
-        where
-          own : number ≡ g
-          own = some_inj (sym leads ∙ ap nx s ∙ l.0)
+  -- the head of what is left
+  abbrev pub left_head : Option ℕ → Option ℕ
+  left_head h = cond (is_number h number) (nx number) h
 
-          others : (m : ℕ) → IsOneOf gs m → (nx' m ≡ nx m) × (lk' m ≡ lk m)
-          others m i =
-              let later : g < m = Each-one (λ x. g < x) gs l.2 m i in
-              let apart : number ≡ m → ⊥ = λ e. less g m later (sym own ∙ e) in
-              let first : n < m = Each-one (λ x. n < x) gs rising.1 m i in
-              (next-yet m (λ e. less n m first (sym s ∙ e)) apart, linked-yet m apart)
+  -- the first number is taken out
+  first-out : (p : Option ℕ) (ns : List ℕ) → bf number ≡ p → (IsOneOf ns number → ⊥)
+      → ((k : ℕ) → p ≡ Some k → IsOneOf ns k → ⊥) → Leads nx bf lk (Some number) (nx number) ns
+      → Leads nx' bf' lk' p (nx number) ns
+  first-out p ns is out off l =
+      Leads-under nx bf lk nx' bf' lk' (Some number) p (nx number) ns
+      (λ m i past. agrees m (apart m i) (away m i) past)
+      (λ m e.
+      let i = head-listed nx bf lk (Some number) (nx number) ns l m e in
+      (next-yet m (apart m i) (away m i), before-past m (apart m i) e ∙ is, linked-yet m (apart m i)))
+      l
+    where
+      apart : (m : ℕ) → IsOneOf ns m → number ≡ m → ⊥
+      apart m i e = out (subst (IsOneOf ns) (sym e) i)
 
-      pub take-after : (h : Option ℕ) (ns : List ℕ) → Leads nx lk h ns → IsOneOf ns at
-          → Leads nx' lk' h (but_number ns number)
-      take-after h [] l i = absurd i
-      take-after h (n ∷ ns) l i =
-          subst (Leads nx' lk' h) (sym (but-other number n ns (more number n below))) (
-            l.0,
-            linked-yet n (more number n below) ∙ l.1,
-            Each-but n number ns l.2,
-            rest (λ j. take-after (nx n) ns l.3 j) i,
-          )
-        where
-          within : IsOneOf (n ∷ ns) at → n ≤ at
-          within (inl s) = omega (arith, s)
-          within (inr j) =
-              let first : n < at = Each-one (λ x. n < x) ns l.2 at j in
-              omega (arith, first)
+      away : (m : ℕ) → IsOneOf ns m → bf number ≡ Some m → ⊥
+      away m i e = off m (sym is ∙ e) i
 
-          below : n < number
-          below =
-              let le : n ≤ at = within i in
-              omega (arith, le, lt)
+  -- a number is taken out, and the number before the chain is none of its numbers
+  take-out : (p h : Option ℕ) (ns : List ℕ) → ((k : ℕ) → p ≡ Some k → IsOneOf ns k → ⊥)
+      → Leads nx bf lk p h ns → IsOneOf ns number
+      → Leads nx' bf' lk' p (left_head h) (but_number ns number)
+  take-out p h [] off l i = absurd i
+  take-out p h (n ∷ ns) off l (inl s) =
+      let its : h ≡ Some number = l.0 ∙ ap Some (sym s) in
+      subst (λ x. Leads nx' bf' lk' p x (but_number (n ∷ ns) number))
+      (sym (ap (λ b. cond b (nx number) h) (own h number its)))
+      (subst (Leads nx' bf' lk' p (nx number)) (sym (but-first number n ns s l.3))
+      (first-out p ns (ap bf s ∙ l.2) (λ i. l.3 (subst (IsOneOf ns) s i))
+      (λ k e i. off k e (inr i))
+      (subst (λ x. Leads nx bf lk (Some x) (nx x) ns) (sym s) l.4)))
+  take-out p h (n ∷ ns) off l (inr i) =
+      subst (λ x. Leads nx' bf' lk' p x (but_number (n ∷ ns) number))
+      (sym (ap (λ b. cond b (nx number) h) (other h number not-head)))
+      (subst (Leads nx' bf' lk' p h) (sym (but-other number n ns apart)) (
+        l.0,
+        linked-yet n apart ∙ l.1,
+        before-yet n apart (λ e. l.3 (next-listed nx bf lk (Some n) (nx n) ns l.4 number n i e))
+            ∙ l.2,
+        λ j. l.3 (but-there number ns n j),
+        subst (λ x. Leads nx' bf' lk' (Some n) x (but_number ns number)) (sym (rest ns l.3 l.4 i))
+            (take-out (Some n) (nx n) ns (λ k e j. l.3 (subst (IsOneOf ns) (sym (some_inj e)) j))
+            l.4 i),
+      ))
+    where
+      apart : number ≡ n → ⊥
+      apart e = l.3 (subst (IsOneOf ns) e i)
 
-          rest : (IsOneOf ns at → Leads nx' lk' (nx n) (but_number ns number))
-              → IsOneOf (n ∷ ns) at → Leads nx' lk' (nx' n) (but_number ns number)
-          rest ih (inl s) = past n ns s l.2 l.3
-          rest ih (inr j) =
-              let first : n < at = Each-one (λ x. n < x) ns l.2 at j in
-              subst (λ x. Leads nx' lk' x (but_number ns number))
-              (sym (next-yet n (more at n first) (more number n below)))
-              (ih j)
+      not-head : h ≡ Some number → ⊥
+      not-head e = apart (some_inj (sym e ∙ l.0))
 
-      -- the chains stay that neither of the two is in
-      pub keeps-past : (h : Option ℕ) (ns : List ℕ) → Leads nx lk h ns → (IsOneOf ns at → ⊥)
-          → (IsOneOf ns number → ⊥) → Leads nx' lk' h ns
-      keeps-past h ns l out off =
-          Leads-agree nx lk nx' lk' h ns (λ m i.
-          let apart : number ≡ m → ⊥ = λ e. off (subst (IsOneOf ns) (sym e) i) in (
-            next-yet m (λ e. out (subst (IsOneOf ns) (sym e) i)) apart,
-            linked-yet m apart,
-          )) l
+      rest : (ms : List ℕ) → (IsOneOf ms n → ⊥) → Leads nx bf lk (Some n) (nx n) ms
+          → IsOneOf ms number → nx' n ≡ left_head (nx n)
+      rest [] out k j = absurd j
+      rest (m ∷ ms) out k (inl t) =
+          let leads : nx n ≡ Some number = k.0 ∙ ap Some (sym t) in
+          next-past n apart (ap bf t ∙ k.2)
+          ∙ sym (ap (λ b. cond b (nx number) (nx n)) (own (nx n) number leads))
+      rest (m ∷ ms) out k (inr j) =
+          next-yet n apart (λ e. out (inr (before-listed nx bf lk (Some m) (nx m) ms k.4 number n j e
+          (λ f. out (inl (some_inj (sym f)))))))
+          ∙ sym (ap (λ b. cond b (nx number) (nx n)) (other (nx n) number
+          (λ e. k.3 (subst (IsOneOf ms) (some_inj (sym e ∙ k.0)) j))))
+
+  pub take-from : (h : Option ℕ) (ns : List ℕ) → Leads nx bf lk None h ns → IsOneOf ns number
+      → Leads nx' bf' lk' None (left_head h) (but_number ns number)
+  take-from h ns l i = take-out None h ns (λ k e. absurd (none_some e)) l i
+
+  -- a chain apart from that one stays
+  pub keeps-from : (h : Option ℕ) (ns : List ℕ) → Leads nx bf lk None h ns → IsOneOf ns number
+      → (o : Option ℕ) (os : List ℕ) → Leads nx bf lk None o os → AreApart ns os
+      → Leads nx' bf' lk' None o os
+  keeps-from h ns l i o os m apart =
+      Leads-agree nx bf lk nx' bf' lk' None o os (λ k j.
+      agrees k (λ e. apart k (subst (IsOneOf ns) e i) j)
+      (λ e. apart k (before-listed nx bf lk None h ns l number k i e (λ f. none_some f)) j)
+      (λ e. apart k (next-listed nx bf lk None h ns l number k i e) j)) m

@@ -1,5 +1,5 @@
--- Linked: chains of rows, each a rising list of numbers that is followed from its head.
-use Rattle.std.specs.Prelude.{◌≡◌, ◌<◌, ◌≤◌, ◌⊎◌, ℕ, Bool, true, false, List, [], ◌∷◌, Option, Some, None, filter, map, nat_eq, nat_lt, not, if◌then◌else◌}
+-- Linked: chains of rows, linked in both directions, each followed from its head.
+use Rattle.std.specs.Prelude.{◌≡◌, ◌<◌, ◌⊎◌, ◌↔◌, ℕ, Bool, true, false, List, [], ◌∷◌, Option, Some, None, filter, map, nat_eq, not}
 use Rattle.std.specs.List.{AllByRecursion as Each}
 use Rattle.std.specs.Option.{option_and_then}
 use Rattle.pt_table.specs.declared.link.Link.{Link}
@@ -15,25 +15,27 @@ IsOneOf (m ∷ ms) n = (n ≡ m) ⊎ IsOneOf ms n
 abbrev pub AreApart : List ℕ → List ℕ → Type 0
 AreApart ns ms = (n : ℕ) → IsOneOf ns n → IsOneOf ms n → ⊥
 
--- rising numbers, and one more
-abbrev pub with_number : List ℕ → ℕ → List ℕ
-with_number [] n = n ∷ []
-with_number (m ∷ ms) n = if nat_lt n m then n ∷ m ∷ ms else m ∷ with_number ms n
-
 -- the numbers but this one
 abbrev pub but_number : List ℕ → ℕ → List ℕ
 but_number ns n = filter (λ m. not (nat_eq n m)) ns
 
--- from a head each number leads to the one after it, which is greater; all are linked
-abbrev pub Leads : (ℕ → Option ℕ) → (ℕ → Bool) → Option ℕ → List ℕ → Type 0
-Leads next linked head [] = head ≡ None
-Leads next linked head (n ∷ ns) =
-    (head ≡ Some n) × (linked n ≡ true) × Each (λ m. n < m) ns × Leads next linked (next n) ns
+-- from a head each number leads to the next one and back, all are linked, and none comes twice
+abbrev pub Leads : (ℕ → Option ℕ) → (ℕ → Option ℕ) → (ℕ → Bool) → Option ℕ → Option ℕ → List ℕ
+    → Type 0
+Leads next before linked previous head [] = head ≡ None
+Leads next before linked previous head (n ∷ ns) =
+    (head ≡ Some n) × (linked n ≡ true) × (before n ≡ previous) × (IsOneOf ns n → ⊥)
+    × Leads next before linked (Some n) (next n) ns
 
--- the number, if it is below this bound
-abbrev pub if_below : ℕ → Option ℕ → Option ℕ
-if_below bound None = None
-if_below bound (Some n) = if nat_lt n bound then Some n else None
+-- whether it is this number
+abbrev pub is_number : Option ℕ → ℕ → Bool
+is_number None n = false
+is_number (Some m) n = nat_eq m n
+
+-- each number is less than those after it
+abbrev pub IsRising : List ℕ → Type 0
+IsRising [] = Unit {0}
+IsRising (n ∷ ns) = Each (λ m. n < m) ns × IsRising ns
 
 -- whether a row with this link is in a chain
 abbrev pub linked_by : Option Link → Bool
@@ -49,9 +51,18 @@ module _ {T : Type 0} where
   abbrev pub next_number : List (ObjectRow T) → ℕ → Option ℕ
   next_number rows number = option_and_then (λ link. link.next) (link_of rows number)
 
+  -- the number before an object's in its chain
+  abbrev pub number_before : List (ObjectRow T) → ℕ → Option ℕ
+  number_before rows number = option_and_then (λ link. link.before) (link_of rows number)
+
+  -- the number, if there is one, is that of a linked row
+  abbrev pub IsLinkedIf : List (ObjectRow T) → Option ℕ → Type 0
+  IsLinkedIf rows number = (n : ℕ) → number ≡ Some n → is_linked rows n ≡ true
+
   -- the chain of a head has these numbers
   abbrev pub IsChain : List (ObjectRow T) → Option ℕ → List ℕ → Type 0
-  IsChain rows head numbers = Leads (next_number rows) (is_linked rows) head numbers
+  IsChain rows head numbers =
+      Leads (next_number rows) (number_before rows) (is_linked rows) None head numbers
 
   -- the head has a chain
   abbrev pub HasChain : List (ObjectRow T) → Option ℕ → Type 0
@@ -72,8 +83,9 @@ module _ {T : Type 0} where
   abbrev pub unlinked : List (ObjectRow T) → List (ObjectRow T)
   unlinked rows = map (λ (row : ObjectRow T). record row { link = out_of_chains }) rows
 
-  -- the row of a chain that is the last below a number
-  pub record IsLastBelow (rows : List (ObjectRow T)) (head bound at : ℕ) : Type 0 where
-    pub listed : (numbers : List ℕ) → IsChain rows (Some head) numbers → IsOneOf numbers at
-    pub below : at < bound
-    pub last : (n : ℕ) → next_number rows at ≡ Some n → bound ≤ n
+  -- the chain of a head has the same numbers in rising order, from this head on
+  abbrev pub IsSortedTo : List (ObjectRow T) → List (ObjectRow T) → Option ℕ → Option ℕ → Type 0
+  IsSortedTo old new head after =
+      (numbers : List ℕ) → IsChain old head numbers
+      → (sorted : List ℕ) × IsChain new after sorted × IsRising sorted
+      × ((n : ℕ) → IsOneOf sorted n ↔ IsOneOf numbers n)

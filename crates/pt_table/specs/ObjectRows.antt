@@ -11,7 +11,8 @@ use Rattle.pt_table.specs.NameSlots.{IsNamed}
 
 -- the link of a row that is in no chain
 abbrev pub out_of_chains : Link
-out_of_chains = record { linked = false; next = None; slot = 0 }
+out_of_chains =
+    record { linked = false; next = None; next_slot = 0; before = None; before_slot = 0 }
 
 module _ {T : Type 0} where
   -- the row of the object with this number

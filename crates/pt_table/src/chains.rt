@@ -1,9 +1,8 @@
-//! Chains of objects: each a list of rising numbers, whose links are in the rows.
+//! Chains of objects, linked in both directions, whose links are in the rows.
 
-ghost use Rattle.std.specs.Prelude.{◌≡◌, ◌<◌, ◌||◌, ◌&&◌, ℕ, List, Some, None, IsSome, true, false, not, nat_eq, if◌then◌else◌};
-ghost use Rattle.std.specs.Option.{option_map};
+ghost use Rattle.std.specs.Prelude.{◌≡◌, ◌||◌, ◌&&◌, ◌∷◌, ℕ, List, Some, None, true, false, not, nat_eq, if◌then◌else◌};
 ghost use Rattle.pt_table.specs.ObjectRows.{has_object};
-ghost use Rattle.pt_table.specs.Linked.{next_number, is_linked, if_below, with_number, but_number, unlinked, HasChain, IsChain, IsInChain, IsLastBelow, KeepsOthers};
+ghost use Rattle.pt_table.specs.Linked.{next_number, number_before, is_linked, is_number, but_number, unlinked, HasChain, IsChain, IsInChain, IsLinkedIf, KeepsOthers};
 
 use crate::link::Link;
 use crate::objects::Objects;
@@ -20,34 +19,6 @@ impl<T, A: Allocator + Copy> Objects<T, A> {
         }
     }
 
-    // The number after this one in its chain, if it is below a bound, and its slot.
-    fn next_below(&self, slot: usize, number: u64, bound: u64) -> Option<(u64, usize)>
-        requires { has_object self.now number ≡ true }
-        ensures { option_map (λ place. place.0) result
-            ≡ if_below bound (next_number self.now number) }
-    {
-        let link = self.link_near(slot, number);
-        match link.next {
-            Some(next) if next < bound => Some((next, link.slot)),
-            _ => None,
-        }
-    }
-
-    // The last row of a chain below a bound, and its slot.
-    fn last_below(&self, head: u64, bound: u64) -> (u64, usize)
-        requires chain { HasChain self.now (Some head) }
-        requires below { head < bound }
-        ensures { IsLastBelow self.now head bound result.0 }
-    {
-        let mut at = head;
-        let mut slot = self.slot_near(head);
-        while let Some((next, its)) = self.next_below(slot, at, bound) {
-            at = next;
-            slot = its;
-        }
-        (at, slot)
-    }
-
     // The slot of the first row of a chain, or any if there is none.
     fn slot_of_head(&self, head: Option<u64>) -> usize {
         match head {
@@ -56,107 +27,133 @@ impl<T, A: Allocator + Copy> Objects<T, A> {
         }
     }
 
-    // Puts a row before the head of a chain.
-    fn put_first(&mut self, head: Option<u64>, number: u64)
-        requires row { has_object self.old number ≡ true }
+    // Writes what comes after a row of a chain, if there is such a row.
+    fn set_next(&mut self, slot: usize, number: Option<u64>, link: Link)
+        requires { IsLinkedIf self.old number }
         ensures next { (n : ℕ)
             → next_number self.new n
-            ≡ (if nat_eq number n then head else next_number self.old n) }
-        ensures linked { (n : ℕ)
-            → is_linked self.new n ≡ (if nat_eq number n then true else is_linked self.old n) }
+            ≡ (if is_number number n then link.next else next_number self.old n) }
+        ensures before { (n : ℕ) → number_before self.new n ≡ number_before self.old n }
+        ensures linked { (n : ℕ) → is_linked self.new n ≡ is_linked self.old n }
         ensures rows { unlinked self.new ≡ unlinked self.old }
     {
-        let link = Link {
-            linked: true,
-            next: head,
-            slot: self.slot_of_head(head),
-        };
-        self.set_link(self.slot_near(number), number, link);
+        if let Some(number) = number {
+            let its = self.link_near(slot, number);
+            let changed = Link {
+                linked: its.linked,
+                next: link.next,
+                next_slot: link.next_slot,
+                before: its.before,
+                before_slot: its.before_slot,
+            };
+            self.set_link(slot, number, changed);
+        }
     }
 
-    // Puts a row between one of a chain and the one after it.
-    fn put_after(&mut self, before: u64, slot: usize, number: u64)
-        requires before { is_linked self.old before ≡ true }
-        requires row { has_object self.old number ≡ true }
+    // Writes what comes before a row of a chain, if there is such a row.
+    fn set_before(&mut self, slot: usize, number: Option<u64>, link: Link)
+        requires { IsLinkedIf self.old number }
+        ensures next { (n : ℕ) → next_number self.new n ≡ next_number self.old n }
+        ensures before { (n : ℕ)
+            → number_before self.new n
+            ≡ (if is_number number n then link.before else number_before self.old n) }
+        ensures linked { (n : ℕ) → is_linked self.new n ≡ is_linked self.old n }
+        ensures rows { unlinked self.new ≡ unlinked self.old }
+    {
+        if let Some(number) = number {
+            let its = self.link_near(slot, number);
+            let changed = Link {
+                linked: its.linked,
+                next: its.next,
+                next_slot: its.next_slot,
+                before: link.before,
+                before_slot: link.before_slot,
+            };
+            self.set_link(slot, number, changed);
+        }
+    }
+
+    // Writes the link of a row that has none, or that has one no longer.
+    fn set_own(&mut self, slot: usize, number: u64, link: Link)
+        requires { has_object self.old number ≡ true }
         ensures next { (n : ℕ)
             → next_number self.new n
-            ≡ (if nat_eq before n
-            then Some number
-            else if nat_eq number n then next_number self.old before else next_number self.old n) }
+            ≡ (if nat_eq number n then link.next else next_number self.old n) }
+        ensures before { (n : ℕ)
+            → number_before self.new n
+            ≡ (if nat_eq number n then link.before else number_before self.old n) }
         ensures linked { (n : ℕ)
-            → is_linked self.new n ≡ (if nat_eq number n then true else is_linked self.old n) }
+            → is_linked self.new n
+            ≡ (if nat_eq number n then link.linked else is_linked self.old n) }
         ensures rows { unlinked self.new ≡ unlinked self.old }
     {
-        let its = self.slot_near(number);
-        let link = self.link_near(slot, before);
-        self.set_link(its, number, link);
-        let link = Link {
-            linked: true,
-            next: Some(number),
-            slot: its,
-        };
-        self.set_link(slot, before, link);
+        self.set_link(slot, number, link);
     }
 
-    /// Adds a row to the chain of a head, or begins one, and returns the head.
+    /// Puts a row first in the chain of a head, or begins one, and returns the head.
     pub fn link(&mut self, head: Option<u64>, number: u64) -> u64
         requires chain { HasChain self.old head }
         requires row { has_object self.old number ≡ true }
         requires free { is_linked self.old number ≡ false }
+        ensures result { result ≡ number }
         ensures chain { (numbers : List ℕ)
             → IsChain self.old head numbers
-            → IsChain self.new (Some result) (with_number numbers number) }
+            → IsChain self.new (Some result) (number ∷ numbers) }
         ensures others { KeepsOthers self.old self.new head }
         ensures linked { (n : ℕ)
             → is_linked self.new n ≡ (nat_eq number n || is_linked self.old n) }
         ensures rows { unlinked self.new ≡ unlinked self.old }
     {
-        match head {
-            Some(first) if first < number => {
-                let (before, slot) = self.last_below(first, number);
-                self.put_after(before, slot, number);
-                first
-            }
-            _ => {
-                self.put_first(head, number);
-                number
-            }
-        }
+        let slot = self.slot_near(number);
+        let head_slot = self.slot_of_head(head);
+        let first = Link {
+            linked: true,
+            next: head,
+            next_slot: head_slot,
+            before: None,
+            before_slot: 0,
+        };
+        let second = Link {
+            linked: true,
+            next: None,
+            next_slot: 0,
+            before: Some(number),
+            before_slot: slot,
+        };
+        self.set_own(slot, number, first);
+        self.set_before(head_slot, head, second);
+        number
     }
 
-    // Takes the row out that is after another one in its chain.
-    fn take_after(&mut self, before: u64, slot: usize, number: u64)
-        requires before { is_linked self.old before ≡ true }
-        requires row { is_linked self.old number ≡ true }
+    // Takes a row out of its chain: those before it and after it lead to one another.
+    fn take(&mut self, number: u64) -> Option<u64>
+        requires row { has_object self.old number ≡ true }
+        requires next { IsLinkedIf self.old (next_number self.old number) }
+        requires before { IsLinkedIf self.old (number_before self.old number) }
+        ensures result { result ≡ next_number self.old number }
         ensures next { (n : ℕ)
             → next_number self.new n
             ≡ (if nat_eq number n
             then None
-            else if nat_eq before n then next_number self.old number else next_number self.old n) }
-        ensures linked { (n : ℕ)
-            → is_linked self.new n ≡ (if nat_eq number n then false else is_linked self.old n) }
-        ensures rows { unlinked self.new ≡ unlinked self.old }
-    {
-        let its = self.slot_near(number);
-        let link = self.link_near(its, number);
-        self.set_link(slot, before, link);
-        self.set_link(its, number, Link::out());
-    }
-
-    // Takes a row out that is the first of its chain, and returns the next one.
-    fn take_first(&mut self, number: u64) -> Option<u64>
-        requires row { has_object self.old number ≡ true }
-        ensures result { result ≡ next_number self.old number }
-        ensures next { (n : ℕ)
-            → next_number self.new n
-            ≡ (if nat_eq number n then None else next_number self.old n) }
+            else if is_number (number_before self.old number) n
+            then next_number self.old number
+            else next_number self.old n) }
+        ensures before { (n : ℕ)
+            → number_before self.new n
+            ≡ (if nat_eq number n
+            then None
+            else if is_number (next_number self.old number) n
+            then number_before self.old number
+            else number_before self.old n) }
         ensures linked { (n : ℕ)
             → is_linked self.new n ≡ (if nat_eq number n then false else is_linked self.old n) }
         ensures rows { unlinked self.new ≡ unlinked self.old }
     {
         let slot = self.slot_near(number);
         let link = self.link_near(slot, number);
-        self.set_link(slot, number, Link::out());
+        self.set_next(link.before_slot, link.before, link);
+        self.set_before(link.next_slot, link.next, link);
+        self.set_own(slot, number, Link::out());
         link.next
     }
 
@@ -171,11 +168,7 @@ impl<T, A: Allocator + Copy> Objects<T, A> {
             → is_linked self.new n ≡ (not (nat_eq number n) && is_linked self.old n) }
         ensures rows { unlinked self.new ≡ unlinked self.old }
     {
-        if head == number {
-            return self.take_first(number);
-        }
-        let (before, slot) = self.last_below(head, number);
-        self.take_after(before, slot, number);
-        Some(head)
+        let after = self.take(number);
+        if head == number { after } else { Some(head) }
     }
 }

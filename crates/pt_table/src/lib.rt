@@ -14,6 +14,7 @@ mod link;
 mod numbers;
 mod objects;
 mod rows;
+mod sorting;
 
 pub use clients::{ClientRow, Clients};
 pub use fault::TableFault;

@@ -9,7 +9,11 @@ pub struct Link {
     /// The number of the next object of the chain.
     pub next: Option<u64>,
     /// The slot in which its row is looked for first.
-    pub slot: usize,
+    pub next_slot: usize,
+    /// The number of the object before it in the chain.
+    pub before: Option<u64>,
+    /// The slot in which the row of that one is looked for first.
+    pub before_slot: usize,
 }
 
 impl Link {
@@ -20,7 +24,9 @@ impl Link {
         Link {
             linked: false,
             next: None,
-            slot: 0,
+            next_slot: 0,
+            before: None,
+            before_slot: 0,
         }
     }
 }
