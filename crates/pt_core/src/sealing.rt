@@ -11,7 +11,7 @@ use pt_waitq::WaitList;
 use std::alloc::Allocator;
 
 /// The greatest place with which a history can begin.  [profile]
-const MOST_PLACES: u64 = 1 << 62;
+pub const MOST_PLACES: u64 = 1 << 62;
 
 /// Drops the entries: the history goes on from its seal, with the place that is returned.
 pub fn seal<Q: WaitList, A: Allocator + Copy>(body: &mut Body<Q, A>) -> Result<u64, Refusal>

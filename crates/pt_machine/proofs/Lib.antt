@@ -92,6 +92,8 @@ pub mod TimerDrops
 pub mod SealedQueues
 -- SealedBodies: what is touched and what is reserved after a seal
 pub mod SealedBodies
+-- UnsealedBodies: what is right for the seal of a history is right for the history
+pub mod UnsealedBodies
 -- Room:
 -- ForcedNeeds: what must still be written after an entry that must follow: exactly
 pub mod ForcedNeeds

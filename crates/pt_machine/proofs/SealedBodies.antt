@@ -13,7 +13,7 @@ use Rattle.pt_machine.specs.LastTouched.{IsTouched}
 use Rattle.pt_machine.specs.Reserved.{IsReserved}
 
 module _ (h : History) (f : Follows h) (quiet : forced h ≡ None) where
-  alike : GoesAlike h (Begin (seal h))
+  pub alike : GoesAlike h (Begin (seal h))
   alike = agrees_on h (Begin (seal h)) f (start-seal h f) (seal_agrees h f)
 
   -- nothing is touched

@@ -34,7 +34,7 @@ queued-seal h queue admitted made k =
       makes = k.makes;
     }
 
-set-alike : (h : History) → Follows h → forced h ≡ None → (p : ℕ)
+pub set-alike : (h : History) → Follows h → forced h ≡ None → (p : ℕ)
     → set_at h p ≡ set_at (Begin (seal h)) p
 set-alike h f n p =
     ap (λ ws. setting_if (at_place p ws))

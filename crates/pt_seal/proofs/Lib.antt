@@ -16,3 +16,5 @@ mod SealedStart
 mod OuterPlaces
 -- SealedTables: the tables of a state whose entries are dropped
 pub mod SealedTables
+-- UnsealedTables: tables that are right for the seal of a history are right for the history
+pub mod UnsealedTables

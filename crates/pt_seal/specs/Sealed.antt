@@ -1,5 +1,5 @@
 -- Sealed: a state whose history goes on from its seal.
-use Rattle.std.specs.Prelude.{◌≡◌, [], vec_len, vec_capacity}
+use Rattle.std.specs.Prelude.{ℕ, ◌≡◌, ◌≤◌, [], vec_len, vec_capacity}
 use Rattle.pt_model.specs.StartRows.{reads_of}
 use Rattle.pt_model.specs.Seals.{seal}
 use Rattle.pt_state.specs.declared.state.State.{State}
@@ -20,3 +20,14 @@ pub record Seals {A : Type 0} (old new : State A) : Type 0 where
   pub clocks : new.clocks ≡ old.clocks
   pub answers : vec_len new.answers ≡ 0
   pub held : vec_capacity new.answers ≡ vec_capacity old.answers
+
+-- the entries and the answers were put aside, and the history begins with the seal of what it was,
+-- with room and memory for so many entries and answers
+pub record SealsWithRoom {A : Type 0} (old new : State A) (n : ℕ) : Type 0 where
+  pub starts : reads_of new.stored.start ≡ seal (past old)
+  pub entries : new.stored.entries ≡ []
+  pub limit : new.stored.limit ≡ old.stored.limit
+  pub room : new.stored.room ≡ n
+  pub read : AreTables new
+  pub answers : vec_len new.answers ≡ 0
+  pub held : n ≤ vec_capacity new.answers

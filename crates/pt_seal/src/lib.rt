@@ -8,8 +8,10 @@ mod calls;
 mod clients;
 mod objects;
 mod readers;
+mod renewing;
 mod sealing;
 mod start;
 
+pub use renewing::{Unsealed, seal_with_room, unseal};
 pub use sealing::seal;
 pub use start::start_of;

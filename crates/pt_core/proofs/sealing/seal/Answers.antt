@@ -1,8 +1,5 @@
-use Rattle.std.proofs.Common.{◌≡◌, ◌≤◌, sym, ap, ◌∙◌, arith}
-use Rattle.pt_types.specs.Limits.{most_places}
-use Rattle.pt_model.specs.Histories.{place}
+use Rattle.std.proofs.Common.{sym, ◌∙◌, arith}
 use Rattle.pt_history.proofs.Places.{place_of_next}
-use Rattle.pt_state.specs.Adds.{past}
 use Rattle.pt_core.proofs.SealedCores.{settled, whole-sealed, kept-sealed, refused-full, refused-memory}
 use Rattle.pt_core.proofs.sealing.seal.Goals as goal
 

@@ -1,0 +1,113 @@
+-- Which events need a seal, and when an event is refused if a seal makes room.
+use Rattle.std.proofs.Common.{◌≡◌, ℕ, ◌+◌, ◌≤◌, ◌<◌, Bool, true, false, cond, nat_le, nat_lt, ◌&&◌, ◌||◌, Some, None, refl, sym, ap, ◌∙◌, arith}
+use Rattle.std.proofs.lemmas.Bool.Decides.{nat_tests}
+use Rattle.std.specs.Option.{option_or}
+use Rattle.pt_types.specs.declared.outcome.Refusal.TheVariants.{Full}
+use Rattle.pt_types.specs.Limits.{most_places}
+use Rattle.pt_model.specs.declared.entry.Event.{Event}
+use Rattle.pt_model.specs.declared.entry.Event.TheVariants as event
+use Rattle.pt_model.specs.Histories.{History, ◌▷◌, place, held}
+use Rattle.pt_model.specs.Clients.{is_alive}
+use Rattle.pt_model.specs.Room.{refusal, entry_for, is_over, room_for, needs_seal, is_full, refusal_within, refusal_with_seals}
+use Rattle.pt_history.specs.Stored.{Stored, past_of}
+use Rattle.pt_history.proofs.Places.{held-past}
+use Rattle.pt_core.specs.Cores.{IsKept}
+use Rattle.pt_core.specs.Applying.{is_death}
+use Rattle.pt_core.specs.Settling.{IsReady}
+use Rattle.pt_core.proofs.AcceptingLemmas.{death-fits, unrefused-alive}
+
+-- where a limit is passed without a seal, and not after one
+passes : (limit held room : ℕ) → (nat_lt limit (held + room) && nat_le room limit) ≡ true
+    → (limit < held + room) × (room ≤ limit)
+passes limit held room e = grind (arith, nat_tests)
+
+-- room that is above a limit, or a seal that isn't needed: the limit is passed as it stands
+over : (limit held room : ℕ) (places : Bool)
+    → (nat_lt limit (held + room) && nat_le room limit) ≡ false
+    → (nat_lt limit room || ((nat_lt limit (held + room) && nat_le room limit) && places))
+    ≡ nat_lt limit (held + room)
+over limit held room places e = grind (arith, nat_tests)
+
+-- neither is so
+fits : (limit held room at most : ℕ) → room ≤ limit → at ≤ most
+    → (nat_lt limit room || ((nat_lt limit (held + room) && nat_le room limit) && nat_lt most at))
+    ≡ false
+fits limit held room at most l p = grind (arith, nat_tests)
+
+-- no numbers are left
+full : (limit held room at most : ℕ) → limit < held + room → room ≤ limit → most < at
+    → (nat_lt limit room || ((nat_lt limit (held + room) && nat_le room limit) && nat_lt most at))
+    ≡ true
+full limit held room at most l r p = grind (arith, nat_tests)
+
+none-over : (limit all : ℕ) → all ≤ limit → nat_lt limit all ≡ false
+none-over limit all l = grind (arith, nat_tests)
+
+none-needed : (limit held room : ℕ) → held + room ≤ limit
+    → (nat_lt limit (held + room) && nat_le room limit) ≡ false
+none-needed limit held room l = grind (arith, nat_tests)
+
+module _ (limit : ℕ) (h : History) (v : Event) where
+  -- an event that needs a seal has room after it
+  pub needs-parts : needs_seal limit h v ≡ true
+      → (limit < held h + room_for h v) × (room_for h v ≤ limit)
+  needs-parts e = passes limit (held h) (room_for h v) e
+
+  over_as_it_stands : is_over limit (h ▷ entry_for h v) ≡ nat_lt limit (held h + room_for h v)
+  over_as_it_stands = ap (nat_lt limit) (omega arith)
+
+  -- one that needs none is refused as without seals
+  pub refused-without : needs_seal limit h v ≡ false
+      → refusal_with_seals limit h v ≡ refusal_within limit h v
+  refused-without e =
+      ap (λ b. option_or (refusal h v) (cond b (Some Full) None))
+      (over limit (held h) (room_for h v) (nat_lt most_places (place h)) e
+      ∙ sym over_as_it_stands)
+
+  -- with numbers for places it is accepted after the seal
+  pub accepted-sealed : refusal h v ≡ None → room_for h v ≤ limit → place h ≤ most_places
+      → refusal_with_seals limit h v ≡ None
+  accepted-sealed ok l p =
+      ap (λ o. option_or o (cond (is_full limit h v) (Some Full) None)) ok
+      ∙ ap (λ b. cond b (Some Full) None)
+      (fits limit (held h) (room_for h v) (place h) most_places l p)
+
+  -- without it is full
+  pub full-sealed : refusal h v ≡ None → needs_seal limit h v ≡ true → most_places < place h
+      → refusal_with_seals limit h v ≡ Some Full
+  full-sealed ok e p =
+      let parts = needs-parts e in
+      ap (λ o. option_or o (cond (is_full limit h v) (Some Full) None)) ok
+      ∙ ap (λ b. cond b (Some Full) None)
+      (full limit (held h) (room_for h v) (place h) most_places parts.0 parts.1 p)
+
+-- where there is room for it, an event isn't refused
+pub ready-within : (s : Stored) (v : Event) → IsReady s v → refusal (past_of s) v ≡ None
+    → refusal_within s.limit (past_of s) v ≡ None
+ready-within s v r ok =
+    ap (λ o. option_or o (cond (is_over s.limit (past_of s ▷ entry_for (past_of s) v)) (Some Full)
+    None)) ok
+    ∙ ap (λ b. cond b (Some Full) None)
+    (none-over s.limit _ (omega (arith, r.room, r.fits, held-past s)))
+
+-- what has its room already needs no seal
+pub room-unsealed : (s : Stored) (v : Event) → IsKept s → room_for (past_of s) v ≤ s.room
+    → needs_seal s.limit (past_of s) v ≡ false
+room-unsealed s v k l =
+    none-needed s.limit (held (past_of s)) (room_for (past_of s) v)
+    (omega (arith, l, k.fits, held-past s))
+
+-- the Death of a living client needs none
+pub death-unsealed : (s : Stored) (c : ℕ) → IsKept s → is_alive (past_of s) c ≡ true
+    → needs_seal s.limit (past_of s) (event.Death c) ≡ false
+death-unsealed s c k alive = room-unsealed s (event.Death c) k (death-fits s k c alive)
+
+-- so what needs one is no Death
+pub no-death : (s : Stored) (v : Event) → IsKept s → refusal (past_of s) v ≡ None
+    → needs_seal s.limit (past_of s) v ≡ true → is_death v ≡ false
+no-death s (event.Death c) k ok needs =
+    let none = death-unsealed s c k (unrefused-alive (past_of s) c ok) in
+    absurd (let no : true ≡ false = sym needs ∙ none in cc)
+no-death s (event.Join p) k ok needs = refl
+no-death s (event.Call c call) k ok needs = refl
+no-death s (event.Moment z t) k ok needs = refl

@@ -1,0 +1,70 @@
+use Rattle.std.proofs.Common.{◌≡◌, ◌+◌, max, sym, ◌∙◌, subst, arith}
+use Rattle.std.proofs.Math.Nat.{le-max_left, le-max_right, max-le}
+use Rattle.pt_model.specs.declared.entry.Entry.{Entry}
+use Rattle.pt_model.specs.Histories.{Begin, ◌▷◌}
+use Rattle.pt_model.specs.Room.{need, entry_for}
+use Rattle.pt_model.specs.Seals.{seal}
+use Rattle.pt_model.specs.Steps.{Step}
+use Rattle.pt_state.specs.Adds.{past}
+use Rattle.pt_machine.specs.Renewed.{AddsSealed}
+use Rattle.pt_core.proofs.OpenLemmas.{room-asked}
+use Rattle.pt_core.proofs.RenewingLemmas.{step-renewed, roomy-added, enters-renewed}
+use Rattle.pt_core.proofs.SealedCores.{settled}
+use Rattle.pt_core.proofs.renewing.enter_sealed.Goals as goal
+
+pub need_after-requires-clause-forced : goal.need_after-requires-clause-forced
+need_after-requires-clause-forced g c = settled c.args.body.now c.requires.whole
+
+pub push_outer_sealed-requires-clause-settled : goal.push_outer_sealed-requires-clause-settled
+push_outer_sealed-requires-clause-settled g c = settled c.args.body.now c.requires.whole
+
+pub push_outer_sealed-requires-clause-step : goal.push_outer_sealed-requires-clause-step
+push_outer_sealed-requires-clause-step g c =
+    let s = c.args.body.now in
+    subst (λ (e : Entry). Step (Begin (seal (past s))) e) (sym c.requires.entry)
+    (step-renewed s c.requires.whole c.args.event.now c.requires.accepted)
+
+pub settle-requires : goal.settle-requires
+settle-requires g c =
+    let s = c.args.body.now in
+    let v = c.args.event.now in
+    let n = c.max-room.result in
+    let needed = 1 + need (past s ▷ entry_for (past s) v) in
+    let asked : n ≡ max s.stored.room needed =
+    c.max-room.ensures ∙ room-asked (past s) v c.args.entry.now s.stored.room c.room.result
+    c.need_after.result c.room.ensures.room c.requires.entry c.need_after.ensures.value in
+    roomy-added s c.requires.whole v c.requires.accepted n
+    (omega (arith, asked, le-max_right s.stored.room needed))
+    (omega (arith, asked, le-max_left s.stored.room needed))
+    (omega (
+      arith,
+      asked,
+      max-le {a = s.stored.room} {b = needed} {k = s.stored.limit}
+          (omega (arith, c.requires.whole.kept.fits)) c.requires.fits,
+    ))
+    c.push_outer_sealed.new.self
+    (subst (λ (e : Entry). AddsSealed s n e c.push_outer_sealed.new.self) c.requires.entry
+    c.in_ok-push_outer_sealed.ensures.ok)
+
+pub returns-clause-ok : goal.returns-clause-ok
+returns-clause-ok g c =
+    let s = c.args.body.now in
+    let v = c.args.event.now in
+    let n = c.max-room.result in
+    let needed = 1 + need (past s ▷ entry_for (past s) v) in
+    let asked : n ≡ max s.stored.room needed =
+    c.max-room.ensures ∙ room-asked (past s) v c.args.entry.now s.stored.room c.room.result
+    c.need_after.result c.room.ensures.room c.requires.entry c.need_after.ensures.value in
+    enters-renewed s c.requires.whole v c.requires.accepted n
+    (omega (arith, asked, le-max_right s.stored.room needed))
+    (omega (arith, asked, le-max_left s.stored.room needed))
+    (omega (
+      arith,
+      asked,
+      max-le {a = s.stored.room} {b = needed} {k = s.stored.limit}
+          (omega (arith, c.requires.whole.kept.fits)) c.requires.fits,
+    ))
+    c.push_outer_sealed.new.self
+    (subst (λ (e : Entry). AddsSealed s n e c.push_outer_sealed.new.self) c.requires.entry
+    c.in_ok-push_outer_sealed.ensures.ok)
+    c.settle.new.body.stored c.settle.ensures.settles

@@ -1,0 +1,39 @@
+//! An accepted event's entry, and the forced ones after it, pushed behind a seal.
+
+ghost use Rattle.std.specs.Prelude.{◌≡◌, ◌≤◌, None, OnOk, OnErr, IfErr};
+ghost use Rattle.pt_types.specs.Limits.{most_places};
+ghost use Rattle.pt_model.specs.Histories.{place};
+ghost use Rattle.pt_model.specs.Room.{refusal as refusal_in, entry_for, room_for};
+ghost use Rattle.pt_state.specs.Adds.{Stays, past};
+ghost use Rattle.pt_core.specs.Renewing.{EntersSealed};
+ghost use Rattle.pt_core.specs.Wholes.{IsRoomy, IsWhole};
+
+use crate::settling::settle;
+use pt_machine::Body;
+use pt_model::{Entry, Event};
+use pt_types::Refusal;
+use pt_waitq::WaitList;
+use std::alloc::Allocator;
+
+/// Seals the history, and pushes the entry of an accepted event and what must follow it. ENOMEM if
+/// a growth is refused: then nothing is sealed or pushed.  [profile]
+pub fn enter_sealed<Q: WaitList, A: Allocator + Copy>(
+    body: &mut Body<Q, A>,
+    event: &Event,
+    entry: &Entry,
+) -> Result<(), Refusal>
+    requires whole { IsWhole body.old }
+    requires accepted { refusal_in (past body.old) event.now ≡ None }
+    requires entry { entry.now ≡ entry_for (past body.old) event.now }
+    requires places { place (past body.old) ≤ most_places }
+    requires fits { room_for (past body.old) event.now ≤ body.old.stored.limit }
+    ensures ok { OnOk result (EntersSealed body.old.stored event.now body.new.stored) }
+    ensures roomy { OnOk result (IsRoomy body.new) }
+    ensures err { OnErr result (Stays body.old body.new) }
+    ensures reason { IfErr result (λ refusal. refusal ≡ Refusal.Enomem) }
+{
+    let room = body.room().max(1 + body.need_after(entry));
+    body.push_outer_sealed(entry, room)?;
+    settle(body);
+    Ok(())
+}

@@ -1,0 +1,63 @@
+use super::*;
+use pt_core::AppliedWithSeal;
+use pt_failing_alloc::{Refusing, refuse_each};
+use std::alloc::Global;
+
+type Refused<'a> = Core<&'a Refusing<Global>>;
+
+// An event is applied, the first time or the second: a refused growth leaves the core as it was.
+// The answer says whether one was refused.
+fn lands(core: &mut Refused, event: Event) -> Result<(AppliedWithSeal, bool), &'static str> {
+    let before = (core.first(), core.len());
+    match core.apply_with_seal(event.copied()) {
+        Ok(done) => return Ok((done, false)),
+        Err(Refusal::Enomem) => {}
+        Err(_) => return Err("an event is refused"),
+    }
+    if (core.first(), core.len()) != before {
+        return Err("a refused event changed the core");
+    }
+    match core.apply_with_seal(event) {
+        Ok(done) => Ok((done, true)),
+        Err(_) => Err("an event is refused twice"),
+    }
+}
+
+// An event is sealed and written so; the answer says whether a growth was refused.
+fn lands_at(
+    core: &mut Refused,
+    event: Event,
+    sealed: Option<u64>,
+    places: (u64, u64),
+) -> Result<bool, &'static str> {
+    let (done, met) = lands(core, event)?;
+    if done.sealed != sealed || (done.applied.first, done.applied.last) != places {
+        return Err("an event is written elsewhere");
+    }
+    Ok(met)
+}
+
+// A client joins, makes a robust mutex and locks it, behind a seal.
+fn plays_refused(core: &mut Refused) -> Result<bool, &'static str> {
+    let priority = Priority::new(10).ok_or("a priority")?;
+    let m = Name::new(b"m").ok_or("a name")?;
+    let init = Call::MutexInit(m.copied(), MutexKind::Normal, true);
+    let joins = lands_at(core, Event::Join(priority), None, (0, 0))?;
+    let makes = lands_at(core, ask(0, init), None, (1, 1))?;
+    let locks = lands_at(core, ask(0, Call::Lock(m)), Some(2), (2, 3))?;
+    Ok(joins || makes || locks)
+}
+
+fn play_over(heap: &Refusing<Global>) -> Result<bool, &'static str> {
+    match Core::with_limit(heap, 6) {
+        Ok(mut core) => plays_refused(&mut core),
+        Err(_) => Ok(true),
+    }
+}
+
+#[test]
+fn each_growth_of_a_seal_is_refused_in_turn(rt: HostRuntime) -> Result<(), Fail> {
+    let refused = refuse_each(rt.alloc(), 100, play_over)?;
+    assert!(rt; refused.is_some());
+    Ok(())
+}

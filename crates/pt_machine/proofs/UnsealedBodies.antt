@@ -1,0 +1,56 @@
+-- What is right for the seal of a history is right for the history: queues, deadlines, what is
+-- reserved.
+use Rattle.std.proofs.Common.{◌≡◌, ℕ, Bool, List, None, refl, sym, ap, ◌∙◌, subst}
+use Rattle.pt_waitq.specs.declared.waiter.Waiter.{Waiter}
+use Rattle.pt_waitq.specs.Queues.{queues_of}
+use Rattle.pt_types.specs.declared.time.Clock.{Clock}
+use Rattle.pt_model.specs.Searches.{In}
+use Rattle.pt_model.specs.declared.waiting_call.WaitingCall.{WaitingCall}
+use Rattle.pt_model.specs.Histories.{History, Begin}
+use Rattle.pt_model.specs.Answers.{open_calls}
+use Rattle.pt_model.specs.Forced.{forced}
+use Rattle.pt_model.specs.Seals.{seal}
+use Rattle.pt_model.specs.StartRows.{reads_of}
+use Rattle.pt_model.specs.Starts.{Start}
+use Rattle.pt_model.specs.Steps.{Follows}
+use Rattle.pt_model.proofs.Agreeing.{calls-sealed}
+use Rattle.pt_model.proofs.Seats.{move-sealed}
+use Rattle.pt_history.specs.Stored.{Stored, past_of}
+use Rattle.pt_state.specs.declared.state.State.{State}
+use Rattle.pt_state.specs.Adds.{past}
+use Rattle.pt_seal.specs.Sealed.{SealsWithRoom}
+use Rattle.pt_machine.specs.Queued.{IsQueued}
+use Rattle.pt_machine.specs.Reserved.{IsReserved}
+use Rattle.pt_machine.specs.Timed.{AreTimed}
+use Rattle.pt_machine.proofs.QueuedSame.{members-carry}
+use Rattle.pt_machine.proofs.SealedBodies.{alike}
+use Rattle.pt_machine.proofs.SealedQueues.{set-alike}
+
+-- the queues
+pub queued-unsealed : (h : History) (queue : ℕ → List Waiter) (admitted made : ℕ → Bool)
+    → IsQueued (Begin (seal h)) (queues_of queue admitted made)
+    → IsQueued h (queues_of queue admitted made)
+queued-unsealed h queue admitted made k =
+    record {
+      members = members-carry (Begin (seal h)) h queue queue (λ q. refl) (sym (calls-sealed h))
+          (λ w i. sym (move-sealed h w
+          (subst (λ (ws : List WaitingCall). In w ws) (calls-sealed h) i))) k.members;
+      admits = k.admits;
+      makes = k.makes;
+    }
+
+-- the deadlines that are set
+pub timed-unsealed : (h : History) (timers : List (ℕ × (Clock × ℕ))) → Follows h
+    → forced h ≡ None → AreTimed (Begin (seal h)) timers → AreTimed h timers
+timed-unsealed h timers f n t p = t p ∙ sym (set-alike h f n p)
+
+-- as much is reserved
+pub reserved-unsealed : (h : History) → Follows h → forced h ≡ None → (reserved : ℕ)
+    → IsReserved (Begin (seal h)) reserved → IsReserved h reserved
+reserved-unsealed h f n reserved r = record { needs = r.needs ∙ sym (alike h f n).needs }
+
+-- the history begins with the seal
+pub past-renewed : {A : Type 0} (old new : State A) (n : ℕ) → SealsWithRoom old new n
+    → past new ≡ Begin (seal (past old))
+past-renewed old new n s =
+    ap (λ es. past_of (record new.stored { entries = es })) s.entries ∙ ap Begin s.starts

@@ -1,0 +1,33 @@
+use Rattle.std.proofs.Common.{◌≡◌, sym, ap, ◌∙◌, subst}
+use Rattle.pt_model.specs.Histories.{History, Begin}
+use Rattle.pt_model.specs.Seals.{seal}
+use Rattle.pt_history.specs.Stored.{past_of}
+use Rattle.pt_state.specs.Adds.{past}
+use Rattle.pt_machine.specs.LastTouched.{IsTouched}
+use Rattle.pt_machine.specs.Queued.{IsQueued}
+use Rattle.pt_machine.specs.Reserved.{IsReserved}
+use Rattle.pt_machine.specs.Timed.{AreTimed}
+use Rattle.pt_machine.proofs.UnsealedBodies.{queued-unsealed, timed-unsealed, reserved-unsealed}
+use Rattle.pt_machine.proofs.body.Body.unseal.Goals as goal
+
+pub invariant_of-self : goal.invariant_of-self
+invariant_of-self g c =
+    let old = c.self.inside.state in
+    let h = past_of c.args.before.unsealed.stored in
+    let timers = c.self.inside.timers in
+    let need = c.self.inside.need in
+    let view = g.Q.WaitList.seen c.self.inside.queues in
+    let begins : past old ≡ Begin (seal h) = rw c.self.view_is c.requires.begins in
+    let back : past c.unseal.new.state ≡ h = ap past_of c.unseal.ensures.stored in (
+      subst (λ (x : History). IsQueued x view) (sym back)
+          (queued-unsealed h view.queue view.admitted view.made
+          (subst (λ (x : History). IsQueued x view) begins c.self.invariant.0)),
+      subst (λ (x : History). AreTimed x timers) (sym back)
+          (timed-unsealed h timers c.requires.follows c.requires.settled
+          (subst (λ (x : History). AreTimed x timers) begins c.self.invariant.1)),
+      subst (λ (x : History). IsTouched x c.args.before.touched c.args.before.entering) (sym back)
+          c.requires.touches,
+      subst (λ (x : History). IsReserved x need) (sym back)
+          (reserved-unsealed h c.requires.follows c.requires.settled need
+          (subst (λ (x : History). IsReserved x need) begins c.self.invariant.3)),
+    )

@@ -1,0 +1,123 @@
+//! A body that is sealed to make room for an entry.
+
+ghost use Rattle.std.specs.Prelude.{IfErr, IfOk, None, OnErr, OnOk, false, length, map, nat_le, nat_lt, ◌&&◌, ◌+◌, ◌<◌, ◌≡◌, ◌≤◌};
+ghost use Rattle.pt_types.specs.Limits.{most_places};
+ghost use Rattle.pt_model.specs.Answers.{told};
+ghost use Rattle.pt_model.specs.Forced.{forced};
+ghost use Rattle.pt_model.specs.Histories.{Begin, held as held_in, is_forced, place, ◌▷◌};
+ghost use Rattle.pt_model.specs.Room.{need as need_in};
+ghost use Rattle.pt_model.specs.Seals.{seal};
+ghost use Rattle.pt_model.specs.Steps.{Follows, Step};
+ghost use Rattle.pt_history.specs.Stored.{past_of};
+ghost use Rattle.pt_records.specs.Logs.{log, logged};
+ghost use Rattle.pt_state.specs.Adds.{Stays, past};
+ghost use Rattle.pt_state.specs.Needed.{Admits};
+ghost use Rattle.pt_state.specs.Reads.{AreTables};
+ghost use Rattle.pt_seal.specs.Sealed.{SealsWithRoom};
+ghost use Rattle.pt_machine.specs.LastTouched.{IsTouched};
+ghost use Rattle.pt_machine.specs.Renewed.{AddsSealed};
+
+use crate::body::Body;
+use pt_model::Entry;
+use pt_seal::{Unsealed, seal_with_room, unseal};
+use pt_types::{ClientId, ObjectId, Refusal};
+use pt_waitq::WaitList;
+use std::alloc::{Allocator, Global};
+
+// What a seal puts aside, and what was touched then.
+#[derive(Drop)]
+struct Before<A: Allocator + Copy = Global> {
+    unsealed: Unsealed<A>,
+    touched: Option<ObjectId>,
+    entering: Option<ClientId>,
+}
+
+impl<Q: WaitList, A: Allocator + Copy> Body<Q, A> {
+    /// Whether an entry, with all that must follow it, passes the limit as the history is, and not
+    /// after a seal.
+    pub fn needs_seal(&self, entry: &Entry) -> bool
+        requires read { AreTables self.now }
+        requires quiet { forced (past self.now) ≡ None }
+        requires admits { Admits (past self.now) entry.now }
+        ensures { let room = 1 + need_in (past self.now ▷ entry.now) in
+            result ≡ (nat_lt self.now.stored.limit (held_in (past self.now) + room)
+            && nat_le room self.now.stored.limit) }
+    {
+        let limit = self.state.stored.limit() as u64;
+        let room = 1 + self.need_after(entry);
+        let held = self.state.stored.entries().len() as u64;
+        limit < held + room && room <= limit
+    }
+
+    // Puts the entries and the answers aside, if nothing must follow: the history goes on from its
+    // seal, with room for so many entries and answers. ENOMEM if a growth is refused: then nothing
+    // changes.
+    fn seal_with_room(&mut self, room: u64) -> Result<Before<A>, Refusal>
+        requires read { AreTables self.old }
+        requires settled { forced (past self.old) ≡ None }
+        requires places { place (past self.old) ≤ most_places }
+        requires room { room ≤ self.old.stored.limit }
+        ensures ok { IfOk result (λ before. SealsWithRoom self.old self.new room) }
+        ensures stored { IfOk result (λ before. before.unsealed.stored ≡ self.old.stored) }
+        ensures answers { IfOk result (λ before. before.unsealed.answers ≡ self.old.answers) }
+        ensures touches { IfOk result (λ before.
+            IsTouched (past self.old) before.touched before.entering) }
+        ensures err { OnErr result (self.new ≡ self.old) }
+        ensures reason { IfErr result (λ refusal. refusal ≡ Refusal.Enomem) }
+    {
+        let touched = self.touched;
+        let entering = self.entering;
+        let unsealed = seal_with_room(&mut self.state, room)?;
+        self.touched = None;
+        self.entering = None;
+        Ok(Before {
+            unsealed,
+            touched,
+            entering,
+        })
+    }
+
+    // Goes back to what was put aside, if no entry came since.
+    fn unseal(&mut self, before: Before<A>)
+        requires read { AreTables self.old }
+        requires begins { past self.old ≡ Begin (seal (past_of before.unsealed.stored)) }
+        requires follows { Follows (past_of before.unsealed.stored) }
+        requires settled { forced (past_of before.unsealed.stored) ≡ None }
+        requires told { map logged before.unsealed.answers.items
+            ≡ log (past_of before.unsealed.stored) }
+        requires touches { IsTouched (past_of before.unsealed.stored) before.touched
+            before.entering }
+        ensures stored { self.new.stored ≡ before.unsealed.stored }
+        ensures answers { self.new.answers ≡ before.unsealed.answers }
+        ensures read { AreTables self.new }
+    {
+        unseal(&mut self.state, before.unsealed);
+        self.touched = before.touched;
+        self.entering = before.entering;
+    }
+
+    /// Seals the history with room for so many entries, and pushes any outer entry. ENOMEM if a
+    /// growth is refused: then nothing is sealed or pushed. No forced entry comes here.
+    pub fn push_outer_sealed(&mut self, entry: &Entry, room: u64) -> Result<(), Refusal>
+        requires read { AreTables self.old }
+        requires settled { forced (past self.old) ≡ None }
+        requires places { place (past self.old) ≤ most_places }
+        requires room { room ≤ self.old.stored.limit }
+        requires some { 0 < room }
+        requires step { Step (Begin (seal (past self.old))) entry.now }
+        requires spare { length (told (Begin (seal (past self.old))) entry.now) ≤ room }
+        requires outer { is_forced entry.now ≡ false }
+        ensures ok { OnOk result (AddsSealed self.old room entry.now self.new) }
+        ensures err { OnErr result (Stays self.old self.new) }
+        ensures reason { IfErr result (λ refusal. refusal ≡ Refusal.Enomem) }
+    {
+        let before = self.seal_with_room(room)?;
+        match self.push_outer(entry) {
+            Ok(()) => Ok(()),
+            Err(refusal) => {
+                self.unseal(before);
+                Err(refusal)
+            }
+        }
+    }
+}
