@@ -80,7 +80,8 @@ module _ {A : Type 0} (old : State A) (whole : IsWhole old) (v : Event)
     needed : need (past new) ≡ need (past old)
     needed = ap need begins ∙ sym alike.needs
 
-    needed_next : need (past new ▷ entry_for (past new) v) ≡ need (past old ▷ entry_for (past old) v)
+    needed_next :
+        need (past new ▷ entry_for (past new) v) ≡ need (past old ▷ entry_for (past old) v)
     needed_next =
         ap (λ (e : Entry). need (past new ▷ e)) (sym same-entry)
         ∙ (ap (λ (x : History). need (x ▷ entry_for (past old) v)) begins ∙ sym next)

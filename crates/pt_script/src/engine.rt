@@ -102,8 +102,8 @@ fn tell_from<A: Allocator + Copy>(
 
 /// All clients of a script, the lines that they sent, and the core that these asked.
 ///
-/// Of each client one line is stored: that of its latest call, since no other can still be answered.
-/// Contracts see what is known after the lines so far, the lines of all calls too.
+/// Of each client one line is stored: that of its latest call, since no other can still be
+/// answered. Contracts see what is known after the lines so far, the lines of all calls too.
 #[derive(Drop)]
 pub struct Engine<A: Allocator + Copy = Global> {
     core: Core<A>,

@@ -62,7 +62,8 @@ module _ {A : Type 0} (h : History) where
         look = record {
           kinds = k.look.kinds;
           mutexes = λ o m e. let new = k.look.mutexes o m e in (
-            new.0 ∙ sym (mutex-alike h (Begin (seal h)) a f o (made rows k MutexClass o (Mutex m) e)),
+            new.0
+                ∙ sym (mutex-alike h (Begin (seal h)) a f o (made rows k MutexClass o (Mutex m) e)),
             new.1,
           );
           rwlocks = λ o r e. let new = k.look.rwlocks o r e in record {

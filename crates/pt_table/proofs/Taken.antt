@@ -58,8 +58,11 @@ module _ (nx bf : ℕ → Option ℕ) (lk : ℕ → Bool) (nx' bf' : ℕ → Opt
       Leads-under nx bf lk nx' bf' lk' (Some number) p (nx number) ns
       (λ m i past. agrees m (apart m i) (away m i) past)
       (λ m e.
-      let i = head-listed nx bf lk (Some number) (nx number) ns l m e in
-      (next-yet m (apart m i) (away m i), before-past m (apart m i) e ∙ is, linked-yet m (apart m i)))
+      let i = head-listed nx bf lk (Some number) (nx number) ns l m e in (
+        next-yet m (apart m i) (away m i),
+        before-past m (apart m i) e ∙ is,
+        linked-yet m (apart m i),
+      ))
       l
     where
       apart : (m : ℕ) → IsOneOf ns m → number ≡ m → ⊥
@@ -109,7 +112,8 @@ module _ (nx bf : ℕ → Option ℕ) (lk : ℕ → Bool) (nx' bf' : ℕ → Opt
           next-past n apart (ap bf t ∙ k.2)
           ∙ sym (ap (λ b. cond b (nx number) (nx n)) (own (nx n) number leads))
       rest (m ∷ ms) out k (inr j) =
-          next-yet n apart (λ e. out (inr (before-listed nx bf lk (Some m) (nx m) ms k.4 number n j e
+          next-yet n apart
+          (λ e. out (inr (before-listed nx bf lk (Some m) (nx m) ms k.4 number n j e
           (λ f. out (inl (some_inj (sym f)))))))
           ∙ sym (ap (λ b. cond b (nx number) (nx n)) (other (nx n) number
           (λ e. k.3 (subst (IsOneOf ms) (some_inj (sym e ∙ k.0)) j))))

@@ -27,10 +27,12 @@ returns-in-Ok-clause-ok g c =
 pub returns-then-at-gt-MOST_PLACES-clause-err : goal.returns-then-at-gt-MOST_PLACES-clause-err
 returns-then-at-gt-MOST_PLACES-clause-err g c =
     let next = place_of_next c.args.body.now.stored in
-    refused-full c.args.body.now.stored (omega (arith, next, c.len-at.ensures, c.if-at-gt-MOST_PLACES.true))
+    refused-full c.args.body.now.stored
+    (omega (arith, next, c.len-at.ensures, c.if-at-gt-MOST_PLACES.true))
 
 pub returns-in-Err-clause-err : goal.returns-in-Err-clause-err
 returns-in-Err-clause-err g c =
     let next = place_of_next c.args.body.now.stored in
     c.in-Err.ensures.reason
-    ∙ refused-memory c.args.body.now.stored (omega (arith, next, c.len-at.ensures, c.if-at-gt-MOST_PLACES.false))
+    ∙ refused-memory c.args.body.now.stored
+    (omega (arith, next, c.len-at.ensures, c.if-at-gt-MOST_PLACES.false))
