@@ -1,6 +1,8 @@
-ghost use Rattle.std.specs.Prelude.{◌≡◌};
+ghost use Rattle.std.specs.Prelude.{◌≡◌, ◌∷◌, ℕ, List, Option, Some, false, nat_eq};
 ghost use Rattle.std.specs.Bool.{OnTrue};
 ghost use Rattle.pt_table.specs.ObjectRows.{has_object, with_object};
+ghost use Rattle.pt_table.specs.Linked.{HasChain, IsChain};
+ghost use Rattle.pt_parts_tests.specs.Linking.{AreFree, IsFree};
 
 use pt_failing_alloc::{Refusing, refuse_each};
 use pt_table::{Clients, Objects, TableFault};
@@ -25,15 +27,18 @@ fn fill_clients(clients: &mut Clients<u64>, count: u64) -> bool {
     filled
 }
 
-fn fill_objects(objects: &mut Objects<u64>, count: u64) -> bool {
-    let mut filled = true;
+fn fill_objects(objects: &mut Objects<u64>, count: u64) -> bool
+    ensures { OnTrue result (AreFree objects.new count) }
+{
     for number in 0..count {
         let Some(name) = name_of(number) else {
             return false;
         };
-        filled = filled && objects.add(number, name, number).is_ok();
+        let Ok(()) = objects.add(number, name, number) else {
+            return false;
+        };
     }
-    filled
+    true
 }
 
 // Adds a client, once more if there was no memory for it.
@@ -185,6 +190,57 @@ fn are_found(alloc: Global) -> bool {
 #[test]
 fn objects_by_number_and_name(rt: HostRuntime) {
     assert!(rt; are_found(rt.alloc()));
+}
+
+// Whether a chain has these numbers and no more.
+fn has_numbers(objects: &Objects<u64>, head: Option<u64>, numbers: &[u64]) -> bool {
+    let mut rest = head;
+    for number in numbers {
+        if rest != Some(*number) {
+            return false;
+        }
+        rest = objects.next(*number);
+    }
+    rest.is_none()
+}
+
+// Puts a row that is in no chain first in the chain of a head.
+fn link_free(objects: &mut Objects<u64>, head: Option<u64>, number: u64) -> u64
+    requires chain { HasChain objects.old head }
+    requires free { IsFree objects.old number }
+    ensures chain { (numbers : List ℕ)
+        → IsChain objects.old head numbers
+        → IsChain objects.new (Some result) (number ∷ numbers) }
+    ensures free { (n : ℕ)
+        → nat_eq number n ≡ false
+        → IsFree objects.old n
+        → IsFree objects.new n }
+{
+    objects.link(head, number)
+}
+
+// Whether a chain is what it was put together as, then lacks a row, and then rises.
+fn is_chain_sorted(objects: &mut Objects<u64>) -> bool
+    requires { AreFree objects.old 6 }
+{
+    let low = link_free(objects, None, 4);
+    let other = link_free(objects, Some(low), 0);
+    let first = link_free(objects, None, 5);
+    let second = link_free(objects, Some(first), 2);
+    let third = link_free(objects, Some(second), 1);
+    let head = link_free(objects, Some(third), 3);
+    let is_linked = has_numbers(objects, Some(head), &[3, 1, 2, 5]);
+    let left = objects.unlink(head, 2);
+    let is_unlinked = has_numbers(objects, left, &[3, 1, 5]);
+    let sorted = objects.sort(left);
+    let is_kept = has_numbers(objects, Some(other), &[0, 4]);
+    is_linked && is_unlinked && is_kept && has_numbers(objects, sorted, &[1, 3, 5])
+}
+
+#[test]
+fn chains_of_objects(rt: HostRuntime) {
+    let mut objects = Objects::new(rt.alloc());
+    assert!(rt; fill_objects(&mut objects, 6) && is_chain_sorted(&mut objects));
 }
 
 // Whether a table of 1,023 clients takes one more, and no other until one is gone.
