@@ -1,5 +1,5 @@
 -- What an accepted event wrote, after a seal or without one.
-use Rattle.std.proofs.Common.{◌≡◌, ℕ, ◌+◌, ◌-◌, ◌≤◌, ◌<◌, true, false, cond, List, [], ◌∷◌, ◌++◌, Option, Some, None, length, refl, sym, ap, ◌∙◌, subst, arith, length-append}
+use Rattle.std.proofs.Common.{◌≡◌, ℕ, ◌+◌, ◌-◌, ◌≤◌, ◌<◌, true, false, cond, List, [], ◌∷◌, ◌++◌, Option, Some, None, length, refl, sym, ap, ◌∙◌, subst, arith}
 use Rattle.std.specs.Prelude.{MatchOption}
 use Rattle.pt_types.specs.declared.outcome.Outcome.{Outcome}
 use Rattle.pt_types.specs.declared.outcome.Refusal.{Refusal}
@@ -34,17 +34,6 @@ whole-renewed old new v e r =
       read = r.read;
       spare = r.spare;
     }
-
--- it has an entry
-pub some-entry : (old new : Stored) (v : Event) → EntersSealed old v new → 1 ≤ length new.entries
-some-entry old new v e =
-    let entry = entry_for (past_of e.sealed) v in
-    omega (
-      arith,
-      ap length e.enters.added.1,
-      length-append (e.sealed.entries ++ entry ∷ []) e.enters.added.0,
-      length-append e.sealed.entries (entry ∷ []),
-    )
 
 module _ (old : Stored) (v : Event) where
   -- the event needs a seal

@@ -1,5 +1,4 @@
--- ApplyingWithSeal: what an accepted event writes, and when an event is refused, if the history is
--- sealed where the event needs it.
+-- ApplyingWithSeal: what an event writes that may need a seal, and when it is refused.
 use Rattle.std.specs.Prelude.{ℕ, ◌≡◌, Option, Some, None, MatchOption, if◌then◌else◌}
 use Rattle.pt_types.specs.declared.outcome.Refusal.{Refusal}
 use Rattle.pt_model.specs.declared.entry.Event.{Event}
