@@ -40,6 +40,12 @@ full : (limit held room at most : ℕ) → limit < held + room → room ≤ limi
     ≡ true
 full limit held room at most l r p = grind (arith, nat_tests)
 
+-- only the numbers decide
+places-alone : (limit held room at most : ℕ) → limit < held + room → room ≤ limit
+    → (nat_lt limit room || ((nat_lt limit (held + room) && nat_le room limit) && nat_lt most at))
+    ≡ nat_lt most at
+places-alone limit held room at most l r = grind (arith, nat_tests)
+
 none-over : (limit all : ℕ) → all ≤ limit → nat_lt limit all ≡ false
 none-over limit all l = grind (arith, nat_tests)
 
@@ -63,6 +69,16 @@ module _ (limit : ℕ) (h : History) (v : Event) where
       ap (λ b. option_or (refusal h v) (cond b (Some Full) None))
       (over limit (held h) (room_for h v) (nat_lt most_places (place h)) e
       ∙ sym over_as_it_stands)
+
+  -- one that needs a seal is refused only if no numbers are left for places
+  pub refused-sealed : refusal h v ≡ None → needs_seal limit h v ≡ true → (at : ℕ) → at ≡ place h
+      → cond (nat_lt most_places at) (Some Full) None ≡ refusal_with_seals limit h v
+  refused-sealed ok e at is =
+      let parts = needs-parts e in
+      ap (λ n. cond (nat_lt most_places n) (Some Full) None) is
+      ∙ (ap (λ b. cond b (Some Full) None)
+      (sym (places-alone limit (held h) (room_for h v) (place h) most_places parts.0 parts.1))
+      ∙ sym (ap (λ o. option_or o (cond (is_full limit h v) (Some Full) None)) ok))
 
   -- with numbers for places it is accepted after the seal
   pub accepted-sealed : refusal h v ≡ None → room_for h v ≤ limit → place h ≤ most_places

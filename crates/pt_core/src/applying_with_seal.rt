@@ -1,8 +1,9 @@
 //! One event, before which the history is sealed if the event needs that.
 
-ghost use Rattle.std.specs.Prelude.{◌≡◌, ℕ, None, Some, true, IfErr, IfOk, IsOk, OnErr};
+ghost use Rattle.std.specs.Prelude.{◌≡◌, ℕ, None, Some, true, nat_lt, if◌then◌else◌, IfErr, IfOk, IsOk, OnErr};
+ghost use Rattle.pt_types.specs.Limits.{most_places};
 ghost use Rattle.pt_model.specs.Clients.{is_alive};
-ghost use Rattle.pt_model.specs.Room.{entry_for, needs_seal, refusal as refusal_in};
+ghost use Rattle.pt_model.specs.Room.{entry_for, needs_seal, refusal as refusal_in, refusal_with_seals as refusal_with_seals_in};
 ghost use Rattle.pt_state.specs.Adds.{past};
 ghost use Rattle.pt_core.specs.ApplyingWithSeal.{IsAppliedWithSeal, IsRefusalWithSeals};
 ghost use Rattle.pt_core.specs.Cores.{kept, seen};
@@ -17,6 +18,37 @@ use pt_model::{Entry, Event};
 use pt_types::Refusal;
 use pt_waitq::WaitList;
 use std::alloc::Allocator;
+
+/// Why a history can't go on from this place.
+fn refusal_of_seal(place: u64) -> Option<Refusal>
+    ensures { result ≡ if nat_lt most_places place then Some Refusal.Full else None }
+{
+    if place > MOST_PLACES {
+        Some(Refusal::Full)
+    } else {
+        None
+    }
+}
+
+/// Why an event would be refused if a seal makes room for it, for another reason than lack of
+/// memory.  [profile]
+pub fn refusal_with_seals<Q: WaitList, A: Allocator + Copy>(
+    body: &Body<Q, A>,
+    event: &Event,
+) -> Option<Refusal>
+    requires { IsWhole body.now }
+    ensures { result
+        ≡ refusal_with_seals_in body.now.stored.limit (past body.now) event.now }
+{
+    if let Some(refusal) = body.refusal(event) {
+        return Some(refusal);
+    }
+    let next = body.entry_for(event);
+    if body.needs_seal(&next) {
+        return refusal_of_seal(body.len());
+    }
+    body.refusal_within(event)
+}
 
 /// An accepted event that needs a seal, and all that must follow it, behind the seal. A refusal
 /// changes nothing.  [profile]
