@@ -1,5 +1,5 @@
 -- What is answered of an event: it is refused, or accepted.
-use Rattle.std.proofs.Common.{◌≡◌, ℕ, suc, ◌<◌, Bool, true, false, cond, List, [], ◌∷◌, ◌++◌, length, drop, Option, Some, None, nat_eq, refl, sym, ap, subst, ◌∙◌, append_assoc, arith}
+use Rattle.std.proofs.Common.{◌≡◌, ℕ, suc, ◌-◌, ◌<◌, Bool, true, false, cond, List, [], ◌∷◌, ◌++◌, length, take, drop, Option, Some, None, nat_eq, refl, sym, ap, subst, ◌∙◌, append_assoc, arith}
 use Rattle.std.proofs.Math.Seq.{take-append_seam, drop-append_seam}
 use Rattle.std.specs.Option.{option_or, MatchOption}
 use Rattle.std.proofs.lemmas.Bool.Decides.{Decides-eqb}
@@ -11,16 +11,17 @@ use Rattle.pt_lines.specs.declared.client.Who.TheVariants.{Named, Star, Unknown}
 use Rattle.pt_model.specs.declared.entry.Entry.{Entry}
 use Rattle.pt_model.specs.declared.entry.Event.{Event}
 use Rattle.pt_model.specs.declared.entry.Event.TheVariants as event
-use Rattle.pt_model.specs.Starts.{nothing}
-use Rattle.pt_model.specs.Histories.{history, place}
+use Rattle.pt_model.specs.Starts.{Start}
+use Rattle.pt_model.specs.Histories.{behind, place}
 use Rattle.pt_model.specs.Answers.{replies_from}
-use Rattle.pt_model.specs.Queries.{answers_behind, answers_from}
-use Rattle.pt_model.specs.Room.{refusal_within, entry_for}
-use Rattle.pt_model.proofs.Histories.{place-history}
-use Rattle.pt_model.proofs.Induction.{less_none}
+use Rattle.pt_model.specs.Queries.{answers_behind}
+use Rattle.pt_model.specs.Room.{refusal_with_seals, entry_for}
+use Rattle.pt_model.proofs.Histories.{place-behind}
 use Rattle.pt_core.specs.declared.applied.Applied.{Applied}
-use Rattle.pt_core.specs.Cores.{Kept}
-use Rattle.pt_core.specs.Applying.{IsApplied, IsRefusal, IsWantOfMemory}
+use Rattle.pt_core.specs.declared.applied.AppliedWithSeal.{AppliedWithSeal}
+use Rattle.pt_core.specs.Cores.{Kept, past}
+use Rattle.pt_core.specs.Applying.{IsApplied, IsWantOfMemory}
+use Rattle.pt_core.specs.ApplyingWithSeal.{opened_with_seal, IsAppliedWithSeal, IsRefusalWithSeals}
 use Rattle.pt_script.specs.declared.line_id.LineId.{LineId}
 use Rattle.pt_script.specs.declared.engine.Mark.{Mark}
 use Rattle.pt_script.specs.declared.engine.Mark.TheVariants as mark
@@ -29,10 +30,12 @@ use Rattle.pt_script.specs.Says.{SaysOf, refuses, lacks, accepts}
 use Rattle.pt_script.specs.Names.{Known}
 use Rattle.pt_script.specs.Engines.{Adds, IsFresh, mark_of, clients_marked, calls_marked, greeting_marked}
 use Rattle.pt_script.proofs.Counted.{lookup_push, count_by_push}
+use Rattle.pt_script.proofs.Opened.{limit_opened, place_opened}
 
 -- what an engine of these parts stands for
 abbrev pub seen_as : Kept → Known → List (ℕ × LineId) → Script
 seen_as core names calls = record {
+  start = core.start;
   entries = core.entries;
   seen = names.seen;
   clients = names.clients;
@@ -60,80 +63,65 @@ greeting_as (event.Death c) line = refl
 greeting_as (event.Moment clock t) line = refl
 
 -- the answers from the first new place on are those of the new entries
-pub answers_added : (old added : List Entry)
-    → answers_from (length old) (old ++ added) ≡ replies_from (history old) added
-answers_added old added =
-    ap (λ es. replies_from (history es) (drop (length old) (old ++ added)))
-    (take-append_seam old added)
-    ∙ ap (λ es. replies_from (history old) es) (drop-append_seam old added)
+answers_added : (core : Kept) (added : List Entry) (first : ℕ) → first ≡ place (past core)
+    → answers_behind core.start first (core.entries ++ added) ≡ replies_from (past core) added
+answers_added core added first is =
+    ap (λ n. replies_from (behind core.start (take n all)) (drop n all)) gap
+    ∙ ap (λ es. replies_from (behind core.start es) (drop (length core.entries) all))
+    (take-append_seam core.entries added)
+    ∙ ap (replies_from (past core)) (drop-append_seam core.entries added)
+  where
+    all : List Entry
+    all = core.entries ++ added
 
--- a core whose history has these entries, before which there was nothing
-abbrev pub first : List Entry → Kept
-first es = record { start = nothing; entries = es; limit = most_entries }
-
--- before a core's entries there was nothing, and it has the greatest limit
-abbrev pub IsFirst : Kept → Type 0
-IsFirst core = (core.start ≡ nothing) × (core.limit ≡ most_entries)
-
-limited : (core : Kept) → IsFirst core → core ≡ first core.entries
-limited core same =
-    ap (λ s. let k : Kept = record { start = s; entries = core.entries; limit = core.limit } in k)
-    same.0
-    ∙ ap (λ n. let k : Kept = record { start = nothing; entries = core.entries; limit = n } in k)
-    same.1
-
--- an event that is applied to such a core leaves such a core
-pub applied_first : (core next : Kept) (v : Event) (a : Applied) → IsFirst core
-    → IsApplied core v next a → IsApplied (first core.entries) v (first next.entries) a
-applied_first core next v a is applied =
-    let from = subst (λ k. IsApplied k v next a) (limited core is) applied in
-    subst (λ k. IsApplied (first core.entries) v k a)
-    (limited next (from.applies.starts, from.applies.same_limit)) from
-
-pub first_next : (core next : Kept) (v : Event) (a : Applied) → IsFirst core
-    → IsApplied core v next a → IsFirst next
-first_next core next v a is applied =
-    (applied.applies.starts ∙ is.0, applied.applies.same_limit ∙ is.1)
-
--- its place is the number of entries
-pub place_first : (core : Kept) (at : ℕ) → at ≡ place (history core.entries)
-    → at ≡ length core.entries
-place_first core at is = is ∙ place-history core.entries
-
--- the answers of a core before whose entries there was nothing
-pub answers_first : (core : Kept) (k : ℕ) → IsFirst core
-    → answers_behind core.start k core.entries ≡ answers_from k core.entries
-answers_first core k is =
-    ap (λ s. answers_behind s k core.entries) is.0
-    ∙ ap (λ n. answers_from n core.entries) (less_none k)
+    gap : first - core.start.at ≡ length core.entries
+    gap = omega (arith, is, place-behind core.start core.entries)
 
 -- the answers of an accepted event are those of its entries
-pub answers_are : (core next : Kept) (v : Event) (a : Applied) (is : IsFirst core)
-    (applies : IsApplied core v next a)
+pub answers_are : (core next : Kept) (v : Event) (a : Applied) (applied : IsApplied core v next a)
     → answers_behind next.start a.first next.entries
-    ≡ replies_from (history core.entries)
-    (entry_for (history core.entries) v
-    ∷ (applied_first core next v a is applies).applies.extends.0)
-answers_are core next v a is applies =
-    answers_first next a.first (first_next core next v a is applies)
-    ∙ ap (λ n. answers_from n next.entries) (place_first core a.first applied.first)
-    ∙ ap (λ es. answers_from (length core.entries) es) applied.applies.extends.1
-    ∙ answers_added core.entries
-    (entry_for (history core.entries) v ∷ applied.applies.extends.0)
-  where
-    applied : IsApplied (first core.entries) v (first next.entries) a
-    applied = applied_first core next v a is applies
+    ≡ replies_from (past core) (entry_for (past core) v ∷ applied.applies.extends.0)
+answers_are core next v a applied =
+    ap (λ (s : Start). answers_behind s a.first next.entries) applied.applies.starts
+    ∙ ap (answers_behind core.start a.first) applied.applies.extends.1
+    ∙ answers_added core (entry_for (past core) v ∷ applied.applies.extends.0) a.first
+    applied.first
+
+-- the same core, with as many entries as there may be at most
+abbrev pub full : Kept → Kept
+full core = record core { limit = most_entries }
+
+limited : (core : Kept) → core.limit ≡ most_entries → core ≡ full core
+limited core is = ap (λ n. let k : Kept = record core { limit = n } in k) is
+
+-- an event that is applied leaves the limit
+pub limit_next : (core next : Kept) (v : Event) (a : AppliedWithSeal) → core.limit ≡ most_entries
+    → IsAppliedWithSeal core v next a → next.limit ≡ most_entries
+limit_next core next v a is done =
+    done.applied.applies.same_limit ∙ limit_opened core v ∙ is
+
+applied_full : (core next : Kept) (v : Event) (a : AppliedWithSeal) → core.limit ≡ most_entries
+    → IsAppliedWithSeal core v next a → IsAppliedWithSeal (full core) v (full next) a
+applied_full core next v a is done =
+    let from = subst (λ k. IsAppliedWithSeal k v next a) (limited core is) done in
+    subst (λ k. IsAppliedWithSeal (full core) v k a)
+    (limited next (limit_next core next v a is done)) from
+
+-- the place of its entry is the next one, sealed or not
+pub place_first : (core next : Kept) (v : Event) (a : AppliedWithSeal)
+    → IsAppliedWithSeal core v next a → a.applied.first ≡ place (past core)
+place_first core next v a done = done.applied.first ∙ place_opened core v
 
 -- an accepted event: its parts were noted, and its answers appended
 pub accepted : (s : Script) (core next : Kept) (names known : Known)
-    (calls noted : List (ℕ × LineId)) (v : Event) (line : LineId) (a : Applied) (m : Mark)
+    (calls noted : List (ℕ × LineId)) (v : Event) (line : LineId) (a : AppliedWithSeal) (m : Mark)
     (out greeted told : List ℕ)
-    → s ≡ seen_as core names calls → IsFirst core → m ≡ mark_of v
-    → IsApplied core v next a
-    → known ≡ record names { clients = clients_marked m line.who a.first names.clients }
-    → noted ≡ calls_marked m line a.first calls
+    → s ≡ seen_as core names calls → core.limit ≡ most_entries → m ≡ mark_of v
+    → IsAppliedWithSeal core v next a
+    → known ≡ record names { clients = clients_marked m line.who a.applied.first names.clients }
+    → noted ≡ calls_marked m line a.applied.first calls
     → greeted ≡ out ++ greeting_marked m line
-    → told ≡ greeted ++ told_text noted (answers_behind next.start a.first next.entries)
+    → told ≡ greeted ++ told_text noted (answers_behind next.start a.applied.first next.entries)
     → Adds (SaysOf s v line (seen_as next known noted)) out told
 accepted s core next names known calls noted v line a m out greeted told is whole marks applies
     knows notes greets tells =
@@ -141,61 +129,66 @@ accepted s core next names known calls noted v line a m out greeted told is whol
       text = greeting_marked m line ++ answers;
       grows =
           tells
-          ∙ ap (λ ts. greeted ++ told_text noted ts) (answers_are core next v a whole applies)
+          ∙ ap (λ ts. greeted ++ told_text noted ts)
+          (answers_are opened (full next) v a.applied done.applied)
           ∙ ap (λ xs. xs ++ answers) greets
           ∙ append_assoc out (greeting_marked m line) answers;
       holds = accepts (record {
-        applies = applied.applies;
+        accepted = done.accepted;
+        applies = done.applied.applies;
         added = added;
-        extends = applied.applies.extends.1;
+        extends = done.applied.applies.extends.1;
         seen = ap (λ k. k.seen) knows;
         clients =
             ap (λ k. k.clients) knows
-            ∙ ap (λ n. clients_marked n line.who a.first names.clients) marks
+            ∙ ap (λ n. clients_marked n line.who a.applied.first names.clients) marks
             ∙ ap (λ n. clients_marked (mark_of v) line.who n names.clients) here
-            ∙ clients_as v line.who (length core.entries) names.clients;
+            ∙ clients_as v line.who (place (past core)) names.clients;
         calls =
             notes
-            ∙ ap (λ n. calls_marked n line a.first calls) marks
+            ∙ ap (λ n. calls_marked n line a.applied.first calls) marks
             ∙ ap (λ n. calls_marked (mark_of v) line n calls) here
-            ∙ calls_as v line (length core.entries) calls;
+            ∙ calls_as v line (place (past core)) calls;
         written =
             ap (λ n. greeting_marked n line ++ answers) marks
             ∙ ap (λ g. g ++ answers) (greeting_as v line);
       });
     })
   where
-    applied : IsApplied (first core.entries) v (first next.entries) a
-    applied = applied_first core next v a whole applies
+    opened : Kept
+    opened = opened_with_seal (full core) v
 
-    here : a.first ≡ length core.entries
-    here = place_first core a.first applied.first
+    done : IsAppliedWithSeal (full core) v (full next) a
+    done = applied_full core next v a whole applies
+
+    here : a.applied.first ≡ place (past core)
+    here = place_first core next v a applies
 
     added : List Entry
-    added = entry_for (history core.entries) v ∷ applied.applies.extends.0
+    added = entry_for (past opened) v ∷ done.applied.applies.extends.0
 
     answers : List ℕ
-    answers = told_text noted (replies_from (history core.entries) added)
+    answers = told_text noted (replies_from (past opened) added)
 
 -- a refused event: its refusal was appended, and nothing else changed
 pub refused : (s : Script) (core next : Kept) (names : Known)
     (calls noted : List (ℕ × LineId)) (v : Event) (line : LineId) (why : Refusal)
     (out told : List ℕ)
-    → s ≡ seen_as core names calls → IsFirst core → next ≡ core → noted ≡ calls
-    → IsRefusal core v why → told ≡ out ++ refusal_text line why
+    → s ≡ seen_as core names calls → core.limit ≡ most_entries → next ≡ core → noted ≡ calls
+    → IsRefusalWithSeals core v why → told ≡ out ++ refusal_text line why
     → Adds (SaysOf s v line (seen_as next names noted)) out told
 refused s core next names calls noted v line why out told is whole stays kept refuses_it tells =
     subst (λ t. Adds (SaysOf t v line (seen_as next names noted)) out told) (sym is) (record {
       text = refusal_text line why;
       grows = tells;
-      holds = by (refusal_within most_entries (history core.entries) v) refl
-          (subst (λ k. IsRefusal k v why) (limited core whole) refuses_it);
+      holds = by (refusal_with_seals most_entries (past core) v) refl
+          (subst (λ k. IsRefusalWithSeals k v why) (limited core whole) refuses_it);
     })
   where
     same : seen_as next names noted ≡ seen_as core names calls
     same = ap (λ k. seen_as k names noted) stays ∙ ap (λ cs. seen_as core names cs) kept
 
-    by : (r : Option Refusal) → refusal_within most_entries (history core.entries) v ≡ r
+    by : (r : Option Refusal) → refusal_with_seals most_entries (past core) v ≡ r
         → MatchOption r (IsWantOfMemory v why) (λ x. why ≡ x)
         → SaysOf (seen_as core names calls) v line (seen_as next names noted)
         (refusal_text line why)

@@ -1,5 +1,5 @@
 -- Who made the call of each answer.
-use Rattle.std.proofs.Common.{◌≡◌, ℕ, ◌<◌, ◌==◌, ◌⊎◌, inl, inr, true, false, cond, List, [], ◌∷◌, Option, Some, sym, ap, ◌∙◌, subst, arith}
+use Rattle.std.proofs.Common.{◌≡◌, ℕ, ◌<◌, ◌==◌, ◌⊎◌, inl, inr, Bool, true, false, cond, List, [], ◌∷◌, Option, Some, None, refl, sym, ap, ◌∙◌, subst, arith}
 use Rattle.std.proofs.lemmas.Bool.Decides.{nat_tests}
 use Rattle.pt_types.specs.declared.call.Call.{Call as Asked}
 use Rattle.pt_types.specs.declared.outcome.Outcome.{Outcome}
@@ -10,8 +10,8 @@ use Rattle.pt_model.specs.Searches.{In, Each}
 use Rattle.pt_model.specs.Histories.{History, Begin, ◌▷◌, onto, place}
 use Rattle.pt_model.specs.Records.{Told}
 use Rattle.pt_model.specs.declared.waiting_call.WaitingCall.{WaitingCall}
-use Rattle.pt_model.specs.WaitingCall.{stood, stood_by}
-use Rattle.pt_model.specs.Answers.{told, replies_from}
+use Rattle.pt_model.specs.WaitingCall.{at_place, stood, stood_by}
+use Rattle.pt_model.specs.Answers.{told, open_calls, replies_from}
 use Rattle.pt_model.specs.Queries.{caller, client_at}
 use Rattle.pt_model.specs.Verdicts.{verdict}
 use Rattle.pt_model.specs.Steps.{Step, calls, Follows}
@@ -24,6 +24,8 @@ use Rattle.pt_model.proofs.Histories.{follows-part}
 use Rattle.pt_model.proofs.Induction.{by_steps, start-seal}
 use Rattle.pt_model.proofs.Lists.{Each-in, Each-append, Each-weaker, In-append_cases}
 use Rattle.pt_model.proofs.Readings.{stood-call}
+use Rattle.pt_model.proofs.Ascending.{at_place-place}
+use Rattle.pt_model.proofs.Rising.{stood-seal}
 use Rattle.pt_model.proofs.Sound.{Below, Fresh-follows}
 use Rattle.pt_script.proofs.Answered.{IsForAnswered, told_each}
 
@@ -107,6 +109,32 @@ pub stood_called : (h : History) → Follows h → AreCalled h
 stood_called h f =
     by_steps AreCalled (λ w i. absurd i) (λ h e f ih s. step_called h e ih s)
     (λ h f ih. sealed_called h f) h f
+
+-- a call that is found is one of those
+found_in : (j : ℕ) (ws : List WaitingCall) (w : WaitingCall) → at_place j ws ≡ Some w → In w ws
+found_in j [] w e = absurd cc
+found_in j (v ∷ vs) w e = go (v.place == j) e (found_in j vs w)
+  where
+    go : (b : Bool) → cond b (Some v) (at_place j vs) ≡ Some w
+        → (at_place j vs ≡ Some w → In w vs) → In w (v ∷ vs)
+    go true e later = let same : w ≡ v = cc in inl same
+    go false e later = inr (later e)
+
+-- who made a call that a seal has made it before
+pub caller_sealed : (h : History) → Follows h → (j c : ℕ) → caller (Begin (seal h)) j ≡ Some c
+    → caller h j ≡ Some c
+caller_sealed h f j c e = go (at_place j (stood (Begin (seal h)))) refl e
+  where
+    go : (o : Option WaitingCall) → at_place j (stood (Begin (seal h))) ≡ o
+        → client_at o ≡ Some c → caller h j ≡ Some c
+    go None at e = absurd cc
+    go (Some w) at e =
+        let i : In w (open_calls h) =
+        subst (In w) (stood-seal h) (found_in j (stood (Begin (seal h))) w at) in
+        let there : w.place ≡ j = at_place-place j (stood (Begin (seal h))) w at in
+        let same : w.client ≡ c = cc in
+        subst (λ k. caller h k ≡ Some c) there
+        ((stood_called h f w (stood_open h w i)).0 ∙ ap Some same)
 
 -- an answer is its caller's
 abbrev pub IsOwn : History → Told → Type 0

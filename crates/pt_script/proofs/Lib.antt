@@ -4,6 +4,8 @@ mod Counted
 mod Rows
 -- Texts: texts of answers, and how they are written
 mod Texts
+-- Opened: the core to which an event's entries are added
+mod Opened
 -- Accepted: what is answered of an event: it is refused, or accepted
 mod Accepted
 -- Runs: lines one after the other: what is said of them, and how many they are
@@ -22,5 +24,7 @@ mod Latest
 mod Asked
 -- Settled: A history goes on by forced entries until nothing is forced
 mod Settled
+-- Unrefused: an event that is not refused where a seal makes room is not refused after it
+mod Unrefused
 -- OneTexts: there is one text for all lines, and each of its beginnings begins it
 mod OneTexts

@@ -1,5 +1,5 @@
 -- The line that made a call is noted at its place, and is the line of the call's client.
-use Rattle.std.proofs.Common.{◌≡◌, ℕ, ◌<◌, ◌==◌, Bool, true, false, cond, List, [], ◌∷◌, ◌++◌, length, drop, Option, Some, None, Result, Ok, Err, nat_eq, refl, sym, ap, ◌∙◌, subst, length-append, arith}
+use Rattle.std.proofs.Common.{◌≡◌, ℕ, ◌<◌, ◌==◌, Bool, true, false, cond, List, [], ◌∷◌, ◌++◌, length, drop, Option, Some, None, Result, Ok, Err, nat_eq, refl, sym, ap, ◌∙◌, subst, arith}
 use Rattle.std.proofs.lemmas.Bool.Decides.{nat_tests}
 use Rattle.std.proofs.Math.Seq.{drop-append_seam}
 use Rattle.std.specs.List.{cons_option}
@@ -16,23 +16,28 @@ use Rattle.pt_model.specs.declared.entry.Entry.{Entry}
 use Rattle.pt_model.specs.declared.entry.Entry.TheVariants.{Call}
 use Rattle.pt_model.specs.declared.entry.Event.{Event}
 use Rattle.pt_model.specs.declared.entry.Event.TheVariants as event
-use Rattle.pt_model.specs.Starts.{nothing}
-use Rattle.pt_model.specs.Histories.{History, Begin, ◌▷◌, onto, history, place}
+use Rattle.pt_model.specs.Starts.{Start}
+use Rattle.pt_model.specs.Histories.{History, Begin, ◌▷◌, onto, behind, place}
 use Rattle.pt_model.specs.Queries.{caller}
-use Rattle.pt_model.specs.Legal.{Legal, event_of, events_of}
+use Rattle.pt_model.specs.Legal.{LegalBehind, event_of, events_of}
 use Rattle.pt_model.specs.Room.{entry_for}
-use Rattle.pt_model.specs.Answers.{replies}
-use Rattle.pt_model.proofs.Histories.{onto-append, place-history}
-use Rattle.pt_model.proofs.Legality.{events_of-legal, legal-follows}
+use Rattle.pt_model.specs.Answers.{replies_behind}
+use Rattle.pt_model.specs.Steps.{begins}
+use Rattle.pt_model.proofs.Legality.{events_of-legal}
 use Rattle.pt_model.proofs.Lists.{Each-weaker}
+use Rattle.pt_told.proofs.EventTallies.{place-more}
+use Rattle.pt_core.specs.Cores.{Kept, past}
+use Rattle.pt_core.specs.Applying.{Applies}
+use Rattle.pt_core.specs.ApplyingWithSeal.{opened_with_seal}
 use Rattle.pt_script.specs.declared.line_id.LineId.{LineId}
-use Rattle.pt_script.specs.Scripts.{Script, begun, line_id, calls_with, clients_with, event_for, event_of_body, event_of_line, join_for, line_at, number_named, number_of, of_client}
-use Rattle.pt_script.specs.Says.{SaysAll, SaysOf, SaysTo, IsAccepted, counted, refuses, lacks, accepts}
-use Rattle.pt_script.specs.Engines.{IsFresh, mark_of}
+use Rattle.pt_script.specs.Scripts.{Script, begun, core_of, line_id, calls_with, clients_with, event_for, event_of_body, event_of_line, join_for, line_at, number_named, number_of, of_client}
+use Rattle.pt_script.specs.Says.{SaysAll, SaysOf, SaysTo, IsAccepted, counted, opened_for, refuses, lacks, accepts}
+use Rattle.pt_script.specs.Engines.{IsFresh, IsLegal, mark_of}
 use Rattle.pt_script.specs.Laws.{AnswersHaveLines, HasLine}
 use Rattle.pt_script.proofs.Accepted.{calls_as, fresh_noted}
-use Rattle.pt_script.proofs.Callers.{IsOwn, replies_own}
+use Rattle.pt_script.proofs.Callers.{IsOwn, caller_sealed, replies_own}
 use Rattle.pt_script.proofs.Counted.{lookup_push}
+use Rattle.pt_script.proofs.Opened.{goes_on, legal_follow, legal_next, legal_sealed, longer, opened_by, place_opened, same_start}
 
 -- the line of the call at a place is noted, and is this client's
 abbrev pub IsNoted : List (ℕ × LineId) → List (List ℕ × ℕ) → ℕ → ℕ → Type 0
@@ -101,7 +106,7 @@ event_asked : (s : Script) (who : Who) (body : ScriptBody) (c : ℕ) (call : Ask
     → event_for s who body ≡ Ok (event.Call c call) → number_of s.clients who ≡ Some c
 event_asked s (Named name) (Hello p) c call e = go (number_named s.clients name) e
   where
-    go : (o : Option ℕ) → join_for s.entries p o ≡ Ok (event.Call c call)
+    go : (o : Option ℕ) → join_for (past (core_of s)) p o ≡ Ok (event.Call c call)
         → number_named s.clients name ≡ Some c
     go None e = absurd cc
     go (Some d) e = absurd cc
@@ -144,15 +149,15 @@ events_apart (x ∷ xs) ys =
     joins (Some v) us vs = refl
 
 -- what follows the entry of an event has no event
-pub none_forced : (old new fs : List Entry) (v : Event)
-    → new ≡ old ++ entry_for (history old) v ∷ fs → Legal new (events_of old ++ v ∷ [])
+pub none_forced : (s : Start) (old new fs : List Entry) (v : Event)
+    → new ≡ old ++ entry_for (behind s old) v ∷ fs → LegalBehind s new (events_of old ++ v ∷ [])
     → events_of fs ≡ []
-none_forced old new fs v extends legal =
+none_forced s old new fs v extends legal =
     let all : events_of old ++ (v ∷ events_of fs) ≡ events_of old ++ v ∷ [] =
-    ap (λ o. events_of old ++ cons_option o (events_of fs)) (sym (event_back (history old) v))
-    ∙ sym (events_apart old (entry_for (history old) v ∷ fs))
+    ap (λ o. events_of old ++ cons_option o (events_of fs)) (sym (event_back (behind s old) v))
+    ∙ sym (events_apart old (entry_for (behind s old) v ∷ fs))
     ∙ sym (ap events_of extends)
-    ∙ events_of-legal (Begin nothing) new (events_of old ++ v ∷ []) legal in
+    ∙ events_of-legal (Begin s) new (events_of old ++ v ∷ []) legal in
     let rest : v ∷ events_of fs ≡ v ∷ [] =
     sym (drop-append_seam (events_of old) (v ∷ events_of fs))
     ∙ ap (drop (length (events_of old))) all
@@ -160,98 +165,117 @@ none_forced old new fs v extends legal =
     cc
 
 -- each call of a legal history is noted, and none that comes
-pub record IsWellNoted (s : Script) : Type 0 where
-  pub legal : Legal s.entries (events_of s.entries)
-  pub fresh : IsFresh s.calls (length s.entries)
-  pub lines : (j c : ℕ) → caller (history s.entries) j ≡ Some c → IsNoted s.calls s.clients j c
+pub record AreNoted (core : Kept) (clients : List (List ℕ × ℕ)) (calls : List (ℕ × LineId)) :
+    Type 0 where
+  pub legal : IsLegal core
+  pub fresh : IsFresh calls (place (past core))
+  pub lines : (j c : ℕ) → caller (past core) j ≡ Some c → IsNoted calls clients j c
+
+abbrev pub IsWellNoted : Script → Type 0
+IsWellNoted s = AreNoted (core_of s) s.clients s.calls
+
+-- those of a seal are
+opened_noted : (core : Kept) (v : Event) (clients : List (List ℕ × ℕ))
+    (calls : List (ℕ × LineId)) → AreNoted core clients calls
+    → AreNoted (opened_with_seal core v) clients calls
+opened_noted core v clients calls n =
+    opened_by (λ k. AreNoted k clients calls) core v (λ e. n) (λ e. record {
+      legal = legal_sealed core n.legal;
+      fresh = n.fresh;
+      lines = λ j c called.
+          n.lines j c (caller_sealed (past core) (legal_follow core n.legal) j c called);
+    })
 
 -- each call is, after the entry of an event
-lines_after : (s : Script) (v : Event) (line : LineId) → IsWellNoted s
-    → IsAsked v line.who s.clients → (j c : ℕ)
-    → caller (history s.entries ▷ entry_for (history s.entries) v) j ≡ Some c
-    → IsNoted (calls_with v line (length s.entries) s.calls)
-    (clients_with v line.who (length s.entries) s.clients) j c
-lines_after s (event.Call d call) line n asked j c e =
-    go (place (history s.entries) == j) refl e
+lines_after : (core : Kept) (clients : List (List ℕ × ℕ)) (calls : List (ℕ × LineId))
+    (v : Event) (line : LineId) → AreNoted core clients calls → IsAsked v line.who clients
+    → (j c : ℕ) → caller (past core ▷ entry_for (past core) v) j ≡ Some c
+    → IsNoted (calls_with v line (place (past core)) calls)
+    (clients_with v line.who (place (past core)) clients) j c
+lines_after core clients calls (event.Call d call) line n asked j c e =
+    go (place h == j) refl e
   where
     h : History
-    h = history s.entries
+    h = past core
+
+    noted : List (ℕ × LineId)
+    noted = calls_with (event.Call d call) line (place h) calls
 
     go : (b : Bool) → (place h == j) ≡ b → cond b (Some d) (caller h j) ≡ Some c
-        → IsNoted (calls_with (event.Call d call) line (length s.entries) s.calls) s.clients j c
+        → IsNoted noted clients j c
     go true at e =
         let same : d ≡ c = cc in
         let here : place h ≡ j = grind (arith, nat_tests) in
-        let there : length s.entries ≡ j = sym (place-history s.entries) ∙ here in
-        subst
-        (λ i. IsNoted (calls_with (event.Call d call) line (length s.entries) s.calls) s.clients
-        i c) there (
+        subst (λ i. IsNoted noted clients i c) here (
           line,
           (
-            line_here d call line (length s.entries) s.calls
-                (n.fresh (length s.entries) (omega arith)),
+            line_here d call line (place h) calls (n.fresh (place h) (omega arith)),
             asked ∙ ap Some same,
           ),
         )
     go false at e =
-        noted_on (event.Call d call) line (length s.entries) j c s.calls s.clients (n.lines j c e)
-lines_after s v line n asked j c e =
-    noted_on v line (length s.entries) j c s.calls s.clients (n.lines j c e)
+        noted_on (event.Call d call) line (place h) j c calls clients (n.lines j c e)
+lines_after core clients calls v line n asked j c e =
+    noted_on v line (place (past core)) j c calls clients (n.lines j c e)
+
+-- and after those that must follow it
+next_noted : (core next : Kept) (v : Event) (line : LineId) (clients : List (List ℕ × ℕ))
+    (calls : List (ℕ × LineId)) → AreNoted core clients calls → IsAsked v line.who clients
+    → Applies core v next
+    → AreNoted next (clients_with v line.who (place (past core)) clients)
+    (calls_with v line (place (past core)) calls)
+next_noted core next v line clients calls n asked a = record {
+  legal = legal_next core next v a n.legal;
+  fresh =
+      fresh_noted calls (calls_with v line (place (past core)) calls) (mark_of v) line
+      (place (past core)) (place (past next)) n.fresh below
+      (sym (calls_as v line (place (past core)) calls));
+  lines = λ j c e. lines_after core clients calls v line n asked j c (sym (callers j) ∙ e);
+}
+  where
+    below : place (past core) < place (past next)
+    below =
+        let more = place-more core.start core.entries v next.entries
+        (goes_on core next v a n.legal) in
+        let same = ap (λ (s : Start). place (behind s next.entries)) a.starts in
+        omega (arith, more, same)
+
+    callers : (j : ℕ)
+        → caller (past next) j ≡ caller (past core ▷ entry_for (past core) v) j
+    callers j =
+        ap (λ g. caller g j) (longer core next v a)
+        ∙ callers_kept (past core ▷ entry_for (past core) v) a.extends.0 j
+        (none_forced core.start core.entries next.entries a.extends.0 v a.extends.1
+        (same_start core next v a))
 
 event_noted : (s : Script) (v : Event) (line : LineId) (next : Script) (text : List ℕ)
     → IsWellNoted s → IsAsked v line.who s.clients → IsAccepted s v line next text
     → IsWellNoted next
-event_noted s v line next text n asked a = record {
-  legal =
-      subst (λ vs. Legal next.entries vs)
-      (sym (events_of-legal (Begin nothing) next.entries (events_of s.entries ++ v ∷ [])
-      a.applies.legal)) a.applies.legal;
-  fresh =
-      fresh_noted s.calls next.calls (mark_of v) line (length s.entries) (length next.entries)
-      n.fresh below (a.calls ∙ sym (calls_as v line (length s.entries) s.calls));
-  lines = λ j c e.
-      subst (λ rows. IsNoted next.calls rows j c) (sym a.clients)
-      (subst
-      (λ rows. IsNoted rows (clients_with v line.who (length s.entries) s.clients) j c)
-      (sym a.calls)
-      (lines_after s v line n asked j c (sym (callers j) ∙ e)));
-}
+event_noted s v line next text n asked a =
+    subst (λ rows. AreNoted (core_of next) rows next.calls)
+    (ap (λ at. clients_with v line.who at s.clients) there ∙ sym a.clients)
+    (subst
+    (λ rows. AreNoted (core_of next)
+    (clients_with v line.who (place (past (opened_for s v))) s.clients) rows)
+    (ap (λ at. calls_with v line at s.calls) there ∙ sym a.calls)
+    (next_noted (opened_for s v) (core_of next) v line s.clients s.calls
+    (opened_noted (core_of s) v s.clients s.calls n) asked a.applies))
   where
-    h : History
-    h = history s.entries
-
-    fs : List Entry
-    fs = a.applies.extends.0
-
-    below : length s.entries < length next.entries
-    below =
-        let longer = ap length a.applies.extends.1
-        ∙ length-append s.entries (entry_for h v ∷ fs) in
-        omega (arith, longer)
-
-    callers : (j : ℕ) → caller (history next.entries) j ≡ caller (h ▷ entry_for h v) j
-    callers j =
-        ap (λ es. caller (history es) j) a.applies.extends.1
-        ∙ ap (λ g. caller g j) (onto-append (Begin nothing) s.entries (entry_for h v ∷ fs))
-        ∙ callers_kept (h ▷ entry_for h v) fs j
-        (none_forced s.entries next.entries fs v a.applies.extends.1 a.applies.legal)
+    there : place (past (opened_for s v)) ≡ place (past (core_of s))
+    there = place_opened (core_of s) v
 
 line_noted : (s : Script) (line : ScriptLine) (next : Script) (text : List ℕ) → IsWellNoted s
     → (r : Result Event Refusal) → event_of_line s line ≡ r
     → SaysTo (counted s line.who) (line_id s line.who) r next text → IsWellNoted next
 line_noted s line next text n (Err why) e says =
-    subst IsWellNoted (sym says.0)
-    (record { legal = n.legal; fresh = n.fresh; lines = n.lines })
+    subst IsWellNoted (sym says.0) n
 line_noted s line next text n (Ok v) e says = go says
   where
-    seen : IsWellNoted (counted s line.who)
-    seen = record { legal = n.legal; fresh = n.fresh; lines = n.lines }
-
     go : SaysOf (counted s line.who) v (line_id s line.who) next text → IsWellNoted next
-    go (refuses r) = subst IsWellNoted (sym r.same) seen
-    go (lacks r) = subst IsWellNoted (sym r.same) seen
+    go (refuses r) = subst IsWellNoted (sym r.same) n
+    go (lacks r) = subst IsWellNoted (sym r.same) n
     go (accepts a) =
-        event_noted (counted s line.who) v (line_id s line.who) next text seen
+        event_noted (counted s line.who) v (line_id s line.who) next text n
         (asked_of s line.who line.body v e) a
 
 -- so it is after all lines
@@ -264,7 +288,7 @@ says_noted s (x ∷ xs) last text n says =
 
 pub begun_noted : IsWellNoted begun
 begun_noted = record {
-  legal = (refl, refl);
+  legal = record { starts = begins; legal = (refl, refl) };
   fresh = λ j far. refl;
   lines = λ j c e. absurd cc;
 }
@@ -272,8 +296,8 @@ begun_noted = record {
 pub answers_have_lines : AnswersHaveLines
 answers_have_lines lines s text says =
     let n = says_noted begun lines s text begun_noted says in
-    Each-weaker (IsOwn (history s.entries)) (HasLine s)
+    Each-weaker (IsOwn (past (core_of s))) (HasLine s)
     (λ t own. let line = n.lines t.place t.client own.0 in
     record { line = line.0; noted = line.1.0; own = line.1.1 })
-    (replies s.entries)
-    (replies_own (Begin nothing) s.entries (legal-follows s.entries (events_of s.entries) n.legal))
+    (replies_behind s.start s.entries)
+    (replies_own (Begin s.start) s.entries (legal_follow (core_of s) n.legal))

@@ -3,47 +3,56 @@ use Rattle.std.proofs.Common.{◌≡◌, ℕ, zero, suc, Bool, true, false, not,
 use Rattle.std.proofs.Math.Seq.{drop-append_seam}
 use Rattle.std.proofs.lemmas.Bool.{and_parts}
 use Rattle.std.proofs.lemmas.List.{take-append-drop}
-use Rattle.std.specs.Option.{option_or}
-use Rattle.pt_types.specs.Limits.{most_entries}
 use Rattle.pt_types.specs.declared.outcome.Refusal.{Refusal}
 use Rattle.pt_types.specs.declared.outcome.Refusal.TheVariants.{Enomem}
 use Rattle.pt_lines.specs.declared.client.Who.{Who}
 use Rattle.pt_lines.specs.declared.script_line.ScriptLine.{ScriptLine}
 use Rattle.pt_model.specs.declared.entry.Entry.{Entry}
 use Rattle.pt_model.specs.declared.entry.Event.{Event}
-use Rattle.pt_model.specs.Starts.{nothing}
-use Rattle.pt_model.specs.Histories.{History, Begin, ◌▷◌, history}
+use Rattle.pt_model.specs.Starts.{Start}
+use Rattle.pt_model.specs.Histories.{History, Begin, ◌▷◌, place}
 use Rattle.pt_model.specs.Answers.{replies_from}
 use Rattle.pt_model.specs.Forced.{forced}
-use Rattle.pt_model.specs.Legal.{Takes, LegalFrom, Legal, events_of}
-use Rattle.pt_model.specs.Room.{need, entry_for, refusal, refusal_for_room}
-use Rattle.pt_model.proofs.Legality.{events_of-legal, legal-follows, legal-more, legal-settled}
+use Rattle.pt_model.specs.Legal.{Takes, LegalBehind, LegalFrom, events_of}
+use Rattle.pt_model.specs.Room.{need, entry_for, refusal, refusal_for_room, refusal_within}
+use Rattle.pt_model.specs.Steps.{begins}
+use Rattle.pt_model.proofs.Legality.{legal-more}
 use Rattle.pt_model.proofs.OneList.{one_list}
 use Rattle.pt_model.proofs.Steps.{step-event}
-use Rattle.pt_core.specs.Applying.{is_death}
+use Rattle.pt_core.specs.Cores.{Kept, past}
+use Rattle.pt_core.specs.Applying.{Applies, is_death}
 use Rattle.pt_script.specs.declared.line_id.LineId.{LineId}
-use Rattle.pt_script.specs.Scripts.{Script, begun, line_id, calls_with, clients_with, event_of_line, greeting, refusal_text, told_text}
-use Rattle.pt_script.specs.Says.{SaysAll, SaysOf, SaysTo, IsRefused, IsAccepted, counted, refusal_of_event, refuses, lacks, accepts}
+use Rattle.pt_script.specs.Scripts.{Script, begun, core_of, line_id, calls_with, clients_with, event_of_line, greeting, refusal_text, told_text}
+use Rattle.pt_script.specs.Says.{SaysAll, SaysOf, SaysTo, IsRefused, IsAccepted, counted, opened_for, refusal_of_event, refuses, lacks, accepts}
 use Rattle.pt_script.specs.Ends.{lines_of}
+use Rattle.pt_script.specs.Engines.{IsLegal}
 use Rattle.pt_script.specs.Laws.{BeginningsOfAll, EachText, OneText, SaysAllMet, SaysMet, SaysToMet, accepted, refused, unmet}
+use Rattle.pt_script.proofs.Opened.{legal_follow, legal_next, legal_opened, legal_settle, limit_opened, same_start}
 use Rattle.pt_script.proofs.Runs.{says_join}
 use Rattle.pt_script.proofs.Settled.{settles}
+use Rattle.pt_script.proofs.Unrefused.{not_refused, unrefused_opened}
 
 -- one text and one script after it
 abbrev Same : Script → List ℕ → Script → List ℕ → Type 0
 Same s text t other = (s ≡ t) × (text ≡ other)
 
-abbrev made : List Entry → List Who → List (List ℕ × ℕ) → List (ℕ × LineId) → Script
-made entries seen clients noted =
-    record { entries = entries; seen = seen; clients = clients; calls = noted }
+abbrev made : Start → List Entry → List Who → List (List ℕ × ℕ) → List (ℕ × LineId) → Script
+made start entries seen clients noted = record {
+  start = start;
+  entries = entries;
+  seen = seen;
+  clients = clients;
+  calls = noted;
+}
 
-same_script : (s t : Script) → s.entries ≡ t.entries → s.seen ≡ t.seen → s.clients ≡ t.clients
-    → s.calls ≡ t.calls → s ≡ t
-same_script s t entries seen clients noted =
-    ap (λ x. made x s.seen s.clients s.calls) entries
-    ∙ ap (λ x. made t.entries x s.clients s.calls) seen
-    ∙ ap (λ x. made t.entries t.seen x s.calls) clients
-    ∙ ap (λ x. made t.entries t.seen t.clients x) noted
+same_script : (s t : Script) → s.start ≡ t.start → s.entries ≡ t.entries → s.seen ≡ t.seen
+    → s.clients ≡ t.clients → s.calls ≡ t.calls → s ≡ t
+same_script s t start entries seen clients noted =
+    ap (λ x. made x s.entries s.seen s.clients s.calls) start
+    ∙ ap (λ x. made t.start x s.seen s.clients s.calls) entries
+    ∙ ap (λ x. made t.start t.entries x s.clients s.calls) seen
+    ∙ ap (λ x. made t.start t.entries t.seen x s.calls) clients
+    ∙ ap (λ x. made t.start t.entries t.seen t.clients x) noted
 
 same_refused : (s : Script) (v : Event) (line : LineId) (a : Script) (xs : List ℕ) (b : Script)
     (ys : List ℕ) → IsRefused s v line a xs → IsRefused s v line b ys → Same a xs b ys
@@ -57,27 +66,30 @@ same_refused s v line a xs b ys p q =
 same_accepted : (s : Script) (v : Event) (line : LineId) (a : Script) (xs : List ℕ) (b : Script)
     (ys : List ℕ) → IsAccepted s v line a xs → IsAccepted s v line b ys → Same a xs b ys
 same_accepted s v line a xs b ys p q = (
-  same_script a b entries (p.seen ∙ sym q.seen) (p.clients ∙ sym q.clients) calls,
+  same_script a b (p.applies.starts ∙ sym q.applies.starts) entries (p.seen ∙ sym q.seen)
+      (p.clients ∙ sym q.clients) calls,
   p.written
-      ∙ ap (λ es. greeting v line ++ told_text a.calls (replies_from (history s.entries) es)) added
-      ∙ ap (λ rows. greeting v line ++ told_text rows (replies_from (history s.entries) q.added))
-      calls
+      ∙ ap (λ es. greeting v line ++ told_text a.calls (replies_from (past core) es)) added
+      ∙ ap (λ rows. greeting v line ++ told_text rows (replies_from (past core) q.added)) calls
       ∙ sym q.written,
 )
   where
+    core : Kept
+    core = opened_for s v
+
     entries : a.entries ≡ b.entries
     entries =
-        one_list nothing (events_of s.entries ++ v ∷ []) a.entries b.entries p.applies.legal
-        q.applies.legal
+        one_list core.start (events_of core.entries ++ v ∷ []) a.entries b.entries
+        (same_start core (core_of a) v p.applies) (same_start core (core_of b) v q.applies)
 
     calls : a.calls ≡ b.calls
     calls = p.calls ∙ sym q.calls
 
     added : p.added ≡ q.added
     added =
-        sym (drop-append_seam s.entries p.added)
-        ∙ ap (drop (length s.entries)) (sym p.extends ∙ entries ∙ q.extends)
-        ∙ drop-append_seam s.entries q.added
+        sym (drop-append_seam core.entries p.added)
+        ∙ ap (drop (length core.entries)) (sym p.extends ∙ entries ∙ q.extends)
+        ∙ drop-append_seam core.entries q.added
 
 -- what is refused is not accepted
 clash : {X : Type 0} (r : Option Refusal) (why : Refusal) → r ≡ Some why → r ≡ None → X
@@ -96,7 +108,7 @@ same_met wanted s v line a xs b ys (refused p) (refused q) = same_refused s v li
 same_met wanted s v line a xs b ys (refused p) (unmet w q) =
     clash (refusal_of_event s v) p.why p.refused q.accepted
 same_met wanted s v line a xs b ys (refused p) (accepted n q) =
-    clash (refusal_of_event s v) p.why p.refused q.applies.accepted
+    clash (refusal_of_event s v) p.why p.refused q.accepted
 same_met wanted s v line a xs b ys (unmet w p) (refused q) =
     clash (refusal_of_event s v) q.why q.refused p.accepted
 same_met wanted s v line a xs b ys (unmet w p) (unmet u q) =
@@ -104,7 +116,7 @@ same_met wanted s v line a xs b ys (unmet w p) (unmet u q) =
 same_met wanted s v line a xs b ys (unmet w p) (accepted n q) =
     unmet_not wanted (is_death v) w p.lives n
 same_met wanted s v line a xs b ys (accepted n p) (refused q) =
-    clash (refusal_of_event s v) q.why q.refused p.applies.accepted
+    clash (refusal_of_event s v) q.why q.refused p.accepted
 same_met wanted s v line a xs b ys (accepted n p) (unmet w q) =
     unmet_not wanted (is_death v) w q.lives n
 same_met wanted s v line a xs b ys (accepted n p) (accepted m q) =
@@ -132,32 +144,22 @@ same_all wanted s (line ∷ more) a xs b ys p q =
     )
 
 -- the entries are the history of their own events
-abbrev IsLegal : Script → Type 0
-IsLegal s = Legal s.entries (events_of s.entries)
+abbrev IsLegalAfter : Script → Type 0
+IsLegalAfter s = IsLegal (core_of s)
 
-legal_events : (es : List Entry) (vs : List Event) → Legal es vs → Legal es (events_of es)
-legal_events es vs legal =
-    subst (λ us. Legal es us) (sym (events_of-legal (Begin nothing) es vs legal)) legal
-
--- what is not refused for room either is not refused
-not_refused : (a b : Option Refusal) → option_or a b ≡ None → a ≡ None
-not_refused None b e = refl
-not_refused (Some why) b e = absurd cc
+begun_legal : IsLegalAfter begun
+begun_legal = record { starts = begins; legal = (refl, refl) }
 
 -- an event that is not refused can be accepted
-can_accept : (s : Script) (v : Event) (line : LineId) → IsLegal s → refusal_of_event s v ≡ None
-    → (next : Script) × (text : List ℕ) × IsAccepted s v line next text × IsLegal next
+can_accept : (s : Script) (v : Event) (line : LineId) → IsLegalAfter s
+    → refusal_of_event s v ≡ None
+    → (next : Script) × (text : List ℕ) × IsAccepted s v line next text × IsLegalAfter next
 can_accept s v line legal none = (
   next,
   greeting v line ++ told_text next.calls (replies_from h (entry ∷ rest.0)),
   record {
-    applies = record {
-      accepted = none;
-      starts = refl;
-      extends = (rest.0, refl);
-      legal = longer;
-      same_limit = refl;
-    };
+    accepted = none;
+    applies = applies;
     added = entry ∷ rest.0;
     extends = refl;
     seen = refl;
@@ -165,50 +167,71 @@ can_accept s v line legal none = (
     calls = refl;
     written = refl;
   },
-  legal_events next.entries (events_of s.entries ++ v ∷ []) longer,
+  legal_next core (core_of next) v applies there,
 )
   where
+    core : Kept
+    core = opened_for s v
+
+    there : IsLegal core
+    there = legal_opened (core_of s) legal v
+
     h : History
-    h = history s.entries
+    h = past core
 
     entry : Entry
     entry = entry_for h v
 
     settled : forced h ≡ None
-    settled = legal-settled s.entries (events_of s.entries) legal
+    settled = legal_settle core there
+
+    within : refusal_within core.limit h v ≡ None
+    within = unrefused_opened (core_of s) legal v none
 
     open_to : refusal h v ≡ None
-    open_to = not_refused (refusal h v) (refusal_for_room most_entries h v) none
+    open_to = not_refused (refusal h v) (refusal_for_room core.limit h v) within
 
     rest : (fs : List Entry) × LegalFrom (h ▷ entry) fs []
     rest =
         settles (need (h ▷ entry)) (h ▷ entry)
-        (legal-follows s.entries (events_of s.entries) legal, step-event h v settled open_to)
-        (omega arith)
+        (legal_follow core there, step-event h v settled open_to) (omega arith)
 
     next : Script
     next = record {
-      entries = s.entries ++ entry ∷ rest.0;
+      start = core.start;
+      entries = core.entries ++ entry ∷ rest.0;
       seen = s.seen;
-      clients = clients_with v line.who (length s.entries) s.clients;
-      calls = calls_with v line (length s.entries) s.calls;
+      clients = clients_with v line.who (place (past (core_of s))) s.clients;
+      calls = calls_with v line (place (past (core_of s))) s.calls;
     }
 
-    longer : Legal (s.entries ++ entry ∷ rest.0) (events_of s.entries ++ v ∷ [])
+    longer :
+        LegalBehind core.start (core.entries ++ entry ∷ rest.0)
+        (events_of core.entries ++ v ∷ [])
     longer =
-        legal-more (Begin nothing) s.entries (entry ∷ rest.0) (events_of s.entries) (v ∷ []) legal
+        legal-more (Begin core.start) core.entries (entry ∷ rest.0) (events_of core.entries)
+        (v ∷ []) there.legal
         (subst
         (λ o. MatchOption o (Takes h entry (v ∷ []) (LegalFrom (h ▷ entry) rest.0))
         (λ x. (entry ≡ x) × LegalFrom (h ▷ entry) rest.0 (v ∷ []))) (sym settled)
         (open_to, refl, rest.1))
 
+    applies : Applies core v (core_of next)
+    applies = record {
+      accepted = within;
+      starts = refl;
+      extends = (rest.0, refl);
+      legal = longer;
+      same_limit = sym (limit_opened (core_of s) v);
+    }
+
 -- an event has a text
-can_answer : (wanted : Bool) (s : Script) (v : Event) (line : LineId) → IsLegal s
-    → (next : Script) × (text : List ℕ) × SaysMet wanted s v line next text × IsLegal next
+can_answer : (wanted : Bool) (s : Script) (v : Event) (line : LineId) → IsLegalAfter s
+    → (next : Script) × (text : List ℕ) × SaysMet wanted s v line next text × IsLegalAfter next
 can_answer wanted s v line legal = go (refusal_of_event s v) refl
   where
     go : (o : Option Refusal) → refusal_of_event s v ≡ o
-        → (next : Script) × (text : List ℕ) × SaysMet wanted s v line next text × IsLegal next
+        → (next : Script) × (text : List ℕ) × SaysMet wanted s v line next text × IsLegalAfter next
     go (Some why) e = (
       s,
       refusal_text line why,
@@ -223,7 +246,7 @@ can_answer wanted s v line legal = go (refusal_of_event s v) refl
 
         by : (b : Bool) → (wanted && not (is_death v)) ≡ b
             → (next : Script) × (text : List ℕ) × SaysMet wanted s v line next text
-            × IsLegal next
+            × IsLegalAfter next
         by true both =
             let parts = and_parts wanted (not (is_death v)) both in (
               s,
@@ -242,13 +265,13 @@ can_answer wanted s v line legal = go (refusal_of_event s v) refl
             (some.0, some.1, accepted other some.2, some.3)
 
 -- so has a line
-can_say : (wanted : Bool) (s : Script) (line : LineId) (r : Result Event Refusal) → IsLegal s
-    → (next : Script) × (text : List ℕ) × SaysToMet wanted s line r next text × IsLegal next
+can_say : (wanted : Bool) (s : Script) (line : LineId) (r : Result Event Refusal) → IsLegalAfter s
+    → (next : Script) × (text : List ℕ) × SaysToMet wanted s line r next text × IsLegalAfter next
 can_say wanted s line (Err why) legal = (s, refusal_text line why, (refl, refl), legal)
 can_say wanted s line (Ok v) legal = can_answer wanted s v line legal
 
 -- and so have all lines
-can_say_all : (wanted : ℕ → Bool) (s : Script) (lines : List ScriptLine) → IsLegal s
+can_say_all : (wanted : ℕ → Bool) (s : Script) (lines : List ScriptLine) → IsLegalAfter s
     → (last : Script) × (text : List ℕ) × SaysAllMet wanted s lines last text
 can_say_all wanted s [] legal = (s, [], (refl, refl))
 can_say_all wanted s (line ∷ more) legal =
@@ -262,7 +285,7 @@ can_say_all wanted s (line ∷ more) legal =
 
 pub one_text : OneText
 one_text wanted lines =
-    let some = can_say_all wanted begun lines (refl, refl) in
+    let some = can_say_all wanted begun lines begun_legal in
     record {
       last = some.0;
       text = some.1;
@@ -328,21 +351,21 @@ each_text lines last text = (
 )
 
 -- after lines the entries are still the history of their own events
-legal_of : (s : Script) (v : Event) (line : LineId) (next : Script) (text : List ℕ) → IsLegal s
-    → SaysOf s v line next text → IsLegal next
-legal_of s v line next text legal (refuses r) = subst IsLegal (sym r.same) legal
-legal_of s v line next text legal (lacks r) = subst IsLegal (sym r.same) legal
+legal_of : (s : Script) (v : Event) (line : LineId) (next : Script) (text : List ℕ) → IsLegalAfter s
+    → SaysOf s v line next text → IsLegalAfter next
+legal_of s v line next text legal (refuses r) = subst IsLegalAfter (sym r.same) legal
+legal_of s v line next text legal (lacks r) = subst IsLegalAfter (sym r.same) legal
 legal_of s v line next text legal (accepts a) =
-    legal_events next.entries (events_of s.entries ++ v ∷ []) a.applies.legal
+    legal_next (opened_for s v) (core_of next) v a.applies (legal_opened (core_of s) legal v)
 
 legal_to : (s : Script) (line : LineId) (r : Result Event Refusal) (next : Script) (text : List ℕ)
-    → IsLegal s → SaysTo s line r next text → IsLegal next
-legal_to s line (Err why) next text legal says = subst IsLegal (sym says.0) legal
+    → IsLegalAfter s → SaysTo s line r next text → IsLegalAfter next
+legal_to s line (Err why) next text legal says = subst IsLegalAfter (sym says.0) legal
 legal_to s line (Ok v) next text legal says = legal_of s v line next text legal says
 
-legal_all : (s : Script) (lines : List ScriptLine) (last : Script) (text : List ℕ) → IsLegal s
-    → SaysAll s lines last text → IsLegal last
-legal_all s [] last text legal says = subst IsLegal (sym says.0) legal
+legal_all : (s : Script) (lines : List ScriptLine) (last : Script) (text : List ℕ) → IsLegalAfter s
+    → SaysAll s lines last text → IsLegalAfter last
+legal_all s [] last text legal says = subst IsLegalAfter (sym says.0) legal
 legal_all s (line ∷ more) last text legal says =
     legal_all says.0 more last says.2
     (legal_to (counted s line.who) (line_id s line.who) (event_of_line s line) says.0 says.1 legal
@@ -352,7 +375,7 @@ legal_all s (line ∷ more) last text legal says =
 pub beginnings_of_all : BeginningsOfAll
 beginnings_of_all bytes text b =
     let lines = lines_of bytes in
-    let legal = legal_all begun (take b.count lines) b.last b.whole (refl, refl) b.says in
+    let legal = legal_all begun (take b.count lines) b.last b.whole begun_legal b.says in
     let rest = can_say_all (λ k. false) b.last (drop b.count lines) legal in
     let says =
     subst (λ ls. SaysAll begun ls rest.0 (b.whole ++ rest.1)) (take-append-drop b.count lines)

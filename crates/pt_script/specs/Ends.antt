@@ -7,7 +7,9 @@ use Rattle.pt_lines.specs.Lines.{Held, IsBegun, lines, to_come}
 use Rattle.pt_lines.specs.Script.{script_of}
 use Rattle.pt_script.specs.declared.fault.ScriptFault.{ScriptFault}
 use Rattle.pt_script.specs.declared.fault.ScriptFault.TheVariants.{Read, Write, Memory}
-use Rattle.pt_script.specs.Scripts.{Script, begun}
+use Rattle.pt_model.specs.Histories.{place}
+use Rattle.pt_core.specs.Cores.{past}
+use Rattle.pt_script.specs.Scripts.{Script, begun, core_of}
 use Rattle.pt_script.specs.Says.{SaysAll}
 use Rattle.pt_script.specs.Texts.{IsBroken, Writing}
 
@@ -15,12 +17,13 @@ use Rattle.pt_script.specs.Texts.{IsBroken, Writing}
 abbrev pub lines_of : List ℕ → List ScriptLine
 lines_of bytes = map script_of (lines bytes)
 
--- all that may be written for these bytes was written, and nothing else
-pub record IsScriptText (bytes text : List ℕ) (count entries : ℕ) : Type 0 where
+-- all that may be written for these bytes was written, and nothing else; these are the number of
+-- lines and the place of the next entry
+pub record IsScriptText (bytes text : List ℕ) (count next : ℕ) : Type 0 where
   pub last : Script
   pub says : SaysAll begun (lines_of bytes) last text
   pub lines : count ≡ length (lines_of bytes)
-  pub history : entries ≡ length last.entries
+  pub history : next ≡ place (past (core_of last))
 
 -- what was written begins what may be written for the first lines of these bytes
 pub record BeginsScriptText (bytes text : List ℕ) : Type 0 where

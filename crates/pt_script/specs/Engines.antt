@@ -2,6 +2,7 @@
 use Rattle.std.specs.Prelude.{◌≡◌, ℕ, ◌≤◌, ◌++◌, List, [], ◌∷◌, length, map, nat_eq, Option, Some, None, Result, Ok, Err, if◌then◌else◌}
 use Rattle.std.specs.List.{flat_map}
 use Rattle.std.specs.Map.{lookup}
+use Rattle.pt_types.specs.Limits.{most_entries}
 use Rattle.pt_types.specs.declared.outcome.Outcome.TheVariants.{Done}
 use Rattle.pt_types.specs.declared.outcome.Refusal.{Refusal}
 use Rattle.pt_types.specs.declared.outcome.Refusal.TheVariants.{Nohello}
@@ -11,20 +12,40 @@ use Rattle.pt_lines.specs.declared.reply.Word.TheVariants as word
 use Rattle.pt_lines.specs.Replies.{reply_line}
 use Rattle.pt_lines.specs.Lines.{Held, to_come}
 use Rattle.pt_lines.specs.Script.{script_of}
-use Rattle.pt_model.specs.declared.entry.Entry.{Entry}
 use Rattle.pt_model.specs.declared.entry.Event.{Event}
 use Rattle.pt_model.specs.declared.entry.Event.TheVariants as event
-use Rattle.pt_model.specs.Histories.{history}
+use Rattle.pt_model.specs.Histories.{History, place}
 use Rattle.pt_model.specs.Records.{Told}
 use Rattle.pt_model.specs.Queries.{latest}
+use Rattle.pt_model.specs.Legal.{LegalBehind, events_of}
+use Rattle.pt_model.specs.Steps.{IsStart}
+use Rattle.pt_core.specs.Cores.{Kept, Seen, past, shown}
 use Rattle.pt_script.specs.declared.line_id.LineId.{LineId}
 use Rattle.pt_script.specs.declared.fault.ScriptFault.{ScriptFault}
 use Rattle.pt_script.specs.declared.fault.ScriptFault.TheVariants.{Read, Write, Memory}
 use Rattle.pt_script.specs.declared.engine.Mark.{Mark}
 use Rattle.pt_script.specs.declared.engine.Mark.TheVariants.{Client, Call, Nothing}
-use Rattle.pt_script.specs.Scripts.{Script, line_at, told_line, clients_joined}
+use Rattle.pt_script.specs.Scripts.{Script, core_of, line_at, told_line, clients_joined}
 use Rattle.pt_script.specs.Says.{SaysAll}
 use Rattle.pt_script.specs.Texts.{BreaksOff, IsUntouched, Writing}
+
+-- what is seen of an engine: its core as that is seen, whose the lines were, the number of each
+-- client that has joined under a name, and which line made the call at each place
+pub record Heard : Type 0 where
+  pub core : Seen
+  pub seen : List Who
+  pub clients : List (List ℕ × ℕ)
+  pub calls : List (ℕ × LineId)
+
+-- what is known by an engine
+abbrev pub known_by : Heard → Script
+known_by e = record {
+  start = (shown e.core).start;
+  entries = e.core.entries;
+  seen = e.seen;
+  clients = e.clients;
+  calls = e.calls;
+}
 
 -- a text of which this holds was appended
 pub record Adds (Holds : List ℕ → Type 0) (old new : List ℕ) : Type 0 where
@@ -49,11 +70,21 @@ abbrev pub IsLineOf : List (ℕ × LineId) → List (ℕ × LineId) → ℕ → 
 IsLineOf asked calls c j =
     (line : LineId) × ((latest_line asked c ≡ Some line) × (line_at calls j ≡ Some line))
 
--- after these entries the line of each client's latest call is stored, and no call is noted at a
+-- after this history the line of each client's latest call is stored, and no call is noted at a
 -- place that comes
-pub record AreLines (asked calls : List (ℕ × LineId)) (entries : List Entry) : Type 0 where
-  pub fresh : IsFresh calls (length entries)
-  pub stored : (c j : ℕ) → latest (history entries) c ≡ Some j → IsLineOf asked calls c j
+pub record AreLines (asked calls : List (ℕ × LineId)) (h : History) : Type 0 where
+  pub fresh : IsFresh calls (place h)
+  pub stored : (c j : ℕ) → latest h c ≡ Some j → IsLineOf asked calls c j
+
+-- a core's entries since its Start are the one legal list for their events
+pub record IsLegal (core : Kept) : Type 0 where
+  pub starts : IsStart core.start
+  pub legal : LegalBehind core.start core.entries (events_of core.entries)
+
+-- so they are, and there may be as many of them as in any core
+pub record IsSound (core : Kept) : Type 0 where
+  pub limit : core.limit ≡ most_entries
+  pub legal : IsLegal core
 
 -- what is noted of an event, once it is accepted
 abbrev pub mark_of : Event → Mark
@@ -118,9 +149,10 @@ IsStopped Read held s old w = ⊥
 IsStopped Write held s old w = IsCutOff held s old w
 IsStopped Memory held s old w = IsUntouched old w
 
--- all lines to come were answered, and these are the counts of all lines and all entries
-pub record IsEnd (held : Held) (s : Script) (old new : List ℕ) (count entries : ℕ) : Type 0 where
+-- all lines to come were answered, and these are the number of all lines and the place of the next
+-- entry
+pub record IsEnd (held : Held) (s : Script) (old new : List ℕ) (count next : ℕ) : Type 0 where
   pub last : Script
   pub answered : IsAnswered s (to_come held []) old last new
   pub lines : count ≡ length last.seen
-  pub history : entries ≡ length last.entries
+  pub history : next ≡ place (past (core_of last))

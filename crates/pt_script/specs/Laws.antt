@@ -6,7 +6,7 @@ use Rattle.pt_lines.specs.declared.script_line.ScriptLine.{ScriptLine}
 use Rattle.pt_model.specs.declared.entry.Event.{Event}
 use Rattle.pt_model.specs.Searches.{Each}
 use Rattle.pt_model.specs.Records.{Told}
-use Rattle.pt_model.specs.Answers.{replies}
+use Rattle.pt_model.specs.Answers.{replies_behind}
 use Rattle.pt_core.specs.Applying.{is_death}
 use Rattle.pt_script.specs.declared.line_id.LineId.{LineId}
 use Rattle.pt_script.specs.Scripts.{Script, begun, line_id, event_of_line, line_at, number_of, refusal_text}
@@ -19,11 +19,12 @@ pub record HasLine (s : Script) (t : Told) : Type 0 where
   pub noted : line_at s.calls t.place ≡ Some line
   pub own : number_of s.clients line.who ≡ Some t.client
 
--- Lines of answers: each answer of the history that a script leads to has its line.
+-- Lines of answers: each answer of the history that a script leads to has its line. Those before a
+-- seal are answers of the histories that the lines before it lead to.
 abbrev pub AnswersHaveLines : Type 0
 AnswersHaveLines =
     (lines : List ScriptLine) (s : Script) (text : List ℕ) → SaysAll begun lines s text
-    → Each (HasLine s) (replies s.entries)
+    → Each (HasLine s) (replies_behind s.start s.entries)
 
 -- what is written for an event, if memory lacks or not: ENOMEM is written only if it does, and
 -- then if there is no other refusal, and for no `die`  [profile]

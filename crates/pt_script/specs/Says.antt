@@ -1,5 +1,5 @@
 -- Says: what is written for each line of a script, and for all of them.
-use Rattle.std.specs.Prelude.{◌≡◌, ℕ, ◌++◌, false, List, [], ◌∷◌, length, Option, Some, None, Result, Ok, Err}
+use Rattle.std.specs.Prelude.{◌≡◌, ℕ, ◌++◌, false, List, [], ◌∷◌, Option, Some, None, Result, Ok, Err}
 use Rattle.pt_types.specs.Limits.{most_entries}
 use Rattle.pt_types.specs.declared.outcome.Refusal.{Refusal}
 use Rattle.pt_types.specs.declared.outcome.Refusal.TheVariants.{Enomem}
@@ -7,23 +7,24 @@ use Rattle.pt_lines.specs.declared.client.Who.{Who}
 use Rattle.pt_lines.specs.declared.script_line.ScriptLine.{ScriptLine}
 use Rattle.pt_model.specs.declared.entry.Entry.{Entry}
 use Rattle.pt_model.specs.declared.entry.Event.{Event}
-use Rattle.pt_model.specs.Starts.{nothing}
-use Rattle.pt_model.specs.Histories.{history}
+use Rattle.pt_model.specs.Histories.{place}
 use Rattle.pt_model.specs.Answers.{replies_from}
-use Rattle.pt_model.specs.Room.{refusal_within}
-use Rattle.pt_core.specs.Cores.{Kept}
+use Rattle.pt_model.specs.Room.{refusal_with_seals}
+use Rattle.pt_core.specs.Cores.{Kept, past}
 use Rattle.pt_core.specs.Applying.{Applies, is_death}
+use Rattle.pt_core.specs.ApplyingWithSeal.{opened_with_seal}
 use Rattle.pt_script.specs.declared.line_id.LineId.{LineId}
-use Rattle.pt_script.specs.Scripts.{Script, line_id, event_of_line, told_text, refusal_text, clients_with, calls_with, greeting}
+use Rattle.pt_script.specs.Scripts.{Script, core_of, line_id, event_of_line, told_text, refusal_text, clients_with, calls_with, greeting}
 
--- the core after these lines
-abbrev pub core_of : Script → Kept
-core_of s = record { start = nothing; entries = s.entries; limit = most_entries }
+-- the core to which an accepted event's entries are added: its history is sealed before, if the
+-- event needs that room  [profile]
+abbrev pub opened_for : Script → Event → Kept
+opened_for s event = opened_with_seal (core_of s) event
 
 -- why an event of a line is refused, or none; the line may have a refusal of its own before
 -- [profile]
 abbrev pub refusal_of_event : Script → Event → Option Refusal
-refusal_of_event s event = refusal_within most_entries (history s.entries) event
+refusal_of_event s event = refusal_with_seals most_entries (past (core_of s)) event
 
 -- one line more was seen, and nothing else came of it yet
 abbrev pub counted : Script → Who → Script
@@ -46,17 +47,21 @@ pub record IsUnmet (s : Script) (event : Event) (line : LineId) (next : Script)
   pub same : next ≡ s
   pub written : text ≡ refusal_text line Enomem
 
--- the event is accepted: its entries are added to the history, and their answers are written
+-- the event is accepted: its entries are added to the history, or to its seal, and their answers
+-- are written
 pub record IsAccepted (s : Script) (event : Event) (line : LineId) (next : Script)
     (text : List ℕ) : Type 0 where
-  pub applies : Applies (core_of s) event (core_of next)
+  pub accepted : refusal_of_event s event ≡ None
+  pub applies : Applies (opened_for s event) event (core_of next)
   pub added : List Entry
-  pub extends : next.entries ≡ s.entries ++ added
+  pub extends : next.entries ≡ (opened_for s event).entries ++ added
   pub seen : next.seen ≡ s.seen
-  pub clients : next.clients ≡ clients_with event line.who (length s.entries) s.clients
-  pub calls : next.calls ≡ calls_with event line (length s.entries) s.calls
+  pub clients : next.clients ≡ clients_with event line.who (place (past (core_of s))) s.clients
+  pub calls : next.calls ≡ calls_with event line (place (past (core_of s))) s.calls
   pub written :
-      text ≡ greeting event line ++ told_text next.calls (replies_from (history s.entries) added)
+      text
+      ≡ greeting event line
+      ++ told_text next.calls (replies_from (past (opened_for s event)) added)
 
 -- what may be written for the event that a line asks for
 pub data SaysOf (s : Script) (event : Event) (line : LineId) (next : Script)

@@ -3,6 +3,7 @@ use Rattle.std.specs.Prelude.{ℕ, suc, ◌++◌, Bool, true, false, List, [], �
 use Rattle.std.specs.List.{flat_map}
 use Rattle.std.specs.Map.{lookup}
 use Rattle.std.specs.Str.{bytes_eq}
+use Rattle.pt_types.specs.Limits.{most_entries}
 use Rattle.pt_types.specs.declared.outcome.Outcome.{Outcome}
 use Rattle.pt_types.specs.declared.outcome.Outcome.TheVariants.{Done}
 use Rattle.pt_types.specs.declared.outcome.Refusal.{Refusal}
@@ -17,14 +18,18 @@ use Rattle.pt_lines.specs.Replies.{reply_line}
 use Rattle.pt_model.specs.declared.entry.Entry.{Entry}
 use Rattle.pt_model.specs.declared.entry.Event.{Event}
 use Rattle.pt_model.specs.declared.entry.Event.TheVariants as event
-use Rattle.pt_model.specs.Histories.{history}
+use Rattle.pt_model.specs.Starts.{Start, nothing}
+use Rattle.pt_model.specs.Histories.{History}
 use Rattle.pt_model.specs.Clients.{is_alive}
 use Rattle.pt_model.specs.Records.{Told}
+use Rattle.pt_core.specs.Cores.{Kept, past}
 use Rattle.pt_script.specs.declared.line_id.LineId.{LineId}
 
--- after some lines: the history of the accepted ones, whose the lines were, the number of each
--- client that has joined under a name, and which line made the call at each place
+-- after some lines: what the history of the accepted ones begins with and its entries since, whose
+-- the lines were, the number of each client that has joined under a name, and which line made the
+-- call at each place, also before the history was sealed
 pub record Script : Type 0 where
+  pub start : Start
   pub entries : List Entry
   pub seen : List Who
   pub clients : List (List ℕ × ℕ)
@@ -32,7 +37,11 @@ pub record Script : Type 0 where
 
 -- before the first line
 abbrev pub begun : Script
-begun = record { entries = []; seen = []; clients = []; calls = [] }
+begun = record { start = nothing; entries = []; seen = []; clients = []; calls = [] }
+
+-- the core after these lines; `past (core_of s)` is the history
+abbrev pub core_of : Script → Kept
+core_of s = record { start = s.start; entries = s.entries; limit = most_entries }
 
 -- whether two lines are of one client; the lines of `*` are, and so are those of `?`  [profile]
 abbrev pub same_who : Who → Who → Bool
@@ -63,13 +72,13 @@ abbrev pub line_at : List (ℕ × LineId) → ℕ → Option LineId
 line_at rows j = lookup (nat_eq j) rows
 
 -- a hello of a name under which a client has joined: DEAD once that client has died  [profile]
-abbrev pub refusal_of_hello : List Entry → ℕ → Refusal
-refusal_of_hello entries c = if is_alive (history entries) c then Nohello else Dead
+abbrev pub refusal_of_hello : History → ℕ → Refusal
+refusal_of_hello h c = if is_alive h c then Nohello else Dead
 
 -- what a hello asks for: it comes first and once  [profile]
-abbrev pub join_for : List Entry → ℕ → Option ℕ → Result Event Refusal
-join_for entries p None = Ok (event.Join p)
-join_for entries p (Some c) = Err (refusal_of_hello entries c)
+abbrev pub join_for : History → ℕ → Option ℕ → Result Event Refusal
+join_for h p None = Ok (event.Join p)
+join_for h p (Some c) = Err (refusal_of_hello h c)
 
 -- what else a client asks for: hello comes first  [profile]
 abbrev pub of_client : (ℕ → Event) → Option ℕ → Result Event Refusal
@@ -78,7 +87,7 @@ of_client make (Some c) = Ok (make c)
 
 -- what a line says, as an event; moments come under `*`, and nothing else does  [profile]
 abbrev pub event_for : Script → Who → ScriptBody → Result Event Refusal
-event_for s (Named name) (Hello p) = join_for s.entries p (number_named s.clients name)
+event_for s (Named name) (Hello p) = join_for (past (core_of s)) p (number_named s.clients name)
 event_for s (Named name) (Ask call) =
     of_client (λ c. event.Call c call) (number_named s.clients name)
 event_for s (Named name) Die = of_client (λ c. event.Death c) (number_named s.clients name)

@@ -103,7 +103,8 @@ fn tell_from<A: Allocator + Copy>(
 /// All clients of a script, the lines that they sent, and the core that these asked.
 ///
 /// Of each client one line is stored: that of its latest call, since no other can still be
-/// answered. Contracts see what is known after the lines so far, the lines of all calls too.
+/// answered. Contracts see what is known after the lines so far, the lines of all calls too. The
+/// history is sealed for an event that needs the room, so the entries never fill the memory.
 #[derive(Drop)]
 pub struct Engine<A: Allocator + Copy = Global> {
     core: Core<A>,
@@ -114,38 +115,36 @@ pub struct Engine<A: Allocator + Copy = Global> {
 
 impl<A: Allocator + Copy> Model for Engine<A> {
     ghost use Rattle.std.specs.Prelude.{◌≡◌};
-    ghost use Rattle.pt_types.specs.Limits.{most_entries};
-    ghost use Rattle.pt_model.specs.Starts.{nothing};
-    ghost use Rattle.pt_core.specs.Cores.{shown};
-    ghost use Rattle.pt_script.specs.Scripts.{Script};
-    ghost use Rattle.pt_script.specs.Engines.{AreLines};
+    ghost use Rattle.pt_core.specs.Cores.{past, shown};
+    ghost use Rattle.pt_script.specs.Engines.{AreLines, Heard, IsSound};
 
-    ghost Value = { Script };
+    ghost Value = { Heard };
 
     ghost view = { λ e. record {
-      entries = e.core.entries;
+      core = e.core;
       seen = e.names.seen;
       clients = e.names.clients;
       calls = e.calls.items;
     } };
 
     ghost invariant = { λ e.
-        (((shown e.core).start ≡ nothing) × (e.core.limit ≡ most_entries))
-        × AreLines e.asked.entries e.calls.items e.core.entries };
+        IsSound (shown e.core) × AreLines e.asked.entries e.calls.items (past (shown e.core)) };
 }
 
 impl<A: Allocator + Copy> Engine<A> {
     ghost use Rattle.std.specs.Prelude.{IfOk};
-    ghost use Rattle.pt_model.specs.Histories.{history};
+    ghost use Rattle.pt_model.specs.Histories.{place};
     ghost use Rattle.pt_model.specs.Clients.{is_alive};
     ghost use Rattle.pt_lines.specs.Lines.{to_come, IsBegun};
-    ghost use Rattle.pt_script.specs.Scripts.{begun, number_named, join_for, event_for, event_of_body};
+    ghost use Rattle.pt_core.specs.Cores.{past};
+    ghost use Rattle.pt_script.specs.Scripts.{begun, core_of, number_named, join_for, event_for, event_of_body};
     ghost use Rattle.pt_script.specs.Says.{Says, SaysOf};
-    ghost use Rattle.pt_script.specs.Engines.{Adds, Answers, IsAnswered, client_for};
+    ghost use Rattle.pt_script.specs.Engines.{Adds, Answers, IsAnswered, client_for, known_by};
 
     /// An engine that has read no line. A refused growth is a fault.
+    #[tactic(auto, using(crate::proofs::Asked::begun_sound, crate::proofs::Asked::begun_lines))]
     pub fn new(alloc: A) -> Result<Engine<A>, ScriptFault>
-        ensures ok { IfOk result (λ engine. engine ≡ begun) }
+        ensures ok { IfOk result (λ engine. known_by engine ≡ begun) }
         ensures why { IfErr result (λ fault. fault ≡ ScriptFault.Memory) }
     {
         match Core::new(alloc) {
@@ -166,16 +165,16 @@ impl<A: Allocator + Copy> Engine<A> {
         self.names.total()
     }
 
-    /// How many entries the history has.
+    /// The place of the next entry.
     pub fn entries(&self) -> u64
-        ensures { result ≡ length self.now.entries }
+        ensures { result ≡ place (past (core_of (known_by self.now))) }
     {
         self.core.len()
     }
 
     // Whether this client lives. The Death of one that doesn't is refused for that alone.
     fn lives(&self, client: ClientId) -> bool
-        ensures { result ≡ is_alive (history self.now.entries) client }
+        ensures { result ≡ is_alive (past (core_of (known_by self.now))) client }
     {
         match self.core.would_refuse(&Event::Death(client)) {
             Some(Refusal::Dead | Refusal::Nohello) => false,
@@ -186,7 +185,8 @@ impl<A: Allocator + Copy> Engine<A> {
     // What a hello asks for.
     fn join_for(&self, name: &ClientName, priority: Priority) -> Result<Event, Refusal>
         ensures { result
-            ≡ join_for self.now.entries priority (number_named self.now.clients name.now) }
+            ≡ join_for (past (core_of (known_by self.now))) priority
+            (number_named self.now.clients name.now) }
     {
         match self.names.client(name) {
             None => Ok(Event::Join(priority)),
@@ -207,7 +207,7 @@ impl<A: Allocator + Copy> Engine<A> {
 
     // What a line says, as an event.
     fn event_for(&self, who: &Who, body: ScriptBody) -> Result<Event, Refusal>
-        ensures { result ≡ event_for self.now who.now body }
+        ensures { result ≡ event_for (known_by self.now) who.now body }
     {
         match (who, body) {
             (Who::Named(name), ScriptBody::Hello(priority)) => self.join_for(name, priority),
@@ -220,7 +220,7 @@ impl<A: Allocator + Copy> Engine<A> {
 
     // The event that a line asks for, or why it asks for none.
     fn event_of(&self, who: &Who, body: Result<ScriptBody, Refusal>) -> Result<Event, Refusal>
-        ensures { result ≡ event_of_body self.now who.now body }
+        ensures { result ≡ event_of_body (known_by self.now) who.now body }
     {
         match body {
             Ok(body) => self.event_for(who, body),
@@ -233,16 +233,17 @@ impl<A: Allocator + Copy> Engine<A> {
         requires counted { 0 < lines_of_who self.old.seen line.who }
         requires first { mark_of event ≡ Mark.Client → number_of self.old.clients line.who ≡ None }
         ensures ok { OnOk result
-            (Adds (SaysOf self.old event line self.new) out.old.items out.new.items) }
+            (Adds (SaysOf (known_by self.old) event line (known_by self.new))
+            out.old.items out.new.items) }
         ensures why { IfErr result (λ fault. fault ≡ ScriptFault.Memory) }
     {
         if self.asked.reserve(1).is_err() {
             return Err(ScriptFault::Memory);
         }
         let mark = mark_of(&event);
-        match self.core.apply(event) {
-            Ok(applied) => {
-                let place = applied.first;
+        match self.core.apply_with_seal(event) {
+            Ok(done) => {
+                let place = done.applied.first;
                 note(
                     &mut self.names,
                     &mut self.asked,
@@ -267,7 +268,8 @@ impl<A: Allocator + Copy> Engine<A> {
     pub fn answer(&mut self, line: ScriptLine, out: &mut Vec<u8, A>) -> Result<(), ScriptFault>
         requires { length self.old.seen < 2 ^ 53 }
         ensures ok { OnOk result
-            (Adds (Says self.old line self.new) out.old.items out.new.items) }
+            (Adds (Says (known_by self.old) line (known_by self.new))
+            out.old.items out.new.items) }
         ensures why { IfErr result (λ fault. fault ≡ ScriptFault.Memory) }
     {
         let ScriptLine { who, body } = line;
@@ -295,7 +297,8 @@ impl<A: Allocator + Copy> Engine<A> {
     ) -> Result<(), ScriptFault>
         requires { length self.old.seen + length (to_come cutter.old []) < 2 ^ 53 }
         ensures ok { OnOk result
-            (Answers cutter.old self.old out.old.items cutter.new self.new out.new.items) }
+            (Answers cutter.old (known_by self.old) out.old.items
+            cutter.new (known_by self.new) out.new.items) }
         ensures begun { OnOk result (IsBegun cutter.new) }
         ensures why { IfErr result (λ fault. fault ≡ ScriptFault.Memory) }
     {
@@ -315,7 +318,8 @@ impl<A: Allocator + Copy> Engine<A> {
         requires begun { IsBegun cutter }
         requires few { length self.old.seen < 2 ^ 53 }
         ensures ok { OnOk result
-            (IsAnswered self.old (to_come cutter []) out.old.items self.new out.new.items) }
+            (IsAnswered (known_by self.old) (to_come cutter []) out.old.items
+            (known_by self.new) out.new.items) }
         ensures why { IfErr result (λ fault. fault ≡ ScriptFault.Memory) }
     {
         match cutter.finish() {

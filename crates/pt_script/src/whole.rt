@@ -2,7 +2,7 @@ ghost use Rattle.std.specs.Prelude.{◌≡◌, ◌≤◌, ◌<◌, ◌+◌, ◌^
 ghost use Rattle.pt_lines.specs.Lines.{to_come, IsBegun};
 ghost use Rattle.pt_script.specs.Ends.{IsScriptText, BeginsScriptText, IsFaultOf, reading};
 ghost use Rattle.pt_script.specs.Texts.{writing};
-ghost use Rattle.pt_script.specs.Engines.{Answers, IsStopped, IsEnd};
+ghost use Rattle.pt_script.specs.Engines.{Answers, IsStopped, IsEnd, known_by};
 ghost use Rattle.pt_script.specs.Scripts.{begun};
 
 use crate::engine::Engine;
@@ -23,7 +23,7 @@ const PIECE: usize = 4096;
 pub struct ScriptEnd {
     /// How many lines it had, refused ones too.
     pub lines: u64,
-    /// How many entries the history has.
+    /// The place of the next entry.
     pub entries: u64,
 }
 
@@ -40,14 +40,15 @@ fn take_in<W: Sink, A: Allocator + Copy>(
     requires few { length engine.old.seen
         + length (to_come (record cutter.old { rest = cutter.old.rest ++ piece.now }) []) < 2 ^ 53 }
     ensures ok { OnOk result (Answers (record cutter.old { rest = cutter.old.rest ++ piece.now })
-        engine.old (W.taken writer.old) cutter.new engine.new (W.taken writer.new)) }
+        (known_by engine.old) (W.taken writer.old) cutter.new (known_by engine.new)
+        (W.taken writer.new)) }
     ensures begun { OnOk result (IsBegun cutter.new) }
     ensures wrote { OnOk result
         ((W.failures writer.new ≡ 0) × (W.rejections writer.new ≡ W.rejections writer.old)) }
     ensures out { OnOk result (W.flushed writer.new ≡ W.taken writer.new) }
     ensures err { IfErr result (λ fault. IsStopped fault
         (record cutter.old { rest = cutter.old.rest ++ piece.now })
-        engine.old (W.taken writer.old)
+        (known_by engine.old) (W.taken writer.old)
         (writing W.taken W.flushed W.failures W.rejections writer.old writer.new)) }
 {
     let Ok(()) = cutter.feed(piece) else {
@@ -71,11 +72,12 @@ fn finish<W: Sink, A: Allocator + Copy>(
     requires begun { IsBegun cutter }
     requires few { length engine.old.seen + length (to_come cutter []) < 2 ^ 53 }
     ensures ok { IfOk result (λ end. IsEnd
-        cutter engine.old (W.taken writer.old) (W.taken writer.new) end.lines end.entries) }
+        cutter (known_by engine.old) (W.taken writer.old) (W.taken writer.new)
+        end.lines end.entries) }
     ensures wrote { OnOk result
         ((W.failures writer.new ≡ 0) × (W.rejections writer.new ≡ W.rejections writer.old)) }
     ensures out { OnOk result (W.flushed writer.new ≡ W.taken writer.new) }
-    ensures err { IfErr result (λ fault. IsStopped fault cutter engine.old
+    ensures err { IfErr result (λ fault. IsStopped fault cutter (known_by engine.old)
         (W.taken writer.old)
         (writing W.taken W.flushed W.failures W.rejections writer.old writer.new)) }
 {
@@ -96,7 +98,7 @@ fn run_within<R: Source, W: Sink, A: Allocator + Copy>(
     reader: &mut R,
     writer: &mut W,
 ) -> Result<ScriptEnd, ScriptFault>
-    requires new { engine.old ≡ begun }
+    requires new { known_by engine.old ≡ begun }
     requires fresh { (R.given reader.old ≡ []) × (W.taken writer.old ≡ [])
         × (R.ended reader.old ≡ false) }
     requires working { (R.failures reader.old ≡ 0) × (W.failures writer.old ≡ 0) }

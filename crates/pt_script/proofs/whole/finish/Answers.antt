@@ -2,7 +2,7 @@ use Rattle.std.proofs.Common.{◌-◌, [], refl, sym, subst, arith}
 use Rattle.pt_lines.specs.Lines.{to_come}
 use Rattle.pt_script.specs.declared.fault.ScriptFault.TheVariants.{Write, Memory}
 use Rattle.pt_script.specs.Texts.{Writing}
-use Rattle.pt_script.specs.Engines.{IsAnswered, IsStopped}
+use Rattle.pt_script.specs.Engines.{IsAnswered, IsStopped, known_by}
 use Rattle.pt_script.proofs.Runs.{onto_taken, last_cut_off, told_fault}
 use Rattle.pt_script.proofs.whole.finish.Goals as goal
 
@@ -19,7 +19,8 @@ returns-in_err-answer_last-clause-err g c =
       rejections = rejections - rejections;
     } in
     told_fault c.from_residual.result Memory
-    (λ fault. IsStopped fault c.args.cutter c.args.engine.now old writing) (rw why at gives.1)
+    (λ fault. IsStopped fault c.args.cutter (known_by c.args.engine.now) old writing)
+    (rw why at gives.1)
     (record {
       taken = refl;
       flushed = c.requires.out;
@@ -40,9 +41,10 @@ returns-in_err-deliver-clause-err g c =
           g.W.Sink.rejections c.deliver.new.writer - g.W.Sink.rejections c.args.writer.now;
     } in
     told_fault c.from_residual-in_err-deliver.result Write
-    (λ fault. IsStopped fault c.args.cutter c.args.engine.now old writing) (rw why at gives.1)
-    (last_cut_off c.args.cutter c.args.engine.now c.new-out.result.items
-    c.answer_last.new.self c.answer_last.new.out.items c.deref.result.now old writing
+    (λ fault. IsStopped fault c.args.cutter (known_by c.args.engine.now) old writing)
+    (rw why at gives.1)
+    (last_cut_off c.args.cutter (known_by c.args.engine.now) c.new-out.result.items
+    (known_by c.answer_last.new.self) c.answer_last.new.out.items c.deref.result.now old writing
     c.in_ok-answer_last.ensures.ok c.new-out.ensures.items c.deref.ensures.value
     c.in_err-deliver.ensures.err)
 
@@ -50,13 +52,14 @@ pub returns-clause-ok : goal.returns-clause-ok
 returns-clause-ok g c =
     let old = g.W.Sink.taken c.args.writer.now in
     record {
-      last = c.answer_last.new.self;
+      last = known_by c.answer_last.new.self;
       answered =
           subst
-          (IsAnswered c.args.engine.now (to_come c.args.cutter []) old c.answer_last.new.self)
+          (IsAnswered (known_by c.args.engine.now) (to_come c.args.cutter []) old
+          (known_by c.answer_last.new.self))
           (sym c.in_ok-deliver.ensures.ok.0)
-          (onto_taken c.args.engine.now (to_come c.args.cutter []) c.new-out.result.items
-          c.answer_last.new.self c.answer_last.new.out.items c.deref.result.now old
+          (onto_taken (known_by c.args.engine.now) (to_come c.args.cutter []) c.new-out.result.items
+          (known_by c.answer_last.new.self) c.answer_last.new.out.items c.deref.result.now old
           c.in_ok-answer_last.ensures.ok c.new-out.ensures.items c.deref.ensures.value);
       lines = c.lines.ensures;
       history = c.entries.ensures;

@@ -2,7 +2,7 @@ use Rattle.std.proofs.Common.{◌≡◌, ◌-◌, ◌++◌, [], true, ◌∙◌,
 use Rattle.pt_lines.specs.Lines.{Held}
 use Rattle.pt_script.specs.Texts.{Writing}
 use Rattle.pt_script.specs.Ends.{BeginsScriptText, Course, IsBehind, IsFaultOf, IsReadFault, IsScriptText}
-use Rattle.pt_script.specs.Engines.{IsEnd, IsStopped}
+use Rattle.pt_script.specs.Engines.{IsEnd, IsStopped, known_by}
 use Rattle.pt_script.proofs.Runs.{on_ok, on_err, told_fault}
 use Rattle.pt_script.proofs.Wholes.{fed_end, behind_few, behind_fed, behind_end, begins_given, stopped_begins, stopped_why, not_ended, behind_begun, begun_held, has_ended, done_if, whole_answered, nothing_before, never_ended}
 use Rattle.pt_script.proofs.whole.run_within.Goals as goal
@@ -11,7 +11,7 @@ pub loop-init : goal.loop-init
 loop-init g c =
     record {
       behind = behind_begun (g.R.Source.given c.args.reader.now) c.new-cutter.result
-          c.args.engine.now (g.W.Sink.taken c.args.writer.now) c.requires.fresh.0
+          (known_by c.args.engine.now) (g.W.Sink.taken c.args.writer.now) c.requires.fresh.0
           c.new-cutter.ensures c.requires.new c.requires.fresh.1;
       begun = begun_held c.new-cutter.result c.new-cutter.ensures;
       read = c.requires.working.0;
@@ -31,7 +31,7 @@ loop-init g c =
 pub returns-in_default-clause-err : goal.returns-in_default-clause-err
 returns-in_default-clause-err g c =
     begins_given (g.R.Source.given c.loop.reader) (g.R.Source.given c.read.new.self) []
-    c.loop.cutter c.loop.engine (g.W.Sink.taken c.loop.writer) c.loop.invariant.behind
+    c.loop.cutter (known_by c.loop.engine) (g.W.Sink.taken c.loop.writer) c.loop.invariant.behind
     (c.in_default.ensures.bytes ∙ sym (append-nil (g.R.Source.given c.loop.reader)))
 
 pub returns-in_default-clause-why : goal.returns-in_default-clause-why
@@ -58,7 +58,7 @@ returns-in_default-clause-why g c =
           never_ended (g.R.Source.ended c.loop.reader) (g.R.Source.ended c.read.new.self)
           c.loop.invariant.no_end c.in_default.ensures.end;
       answers =
-          whole_answered (g.R.Source.given c.loop.reader) c.loop.cutter c.loop.engine
+          whole_answered (g.R.Source.given c.loop.reader) c.loop.cutter (known_by c.loop.engine)
           course.writer.taken course.reader.given course.writer.taken c.loop.invariant.behind
           c.loop.invariant.begun c.in_default.ensures.bytes refl;
       flushed = c.loop.invariant.out;
@@ -69,7 +69,7 @@ returns-in_default-clause-why g c =
 
 pub finish-requires-clause-few : goal.finish-requires-clause-few
 finish-requires-clause-few g c =
-    let few = behind_few (g.R.Source.given c.loop.reader) c.loop.cutter c.loop.engine
+    let few = behind_few (g.R.Source.given c.loop.reader) c.loop.cutter (known_by c.loop.engine)
     (g.W.Sink.taken c.loop.writer) [] c.loop.invariant.behind in
     let all = length-append (g.R.Source.given c.loop.reader) [] in
     omega (arith, few, all)
@@ -82,10 +82,10 @@ returns-then-n-eq0-clause-ok g c =
     let new = g.W.Sink.taken c.finish.new.writer in
     let same = c.in-Ok.ensures.bytes
     ∙ ap (λ n. bytes ++ take n c.read.new.buf) c.if-n-eq0.true ∙ append-nil bytes in
-    on_ok (λ end. IsEnd c.loop.cutter c.loop.engine text new end.lines end.entries)
+    on_ok (λ end. IsEnd c.loop.cutter (known_by c.loop.engine) text new end.lines end.entries)
     (λ end. IsScriptText given new end.lines end.entries) c.finish.result
     (λ end done. subst (λ bs. IsScriptText bs new end.lines end.entries) (sym same)
-    (behind_end bytes c.loop.cutter c.loop.engine text new end.lines end.entries
+    (behind_end bytes c.loop.cutter (known_by c.loop.engine) text new end.lines end.entries
     c.loop.invariant.behind done))
     c.finish.ensures.ok
 
@@ -109,10 +109,10 @@ returns-then-n-eq0-clause-err g c =
     } in
     let same = c.in-Ok.ensures.bytes
     ∙ ap (λ n. bytes ++ take n c.read.new.buf) c.if-n-eq0.true in
-    on_err (λ fault. IsStopped fault c.loop.cutter c.loop.engine text writing)
+    on_err (λ fault. IsStopped fault c.loop.cutter (known_by c.loop.engine) text writing)
     (λ fault. BeginsScriptText given writing.taken) c.finish.result
-    (λ fault stop. stopped_begins bytes given [] c.loop.cutter c.loop.cutter c.loop.engine text
-    writing fault c.loop.invariant.behind same refl stop)
+    (λ fault stop. stopped_begins bytes given [] c.loop.cutter c.loop.cutter
+    (known_by c.loop.engine) text writing fault c.loop.invariant.behind same refl stop)
     c.finish.ensures.err
 
 pub returns-then-n-eq0-clause-why : goal.returns-then-n-eq0-clause-why
@@ -144,13 +144,13 @@ returns-then-n-eq0-clause-why g c =
       failures = g.W.Sink.failures c.finish.new.writer;
       rejections = g.W.Sink.rejections c.finish.new.writer - g.W.Sink.rejections c.loop.writer;
     } in
-    on_err (λ fault. IsStopped fault c.loop.cutter c.loop.engine text writing)
+    on_err (λ fault. IsStopped fault c.loop.cutter (known_by c.loop.engine) text writing)
     (λ fault. IsFaultOf course fault) c.finish.result
-    (λ fault stop. stopped_why bytes [] c.loop.cutter c.loop.cutter c.loop.engine text course
-    fault c.loop.invariant.behind c.loop.invariant.begun same c.in-Ok.ensures.before refl
+    (λ fault stop. stopped_why bytes [] c.loop.cutter c.loop.cutter (known_by c.loop.engine) text
+    course fault c.loop.invariant.behind c.loop.invariant.begun same c.in-Ok.ensures.before refl
     c.in-Ok.ensures.count
     (subst
-    (λ n. IsStopped fault c.loop.cutter c.loop.engine text (record {
+    (λ n. IsStopped fault c.loop.cutter (known_by c.loop.engine) text (record {
       taken = course.writer.taken;
       flushed = course.writer.flushed;
       failures = course.writer.failures;
@@ -163,8 +163,8 @@ pub take_in-requires-clause-few : goal.take_in-requires-clause-few
 take_in-requires-clause-few g c =
     let bytes = g.R.Source.given c.loop.reader in
     let more = take c.in-Ok.n c.read.new.buf in
-    let few = behind_few bytes c.loop.cutter c.loop.engine (g.W.Sink.taken c.loop.writer) more
-    c.loop.invariant.behind in
+    let few = behind_few bytes c.loop.cutter (known_by c.loop.engine)
+    (g.W.Sink.taken c.loop.writer) more c.loop.invariant.behind in
     let same = ap length (fed_end c.loop.cutter more) in
     let all = length-append bytes more in
     let bound = c.in-Ok.ensures.bound in
@@ -185,7 +185,7 @@ returns-in_err-take_in-clause-err g c =
     } in
     told_fault c.from_residual.result c.in_err-take_in.field-0.0
     (λ fault. BeginsScriptText given writing.taken) c.from_residual.ensures.1
-    (stopped_begins bytes given more c.loop.cutter next c.loop.engine
+    (stopped_begins bytes given more c.loop.cutter next (known_by c.loop.engine)
     (g.W.Sink.taken c.loop.writer) writing c.in_err-take_in.field-0.0 c.loop.invariant.behind
     c.in-Ok.ensures.bytes (fed_end c.loop.cutter more) c.in_err-take_in.ensures.err)
 
@@ -213,13 +213,14 @@ returns-in_err-take_in-clause-why g c =
     } in
     told_fault c.from_residual.result c.in_err-take_in.field-0.0
     (λ fault. IsFaultOf course fault) c.from_residual.ensures.1
-    (stopped_why bytes more c.loop.cutter next c.loop.engine (g.W.Sink.taken c.loop.writer)
-    course c.in_err-take_in.field-0.0 c.loop.invariant.behind c.loop.invariant.begun
-    c.in-Ok.ensures.bytes c.in-Ok.ensures.before (fed_end c.loop.cutter more)
+    (stopped_why bytes more c.loop.cutter next (known_by c.loop.engine)
+    (g.W.Sink.taken c.loop.writer) course c.in_err-take_in.field-0.0
+    c.loop.invariant.behind c.loop.invariant.begun c.in-Ok.ensures.bytes c.in-Ok.ensures.before
+    (fed_end c.loop.cutter more)
     c.in-Ok.ensures.count
     (subst
-    (λ n. IsStopped c.in_err-take_in.field-0.0 next c.loop.engine (g.W.Sink.taken c.loop.writer)
-    (record {
+    (λ n. IsStopped c.in_err-take_in.field-0.0 next (known_by c.loop.engine)
+    (g.W.Sink.taken c.loop.writer) (record {
       taken = course.writer.taken;
       flushed = course.writer.flushed;
       failures = course.writer.failures;
@@ -237,11 +238,11 @@ loop-preserved g c =
     let kept = c.read.auto.buf in
     record {
       behind =
-          subst (λ bs. IsBehind bs c.take_in.new.cutter c.take_in.new.engine new)
+          subst (λ bs. IsBehind bs c.take_in.new.cutter (known_by c.take_in.new.engine) new)
           (sym c.in-Ok.ensures.bytes)
-          (behind_fed bytes more c.loop.cutter c.loop.engine (g.W.Sink.taken c.loop.writer)
-          c.take_in.new.cutter c.take_in.new.engine new c.loop.invariant.behind
-          c.in_ok-take_in.ensures.ok);
+          (behind_fed bytes more c.loop.cutter (known_by c.loop.engine)
+          (g.W.Sink.taken c.loop.writer) c.take_in.new.cutter (known_by c.take_in.new.engine) new
+          c.loop.invariant.behind c.in_ok-take_in.ensures.ok);
       begun = c.in_ok-take_in.ensures.begun;
       read = c.in-Ok.ensures.count;
       wrote = c.in_ok-take_in.ensures.wrote.0;
@@ -260,7 +261,7 @@ loop-preserved g c =
 pub returns-clause-err : goal.returns-clause-err
 returns-clause-err g c =
     begins_given (g.R.Source.given c.loop.reader) (g.R.Source.given c.loop.reader) []
-    c.loop.cutter c.loop.engine (g.W.Sink.taken c.loop.writer) c.loop.invariant.behind
+    c.loop.cutter (known_by c.loop.engine) (g.W.Sink.taken c.loop.writer) c.loop.invariant.behind
     (sym (append-nil (g.R.Source.given c.loop.reader)))
 
 pub returns-clause-why : goal.returns-clause-why
@@ -285,7 +286,8 @@ returns-clause-why g c =
       cause = inr (c.loop.invariant.read, omega arith, omega arith);
       no_end = c.loop.invariant.no_end;
       answers =
-          whole_answered course.reader.given c.loop.cutter c.loop.engine course.writer.taken
+          whole_answered course.reader.given c.loop.cutter (known_by c.loop.engine)
+          course.writer.taken
           course.reader.given course.writer.taken c.loop.invariant.behind
           c.loop.invariant.begun refl refl;
       flushed = c.loop.invariant.out;

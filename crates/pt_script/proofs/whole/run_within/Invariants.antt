@@ -1,11 +1,14 @@
 use Rattle.std.proofs.Common.{◌≡◌, ◌+◌, ◌*◌, ◌≤◌, false, length}
 use Rattle.pt_lines.specs.Lines.{IsBegun}
 use Rattle.pt_script.specs.Ends.{IsBehind}
+use Rattle.pt_script.specs.Engines.{known_by}
 use Rattle.pt_script.proofs.whole.run_within.Given as goal
 
 abbrev pub invariant-loop : goal.invariant-loop
 invariant-loop g l = record {
-  behind : IsBehind (g.R.Source.given l.reader) l.cutter l.engine (g.W.Sink.taken l.writer);
+  behind :
+      IsBehind (g.R.Source.given l.reader) l.cutter (known_by l.engine)
+      (g.W.Sink.taken l.writer);
   begun : IsBegun l.cutter;
   read : g.R.Source.failures l.reader ≡ 0;
   wrote : g.W.Sink.failures l.writer ≡ 0;

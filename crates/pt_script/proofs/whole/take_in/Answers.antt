@@ -2,7 +2,7 @@ use Rattle.std.proofs.Common.{◌-◌, ◌++◌}
 use Rattle.pt_lines.specs.Lines.{Held}
 use Rattle.pt_script.specs.declared.fault.ScriptFault.TheVariants.{Write}
 use Rattle.pt_script.specs.Texts.{Writing}
-use Rattle.pt_script.specs.Engines.{IsStopped}
+use Rattle.pt_script.specs.Engines.{IsStopped, known_by}
 use Rattle.pt_script.proofs.Runs.{cut_off, told_fault}
 use Rattle.pt_script.proofs.whole.take_in.Goals as goal
 
@@ -21,8 +21,8 @@ returns-in_err-deliver-clause-err g c =
           g.W.Sink.rejections c.deliver.new.writer - g.W.Sink.rejections c.args.writer.now;
     } in
     told_fault c.from_residual-in_err-deliver.result Write
-    (λ fault. IsStopped fault held c.args.engine.now old writing) (rw why at gives.1)
-    (cut_off held c.feed.new.self c.args.engine.now c.new-out.result.items
-    c.answer_all.new.cutter c.answer_all.new.self c.answer_all.new.out.items
+    (λ fault. IsStopped fault held (known_by c.args.engine.now) old writing) (rw why at gives.1)
+    (cut_off held c.feed.new.self (known_by c.args.engine.now) c.new-out.result.items
+    c.answer_all.new.cutter (known_by c.answer_all.new.self) c.answer_all.new.out.items
     c.deref.result.now old writing c.in_ok-answer_all.ensures.ok c.in-Ok.ensures.ok
     c.new-out.ensures.items c.deref.ensures.value c.in_err-deliver.ensures.err)

@@ -1,0 +1,101 @@
+-- An event that is not refused where a seal makes room is not refused once it is made.
+use Rattle.std.proofs.Common.{◌≡◌, ℕ, ◌+◌, ◌≤◌, Bool, true, false, cond, nat_le, nat_lt, ◌&&◌, ◌||◌, Option, Some, None, refl, sym, ap, ◌∙◌, subst, arith}
+use Rattle.std.proofs.lemmas.Bool.Decides.{nat_tests}
+use Rattle.std.specs.Option.{option_or}
+use Rattle.pt_types.specs.Limits.{most_places}
+use Rattle.pt_types.specs.declared.outcome.Refusal.{Refusal}
+use Rattle.pt_types.specs.declared.outcome.Refusal.TheVariants.{Full}
+use Rattle.pt_model.specs.declared.entry.Entry.{Entry}
+use Rattle.pt_model.specs.declared.entry.Event.{Event}
+use Rattle.pt_model.specs.Histories.{History, Begin, ◌▷◌, held, place}
+use Rattle.pt_model.specs.Forced.{forced}
+use Rattle.pt_model.specs.Room.{need, entry_for, is_full, is_over, needs_seal, refusal, refusal_with_seals, refusal_within, room_for}
+use Rattle.pt_model.specs.Seals.{seal}
+use Rattle.pt_model.specs.SealLaws.{GoesAlike}
+use Rattle.pt_model.specs.Steps.{Step}
+use Rattle.pt_model.proofs.GoesAlike.{agrees_on}
+use Rattle.pt_model.proofs.Induction.{start-seal}
+use Rattle.pt_model.proofs.Steps.{step-event}
+use Rattle.pt_core.specs.Cores.{Kept, past}
+use Rattle.pt_core.specs.ApplyingWithSeal.{opened_with_seal}
+use Rattle.pt_script.specs.Engines.{IsLegal}
+use Rattle.pt_script.proofs.Opened.{legal_follow, legal_settle, opened_by, sealed_alike}
+
+-- what is not refused for room either is not refused
+pub not_refused : (a b : Option Refusal) → option_or a b ≡ None → a ≡ None
+not_refused None b e = refl
+not_refused (Some why) b e = absurd cc
+
+none_over : (limit all : ℕ) → all ≤ limit → nat_lt limit all ≡ false
+none_over limit all l = grind (arith, nat_tests)
+
+-- what needs a seal has room after it
+enough : (limit held room : ℕ) → (nat_lt limit (held + room) && nat_le room limit) ≡ true
+    → room ≤ limit
+enough limit held room e = grind (arith, nat_tests)
+
+-- where no seal is needed, the limit is passed as it stands, if it is
+over : (limit held room : ℕ) (places : Bool)
+    → (nat_lt limit (held + room) && nat_le room limit) ≡ false
+    → (nat_lt limit room || ((nat_lt limit (held + room) && nat_le room limit) && places))
+    ≡ nat_lt limit (held + room)
+over limit held room places e = grind (arith, nat_tests)
+
+-- so an event is refused as without seals
+refused_alike : (limit : ℕ) (h : History) (v : Event) → needs_seal limit h v ≡ false
+    → refusal_with_seals limit h v ≡ refusal_within limit h v
+refused_alike limit h v none =
+    ap (λ b. option_or (refusal h v) (cond b (Some Full) None))
+    (over limit (held h) (room_for h v) (nat_lt most_places (place h)) none ∙ sym as_it_stands)
+  where
+    as_it_stands : is_over limit (h ▷ entry_for h v) ≡ nat_lt limit (held h + room_for h v)
+    as_it_stands = ap (nat_lt limit) (omega arith)
+
+module _ (core : Kept) (l : IsLegal core) (v : Event)
+    (none : refusal_with_seals core.limit (past core) v ≡ None) where
+  abbrev h : History
+  h = past core
+
+  abbrev g : History
+  g = Begin (seal (past core))
+
+  alike : GoesAlike (past core) (Begin (seal (past core)))
+  alike = sealed_alike core l
+
+  ok : refusal (past core) v ≡ None
+  ok =
+      not_refused (refusal h v) (cond (is_full core.limit h v) (Some Full) None) none
+
+  quiet : forced (Begin (seal (past core))) ≡ None
+  quiet = sym alike.forces ∙ legal_settle core l
+
+  refused : refusal (Begin (seal (past core))) v ≡ None
+  refused = sym (alike.refuses v) ∙ ok
+
+  step : Step (past core) (entry_for (past core) v)
+  step = step-event h v (legal_settle core l) ok
+
+  step_sealed : Step (Begin (seal (past core))) (entry_for (past core) v)
+  step_sealed = subst (Step g) (sym (alike.enters v)) (step-event g v quiet refused)
+
+  -- as much is needed after its entry
+  need_sealed : need (g ▷ entry_for g v) ≡ need (h ▷ entry_for h v)
+  need_sealed =
+      ap (λ (e : Entry). need (g ▷ e)) (sym (alike.enters v))
+      ∙ sym (agrees_on (h ▷ entry_for h v) (g ▷ entry_for h v) (legal_follow core l, step)
+      (start-seal h (legal_follow core l), step_sealed) (alike.agrees (entry_for h v) step)).needs
+
+  unrefused_sealed : needs_seal core.limit (past core) v ≡ true
+      → refusal_within core.limit (Begin (seal (past core))) v ≡ None
+  unrefused_sealed needs =
+      let room = enough core.limit (held h) (room_for h v) needs in
+      ap (λ o. option_or o (cond (is_over core.limit (g ▷ entry_for g v)) (Some Full) None)) refused
+      ∙ ap (λ b. cond b (Some Full) None)
+      (none_over core.limit (1 + need (g ▷ entry_for g v)) (omega (arith, room, need_sealed)))
+
+  pub unrefused_opened : refusal_within (opened_with_seal core v).limit
+      (past (opened_with_seal core v)) v ≡ None
+  unrefused_opened =
+      opened_by (λ k. refusal_within k.limit (past k) v ≡ None) core v
+      (λ same. sym (refused_alike core.limit h v same) ∙ none)
+      (λ needs. unrefused_sealed needs)
