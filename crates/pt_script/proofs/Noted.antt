@@ -293,11 +293,39 @@ begun_noted = record {
   lines = λ j c e. absurd cc;
 }
 
+-- what is noted stays noted
+noted_to : (s : Script) (line : LineId) (r : Result Event Refusal) (next : Script) (text : List ℕ)
+    → SaysTo s line r next text → (j c : ℕ) → IsNoted s.calls s.clients j c
+    → IsNoted next.calls next.clients j c
+noted_to s line (Err why) next text says j c n =
+    subst (λ (t : Script). IsNoted t.calls t.clients j c) (sym says.0) n
+noted_to s line (Ok v) next text says j c n = go says
+  where
+    go : SaysOf s v line next text → IsNoted next.calls next.clients j c
+    go (refuses r) = subst (λ (t : Script). IsNoted t.calls t.clients j c) (sym r.same) n
+    go (lacks r) = subst (λ (t : Script). IsNoted t.calls t.clients j c) (sym r.same) n
+    go (accepts a) =
+        subst (λ rows. IsNoted next.calls rows j c) (sym a.clients)
+        (subst
+        (λ rows. IsNoted rows (clients_with v line.who (place (past (core_of s))) s.clients) j c)
+        (sym a.calls)
+        (noted_on v line (place (past (core_of s))) j c s.calls s.clients n))
+
+noted_all : (s : Script) (xs : List ScriptLine) (last : Script) (text : List ℕ)
+    → SaysAll s xs last text → (j c : ℕ) → IsNoted s.calls s.clients j c
+    → IsNoted last.calls last.clients j c
+noted_all s [] last text says j c n =
+    subst (λ (t : Script). IsNoted t.calls t.clients j c) (sym says.0) n
+noted_all s (x ∷ xs) last text says j c n =
+    noted_all says.0 xs last says.2 says.4 j c
+    (noted_to (counted s x.who) (line_id s x.who) (event_of_line s x) says.0 says.1 says.3 j c n)
+
 pub answers_have_lines : AnswersHaveLines
-answers_have_lines lines s text says =
+answers_have_lines lines more s last text rest says later =
     let n = says_noted begun lines s text begun_noted says in
-    Each-weaker (IsOwn (past (core_of s))) (HasLine s)
-    (λ t own. let line = n.lines t.place t.client own.0 in
+    Each-weaker (IsOwn (past (core_of s))) (HasLine last)
+    (λ t own.
+    let line = noted_all s more last rest later t.place t.client (n.lines t.place t.client own.0) in
     record { line = line.0; noted = line.1.0; own = line.1.1 })
     (replies_behind s.start s.entries)
     (replies_own (Begin s.start) s.entries (legal_follow (core_of s) n.legal))

@@ -66,7 +66,7 @@ module _ (core : Kept) (l : IsLegal core) where
 
 module _ (core next : Kept) (v : Event) (a : Applies core v next) where
   -- the Start stays
-  same_start : LegalBehind core.start next.entries (events_of core.entries ++ v ∷ [])
+  pub same_start : LegalBehind core.start next.entries (events_of core.entries ++ v ∷ [])
   same_start =
       subst (λ (s : Start). LegalBehind s next.entries (events_of core.entries ++ v ∷ [])) a.starts
       a.legal

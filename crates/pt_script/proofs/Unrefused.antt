@@ -18,6 +18,7 @@ use Rattle.pt_model.proofs.Induction.{start-seal}
 use Rattle.pt_model.proofs.Steps.{step-event}
 use Rattle.pt_core.specs.Cores.{Kept, past}
 use Rattle.pt_core.specs.ApplyingWithSeal.{opened_with_seal}
+use Rattle.pt_core.proofs.AcceptingWithSeal.{needs-parts, refused-without}
 use Rattle.pt_script.specs.Engines.{IsLegal}
 use Rattle.pt_script.proofs.Opened.{legal_follow, legal_settle, opened_by, sealed_alike}
 
@@ -28,28 +29,6 @@ not_refused (Some why) b e = absurd cc
 
 none_over : (limit all : ℕ) → all ≤ limit → nat_lt limit all ≡ false
 none_over limit all l = grind (arith, nat_tests)
-
--- what needs a seal has room after it
-enough : (limit held room : ℕ) → (nat_lt limit (held + room) && nat_le room limit) ≡ true
-    → room ≤ limit
-enough limit held room e = grind (arith, nat_tests)
-
--- where no seal is needed, the limit is passed as it stands, if it is
-over : (limit held room : ℕ) (places : Bool)
-    → (nat_lt limit (held + room) && nat_le room limit) ≡ false
-    → (nat_lt limit room || ((nat_lt limit (held + room) && nat_le room limit) && places))
-    ≡ nat_lt limit (held + room)
-over limit held room places e = grind (arith, nat_tests)
-
--- so an event is refused as without seals
-refused_alike : (limit : ℕ) (h : History) (v : Event) → needs_seal limit h v ≡ false
-    → refusal_with_seals limit h v ≡ refusal_within limit h v
-refused_alike limit h v none =
-    ap (λ b. option_or (refusal h v) (cond b (Some Full) None))
-    (over limit (held h) (room_for h v) (nat_lt most_places (place h)) none ∙ sym as_it_stands)
-  where
-    as_it_stands : is_over limit (h ▷ entry_for h v) ≡ nat_lt limit (held h + room_for h v)
-    as_it_stands = ap (nat_lt limit) (omega arith)
 
 module _ (core : Kept) (l : IsLegal core) (v : Event)
     (none : refusal_with_seals core.limit (past core) v ≡ None) where
@@ -88,7 +67,7 @@ module _ (core : Kept) (l : IsLegal core) (v : Event)
   unrefused_sealed : needs_seal core.limit (past core) v ≡ true
       → refusal_within core.limit (Begin (seal (past core))) v ≡ None
   unrefused_sealed needs =
-      let room = enough core.limit (held h) (room_for h v) needs in
+      let room = (needs-parts core.limit h v needs).1 in
       ap (λ o. option_or o (cond (is_over core.limit (g ▷ entry_for g v)) (Some Full) None)) refused
       ∙ ap (λ b. cond b (Some Full) None)
       (none_over core.limit (1 + need (g ▷ entry_for g v)) (omega (arith, room, need_sealed)))
@@ -97,5 +76,5 @@ module _ (core : Kept) (l : IsLegal core) (v : Event)
       (past (opened_with_seal core v)) v ≡ None
   unrefused_opened =
       opened_by (λ k. refusal_within k.limit (past k) v ≡ None) core v
-      (λ same. sym (refused_alike core.limit h v same) ∙ none)
+      (λ same. sym (refused-without core.limit h v same) ∙ none)
       (λ needs. unrefused_sealed needs)

@@ -19,12 +19,13 @@ pub record HasLine (s : Script) (t : Told) : Type 0 where
   pub noted : line_at s.calls t.place ≡ Some line
   pub own : number_of s.clients line.who ≡ Some t.client
 
--- Lines of answers: each answer of the history that a script leads to has its line. Those before a
--- seal are answers of the histories that the lines before it lead to.
+-- Lines of answers: each answer of the history that the first lines lead to has its line, also after
+-- all lines. So those from before a seal have theirs too.
 abbrev pub AnswersHaveLines : Type 0
 AnswersHaveLines =
-    (lines : List ScriptLine) (s : Script) (text : List ℕ) → SaysAll begun lines s text
-    → Each (HasLine s) (replies_behind s.start s.entries)
+    (lines more : List ScriptLine) (s last : Script) (text rest : List ℕ)
+    → SaysAll begun lines s text → SaysAll s more last rest
+    → Each (HasLine last) (replies_behind s.start s.entries)
 
 -- what is written for an event, if memory lacks or not: ENOMEM is written only if it does, and
 -- then if there is no other refusal, and for no `die`  [profile]
