@@ -104,7 +104,8 @@ fn tell_from<A: Allocator + Copy>(
 ///
 /// Of each client one line is stored: that of its latest call, since no other can still be
 /// answered. Contracts see what is known after the lines so far, the lines of all calls too. The
-/// history is sealed for an event that needs the room, so the entries never fill the memory.
+/// history is sealed for an event that needs the room, so the core has never more entries than its
+/// limit, however many lines come.
 #[derive(Drop)]
 pub struct Engine<A: Allocator + Copy = Global> {
     core: Core<A>,
@@ -309,7 +310,7 @@ impl<A: Allocator + Copy> Engine<A> {
     }
 
     /// Answers the last line, which no newline ended, if there is one.
-    #[tactic(auto, using(crate::proofs::Runs::last_some, crate::proofs::Runs::last_none))]
+    #[tactic(auto, using(crate::proofs::Runs::last_none))]
     pub fn answer_last(
         &mut self,
         cutter: Cutter<A>,

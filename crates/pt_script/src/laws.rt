@@ -2,8 +2,8 @@
 
 ghost use Rattle.pt_script.specs.Laws.{AnswersHaveLines, BeginningsOfAll, EachText, OneText};
 
-/// Each answer of the history that a script leads to is written: the line that made its call is
-/// noted, and it is a line of the client that is answered.
+/// Each answer of the history that the first lines lead to is written: the line that made its call
+/// is noted, after all lines too, and it is a line of the client that is answered.
 pub fn law_answers_have_lines()
     ensures { AnswersHaveLines }
 {}

@@ -23,7 +23,8 @@ const PIECE: usize = 4096;
 pub struct ScriptEnd {
     /// How many lines it had, refused ones too.
     pub lines: u64,
-    /// The place of the next entry.
+    /// How many entries came of them: the place of the next one. Those that were dropped at a seal
+    /// count too.
     pub entries: u64,
 }
 
