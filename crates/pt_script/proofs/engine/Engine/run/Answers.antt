@@ -7,7 +7,7 @@ use Rattle.pt_script.proofs.engine.Engine.run.Goals as goal
 
 pub invariant_of-self-in_err-greet-in-Ok : goal.invariant_of-self-in_err-greet-in-Ok
 invariant_of-self-in_err-greet-in-Ok g c =
-    kept_lines (shown c.self.inside.core) (shown c.apply_with_seal.new.self) c.args.event
+    kept_lines (shown c.self.inside.core) _ c.args.event
     c.in-Ok.done c.self.invariant.0 c.in-Ok.ensures.ok c.self.inside.asked.entries
     c.note.new.asked.entries c.self.inside.calls.items c.note.new.calls.items c.args.line
     c.mark_of-mark.result
@@ -19,7 +19,7 @@ invariant_of-self-in_err-greet-in-Ok g c =
 
 pub invariant_of-self-in_err-tell_from-in-Ok : goal.invariant_of-self-in_err-tell_from-in-Ok
 invariant_of-self-in_err-tell_from-in-Ok g c =
-    kept_lines (shown c.self.inside.core) (shown c.apply_with_seal.new.self) c.args.event
+    kept_lines (shown c.self.inside.core) _ c.args.event
     c.in-Ok.done c.self.invariant.0 c.in-Ok.ensures.ok c.self.inside.asked.entries
     c.note.new.asked.entries c.self.inside.calls.items c.note.new.calls.items c.args.line
     c.mark_of-mark.result
@@ -31,7 +31,7 @@ invariant_of-self-in_err-tell_from-in-Ok g c =
 
 pub invariant_of-self-in-Ok : goal.invariant_of-self-in-Ok
 invariant_of-self-in-Ok g c =
-    kept_lines (shown c.self.inside.core) (shown c.apply_with_seal.new.self) c.args.event
+    kept_lines (shown c.self.inside.core) _ c.args.event
     c.in-Ok.done c.self.invariant.0 c.in-Ok.ensures.ok c.self.inside.asked.entries
     c.note.new.asked.entries c.self.inside.calls.items c.note.new.calls.items c.args.line
     c.mark_of-mark.result
@@ -44,7 +44,7 @@ invariant_of-self-in-Ok g c =
 pub returns-in_ok-tell_from-in-Ok-clause-ok : goal.returns-in_ok-tell_from-in-Ok-clause-ok
 returns-in_ok-tell_from-in-Ok-clause-ok g c =
     let kept =
-    kept_lines (shown c.self.inside.core) (shown c.apply_with_seal.new.self) c.args.event
+    kept_lines (shown c.self.inside.core) _ c.args.event
     c.in-Ok.done c.self.invariant.0 c.in-Ok.ensures.ok c.self.inside.asked.entries
     c.note.new.asked.entries c.self.inside.calls.items c.note.new.calls.items c.args.line
     c.mark_of-mark.result
@@ -54,14 +54,14 @@ returns-in_ok-tell_from-in-Ok-clause-ok g c =
     c.reserve.ensures.entries c.note.ensures.asked)
     c.note.ensures.calls in
     accepted (known_by c.args.self.now) (shown c.self.inside.core)
-    (shown c.apply_with_seal.new.self) c.self.inside.names
+    _ c.self.inside.names
     c.note.new.names c.self.inside.calls.items c.note.new.calls.items c.args.event
     c.args.line c.in-Ok.done c.mark_of-mark.result c.args.out.now.items
     c.greet.new.out.items c.tell_from.new.out.items (ap known_by (sym c.self.view_is))
     c.self.invariant.0.limit
     c.mark_of-mark.ensures c.in-Ok.ensures.ok c.note.ensures.names c.note.ensures.calls
     c.in_ok-greet-in-Ok.ensures.ok
-    (told_alike (shown c.self.inside.core) (shown c.apply_with_seal.new.self) c.args.event
+    (told_alike (shown c.self.inside.core) _ c.args.event
     c.in-Ok.done c.self.invariant.0 c.in-Ok.ensures.ok c.note.new.asked.entries
     c.note.new.calls.items c.greet.new.out.items c.tell_from.new.out.items kept.1
     c.in_ok-tell_from-in-Ok.ensures.ok)
@@ -69,7 +69,7 @@ returns-in_ok-tell_from-in-Ok-clause-ok g c =
 pub returns-in_ok-tell-in-Err-clause-ok : goal.returns-in_ok-tell-in-Err-clause-ok
 returns-in_ok-tell-in-Err-clause-ok g c =
     refused (known_by c.args.self.now) (shown c.self.inside.core)
-    (shown c.apply_with_seal.new.self) c.self.inside.names
+    _ c.self.inside.names
     c.self.inside.calls.items c.self.inside.calls.items c.args.event c.args.line
     c.in-Err.refusal c.args.out.now.items c.tell.new.out.items (ap known_by (sym c.self.view_is))
     c.self.invariant.0.limit (ap shown c.in-Err.ensures.unchanged) refl c.in-Err.ensures.err
