@@ -1,38 +1,85 @@
 -- A hub stays one at each event.
-use Rattle.std.proofs.Common.{◌≡◌, ◌+◌, ◌≤◌, ◌^◌, List, [], ap, arith}
+use Rattle.std.proofs.Common.{◌≡◌, ℕ, ◌+◌, ◌≤◌, ◌^◌, List, [], sym, ap, ◌∙◌, arith}
 use Rattle.pt_types.specs.Limits.{most_entries}
 use Rattle.pt_model.specs.declared.entry.Event.{Event}
 use Rattle.pt_model.specs.Starts.{nothing}
-use Rattle.pt_model.specs.Histories.{outer}
+use Rattle.pt_model.specs.Histories.{place, outer}
+use Rattle.pt_model.specs.Legal.{LegalBehind, events_of}
 use Rattle.pt_model.specs.Steps.{IsStart}
 use Rattle.pt_core.specs.declared.applied.Applied.{Applied}
+use Rattle.pt_core.specs.declared.applied.AppliedWithSeal.{AppliedWithSeal}
 use Rattle.pt_core.specs.Cores.{Kept, past}
 use Rattle.pt_core.specs.Applying.{IsApplied}
+use Rattle.pt_core.specs.ApplyingWithSeal.{IsAppliedWithSeal, opened_with_seal}
+use Rattle.pt_core.specs.Sealing.{IsSealed}
 use Rattle.pt_hub.specs.Desks.{kept}
 use Rattle.pt_hub.specs.Hubs.{HubView, TallyView, IsHub}
 use Rattle.pt_hub.proofs.AppliedLemmas.{outer-applied, place-applied}
+use Rattle.pt_hub.proofs.SealedDesks.{outer-opened, place-opened, starts-opened}
 
--- one event more was counted, and one part at most was given away
-pub hub-more : (old new : HubView) (s t : TallyView) (v : Event) (a : Applied) → IsHub old s
-    → IsStart (kept old.desk).start → IsApplied (kept old.desk) v (kept new.desk) a
-    → t.outer ≡ s.outer + 1 → s.parts ≤ t.parts + 1 → new.opened ≡ old.opened
-    → new.booked ≡ t.outer → IsHub new t
-hub-more old new s t v a k b ok one part same booked =
+-- an event adds one outer entry, after a seal too
+module _ (k new : Kept) (v : Event) (a : AppliedWithSeal) (b : IsStart k.start)
+    (legal : LegalBehind k.start k.entries (events_of k.entries))
+    (ok : IsAppliedWithSeal k v new a) where
+  outer-grown : outer (past new) ≡ outer (past k) + 1
+  outer-grown =
+      outer-applied (opened_with_seal k v) new v (starts-opened k v b legal) ok.applied.applies
+      ∙ ap (λ n. n + 1) (outer-opened k v)
+
+  place-grown : place (past k) + 1 ≤ place (past new)
+  place-grown =
+      omega (
+        arith,
+        place-opened k v,
+        place-applied (opened_with_seal k v) new v (starts-opened k v b legal) ok.applied.applies,
+      )
+
+module _ (old new : HubView) (s t : TallyView) (k : IsHub old s) where
+  grown : outer (past (kept new.desk)) ≡ outer (past (kept old.desk)) + 1
+      → place (past (kept old.desk)) + 1 ≤ place (past (kept new.desk))
+      → t.outer ≡ s.outer + 1 → s.parts ≤ t.parts + 1 → new.opened ≡ old.opened
+      → new.booked ≡ t.outer → IsHub new t
+  grown more later one part same booked =
+      record {
+        outer = omega (arith, k.outer, one, more);
+        book = booked;
+        parts = omega (arith, k.parts, part, later, same);
+        sessions = omega (arith, k.sessions, same);
+      }
+
+  -- one event more was counted, and one part at most was given away
+  pub hub-more : (v : Event) (a : AppliedWithSeal) → IsStart (kept old.desk).start
+      → LegalBehind (kept old.desk).start (kept old.desk).entries
+      (events_of (kept old.desk).entries)
+      → IsAppliedWithSeal (kept old.desk) v (kept new.desk) a
+      → t.outer ≡ s.outer + 1 → s.parts ≤ t.parts + 1 → new.opened ≡ old.opened
+      → new.booked ≡ t.outer → IsHub new t
+  hub-more v a b legal ok =
+      grown (outer-grown (kept old.desk) (kept new.desk) v a b legal ok)
+      (place-grown (kept old.desk) (kept new.desk) v a b legal ok)
+
+  -- the same for an event before which the history isn't sealed
+  pub hub-died : (v : Event) (a : Applied) → IsStart (kept old.desk).start
+      → IsApplied (kept old.desk) v (kept new.desk) a
+      → t.outer ≡ s.outer + 1 → s.parts ≤ t.parts + 1 → new.opened ≡ old.opened
+      → new.booked ≡ t.outer → IsHub new t
+  hub-died v a b ok =
+      grown (outer-applied (kept old.desk) (kept new.desk) v b ok.applies)
+      (place-applied (kept old.desk) (kept new.desk) v b ok.applies)
+
+-- the history was sealed
+pub hub-sealed : (old new : HubView) (t : TallyView) → IsHub old t → (at : ℕ)
+    → IsSealed (kept old.desk) (kept new.desk) at → new.opened ≡ old.opened
+    → new.booked ≡ old.booked → IsHub new t
+hub-sealed old new t k at s same booked =
+    let outers : outer (past (kept new.desk)) ≡ outer (past (kept old.desk)) =
+    ap (λ (n : Kept). outer (past n)) s.kept in
+    let places : place (past (kept new.desk)) ≡ place (past (kept old.desk)) =
+    ap (λ (n : Kept). place (past n)) s.kept in
     record {
-      outer = omega (
-        arith,
-        k.outer,
-        one,
-        outer-applied (kept old.desk) (kept new.desk) v b ok.applies,
-      );
-      book = booked;
-      parts = omega (
-        arith,
-        k.parts,
-        part,
-        place-applied (kept old.desk) (kept new.desk) v b ok.applies,
-        same,
-      );
+      outer = k.outer ∙ sym outers;
+      book = booked ∙ k.book;
+      parts = omega (arith, k.parts, places, same);
       sessions = omega (arith, k.sessions, same);
     }
 

@@ -1,8 +1,10 @@
 pub mod AppliedLemmas
 pub mod AccountLemmas
+pub mod SealedDesks
 pub mod ReadingLemmas
 pub mod SeenLemmas
 pub mod DeskLemmas
+pub mod OpenedDesks
 pub mod HubLemmas
 pub mod FindLemmas
 pub mod ClaimLemmas

@@ -39,6 +39,9 @@ pub(super) enum Step {
     LeastDeadline {
         sec: u64,
     },
+    Seals {
+        at: u64,
+    },
 }
 
 // What a client must leave: its calls with the answers that it took, and the place of its Death.
@@ -126,6 +129,7 @@ fn plays<L: Ledger>(
         },
         Step::Moment { sec, nsec } => advances(hub, clock, sec, nsec),
         Step::LeastDeadline { sec } => hub.least_deadline(Clock::Real) == Deadline::new(sec, 0),
+        Step::Seals { at } => hub.seal() == Ok(at),
     }
 }
 

@@ -21,7 +21,7 @@ invariant_of-self g c =
           c.self.inside.opened;
       booked = c.count.new.self.total;
     } in
-    hub-more old new c.self.inside.tally c.count.new.self _ c.in-Ok.field-0 c.self.invariant
-    c.len-place.ensures.starts c.in-Ok.ensures.ok
+    hub-more old new c.self.inside.tally c.count.new.self c.self.invariant _ c.in-Ok.field-0
+    c.len-place.ensures.starts c.len-place.ensures.legal c.in-Ok.ensures.ok
     (omega (arith, c.count.ensures.outer, c.part-share.ensures.outer)) (omega
     (arith, c.count.ensures.left, c.part-share.ensures.parts)) refl c.count.ensures.total
