@@ -1,7 +1,6 @@
 -- What is read off an account.
-use Rattle.std.proofs.Common.{◌≡◌, ℕ, ◌+◌, ◌≤◌, ◌<◌, Bool, true, false, cond, ◌||◌, ◌⊎◌, inl, inr, nat_lt, nat_eq, Option, Some, None, is_some, refl, sym, ap, ◌∙◌, subst, arith}
+use Rattle.std.proofs.Common.{◌≡◌, ℕ, ◌+◌, ◌≤◌, ◌<◌, Bool, true, false, cond, ◌||◌, ◌⊎◌, inl, inr, nat_lt, Option, Some, None, is_some, refl, sym, ap, ◌∙◌, subst, arith}
 use Rattle.std.specs.Prelude.{IsSome, ◌-◌, option_map}
-use Rattle.std.specs.Map.{lookup}
 use Rattle.std.specs.Option.{option_or}
 use Rattle.std.proofs.lemmas.Bool.Decides.{nat_tests}
 use Rattle.std.proofs.lemmas.Bool.{false≢true}
@@ -11,20 +10,19 @@ use Rattle.pt_types.specs.declared.outcome.Refusal.TheVariants.{Blocked, Full}
 use Rattle.pt_types.specs.Limits.{most_entries, most_places}
 use Rattle.pt_model.specs.declared.entry.Event.TheVariants as event
 use Rattle.pt_model.specs.Records.{Told}
-use Rattle.pt_model.specs.Histories.{History, place}
+use Rattle.pt_model.specs.Histories.{History}
 use Rattle.pt_model.specs.Clients.{is_alive}
 use Rattle.pt_model.specs.Answers.{open_place}
 use Rattle.pt_model.specs.Queries.{answer_of}
 use Rattle.pt_model.specs.Room.{is_full, refusal_with_seals, refusal_of_stranger}
 use Rattle.pt_model.specs.Legal.{events_of}
 use Rattle.pt_model.proofs.Legality.{behind-follows}
-use Rattle.pt_model.proofs.Histories.{place-behind}
 use Rattle.pt_told.specs.Tallies.{open_count}
 use Rattle.pt_core.specs.Cores.{past}
 use Rattle.pt_told.proofs.LatestCalls.{answer-tally, dead-open}
 use Rattle.pt_hub.specs.declared.account.Account.{Account}
 use Rattle.pt_core.specs.Sealing.{sealed}
-use Rattle.pt_hub.specs.Desks.{Desk, kept, account_of, is_untaken_in, is_untaken, is_blocked, next_answer, call_refusal, IsOwedTheRest, IsTakenButOne, owed, owed_in, taken_in, got, after_taking, one_if, renewed, renewed_all, IsServed, IsAccount, IsDesk}
+use Rattle.pt_hub.specs.Desks.{Desk, kept, account_of, is_untaken_in, is_untaken, is_blocked, next_answer, call_refusal, IsOwedTheRest, IsTakenButOne, owed, owed_in, taken_in, got, after_taking, one_if, renewed, IsServed, IsAccount, IsDesk}
 use Rattle.pt_hub.proofs.SealedDesks.{lookup-renewed, owed-rest}
 
 -- whether an account awaits an answer

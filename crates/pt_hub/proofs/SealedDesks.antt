@@ -1,5 +1,5 @@
 -- A desk whose history is sealed.
-use Rattle.std.proofs.Common.{◌≡◌, ℕ, ◌+◌, ◌-◌, ◌≤◌, ◌<◌, Bool, true, false, cond, not, ◌&&◌, ◌||◌, nat_lt, nat_eq, List, [], Option, Some, None, is_some, refl, sym, ap, ◌∙◌, subst, arith}
+use Rattle.std.proofs.Common.{◌≡◌, ℕ, ◌+◌, ◌-◌, ◌≤◌, Bool, true, false, cond, not, ◌&&◌, ◌||◌, nat_lt, nat_eq, List, Option, Some, None, is_some, refl, sym, ap, ◌∙◌, subst, arith}
 use Rattle.std.specs.Map.{lookup}
 use Rattle.std.specs.Option.{option_or}
 use Rattle.std.specs.Prelude.{option_map}
@@ -10,12 +10,11 @@ use Rattle.pt_types.specs.declared.outcome.Refusal.TheVariants.{Full}
 use Rattle.pt_types.specs.Limits.{most_entries, most_places}
 use Rattle.pt_model.specs.declared.entry.Event.{Event}
 use Rattle.pt_model.specs.declared.waiting_call.WaitingCall.{WaitingCall}
-use Rattle.pt_model.specs.Histories.{History, Begin, place, outer}
+use Rattle.pt_model.specs.Histories.{Begin, place, outer}
 use Rattle.pt_model.specs.Answers.{open_place, place_of}
-use Rattle.pt_model.specs.Clients.{is_alive}
 use Rattle.pt_model.specs.Queries.{latest}
 use Rattle.pt_model.specs.Forced.{forced}
-use Rattle.pt_model.specs.Room.{needs_seal, room_for, refusal, is_full, refusal_with_seals}
+use Rattle.pt_model.specs.Room.{needs_seal, room_for, refusal, refusal_with_seals}
 use Rattle.pt_model.specs.Legal.{LegalBehind, events_of}
 use Rattle.pt_model.specs.Seals.{seal}
 use Rattle.pt_model.specs.SealLaws.{GoesAlike}
@@ -103,7 +102,7 @@ module _ (k : Kept) (c : ℕ) where
       (calls-sealed (past k))
 
   module _ (a : Account) (s : IsServed k c a) where
-    -- none is open where nothing is awaited
+    -- none is open if nothing is awaited
     none_open : a.awaits ≡ false → open_count (Begin (seal (past k))) c ≡ 0
     none_open e =
         let idle : one_if a.awaits ≡ 0 = rw e refl in
@@ -156,7 +155,7 @@ module _ (k : Kept) (xs : List (ℕ × Account)) (d : Serves k xs) where
         few = d.few;
       }
 
--- where an event is accepted after a seal, there are numbers for places
+-- if an event is accepted after a seal, there are numbers for places
 numbered : (o : Option Refusal) (over : Bool) (at most : ℕ)
     → option_or o (cond (over || (true && nat_lt most at)) (Some Full) None) ≡ None → at ≤ most
 numbered o over at most e = go o over (nat_lt most at) refl e
