@@ -12,12 +12,5 @@ invariant_of-self g c =
       opened = c.self.inside.opened;
       booked = c.self.inside.tally.total;
     } in
-    let new : HubView =
-    record {
-      desk = c.seal.new.self;
-      marks = c.self.inside.marks.entries;
-      opened = c.self.inside.opened;
-      booked = c.self.inside.tally.total;
-    } in
-    hub-sealed old new c.self.inside.tally c.self.invariant c.in-Ok.at c.in-Ok.ensures.ok refl
-    refl
+    hub-sealed old c.seal.new.self c.self.inside.tally c.self.invariant c.seal.result
+    c.seal.ensures.ok c.seal.ensures.unchanged
