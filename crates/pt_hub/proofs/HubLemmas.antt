@@ -1,5 +1,7 @@
 -- A hub stays one at each event.
-use Rattle.std.proofs.Common.{◌≡◌, ℕ, ◌+◌, ◌≤◌, ◌^◌, List, [], sym, ap, ◌∙◌, arith}
+use Rattle.std.proofs.Common.{◌≡◌, ℕ, ◌+◌, ◌≤◌, ◌^◌, [], sym, ap, ◌∙◌, subst, arith}
+use Rattle.std.specs.Prelude.{Result, Ok, Err, IfOk, OnErr}
+use Rattle.pt_types.specs.declared.outcome.Refusal.{Refusal}
 use Rattle.pt_types.specs.Limits.{most_entries}
 use Rattle.pt_model.specs.declared.entry.Event.{Event}
 use Rattle.pt_model.specs.Starts.{nothing}
@@ -12,7 +14,7 @@ use Rattle.pt_core.specs.Cores.{Kept, past}
 use Rattle.pt_core.specs.Applying.{IsApplied}
 use Rattle.pt_core.specs.ApplyingWithSeal.{IsAppliedWithSeal, opened_with_seal}
 use Rattle.pt_core.specs.Sealing.{IsSealed}
-use Rattle.pt_hub.specs.Desks.{kept}
+use Rattle.pt_hub.specs.Desks.{Desk, kept}
 use Rattle.pt_hub.specs.Hubs.{HubView, TallyView, IsHub}
 use Rattle.pt_hub.proofs.AppliedLemmas.{outer-applied, place-applied}
 use Rattle.pt_hub.proofs.SealedDesks.{outer-opened, place-opened, starts-opened}
@@ -67,21 +69,26 @@ module _ (old new : HubView) (s t : TallyView) (k : IsHub old s) where
       grown (outer-applied (kept old.desk) (kept new.desk) v b ok.applies)
       (place-applied (kept old.desk) (kept new.desk) v b ok.applies)
 
--- the history was sealed
-pub hub-sealed : (old new : HubView) (t : TallyView) → IsHub old t → (at : ℕ)
-    → IsSealed (kept old.desk) (kept new.desk) at → new.opened ≡ old.opened
-    → new.booked ≡ old.booked → IsHub new t
-hub-sealed old new t k at s same booked =
-    let outers : outer (past (kept new.desk)) ≡ outer (past (kept old.desk)) =
-    ap (λ (n : Kept). outer (past n)) s.kept in
-    let places : place (past (kept new.desk)) ≡ place (past (kept old.desk)) =
-    ap (λ (n : Kept). place (past n)) s.kept in
-    record {
-      outer = k.outer ∙ sym outers;
-      book = booked ∙ k.book;
-      parts = omega (arith, k.parts, places, same);
-      sessions = omega (arith, k.sessions, same);
-    }
+-- the history was sealed, or nothing was done
+module _ (old : HubView) (new : Desk) (t : TallyView) (k : IsHub old t) where
+  after_seal : (at : ℕ) → IsSealed (kept old.desk) (kept new) at
+      → IsHub (record old { desk = new }) t
+  after_seal at s =
+      let outers : outer (past (kept new)) ≡ outer (past (kept old.desk)) =
+      ap (λ (n : Kept). outer (past n)) s.kept in
+      let places : place (past (kept new)) ≡ place (past (kept old.desk)) =
+      ap (λ (n : Kept). place (past n)) s.kept in
+      record {
+        outer = k.outer ∙ sym outers;
+        book = k.book;
+        parts = omega (arith, k.parts, places);
+        sessions = k.sessions;
+      }
+
+  pub hub-sealed : (r : Result ℕ Refusal) → IfOk r (IsSealed (kept old.desk) (kept new))
+      → OnErr r (new ≡ old.desk) → IsHub (record old { desk = new }) t
+  hub-sealed (Ok at) ok err = after_seal at ok
+  hub-sealed (Err e) ok err = subst (λ (d : Desk). IsHub (record old { desk = d }) t) (sym err) k
 
 -- before the first event
 pub hub-new : (v : HubView) (t : TallyView)

@@ -6,6 +6,7 @@ pub mod SeenLemmas
 pub mod DeskLemmas
 pub mod OpenedDesks
 pub mod HubLemmas
+pub mod HubEvents
 pub mod FindLemmas
 pub mod ClaimLemmas
 pub mod AnswerLemmas

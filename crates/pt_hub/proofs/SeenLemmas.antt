@@ -1,5 +1,5 @@
 -- What was read at a desk, and of a number, that are seen as others of the same value.
-use Rattle.std.proofs.Common.{◌≡◌, ℕ, ◌+◌, ◌≤◌, Bool, true, false, nat_eq, Option, Some, None, is_some, sym, ap, ◌∙◌, subst}
+use Rattle.std.proofs.Common.{◌≡◌, ℕ, ◌+◌, ◌≤◌, true, false, nat_eq, Option, Some, None, is_some, sym, ap, ◌∙◌}
 use Rattle.std.specs.Prelude.{IsSome, MatchOption}
 use Rattle.std.specs.Map.{lookup}
 use Rattle.pt_types.specs.declared.call.Call.{Call as Asked}

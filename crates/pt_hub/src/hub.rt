@@ -256,10 +256,7 @@ impl<L: Ledger, A: Allocator + Copy> Hub<L, A> {
         ensures err { IfErr result (λ refusal. refusal ≡ seal_refusal (kept self.old.desk)) }
         ensures unchanged { OnErr result (self.new ≡ self.old) }
     {
-        match self.desk.seal() {
-            Ok(at) => Ok(at),
-            Err(refusal) => Err(refusal),
-        }
+        self.desk.seal()
     }
 
     /// The least deadline by this clock of the open calls that are not moved, as it was written.
