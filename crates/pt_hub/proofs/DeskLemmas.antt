@@ -19,11 +19,10 @@ use Rattle.pt_core.specs.declared.applied.Applied.{Applied}
 use Rattle.pt_core.specs.Cores.{Kept, past}
 use Rattle.pt_core.specs.Applying.{IsApplied}
 use Rattle.pt_hub.specs.declared.account.Account.{Account}
-use Rattle.pt_hub.specs.Desks.{Desk, kept, account_of, awaiting, after_taking, fresh, next_answer, IsAccount, IsDesk, Wrote}
+use Rattle.pt_hub.specs.Desks.{Desk, kept, account_of, awaiting, after_taking, fresh, next_answer, IsAccount, IsDesk, IsDeskOf, Wrote}
 use Rattle.pt_hub.proofs.AppliedLemmas.{starts-applied, legal-applied, outer-applied, place-applied, within-applied}
 use Rattle.pt_hub.proofs.AccountLemmas.{other-account, joined-account, called-account, died-account}
 use Rattle.pt_hub.proofs.ReadingLemmas.{taken-account}
-use Rattle.pt_hub.proofs.SealedDesks.{Serves, serves}
 
 -- the accounts after one was written
 written : (new : Kept) (xs ys : List (ℕ × Account)) (c : ℕ) (o : Option Account)
@@ -38,9 +37,9 @@ written new xs ys c o w mine others b = subst (IsAccount new b) (sym (w b)) (go 
         subst (λ n. IsAccount new n o) same mine
     go false e = others b e
 
-module _ (old new : Kept) (xs ys : List (ℕ × Account)) (d : Serves old xs) where
+module _ (old new : Kept) (xs ys : List (ℕ × Account)) (d : IsDeskOf old xs) where
   module _ (v : Event) (a : Applied) (ok : IsApplied old v new a) where
-    desk : ((b : ℕ) → IsAccount new b (lookup (nat_eq b) ys)) → Serves new ys
+    desk : ((b : ℕ) → IsAccount new b (lookup (nat_eq b) ys)) → IsDeskOf new ys
     desk accounts =
         record {
           starts = starts-applied old new v d.starts ok.applies;
@@ -65,7 +64,7 @@ module _ (old new : Kept) (xs ys : List (ℕ × Account)) (d : Serves old xs) wh
         }
 
   pub desk-join : (p : ℕ) (a : Applied) → IsApplied old (event.Join p) new a
-      → (c : ℕ) → c ≡ place (past old) → Wrote xs ys c (Some fresh) → Serves new ys
+      → (c : ℕ) → c ≡ place (past old) → Wrote xs ys c (Some fresh) → IsDeskOf new ys
   desk-join p a ok c is w =
       desk (event.Join p) a ok
       (written new xs ys c (Some fresh) w
@@ -83,7 +82,7 @@ module _ (old new : Kept) (xs ys : List (ℕ × Account)) (d : Serves old xs) wh
   pub desk-call : (c : ℕ) (call : Asked) (a : Applied)
       → IsApplied old (event.Call c call) new a → (w : Account)
       → lookup (nat_eq c) xs ≡ Some w → w.awaits ≡ false
-      → Wrote xs ys c (awaiting (Some w)) → Serves new ys
+      → Wrote xs ys c (awaiting (Some w)) → IsDeskOf new ys
   desk-call c call a ok w there free wrote =
       desk (event.Call c call) a ok
       (written new xs ys c (awaiting (Some w)) wrote
@@ -97,7 +96,7 @@ module _ (old new : Kept) (xs ys : List (ℕ × Account)) (d : Serves old xs) wh
       later b e t = rw e t
 
   pub desk-death : (c : ℕ) (a : Applied) → IsApplied old (event.Death c) new a
-      → Wrote xs ys c None → Serves new ys
+      → Wrote xs ys c None → IsDeskOf new ys
   desk-death c a ok w =
       desk (event.Death c) a ok
       (written new xs ys c None w (died-account old new c d.starts ok.applies)
@@ -105,7 +104,7 @@ module _ (old new : Kept) (xs ys : List (ℕ × Account)) (d : Serves old xs) wh
       (lookup (nat_eq b) xs) refl (rw e refl) (λ t. t) (d.accounts b)))
 
   pub desk-moment : (k : Clock) (t : ℕ) (a : Applied)
-      → IsApplied old (event.Moment k t) new a → ys ≡ xs → Serves new ys
+      → IsApplied old (event.Moment k t) new a → ys ≡ xs → IsDeskOf new ys
   desk-moment k t a ok same =
       desk (event.Moment k t) a ok
       (λ b. subst (IsAccount new b) (sym (ap (lookup (nat_eq b)) same))
@@ -113,10 +112,10 @@ module _ (old new : Kept) (xs ys : List (ℕ × Account)) (d : Serves old xs) wh
       (lookup (nat_eq b) xs) refl refl (λ l. l) (d.accounts b)))
 
 -- the accounts alone were written
-pub desk-take : (old new : Kept) (xs ys : List (ℕ × Account)) → Serves old xs → (c : ℕ)
-    (w : Account) → new ≡ old → IsAccount old c (Some w) → Wrote xs ys c (Some w) → Serves new ys
+pub desk-take : (old new : Kept) (xs ys : List (ℕ × Account)) → IsDeskOf old xs → (c : ℕ)
+    (w : Account) → new ≡ old → IsAccount old c (Some w) → Wrote xs ys c (Some w) → IsDeskOf new ys
 desk-take old new xs ys d c w same mine wrote =
-    let there : Serves old ys =
+    let there : IsDeskOf old ys =
     record {
       starts = d.starts;
       legal = d.legal;
@@ -126,29 +125,29 @@ desk-take old new xs ys d c w same mine wrote =
       within = d.within;
       few = d.few;
     } in
-    subst (λ (k : Kept). Serves k ys) (sym same) there
+    subst (λ (k : Kept). IsDeskOf k ys) (sym same) there
 
 -- the same, where a number was read twice
 module _ (old : Desk) (new : Kept) (ys : List (ℕ × Account)) (d : IsDesk old)
     (c b : ℕ) (at : c ≡ b) where
   pub desk-died : (a : Applied) → IsApplied (kept old) (event.Death b) new a
-      → Wrote old.accounts ys c None → Serves new ys
+      → Wrote old.accounts ys c None → IsDeskOf new ys
   desk-died a ok w =
-      desk-death (kept old) new old.accounts ys (serves old d) c a
+      desk-death (kept old) new old.accounts ys d c a
       (subst (λ n. IsApplied (kept old) (event.Death n) new a) (sym at) ok) w
 
   pub desk-took : (seen : Desk) → old ≡ seen → IsSome (next_answer seen b) → (w : Account)
       → Some w ≡ account_of old c → new ≡ kept old
-      → Wrote old.accounts ys c (after_taking (Some w)) → Serves new ys
+      → Wrote old.accounts ys c (after_taking (Some w)) → IsDeskOf new ys
   desk-took seen is s w there same wrote =
       let s' : IsSome (next_answer old c) = rw (is, at) s in
-      desk-take (kept old) new old.accounts ys (serves old d) c _ same
+      desk-take (kept old) new old.accounts ys d c _ same
       (taken-account old d c w (sym there) s') wrote
 
 -- before the first client
 pub desk-new : (k : Kept) (xs : List (ℕ × Account))
     → k ≡ record { start = nothing; entries = []; limit = most_entries } → xs ≡ []
-    → Serves k xs
+    → IsDeskOf k xs
 desk-new k xs e a =
     record {
       starts = subst (λ (s : Kept). IsStart s.start) (sym e) begins;

@@ -14,10 +14,10 @@ use Rattle.pt_core.specs.Cores.{Kept, past}
 use Rattle.pt_core.specs.ApplyingWithSeal.{IsAppliedWithSeal, opened_with_seal}
 use Rattle.pt_core.specs.Sealing.{IsSealed, sealed}
 use Rattle.pt_hub.specs.declared.account.Account.{Account}
-use Rattle.pt_hub.specs.Desks.{Desk, kept, account_of, awaiting, call_refusal, fresh, opened_account, opened_accounts, renewed, renewed_all, renewed_if, IsDesk, Wrote}
+use Rattle.pt_hub.specs.Desks.{Desk, kept, account_of, awaiting, call_refusal, fresh, opened_account, opened_accounts, renewed, renewed_all, renewed_if, IsDesk, IsDeskOf, Wrote}
 use Rattle.pt_hub.proofs.DeskLemmas.{desk-join, desk-call, desk-moment}
 use Rattle.pt_hub.proofs.ReadingLemmas.{caller-known, caller-idle}
-use Rattle.pt_hub.proofs.SealedDesks.{Serves, lookup-renewed, opened-desk, place-opened, sealed-desk, serves}
+use Rattle.pt_hub.proofs.SealedDesks.{lookup-renewed, opened-desk, place-opened, sealed-desk}
 
 -- a caller's account, of accounts that may be renewed
 record IsIdle (o : Option Account) : Type 0 where
@@ -53,10 +53,10 @@ module _ (k new : Kept) (xs zs : List (ℕ × Account)) (v : Event) (a : Applied
   pub rows-opened : zs ≡ renewed_if (needs_seal k.limit (past k) v) xs
   rows-opened = is ∙ ap (λ b. renewed_if b xs) needed
 
-  module _ (d : Serves k xs) where
-    pub opened : Serves (opened_with_seal k v) zs
+  module _ (d : IsDeskOf k xs) where
+    pub opened : IsDeskOf (opened_with_seal k v) zs
     opened =
-        subst (Serves (opened_with_seal k v)) (sym rows-opened)
+        subst (IsDeskOf (opened_with_seal k v)) (sym rows-opened)
         (opened-desk k v xs d ok.accepted)
 
 -- a client joins
@@ -67,7 +67,7 @@ module _ (k new : Kept) (xs made zs ys : List (ℕ × Account)) (p : ℕ) (a : A
   is_of : zs ≡ renewed_if (is_some a.sealed) xs
   is_of = is ∙ ap (renewed_if (is_some a.sealed)) same
 
-  pub desk-joined : Serves k xs → Serves new ys
+  pub desk-joined : IsDeskOf k xs → IsDeskOf new ys
   desk-joined d =
       desk-join (opened_with_seal k (event.Join p)) new zs ys
       (opened k new xs zs (event.Join p) a ok is_of d) p a.applied ok.applied a.applied.first
@@ -110,11 +110,11 @@ module _ (old seen : Desk) (same : old ≡ seen) (d : IsDesk old) (c b : ℕ)
   caller-there = ap is_some idle_of.there
 
   module _ (ys : List (ℕ × Account)) (wrote : Wrote zs ys c (awaiting (lookup (nat_eq c) zs))) where
-    pub desk-called : Serves new ys
+    pub desk-called : IsDeskOf new ys
     desk-called =
         desk-call (opened_with_seal (kept old) (event.Call c call)) new zs ys
         (opened (kept old) new old.accounts zs (event.Call c call) a ok_of is
-        (serves old d)) c call a.applied
+        d) c call a.applied
         ok_of.applied idle_of.account idle_of.there idle_of.free
         (subst (λ o. Wrote zs ys c (awaiting o)) idle_of.there wrote)
 
@@ -132,15 +132,15 @@ module _ (old seen : Desk) (same : old ≡ seen) (d : IsDesk old) (c b : ℕ)
 module _ (k new : Kept) (xs zs : List (ℕ × Account)) (z : Clock) (t : ℕ) (a : AppliedWithSeal)
     (ok : IsAppliedWithSeal k (event.Moment z t) new a)
     (is : zs ≡ renewed_if (is_some a.sealed) xs) where
-  pub desk-ticked : Serves k xs → Serves new zs
+  pub desk-ticked : IsDeskOf k xs → IsDeskOf new zs
   desk-ticked d =
       desk-moment (opened_with_seal k (event.Moment z t)) new zs zs
       (opened k new xs zs (event.Moment z t) a ok is d) z t a.applied ok.applied refl
 
 -- the history is sealed
-pub desk-sealed : (k new : Kept) (xs ys : List (ℕ × Account)) (at : ℕ) → Serves k xs
-    → IsSealed k new at → ys ≡ renewed_all xs → Serves new ys
+pub desk-sealed : (k new : Kept) (xs ys : List (ℕ × Account)) (at : ℕ) → IsDeskOf k xs
+    → IsSealed k new at → ys ≡ renewed_all xs → IsDeskOf new ys
 desk-sealed k new xs ys at d s is =
-    subst (λ (n : Kept). Serves n ys) (sym s.kept)
-    (subst (Serves (sealed k)) (sym is)
+    subst (λ (n : Kept). IsDeskOf n ys) (sym s.kept)
+    (subst (IsDeskOf (sealed k)) (sym is)
     (sealed-desk k xs d (subst (λ n. n ≤ most_places) s.told s.within)))

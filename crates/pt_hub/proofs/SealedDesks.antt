@@ -28,47 +28,12 @@ use Rattle.pt_core.specs.Cores.{Kept, past}
 use Rattle.pt_core.specs.ApplyingWithSeal.{opened_with_seal}
 use Rattle.pt_core.specs.Sealing.{sealed}
 use Rattle.pt_hub.specs.declared.account.Account.{Account}
-use Rattle.pt_hub.specs.Desks.{Desk, kept, got, one_if, owed, renewed, renewed_all, renewed_if, IsAccount, IsDesk, IsServed}
+use Rattle.pt_hub.specs.Desks.{Desk, kept, got, one_if, owed, renewed, renewed_all, renewed_if, IsAccount, IsDeskOf, IsServed}
 
 -- a client's account once the accounts are renewed
 pub lookup-renewed : (c : ℕ) (xs : List (ℕ × Account))
     → lookup (nat_eq c) (renewed_all xs) ≡ option_map renewed (lookup (nat_eq c) xs)
 lookup-renewed c xs = lookup-map_values renewed (nat_eq c) xs
-
--- a legal history within its limits, and the accounts of its living clients: a desk, whatever the
--- rows of its Start are
-pub record Serves (k : Kept) (rows : List (ℕ × Account)) : Type 0 where
-  pub starts : IsStart k.start
-  pub legal : LegalBehind k.start k.entries (events_of k.entries)
-  pub accounts : (c : ℕ) → IsAccount k c (lookup (nat_eq c) rows)
-  pub limit : k.limit ≡ most_entries
-  pub places : k.start.at ≤ most_places
-  pub within : place (past k) ≤ most_places + most_entries
-  pub few : outer (past k) ≤ place (past k)
-
-pub serves : (d : Desk) → IsDesk d → Serves (kept d) d.accounts
-serves d k =
-    record {
-      starts = k.starts;
-      legal = k.legal;
-      accounts = k.accounts;
-      limit = k.limit;
-      places = k.places;
-      within = k.within;
-      few = k.few;
-    }
-
-pub is-desk : (d : Desk) → Serves (kept d) d.accounts → IsDesk d
-is-desk d k =
-    record {
-      starts = k.starts;
-      legal = k.legal;
-      accounts = k.accounts;
-      limit = k.limit;
-      places = k.places;
-      within = k.within;
-      few = k.few;
-    }
 
 -- what is awaited is open or owed
 open_or_owed : (w : Bool) (o : Option ℕ) → (w ≡ false → ◌≡◌ {A = ℕ} (cond (is_some o) 1 0) 0)
@@ -130,7 +95,7 @@ module _ (k : Kept) (c : ℕ) where
   renewed-account None dead = dead
   renewed-account (Some a) s = renewed_served a s
 
-module _ (k : Kept) (xs : List (ℕ × Account)) (d : Serves k xs) where
+module _ (k : Kept) (xs : List (ℕ × Account)) (d : IsDeskOf k xs) where
   follows : Follows (past k)
   follows = behind-follows k.start k.entries (events_of k.entries) d.starts d.legal
 
@@ -142,7 +107,7 @@ module _ (k : Kept) (xs : List (ℕ × Account)) (d : Serves k xs) where
       (seal_agrees (past k) follows)
 
   -- with its history sealed it is still one
-  pub sealed-desk : place (past k) ≤ most_places → Serves (sealed k) (renewed_all xs)
+  pub sealed-desk : place (past k) ≤ most_places → IsDeskOf (sealed k) (renewed_all xs)
   sealed-desk le =
       record {
         starts = start-seal (past k) follows;
@@ -202,12 +167,12 @@ module _ (k : Kept) (v : Event) where
       (Some Full) None) ≡ None) needs ok)
 
   -- a desk is one once it is opened for an event that is accepted
-  pub opened-desk : (xs : List (ℕ × Account)) → Serves k xs
+  pub opened-desk : (xs : List (ℕ × Account)) → IsDeskOf k xs
       → refusal_with_seals k.limit (past k) v ≡ None
-      → Serves (opened_with_seal k v) (renewed_if (needs_seal k.limit (past k) v) xs)
+      → IsDeskOf (opened_with_seal k v) (renewed_if (needs_seal k.limit (past k) v) xs)
   opened-desk xs d ok = go (needs_seal k.limit (past k) v) refl
     where
       go : (b : Bool) → needs_seal k.limit (past k) v ≡ b
-          → Serves (cond b (sealed k) k) (renewed_if b xs)
+          → IsDeskOf (cond b (sealed k) k) (renewed_if b xs)
       go true needs = sealed-desk k xs d (places_left needs ok)
       go false needs = d

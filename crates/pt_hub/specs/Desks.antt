@@ -148,14 +148,18 @@ IsAccount k c None = is_alive (past k) c ≡ false
 IsAccount k c (Some a) = IsServed k c a
 
 -- a legal history within its limits, and the accounts of its living clients
-pub record IsDesk (d : Desk) : Type 0 where
-  pub starts : IsStart (kept d).start
-  pub legal : LegalBehind (kept d).start (kept d).entries (events_of (kept d).entries)
-  pub accounts : (c : ℕ) → IsAccount (kept d) c (account_of d c)
-  pub limit : (kept d).limit ≡ most_entries
-  pub places : (kept d).start.at ≤ most_places
-  pub within : place (past (kept d)) ≤ most_places + most_entries
-  pub few : outer (past (kept d)) ≤ place (past (kept d))
+pub record IsDeskOf (k : Kept) (rows : List (ℕ × Account)) : Type 0 where
+  pub starts : IsStart k.start
+  pub legal : LegalBehind k.start k.entries (events_of k.entries)
+  pub accounts : (c : ℕ) → IsAccount k c (lookup (nat_eq c) rows)
+  pub limit : k.limit ≡ most_entries
+  pub places : k.start.at ≤ most_places
+  pub within : place (past k) ≤ most_places + most_entries
+  pub few : outer (past k) ≤ place (past k)
+
+-- what always holds of a desk
+abbrev pub IsDesk : Desk → Type 0
+IsDesk d = IsDeskOf (kept d) d.accounts
 
 -- why a call is refused, for another reason than lack of memory  [profile]
 abbrev pub call_refusal : Desk → ℕ → Asked → Option Refusal

@@ -1,6 +1,5 @@
 use Rattle.pt_hub.specs.Desks.{Desk as Seen}
 use Rattle.pt_hub.proofs.OpenedDesks.{caller-there, desk-called, first-opened, wrote-called}
-use Rattle.pt_hub.proofs.SealedDesks.{is-desk}
 use Rattle.pt_hub.proofs.desk.Desk.call.Goals as goal
 
 pub note_call-requires : goal.note_call-requires
@@ -14,12 +13,9 @@ pub invariant_of-self : goal.invariant_of-self
 invariant_of-self g c =
     let old : Seen =
     record { core = c.self.inside.core; accounts = c.self.inside.accounts.entries } in
-    let new : Seen =
-    record { core = c.apply_with_seal.new.self; accounts = c.note_call.new.accounts.entries } in
-    is-desk new
-    (desk-called old _ c.self.view_is c.self.invariant _ _ c.c.view_is _ _ c.copied.ensures
+    desk-called old _ c.self.view_is c.self.invariant _ _ c.c.view_is _ _ c.copied.ensures
     c.requires _ c.in-Ok.applied c.in-Ok.ensures.ok _ c.renew_if.ensures.entries _
-    c.note_call.ensures)
+    c.note_call.ensures
 
 pub returns-in-Ok-clause-first : goal.returns-in-Ok-clause-first
 returns-in-Ok-clause-first g c =

@@ -1,17 +1,10 @@
-use Rattle.pt_hub.specs.Desks.{Desk as Seen}
 use Rattle.pt_hub.proofs.OpenedDesks.{desk-ticked, rows-opened}
-use Rattle.pt_hub.proofs.SealedDesks.{is-desk, serves}
 use Rattle.pt_hub.proofs.desk.Desk.moment.Goals as goal
 
 pub invariant_of-self : goal.invariant_of-self
 invariant_of-self g c =
-    let old : Seen =
-    record { core = c.self.inside.core; accounts = c.self.inside.accounts.entries } in
-    let new : Seen =
-    record { core = c.apply_with_seal.new.self; accounts = c.renew_if.new.accounts.entries } in
-    is-desk new
-    (desk-ticked _ _ _ _ c.args.clock c.args.moment c.in-Ok.applied c.in-Ok.ensures.ok
-    c.renew_if.ensures.entries (serves old c.self.invariant))
+    desk-ticked _ _ _ _ c.args.clock c.args.moment c.in-Ok.applied c.in-Ok.ensures.ok
+    c.renew_if.ensures.entries c.self.invariant
 
 pub returns-in-Ok-clause-accounts : goal.returns-in-Ok-clause-accounts
 returns-in-Ok-clause-accounts g c =

@@ -1,15 +1,11 @@
 use Rattle.std.proofs.Common.{refl}
 use Rattle.pt_hub.specs.Desks.{Desk as Seen}
 use Rattle.pt_hub.proofs.DeskLemmas.{desk-took}
-use Rattle.pt_hub.proofs.SealedDesks.{is-desk}
 use Rattle.pt_hub.proofs.desk.Desk.take.Goals as goal
 
 pub invariant_of-self : goal.invariant_of-self
 invariant_of-self g c =
     let old : Seen =
     record { core = c.self.inside.core; accounts = c.self.inside.accounts.entries } in
-    let new : Seen =
-    record { core = c.self.inside.core; accounts = c.write.new.accounts.entries } in
-    is-desk new
-    (desk-took old _ _ c.self.invariant _ _ c.c.view_is _ c.self.view_is c.requires
-    c.in-Some.account c.in-Some.ensures refl c.write.ensures)
+    desk-took old _ _ c.self.invariant _ _ c.c.view_is _ c.self.view_is c.requires
+    c.in-Some.account c.in-Some.ensures refl c.write.ensures
