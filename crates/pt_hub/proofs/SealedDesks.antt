@@ -7,7 +7,7 @@ use Rattle.std.proofs.lemmas.Bool.Decides.{nat_tests}
 use Rattle.std.proofs.lemmas.Map.Made.{lookup-map_values}
 use Rattle.pt_types.specs.declared.outcome.Refusal.{Refusal}
 use Rattle.pt_types.specs.declared.outcome.Refusal.TheVariants.{Full}
-use Rattle.pt_types.specs.Limits.{most_entries, most_places}
+use Rattle.pt_types.specs.Limits.{most_places}
 use Rattle.pt_model.specs.declared.entry.Event.{Event}
 use Rattle.pt_model.specs.declared.waiting_call.WaitingCall.{WaitingCall}
 use Rattle.pt_model.specs.Histories.{Begin, place, outer}
@@ -28,7 +28,7 @@ use Rattle.pt_core.specs.Cores.{Kept, past}
 use Rattle.pt_core.specs.ApplyingWithSeal.{opened_with_seal}
 use Rattle.pt_core.specs.Sealing.{sealed}
 use Rattle.pt_hub.specs.declared.account.Account.{Account}
-use Rattle.pt_hub.specs.Desks.{Desk, kept, got, one_if, owed, renewed, renewed_all, renewed_if, IsAccount, IsDeskOf, IsServed}
+use Rattle.pt_hub.specs.Desks.{got, one_if, owed, renewed, renewed_all, renewed_if, IsAccount, IsDeskOf, IsServed}
 
 -- a client's account once the accounts are renewed
 pub lookup-renewed : (c : ℕ) (xs : List (ℕ × Account))
