@@ -41,28 +41,31 @@ module _ (old : HubView) (p : ℕ) (desk : Desk) (booked : ℕ) (a : AppliedWith
       }
 
 -- a client's call was sent
-module _ (old : HubView) (before : PassView) (call : Asked) (desk : Desk) (booked : ℕ)
-    (a : AppliedWithSeal)
-    (ok : IsAppliedWithSeal (kept old.desk) (event.Call before.client call) (kept desk) a)
-    (first : a.applied.first ≡ next_place old.desk)
-    (wrote : Wrote (opened_accounts old.desk (event.Call before.client call)) desk.accounts
-    before.client (awaiting (opened_account old.desk (event.Call before.client call) before.client)))
-  where
+module _ (old : HubView) (before : PassView) (call : Asked) where
+  abbrev sent : Event
+  sent = event.Call before.client call
+
+  abbrev receipt : ℕ → Receipt
+  receipt j = record { place = j; call = call; answer = None }
+
+  module _ (desk : Desk) (booked : ℕ) (a : AppliedWithSeal)
+      (ok : IsAppliedWithSeal (kept old.desk) sent (kept desk) a)
+      (first : a.applied.first ≡ next_place old.desk)
+      (wrote : Wrote (opened_accounts old.desk sent) desk.accounts before.client
+      (awaiting (opened_account old.desk sent before.client))) where
     pub sends : (place : ℕ) → place ≡ next_place old.desk → (ready : Bool)
         → ready ≡ is_some a.applied.outcome → (made : List Receipt) → made ≡ before.receipts
-        → (rs : List Receipt) → rs ≡ made ++ record { place = place; call = call; answer = None } ∷ []
+        → (rs : List Receipt) → rs ≡ made ++ receipt place ∷ []
         → Sends old before call (record old { desk = desk; booked = booked })
         (record before { receipts = rs }) (record { place = place; ready = ready })
     sends place is ready told made same rs grown =
-        let pushed : rs ≡ before.receipts ++ record { place = place; call = call; answer = None } ∷ []
-        = grown ∙ ap (λ (xs : List Receipt). xs ++ record { place = place; call = call; answer = None }
-        ∷ []) same in
         record {
-          applies = applies (kept old.desk) (kept desk) (event.Call before.client call) a ok;
+          applies = applies (kept old.desk) (kept desk) sent a ok;
           place = is;
-          ready = told ∙ (ap is_some ok.applied.told ∙ ap (λ n. is_some (outcome (past (kept desk)) n))
-              (first ∙ sym is));
-          its_pass = ap (λ (xs : List Receipt). record before { receipts = xs }) pushed;
+          ready = told ∙ (ap is_some ok.applied.told
+              ∙ ap (λ n. is_some (outcome (past (kept desk)) n)) (first ∙ sym is));
+          its_pass = ap (λ (xs : List Receipt). record before { receipts = xs })
+              (grown ∙ ap (λ (xs : List Receipt). xs ++ receipt place ∷ []) same);
           account = wrote;
           marks = refl;
           opened = refl;
