@@ -81,7 +81,7 @@ fresh = record { awaited = false; taken = 0; awaits = false }
 abbrev pub renewed : Account → Account
 renewed a = record { awaited = a.awaits; taken = 0; awaits = a.awaits }
 
--- all accounts then
+-- all accounts when the history is sealed
 abbrev pub renewed_all : List (ℕ × Account) → List (ℕ × Account)
 renewed_all xs = map (λ e. (e.0, renewed e.1)) xs
 
