@@ -28,6 +28,8 @@ mod Counted
 mod Members
 -- Drained: a chain whose rows are taken out one by one
 mod Drained
+-- Walked: a chain that is followed some steps from its head
+mod Walked
 -- Gathered: a chain that is made of numbers, the last one first
 mod Gathered
 -- Sorted: a chain whose numbers are taken apart, sorted, and linked again
