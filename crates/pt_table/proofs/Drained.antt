@@ -1,13 +1,21 @@
 -- Drained: a chain whose rows are taken out one by one, from its head on.
-use Rattle.std.proofs.Common.{◌≡◌, ◌∙◌, ◌<◌, ◌&&◌, ℕ, Bool, true, false, not, nat_eq, List, [], ◌∷◌, ◌++◌, length, Option, Some, None, refl, sym, ap, subst, inl, inr, arith}
+use Rattle.std.proofs.Common.{◌≡◌, ◌∙◌, ◌<◌, ◌≤◌, ◌+◌, ◌&&◌, ℕ, suc, Bool, true, false, not, nat_eq, List, [], ◌∷◌, ◌++◌, length, take, Option, Some, None, refl, sym, ap, subst, inl, inr, arith}
+use Rattle.std.proofs.Math.ListN.{set}
+use Rattle.std.proofs.Math.Seq.{take-suc-set}
 use Rattle.std.proofs.lemmas.List.{append-nil, append_assoc, length-append}
 use Rattle.std.proofs.lemmas.Bool.{eq-eqb}
 use Rattle.pt_table.specs.declared.objects.ObjectRow.{ObjectRow}
 use Rattle.pt_table.specs.Linked.{is_linked, next_number, number_before, but_number, unlinked, AreApart, IsChain, IsOneOf, KeepsOthers}
 use Rattle.pt_table.proofs.Lookups.{some_inj, none_some}
 use Rattle.pt_table.proofs.Chained.{differs, but-first, same-list}
-use Rattle.pt_table.proofs.Counted.{chain-fits}
 use Rattle.pt_table.proofs.Members.{in-left, in-right, in-either}
+
+-- one more number is written
+pub one-written : (i : ℕ) (ns : List ℕ) (n : ℕ) → i < length ns
+    → take (i + 1) (set ns i n) ≡ take i ns ++ n ∷ []
+one-written i ns n within =
+    let e : i + 1 ≡ suc i = omega arith in
+    ap (λ k. take k (set ns i n)) e ∙ take-suc-set ns i n within
 
 module _ {T : Type 0} where
   -- some rows of the chain of a head, from that head on, are in no chain now
@@ -43,12 +51,13 @@ module _ {T : Type 0} where
       (ns, ap (λ x. x ∷ ns) (sym e), subst (λ x. IsOneOf ns x → ⊥) (sym e) l.3)
 
   -- there is room for the head while there is one
-  pub has-room : (old now : List (ObjectRow T)) (head rest : Option ℕ) (done : List ℕ)
-      → IsDrained old now head rest done → (first : ℕ) → rest ≡ Some first
-      → length done < length old
-  has-room old now head rest done d first e =
+  pub has-room : (most : ℕ) (old now : List (ObjectRow T)) (head rest : Option ℕ)
+      (done : List ℕ) → IsDrained old now head rest done
+      → ((ns : List ℕ) → IsChain old head ns → length ns ≤ most)
+      → (first : ℕ) → rest ≡ Some first → length done < most
+  has-room most old now head rest done d within first e =
       let h = headed now first d.left (subst (λ x. IsChain now x d.left) e d.chain) in
-      let fits = chain-fits old head (done ++ d.left) d.whole in
+      let fits = within (done ++ d.left) d.whole in
       let sum = length-append done d.left in
       let more : length d.left ≡ length (first ∷ h.0) = ap length h.1 in
       omega (arith, fits, sum, more)

@@ -16,8 +16,8 @@ mod Links
 mod Chained
 -- Places: where a number is listed, and what is left once it is added or taken out
 mod Places
--- Carried: the first entry, carried past blocks of entries to the end
-mod Carried
+-- Struck: entries of which some are struck out, and the others
+mod Struck
 -- Entered: a number put first in a chain
 mod Entered
 -- Taken: a number taken out of a chain
@@ -28,6 +28,8 @@ mod Counted
 mod Members
 -- Drained: a chain whose rows are taken out one by one
 mod Drained
+-- Walked: a chain that is followed some steps from its head
+mod Walked
 -- Gathered: a chain that is made of numbers, the last one first
 mod Gathered
 -- Sorted: a chain whose numbers are taken apart, sorted, and linked again

@@ -1,5 +1,5 @@
 -- Linked: chains of rows, linked in both directions, each followed from its head.
-use Rattle.std.specs.Prelude.{◌≡◌, ◌<◌, ◌⊎◌, ◌↔◌, ℕ, Bool, true, false, List, [], ◌∷◌, Option, Some, None, filter, map, nat_eq, not}
+use Rattle.std.specs.Prelude.{◌≡◌, ◌<◌, ◌≤◌, ◌⊎◌, ◌↔◌, ℕ, Bool, true, false, List, [], ◌∷◌, Option, Some, None, filter, length, map, nat_eq, not}
 use Rattle.std.specs.List.{AllByRecursion as Each}
 use Rattle.std.specs.Option.{option_and_then}
 use Rattle.pt_table.specs.declared.link.Link.{Link}
@@ -67,6 +67,11 @@ module _ {T : Type 0} where
   -- the head has a chain
   abbrev pub HasChain : List (ObjectRow T) → Option ℕ → Type 0
   HasChain rows head = (numbers : List ℕ) × IsChain rows head numbers
+
+  -- the chain of a head has at most so many rows
+  abbrev pub IsAtMost : List (ObjectRow T) → Option ℕ → ℕ → Type 0
+  IsAtMost rows head most =
+      (numbers : List ℕ) → IsChain rows head numbers → length numbers ≤ most
 
   -- the head has a chain, and the object's row is in it
   abbrev pub IsInChain : List (ObjectRow T) → ℕ → ℕ → Type 0

@@ -1,19 +1,18 @@
 //! Putting a chain in rising order. It takes no memory.
 
 ghost use Rattle.std.specs.Bool.{OnTrue};
-ghost use Rattle.std.specs.Prelude.{◌≡◌, ◌<◌, ◌≤◌, ℕ, [], List, Option, true, false, length, IsPermutation};
+ghost use Rattle.std.specs.Prelude.{◌≡◌, ◌≤◌, ℕ, List, Option, true, false, length, take, IsPermutation};
 ghost use Rattle.std.specs.List.Sorted.{IsNonDecreasing};
-ghost use Rattle.pt_types.specs.Limits.{most_objects};
 ghost use Rattle.pt_table.specs.ObjectRows.{has_object};
-ghost use Rattle.pt_table.specs.Linked.{is_linked, unlinked, HasChain, IsChain, IsOneOf, IsRising, IsSortedTo, KeepsOthers};
+ghost use Rattle.pt_table.specs.Linked.{is_linked, unlinked, HasChain, IsAtMost, IsChain, IsOneOf, IsRising, IsSortedTo, KeepsOthers};
 
 use crate::objects::Objects;
-use arrayvec::ArrayVec;
 use pt_types::MOST_OBJECTS;
 use std::alloc::Allocator;
 
-// As many numbers as there may be rows.
-type Members = ArrayVec<u64, MOST_OBJECTS>;
+/// A chain with at most so many rows is sorted in a short array: to zero one for all rows that
+/// there may be would cost more than the sort.
+const FEW: usize = 32;
 
 fn sort_numbers(numbers: &mut [u64])
     ensures same { IsPermutation numbers.old numbers.new }
@@ -24,71 +23,80 @@ fn sort_numbers(numbers: &mut [u64])
 }
 
 impl<T, A: Allocator + Copy> Objects<T, A> {
-    // Takes each row out of the chain of a head, and lists their numbers.
-    fn take_apart(&mut self, head: Option<u64>, numbers: &mut Members)
+    // Takes each row out of the chain of a head, writes their numbers to the front of a slice, and
+    // returns how many they are.
+    fn take_apart(&mut self, head: Option<u64>, numbers: &mut [u64]) -> usize
         requires chain { HasChain self.old head }
-        requires within { length self.old ≤ most_objects }
-        requires empty { numbers.old.items ≡ [] }
-        ensures chain { IsChain self.old head numbers.new.items }
+        requires room { IsAtMost self.old head (length numbers.old) }
+        ensures len { result ≤ length numbers.new }
+        ensures chain { IsChain self.old head (take result numbers.new) }
         ensures others { KeepsOthers self.old self.new head }
-        ensures free { (n : ℕ) → IsOneOf numbers.new.items n → is_linked self.new n ≡ false }
+        ensures free { (n : ℕ)
+            → IsOneOf (take result numbers.new) n
+            → is_linked self.new n ≡ false }
         ensures linked { (n : ℕ)
-            → (IsOneOf numbers.new.items n → ⊥)
+            → (IsOneOf (take result numbers.new) n → ⊥)
             → is_linked self.new n ≡ is_linked self.old n }
         ensures rows { unlinked self.new ≡ unlinked self.old }
     {
         let mut rest = head;
+        let mut count = 0;
         while let Some(first) = rest {
-            numbers.push(first);
+            numbers[count] = first;
+            count += 1;
             rest = self.unlink(first, first);
         }
+        count
     }
 
     // Makes a chain of these numbers, the last of which is put in first.
-    fn link_each(&mut self, numbers: &mut Members) -> Option<u64>
-        requires rising { IsRising numbers.old.items }
-        requires rows { (n : ℕ) → IsOneOf numbers.old.items n → has_object self.old n ≡ true }
-        requires free { (n : ℕ) → IsOneOf numbers.old.items n → is_linked self.old n ≡ false }
-        ensures chain { IsChain self.new result numbers.old.items }
+    fn link_each(&mut self, numbers: &[u64]) -> Option<u64>
+        requires rising { IsRising numbers.now }
+        requires rows { (n : ℕ) → IsOneOf numbers.now n → has_object self.old n ≡ true }
+        requires free { (n : ℕ) → IsOneOf numbers.now n → is_linked self.old n ≡ false }
+        ensures chain { IsChain self.new result numbers.now }
         ensures others { (other : Option ℕ) (others : List ℕ)
             → IsChain self.old other others
             → IsChain self.new other others }
         ensures linked { (n : ℕ)
-            → (IsOneOf numbers.old.items n → ⊥)
+            → (IsOneOf numbers.now n → ⊥)
             → is_linked self.new n ≡ is_linked self.old n }
         ensures rows { unlinked self.new ≡ unlinked self.old }
     {
         let mut head = None;
-        while let Some(number) = numbers.pop() {
-            head = Some(self.link(head, number));
+        for i in (0..numbers.len()).rev() {
+            head = Some(self.link(head, numbers[i]));
         }
         head
     }
 
-    // Puts the chain of a head in rising order.
-    fn sort_some(&mut self, head: Option<u64>) -> Option<u64>
+    // Puts the chain of a head in rising order, by a slice with room for its numbers.
+    fn sort_by(&mut self, head: Option<u64>, room: &mut [u64]) -> Option<u64>
         requires chain { HasChain self.old head }
-        requires within { length self.old ≤ most_objects }
+        requires room { IsAtMost self.old head (length room.old) }
         ensures chain { IsSortedTo self.old self.new head result }
         ensures others { KeepsOthers self.old self.new head }
         ensures linked { (n : ℕ) → is_linked self.new n ≡ is_linked self.old n }
         ensures rows { unlinked self.new ≡ unlinked self.old }
     {
-        let mut numbers = ArrayVec::new();
-        self.take_apart(head, &mut numbers);
-        sort_numbers(&mut numbers);
-        self.link_each(&mut numbers)
+        let count = self.take_apart(head, room);
+        let (numbers, _) = room.split_at_mut(count);
+        sort_numbers(numbers);
+        self.link_each(numbers)
     }
 
-    // Whether a chain has no row, or one: nothing comes after the first.
-    fn is_short(&self, head: Option<u64>) -> bool
-        ensures { OnTrue result
-            ((numbers : List ℕ) → IsChain self.now head numbers → length numbers < 2) }
+    // Whether a chain has at most so many rows.
+    fn is_within(&self, head: Option<u64>, most: usize) -> bool
+        ensures { OnTrue result (IsAtMost self.now head most) }
     {
-        match head {
-            Some(first) => self.next(first).is_none(),
-            None => true,
+        let mut rest = head;
+        for _ in 0..most {
+            let Some(first) = rest else {
+                return true;
+            };
+            rest = self.next(first);
         }
+        rest.is_none()
     }
 
     /// Puts the chain of a head in rising order, and returns its head.
@@ -99,9 +107,12 @@ impl<T, A: Allocator + Copy> Objects<T, A> {
         ensures linked { (n : ℕ) → is_linked self.new n ≡ is_linked self.old n }
         ensures rows { unlinked self.new ≡ unlinked self.old }
     {
-        if self.len() < 2 || self.is_short(head) {
+        if self.len() < 2 || self.is_within(head, 1) {
             return head;
         }
-        self.sort_some(head)
+        if self.is_within(head, FEW) {
+            return self.sort_by(head, &mut [0; FEW]);
+        }
+        self.sort_by(head, &mut [0; MOST_OBJECTS])
     }
 }

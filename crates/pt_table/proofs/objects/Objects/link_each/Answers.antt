@@ -1,67 +1,70 @@
-use Rattle.std.proofs.Common.{◌≡◌, ◌<◌, ◌∙◌, ◌++◌, ◌∷◌, ℕ, [], List, Some, length, refl, sym, ap, subst, arith, true≢false}
-use Rattle.std.specs.Prelude.{IsSome}
-use Rattle.std.specs.Option.{option_to_list}
+use Rattle.std.proofs.Common.{◌≡◌, ◌-◌, ◌∷◌, None, Some, take, sym, subst, arith}
+use Rattle.std.specs.Prelude.{slice_index_or}
 use Rattle.pt_table.specs.Linked.{IsChain}
 use Rattle.pt_table.proofs.Gathered.{IsGathered, gathers-none, last-free, last-there, gathers-more, gathers-all}
+use Rattle.pt_table.proofs.Sorted.{no-front, one-more, whole-front}
 use Rattle.pt_table.proofs.objects.Objects.link_each.Goals as goal
 
-pub loop-number-init : goal.loop-number-init
-loop-number-init g c =
-    gathers-none c.args.self.now c.args.numbers.now.items c.requires.free
+pub loop-i-init : goal.loop-i-init
+loop-i-init g c = (
+  subst (λ ns. IsGathered c.args.self.now c.args.self.now c.args.numbers.now ns None)
+      (sym (whole-front c.args.numbers.now))
+      (gathers-none c.args.self.now c.args.numbers.now c.requires.free),
+  omega arith,
+)
 
 pub link-requires-clause-chain : goal.link-requires-clause-chain
-link-requires-clause-chain g c = (c.loop-number.invariant.done, c.loop-number.invariant.chain)
+link-requires-clause-chain g c = (c.loop-i.invariant.0.done, c.loop-i.invariant.0.chain)
 
 pub link-requires-clause-row : goal.link-requires-clause-row
 link-requires-clause-row g c =
-    last-there c.args.self.now c.loop-number.self c.args.numbers.now.items
-    c.loop-number.numbers.items c.loop-number.head c.loop-number.invariant
-    c.pop.new.self.items c.in-Some.number
-    (c.pop.ensures.items ∙ ap (λ o. c.pop.new.self.items ++ option_to_list o) c.in-Some.is)
+    last-there c.args.self.now c.loop-i.self c.args.numbers.now
+    (take c.loop-i.i c.args.numbers.now) c.loop-i.head c.loop-i.invariant.0
+    (take (c.loop-i.i - 1) c.args.numbers.now)
+    (slice_index_or c.args.numbers.now (c.loop-i.i - 1) 0)
+    (one-more c.loop-i.i c.args.numbers.now (omega (arith, c.loop-i-test.true))
+    c.loop-i.invariant.1)
     c.requires.rows
 
 pub link-requires-clause-free : goal.link-requires-clause-free
 link-requires-clause-free g c =
-    last-free c.args.self.now c.loop-number.self c.args.numbers.now.items
-    c.loop-number.numbers.items c.loop-number.head c.loop-number.invariant
-    c.pop.new.self.items c.in-Some.number
-    (c.pop.ensures.items ∙ ap (λ o. c.pop.new.self.items ++ option_to_list o) c.in-Some.is)
+    last-free c.args.self.now c.loop-i.self c.args.numbers.now
+    (take c.loop-i.i c.args.numbers.now) c.loop-i.head c.loop-i.invariant.0
+    (take (c.loop-i.i - 1) c.args.numbers.now)
+    (slice_index_or c.args.numbers.now (c.loop-i.i - 1) 0)
+    (one-more c.loop-i.i c.args.numbers.now (omega (arith, c.loop-i-test.true))
+    c.loop-i.invariant.1)
 
-pub loop-number-smaller : goal.loop-number-smaller
-loop-number-smaller g c =
-    let less = c.in-Some.ensures.len in
-    omega (arith, less)
-
-pub loop-number-preserved : goal.loop-number-preserved
-loop-number-preserved g c =
-    let e = c.link.ensures.result in
-    subst (λ n. IsGathered c.args.self.now c.link.new.self c.args.numbers.now.items
-    c.pop.new.self.items (Some n)) (sym e)
-    (gathers-more c.args.self.now c.loop-number.self c.args.numbers.now.items
-    c.loop-number.numbers.items c.loop-number.head c.loop-number.invariant
-    c.pop.new.self.items c.in-Some.number
-    (c.pop.ensures.items ∙ ap (λ o. c.pop.new.self.items ++ option_to_list o) c.in-Some.is)
-    c.link.new.self c.requires.rising c.requires.free
-    (λ ns l. subst (λ n. IsChain c.link.new.self (Some n) (c.in-Some.number ∷ ns)) e
-    (c.link.ensures.chain ns l))
-    c.link.ensures.others c.link.ensures.linked c.link.ensures.rows)
+pub loop-i-preserved : goal.loop-i-preserved
+loop-i-preserved g c =
+    let number = slice_index_or c.args.numbers.now (c.loop-i.i - 1) 0 in
+    let e = c.link.ensures.result in (
+      subst (λ n. IsGathered c.args.self.now c.link.new.self c.args.numbers.now
+          (take (c.loop-i.i - 1) c.args.numbers.now) (Some n)) (sym e)
+          (gathers-more c.args.self.now c.loop-i.self c.args.numbers.now
+          (take c.loop-i.i c.args.numbers.now) c.loop-i.head c.loop-i.invariant.0
+          (take (c.loop-i.i - 1) c.args.numbers.now) number
+          (one-more c.loop-i.i c.args.numbers.now (omega (arith, c.loop-i-test.true))
+          c.loop-i.invariant.1)
+          c.link.new.self c.requires.rising c.requires.free
+          (λ ns l. subst (λ n. IsChain c.link.new.self (Some n) (number ∷ ns)) e
+          (c.link.ensures.chain ns l))
+          c.link.ensures.others c.link.ensures.linked c.link.ensures.rows),
+      omega (arith, c.loop-i.invariant.1),
+    )
 
 pub returns-clause-chain : goal.returns-clause-chain
 returns-clause-chain g c =
-    gathers-all c.args.self.now c.loop-number.self c.args.numbers.now.items
-    c.loop-number.numbers.items c.loop-number.head c.loop-number.invariant
-    (none-left c.loop-number.numbers.items
-    (λ some. true≢false (sym (subst IsSome c.in_default.is (c.pop.ensures.variant.1 some)))))
-  where
-    none-left : (ns : List ℕ) → (0 < length ns → ⊥) → ns ≡ []
-    none-left [] short = refl
-    none-left (n ∷ ns) short = absurd (short (omega arith))
+    let none : c.loop-i.i ≡ 0 = omega (arith, c.loop-i-test.false) in
+    gathers-all c.args.self.now c.loop-i.self c.args.numbers.now
+    (take c.loop-i.i c.args.numbers.now) c.loop-i.head c.loop-i.invariant.0
+    (no-front c.loop-i.i c.args.numbers.now none)
 
 pub returns-clause-others : goal.returns-clause-others
-returns-clause-others g c = c.loop-number.invariant.others
+returns-clause-others g c = c.loop-i.invariant.0.others
 
 pub returns-clause-linked : goal.returns-clause-linked
-returns-clause-linked g c = c.loop-number.invariant.linked
+returns-clause-linked g c = c.loop-i.invariant.0.linked
 
 pub returns-clause-rows : goal.returns-clause-rows
-returns-clause-rows g c = c.loop-number.invariant.rows
+returns-clause-rows g c = c.loop-i.invariant.0.rows
