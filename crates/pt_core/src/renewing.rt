@@ -2,8 +2,8 @@
 
 ghost use Rattle.std.specs.Prelude.{◌≡◌, ◌≤◌, None, OnOk, OnErr, IfErr};
 ghost use Rattle.pt_types.specs.Limits.{most_places};
-ghost use Rattle.pt_model.specs.Histories.{place};
-ghost use Rattle.pt_model.specs.Room.{refusal as refusal_in, entry_for, room_for};
+ghost use Rattle.pt_model.specs.Histories.{place, ◌▷◌};
+ghost use Rattle.pt_model.specs.Room.{refusal as refusal_in, entry_for, need as need_in, room_for};
 ghost use Rattle.pt_state.specs.Adds.{Stays, past};
 ghost use Rattle.pt_core.specs.Renewing.{EntersSealed};
 ghost use Rattle.pt_core.specs.Wholes.{IsRoomy, IsWhole};
@@ -21,10 +21,13 @@ pub fn enter_sealed<Q: WaitList, A: Allocator + Copy>(
     body: &mut Body<Q, A>,
     event: &Event,
     entry: &Entry,
+    need: u64,
 ) -> Result<(), Refusal>
     requires whole { IsWhole body.old }
     requires accepted { refusal_in (past body.old) event.now ≡ None }
     requires entry { entry.now ≡ entry_for (past body.old) event.now }
+    requires need { need ≡ need_in (past body.old ▷ entry.now) }
+    requires small { need ≤ 8195 }
     requires places { place (past body.old) ≤ most_places }
     requires fits { room_for (past body.old) event.now ≤ body.old.stored.limit }
     ensures ok { OnOk result (EntersSealed body.old.stored event.now body.new.stored) }
@@ -32,7 +35,7 @@ pub fn enter_sealed<Q: WaitList, A: Allocator + Copy>(
     ensures err { OnErr result (Stays body.old body.new) }
     ensures reason { IfErr result (λ refusal. refusal ≡ Refusal.Enomem) }
 {
-    let room = body.room().max(1 + body.need_after(entry));
+    let room = body.room().max(1 + need);
     body.push_outer_sealed(entry, room)?;
     settle(body);
     Ok(())

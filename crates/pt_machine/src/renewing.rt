@@ -33,18 +33,16 @@ struct Before<A: Allocator + Copy = Global> {
 }
 
 impl<Q: WaitList, A: Allocator + Copy> Body<Q, A> {
-    /// Whether an entry, with all that must follow it, passes the limit as the history is, and not
-    /// after a seal.
-    pub fn needs_seal(&self, entry: &Entry) -> bool
-        requires read { AreTables self.now }
-        requires quiet { forced (past self.now) ≡ None }
-        requires admits { Admits (past self.now) entry.now }
-        ensures { let room = 1 + need_in (past self.now ▷ entry.now) in
+    /// Whether an entry, with the `need` entries that are reserved after it, passes the limit as the
+    /// history is, and not after a seal.
+    pub fn needs_seal(&self, need: u64) -> bool
+        requires { need ≤ 8195 }
+        ensures { let room = 1 + need in
             result ≡ (nat_lt self.now.stored.limit (held_in (past self.now) + room)
             && nat_le room self.now.stored.limit) }
     {
         let limit = self.state.stored.limit() as u64;
-        let room = 1 + self.need_after(entry);
+        let room = 1 + need;
         let held = self.state.stored.entries().len() as u64;
         limit < held + room && room <= limit
     }
@@ -112,7 +110,8 @@ impl<Q: WaitList, A: Allocator + Copy> Body<Q, A> {
         ensures reason { IfErr result (λ refusal. refusal ≡ Refusal.Enomem) }
     {
         let before = self.seal_with_room(room)?;
-        match self.push_outer(entry) {
+        let plan = self.plan(entry);
+        match self.push_outer(entry, plan) {
             Ok(()) => Ok(()),
             Err(refusal) => {
                 self.unseal(before);

@@ -1,4 +1,4 @@
-use Rattle.std.proofs.Common.{◌≡◌, ◌+◌, max, sym, ◌∙◌, subst, arith}
+use Rattle.std.proofs.Common.{◌≡◌, ◌+◌, max, sym, ap, ◌∙◌, subst, arith}
 use Rattle.std.proofs.Math.Nat.{le-max_left, le-max_right, max-le}
 use Rattle.pt_model.specs.declared.entry.Entry.{Entry}
 use Rattle.pt_model.specs.Histories.{Begin, ◌▷◌}
@@ -11,9 +11,6 @@ use Rattle.pt_core.proofs.OpenLemmas.{room-asked}
 use Rattle.pt_core.proofs.RenewingLemmas.{step-renewed, roomy-added, enters-renewed}
 use Rattle.pt_core.proofs.SealedCores.{settled}
 use Rattle.pt_core.proofs.renewing.enter_sealed.Goals as goal
-
-pub need_after-requires-clause-forced : goal.need_after-requires-clause-forced
-need_after-requires-clause-forced g c = settled c.args.body.now c.requires.whole
 
 pub push_outer_sealed-requires-clause-settled : goal.push_outer_sealed-requires-clause-settled
 push_outer_sealed-requires-clause-settled g c = settled c.args.body.now c.requires.whole
@@ -31,8 +28,9 @@ settle-requires g c =
     let n = c.max-room.result in
     let needed = 1 + need (past s ▷ entry_for (past s) v) in
     let asked : n ≡ max s.stored.room needed =
-    c.max-room.ensures ∙ room-asked (past s) v c.args.entry.now s.stored.room c.room.result
-    c.need_after.result c.room.ensures.room c.requires.entry c.need_after.ensures.value in
+    c.max-room.ensures ∙ room-asked (past s) v s.stored.room c.room.result c.args.need
+    c.room.ensures.room
+    (c.requires.need ∙ ap (λ (e : Entry). need (past s ▷ e)) c.requires.entry) in
     roomy-added s c.requires.whole v c.requires.accepted n
     (omega (arith, asked, le-max_right s.stored.room needed))
     (omega (arith, asked, le-max_left s.stored.room needed))
@@ -53,8 +51,9 @@ returns-clause-ok g c =
     let n = c.max-room.result in
     let needed = 1 + need (past s ▷ entry_for (past s) v) in
     let asked : n ≡ max s.stored.room needed =
-    c.max-room.ensures ∙ room-asked (past s) v c.args.entry.now s.stored.room c.room.result
-    c.need_after.result c.room.ensures.room c.requires.entry c.need_after.ensures.value in
+    c.max-room.ensures ∙ room-asked (past s) v s.stored.room c.room.result c.args.need
+    c.room.ensures.room
+    (c.requires.need ∙ ap (λ (e : Entry). need (past s ▷ e)) c.requires.entry) in
     enters-renewed s c.requires.whole v c.requires.accepted n
     (omega (arith, asked, le-max_right s.stored.room needed))
     (omega (arith, asked, le-max_left s.stored.room needed))
