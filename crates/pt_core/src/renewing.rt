@@ -10,7 +10,7 @@ ghost use Rattle.pt_core.specs.Wholes.{IsRoomy, IsWhole};
 
 use crate::settling::settle;
 use pt_machine::Body;
-use pt_model::{Entry, Event};
+use pt_model::Event;
 use pt_types::Refusal;
 use pt_waitq::WaitList;
 use std::alloc::Allocator;
@@ -20,13 +20,11 @@ use std::alloc::Allocator;
 pub fn enter_sealed<Q: WaitList, A: Allocator + Copy>(
     body: &mut Body<Q, A>,
     event: &Event,
-    entry: &Entry,
     need: u64,
 ) -> Result<(), Refusal>
     requires whole { IsWhole body.old }
     requires accepted { refusal_in (past body.old) event.now ≡ None }
-    requires entry { entry.now ≡ entry_for (past body.old) event.now }
-    requires need { need ≡ need_in (past body.old ▷ entry.now) }
+    requires need { let h = past body.old in need ≡ need_in (h ▷ entry_for h event.now) }
     requires small { need ≤ 8195 }
     requires places { place (past body.old) ≤ most_places }
     requires fits { room_for (past body.old) event.now ≤ body.old.stored.limit }
@@ -36,7 +34,7 @@ pub fn enter_sealed<Q: WaitList, A: Allocator + Copy>(
     ensures reason { IfErr result (λ refusal. refusal ≡ Refusal.Enomem) }
 {
     let room = body.room().max(1 + need);
-    body.push_outer_sealed(entry, room)?;
+    body.push_outer_sealed(event, room)?;
     settle(body);
     Ok(())
 }

@@ -1,13 +1,30 @@
 -- NeedSteps: the entries that are kept count of, as entries are pushed.
-use Rattle.std.proofs.Common.{◌≡◌, ℕ, ◌+◌, ◌-◌, refl, sym, subst, arith}
+use Rattle.std.proofs.Common.{◌≡◌, ℕ, ◌+◌, ◌-◌, false, refl, sym, subst, arith}
 use Rattle.pt_model.specs.declared.entry.Entry.{Entry}
-use Rattle.pt_model.specs.Histories.{History, Begin, ◌▷◌}
+use Rattle.pt_model.specs.declared.entry.Event.{Event}
+use Rattle.pt_model.specs.declared.entry.Event.TheVariants as event
+use Rattle.pt_model.specs.Histories.{History, Begin, ◌▷◌, is_forced}
 use Rattle.pt_model.specs.Starts.{nothing}
-use Rattle.pt_model.specs.Room.{need}
+use Rattle.pt_model.specs.Room.{entry_for, need}
+use Rattle.pt_model.specs.Steps.{Step, Follows}
 use Rattle.pt_state.specs.declared.state.State.{State}
 use Rattle.pt_state.specs.Adds.{Adds, past}
+use Rattle.pt_state.specs.Needed.{added_by, used_by}
+use Rattle.pt_state.proofs.NeedLemmas.{need-step}
 use Rattle.pt_machine.specs.Reserved.{IsReserved}
 use Rattle.pt_machine.proofs.QueuedSame.{past-adds}
+
+-- an event's entry is no forced one
+pub event-outer : (h : History) (v : Event) → is_forced (entry_for h v) ≡ false
+event-outer h (event.Join p) = refl
+event-outer h (event.Call c call) = refl
+event-outer h (event.Death c) = refl
+event-outer h (event.Moment k t) = refl
+
+-- what is reserved after an event's entry, by what is added and what is used
+pub need-event : (h : History) (v : Event) → Follows h → Step h (entry_for h v)
+    → need (h ▷ entry_for h v) + used_by h (entry_for h v) ≡ need h + added_by (entry_for h v)
+need-event h v f s = need-step h (entry_for h v) f s (event-outer h v)
 
 module _ {A : Type 0} (old new : State A) where
   -- after an outer entry

@@ -1,38 +1,195 @@
-//! What an outer entry changes beside the tables, found once.
+//! What an event's entry is, and what it changes beside the tables, found once before it is pushed.
 
-ghost use Rattle.std.specs.Prelude.{◌≡◌, ◌≤◌, false};
-ghost use Rattle.pt_model.specs.Histories.{is_forced};
+ghost use Rattle.std.specs.Prelude.{None, ◌≡◌, ◌≤◌};
+ghost use Rattle.pt_types.specs.Operations.{operation};
+ghost use Rattle.pt_types.specs.declared.operations.ObjectClass.TheVariants.{Mutex as MutexClass};
+ghost use Rattle.pt_model.specs.declared.entry.Entry.TheVariants as entry_is;
+ghost use Rattle.pt_model.specs.Objects.{find};
+ghost use Rattle.pt_model.specs.Room.{entry_for};
 ghost use Rattle.pt_model.specs.Steps.{Step};
 ghost use Rattle.pt_state.specs.Adds.{past};
+ghost use Rattle.pt_state.specs.Needed.{added_by, added_by_operation, last_lock_if, used_by, used_by_operation, used_to_wait};
 ghost use Rattle.pt_state.specs.Reads.{AreTables};
-ghost use Rattle.pt_machine.specs.Planned.{IsPlanned};
+ghost use Rattle.pt_touched.specs.Touched.{goal_of_operation, touched_by, touched_by_operation};
+ghost use Rattle.pt_machine.specs.Planned.{IsPlanned, entry_with};
 
 use crate::body::Body;
-use pt_model::Entry;
-use pt_state::added;
-use pt_types::ObjectId;
+use pt_model::Event;
+use pt_types::operations::{ObjectClass, Operation, class_needed, operation_of};
+use pt_types::tables::reply;
+use pt_types::{Call, ClientId, Name, ObjectId, Outcome};
 use pt_waitq::WaitList;
 use std::alloc::Allocator;
 
-/// How many entries are reserved after an outer entry, and the one object that it touches.
+/// The answer that an event's call has at once, how many entries are reserved after the event's
+/// entry, and the one object that the entry touches.
 #[derive(Clone, Copy)]
 pub struct Plan {
+    pub answer: Option<Outcome>,
     pub need: u64,
     pub touched: Option<ObjectId>,
 }
 
+// The entries that are reserved from an entry on, those that are reserved no longer, and the one
+// object that it touches.
+#[derive(Clone, Copy)]
+struct Change {
+    added: u64,
+    used: u64,
+    touched: Option<ObjectId>,
+}
+
+const NO_CHANGE: Change = Change {
+    added: 0,
+    used: 0,
+    touched: None,
+};
+
 impl<Q: WaitList, A: Allocator + Copy> Body<Q, A> {
-    /// What an outer entry changes beside the tables, before it is pushed.
-    pub fn plan(&self, entry: &Entry) -> Plan
+    // What a call changes that is left waiting.
+    // [XSH pthread_mutex_lock, pthread_cond_wait, pthread_barrier_wait]
+    fn change_to_wait(&self, c: ClientId, call: &Call) -> Change
         requires read { AreTables self.now }
-        requires step { Step (past self.now) entry.now }
-        requires outer { is_forced entry.now ≡ false }
-        ensures planned { IsPlanned (past self.now) entry.now result }
+        requires step { Step (past self.now) (entry_is.Call c call.now None) }
+        ensures adds { result.added ≡ added_by_operation (operation call.now) }
+        ensures uses { result.used ≡ used_to_wait (past self.now) c (operation call.now) }
+        ensures touches { result.touched
+            ≡ goal_of_operation (past self.now) (operation call.now) }
+        ensures small { result.added ≤ 3 }
+    {
+        match operation_of(call) {
+            Operation::Acquires(n, lock_kind, _) => Change {
+                added: 3,
+                used: 0,
+                touched: self.state.find(n, class_needed(lock_kind)),
+            },
+            Operation::Awaits(_, m, _) => Change {
+                added: 3,
+                used: self.state.used_to_wait(c, call),
+                touched: self.state.find(m, ObjectClass::Mutex),
+            },
+            Operation::Arrives(n) => Change {
+                added: 3,
+                used: 0,
+                touched: self.state.find(n, ObjectClass::Barrier),
+            },
+            _ => NO_CHANGE,
+        }
+    }
+
+    // What a call changes that is answered 0.
+    // [XSH pthread_mutex_unlock, pthread_rwlock_unlock, pthread_cond_signal]
+    fn change_as_done(&self, c: ClientId, call: &Call) -> Change
+        requires { AreTables self.now }
+        ensures adds { result.added ≡ 0 }
+        ensures uses { result.used ≡ used_by_operation (past self.now) c (operation call.now) }
+        ensures touches { result.touched
+            ≡ touched_by_operation (past self.now) (operation call.now) }
+    {
+        match operation_of(call) {
+            Operation::Unlocks(n) => Change {
+                added: 0,
+                used: self.state.last_lock_found(c, n),
+                touched: self.state.find(n, ObjectClass::Mutex),
+            },
+            Operation::Rwunlocks(n) => Change {
+                added: 0,
+                used: 0,
+                touched: self.state.find(n, ObjectClass::Rwlock),
+            },
+            Operation::Signals(n) => Change {
+                added: 0,
+                used: self.first_found(n),
+                touched: self.bound_found(n),
+            },
+            Operation::Broadcasts(n) => Change {
+                added: 0,
+                used: self.waiting_found(n),
+                touched: self.bound_found(n),
+            },
+            _ => NO_CHANGE,
+        }
+    }
+
+    // What a call changes, with the answer that it has at once.
+    fn change_by_call(&self, c: ClientId, call: &Call, answer: Option<Outcome>) -> Change
+        requires read { AreTables self.now }
+        requires step { Step (past self.now) (entry_is.Call c call.now answer) }
+        ensures adds { result.added ≡ added_by (entry_is.Call c call.now answer) }
+        ensures uses { result.used ≡ used_by (past self.now) (entry_is.Call c call.now answer) }
+        ensures touches { result.touched
+            ≡ touched_by (past self.now) (entry_is.Call c call.now answer) }
+        ensures small { result.added ≤ 3 }
+    {
+        match answer {
+            None => self.change_to_wait(c, call),
+            Some(Outcome::Done) => self.change_as_done(c, call),
+            Some(_) => NO_CHANGE,
+        }
+    }
+
+    // What a client's Death changes.
+    fn change_by_death(&self, c: ClientId) -> Change
+        requires { AreTables self.now }
+        ensures adds { result.added ≡ 0 }
+        ensures uses { result.used ≡ used_by (past self.now) (entry_is.Death c) }
+        ensures touches { result.touched ≡ touched_by (past self.now) (entry_is.Death c) }
+    {
+        Change {
+            added: 0,
+            used: self.state.reserved_of(c) + 1,
+            touched: self.object_of(c),
+        }
+    }
+
+    // What an event's entry changes, with the answer that its call has at once.
+    fn change_by(&self, event: &Event, answer: Option<Outcome>) -> Change
+        requires read { AreTables self.now }
+        requires step { Step (past self.now) (entry_with (past self.now) event.now answer) }
+        ensures adds { result.added ≡ added_by (entry_with (past self.now) event.now answer) }
+        ensures uses { let h = past self.now in
+            result.used ≡ used_by h (entry_with h event.now answer) }
+        ensures touches { let h = past self.now in
+            result.touched ≡ touched_by h (entry_with h event.now answer) }
+        ensures small { result.added ≤ 3 }
+    {
+        match event {
+            Event::Join(_) => Change {
+                added: 1,
+                used: 0,
+                touched: None,
+            },
+            Event::Call(c, call) => self.change_by_call(*c, call, answer),
+            Event::Death(c) => self.change_by_death(*c),
+            Event::Moment(..) => NO_CHANGE,
+        }
+    }
+
+    /// The answer that an event's call has at once, if it is a call and has one.
+    /// [XSH, the call's page]
+    pub fn answer_at_once(&self, event: &Event) -> Option<Outcome>
+        requires { AreTables self.now }
+        ensures { let h = past self.now in entry_with h event.now result ≡ entry_for h event.now }
+    {
+        match event {
+            Event::Call(c, call) => reply(self.verdict(*c, call)),
+            _ => None,
+        }
+    }
+
+    /// What an event's entry is and what it changes beside the tables, before it is pushed.
+    pub fn plan(&self, event: &Event) -> Plan
+        requires read { AreTables self.now }
+        requires step { Step (past self.now) (entry_for (past self.now) event.now) }
+        ensures planned { IsPlanned (past self.now) event.now result }
         ensures small { result.need ≤ 8195 }
     {
+        let answer = self.answer_at_once(event);
+        let change = self.change_by(event, answer);
         Plan {
-            need: self.need + added(entry) - self.used(entry),
-            touched: self.touched_by(entry),
+            answer,
+            need: self.need + change.added - change.used,
+            touched: change.touched,
         }
     }
 }

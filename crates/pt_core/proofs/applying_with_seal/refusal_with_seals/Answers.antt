@@ -1,15 +1,18 @@
 use Rattle.std.proofs.Common.{◌≡◌, ℕ, ◌+◌, true, nat_le, nat_lt, ◌&&◌, sym, ap, ◌∙◌}
 use Rattle.pt_history.proofs.Places.{place_of_next}
-use Rattle.pt_model.specs.declared.entry.Entry.{Entry}
-use Rattle.pt_model.specs.Histories.{held, ◌▷◌}
-use Rattle.pt_model.specs.Room.{need, needs_seal}
+use Rattle.pt_model.specs.Histories.{held}
+use Rattle.pt_model.specs.Room.{needs_seal}
+use Rattle.pt_model.proofs.Steps.{step-event}
 use Rattle.pt_state.specs.Adds.{past}
 use Rattle.pt_core.proofs.AcceptingWithSeal.{refused-sealed}
 use Rattle.pt_core.proofs.SealedCores.{settled}
 use Rattle.pt_core.proofs.applying_with_seal.refusal_with_seals.Goals as goal
 
-pub need_after-requires-clause-forced : goal.need_after-requires-clause-forced
-need_after-requires-clause-forced g c = settled c.args.body.now c.requires
+pub plan-requires-clause-step : goal.plan-requires-clause-step
+plan-requires-clause-step g c =
+    let s = c.args.body.now in
+    step-event (past s) c.args.event.now (settled s c.requires)
+    (sym c.refusal.ensures ∙ c.in_default.is)
 
 pub refusal_within-requires-clause-quiet : goal.refusal_within-requires-clause-quiet
 refusal_within-requires-clause-quiet g c = settled c.args.body.now c.requires
@@ -20,8 +23,7 @@ returns-then-needs_seal g c =
     let limit = s.stored.limit in
     let needs : needs_seal limit (past s) c.args.event.now ≡ true =
     ap (λ (n : ℕ). nat_lt limit (held (past s) + (1 + n)) && nat_le (1 + n) limit)
-    (sym (c.need_after.ensures.value
-    ∙ ap (λ (e : Entry). need (past s ▷ e)) c.entry_for-next.ensures))
+    (sym c.plan.ensures.planned.needs)
     ∙ (sym c.needs_seal.ensures ∙ c.if-needs_seal.true) in
     c.refusal_of_seal.ensures
     ∙ refused-sealed limit (past s) c.args.event.now (sym c.in_default.ensures) needs c.len.result

@@ -1,26 +1,24 @@
-use Rattle.std.proofs.Common.{sym, ap, ◌∙◌, subst}
+use Rattle.std.proofs.Common.{◌≡◌, false, sym, ap, ◌∙◌, subst}
 use Rattle.std.specs.Prelude.{IsOk}
-use Rattle.pt_model.specs.declared.entry.Entry.{Entry}
-use Rattle.pt_model.specs.Histories.{History, ◌▷◌}
-use Rattle.pt_model.specs.Room.{need, refusal}
+use Rattle.pt_model.specs.Histories.{History}
+use Rattle.pt_model.specs.Room.{entry_for, refusal}
+use Rattle.pt_machine.specs.Memory.{needs_memory}
 use Rattle.pt_machine.specs.Planned.{IsPlanned}
-use Rattle.pt_state.specs.Adds.{past}
 use Rattle.pt_core.proofs.AcceptingLemmas.{same-past}
 use Rattle.pt_core.proofs.ApplyingLemmas.{entered-applied}
 use Rattle.pt_core.proofs.OpenLemmas.{memory-open, open-within}
 use Rattle.pt_core.proofs.WholeLemmas.{whole-entered}
-use Rattle.pt_core.proofs.applying.apply_entry.Goals as goal
+use Rattle.pt_core.proofs.applying.apply_planned.Goals as goal
 
 pub make_room-requires-clause-need : goal.make_room-requires-clause-need
 make_room-requires-clause-need g c =
     c.requires.planned.needs
-    ∙ ap (λ (e : Entry). need (past c.args.body.now ▷ e)) c.requires.entry
 
 -- room alone was made, so the plan is right still
 pub enter-requires-clause-planned : goal.enter-requires-clause-planned
 enter-requires-clause-planned g c =
     let made = c.in_default.ensures.ok.made in
-    subst (λ (h : History). IsPlanned h c.args.entry.now c.args.plan)
+    subst (λ (h : History). IsPlanned h c.args.event.now c.args.plan)
     (sym (same-past c.args.body.now.stored c.make_room.new.body.stored made.same_start
     made.same_entries))
     c.requires.planned
@@ -56,4 +54,8 @@ returns-in-Err-clause-enough g c = λ there small.
 
 pub returns-in-Err-enter-clause-enough : goal.returns-in-Err-enter-clause-enough
 returns-in-Err-enter-clause-enough g c = λ there small.
-    subst (λ a. IsOk a) c.in-Err-enter.is (c.enter.ensures.enough small)
+    subst (λ a. IsOk a) c.in-Err-enter.is (c.enter.ensures.enough
+    (subst (λ (h : History). needs_memory (entry_for h c.args.event.now) ≡ false)
+    (sym (same-past c.args.body.now.stored c.make_room.new.body.stored
+    c.in_default.ensures.ok.made.same_start c.in_default.ensures.ok.made.same_entries))
+    small))
