@@ -9,7 +9,7 @@ use Rattle.pt_model.specs.declared.entry.Entry.{Entry}
 use Rattle.pt_model.specs.declared.entry.Entry.TheVariants.{Join, Call, Death, Moment, Grant, Trip, Yield, Expire}
 use Rattle.pt_model.specs.Histories.{History, Begin, ◌▷◌, is_forced}
 use Rattle.pt_model.specs.declared.waiting_call.WaitingCall.{WaitingCall}
-use Rattle.pt_model.specs.WaitingCall.{is_arrival}
+use Rattle.pt_model.specs.WaitingCall.{is_arrival, meant}
 use Rattle.pt_model.specs.Grants.{grant_outcome}
 use Rattle.pt_model.specs.Forced.{service}
 use Rattle.pt_model.specs.Starts.{nothing}
@@ -18,7 +18,7 @@ use Rattle.pt_model.specs.Steps.{Step, begins}
 use Rattle.pt_model.proofs.Changes.{resolved}
 use Rattle.pt_state.proofs.StepLemmas.{called as called_by}
 use Rattle.pt_touched.specs.Candidates.{entering, entering_by}
-use Rattle.pt_touched.specs.Touched.{goal_of_operation, touched, touched_after, touched_by}
+use Rattle.pt_touched.specs.Touched.{touched, touched_after, touched_by}
 use Rattle.pt_touched.proofs.Candidates.{begins_untouched}
 use Rattle.pt_state.specs.declared.forced.Forced.{Forced}
 use Rattle.pt_state.specs.declared.forced.Forced.TheVariants.{Serve, Yield as Yields, Expire as Expires}
@@ -29,14 +29,12 @@ use Rattle.pt_machine.specs.LastTouched.{IsTouched}
 use Rattle.pt_machine.proofs.QueuedSame.{past-adds, past-stays}
 
 -- the mutex of a wait that comes is there
-pub awaited-goal : (h : History) (c : ℕ) (call : Asked) (n m : List ℕ) (d : Option Timespec)
+pub awaited-there : (h : History) (c : ℕ) (call : Asked) (n m : List ℕ) (d : Option Timespec)
     → Step h (Call c call None) → operation call ≡ Awaits n m d
-    → find h m MutexClass ≡ goal_of_operation h (operation call)
-awaited-goal h c call n m d step is =
+    → find h m MutexClass ≡ Some (meant h m MutexClass)
+awaited-there h c call n m d step is =
     let known = (resolved h c call).awaited n m d is (sym (called_by h c call None step).told) in
-    known.1
-    ∙ (ap (λ (o : Option ℕ). Some (unwrap_or o 0)) (sym known.1)
-    ∙ ap (goal_of_operation h) (sym is))
+    known.1 ∙ ap (λ (o : Option ℕ). Some (unwrap_or o 0)) (sym known.1)
 
 -- an outer entry makes what is touched new
 outer-touches : (h : History) (e : Entry) → is_forced e ≡ false → (before : Option ℕ)

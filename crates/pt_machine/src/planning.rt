@@ -1,23 +1,26 @@
 //! What an event's entry is, and what it changes beside the tables, found once before it is pushed.
 
-ghost use Rattle.std.specs.Prelude.{None, ◌≡◌, ◌≤◌};
-ghost use Rattle.pt_types.specs.Operations.{operation};
-ghost use Rattle.pt_types.specs.declared.operations.ObjectClass.TheVariants.{Mutex as MutexClass};
+ghost use Rattle.std.specs.Prelude.{None, Some, nat_lt, ◌≡◌, ◌≤◌};
+ghost use Rattle.pt_types.specs.Operations.{Awaits, operation};
+ghost use Rattle.pt_types.specs.declared.operations.ObjectClass.TheVariants.{Cond as CondClass, Mutex as MutexClass};
 ghost use Rattle.pt_model.specs.declared.entry.Entry.TheVariants as entry_is;
 ghost use Rattle.pt_model.specs.Objects.{find};
 ghost use Rattle.pt_model.specs.Room.{entry_for};
 ghost use Rattle.pt_model.specs.Steps.{Step};
+ghost use Rattle.pt_model.specs.WaitingCall.{meant};
 ghost use Rattle.pt_state.specs.Adds.{past};
-ghost use Rattle.pt_state.specs.Needed.{added_by, added_by_operation, last_lock_if, used_by, used_by_operation, used_to_wait};
+ghost use Rattle.pt_state.specs.Needed.{added_by, added_by_operation, last_lock, last_lock_if, used_by, used_by_operation, used_to_wait, waiting_if};
 ghost use Rattle.pt_state.specs.Reads.{AreTables};
-ghost use Rattle.pt_touched.specs.Touched.{goal_of_operation, touched_by, touched_by_operation};
+ghost use Rattle.pt_records.specs.Counts.{one_if};
+ghost use Rattle.pt_touched.specs.Touched.{bound_if, goal_of_operation, touched_by, touched_by_operation};
 ghost use Rattle.pt_machine.specs.Planned.{IsPlanned, entry_with};
 
 use crate::body::Body;
 use pt_model::Event;
+use pt_records::mutex::is_last;
 use pt_types::operations::{ObjectClass, Operation, class_needed, operation_of};
 use pt_types::tables::reply;
-use pt_types::{Call, ClientId, Name, ObjectId, Outcome};
+use pt_types::{Call, ClientId, Deadline, Name, ObjectId, Outcome};
 use pt_waitq::WaitList;
 use std::alloc::Allocator;
 
@@ -46,6 +49,43 @@ const NO_CHANGE: Change = Change {
 };
 
 impl<Q: WaitList, A: Allocator + Copy> Body<Q, A> {
+    // One if the client's lock is the last one on the robust mutex: no Yield is reserved then.
+    fn last_lock(&self, c: ClientId, m: ObjectId) -> u64
+        requires { AreTables self.now }
+        ensures { result ≡ last_lock (past self.now) c m }
+    {
+        match self.state.objects.at(m.0) {
+            Some(object) => { if is_last(object, c) { 1 } else { 0 } }
+            None => 0,
+        }
+    }
+
+    // What a wait changes: its client gives one lock on the mutex back.  [XSH pthread_cond_wait]
+    fn change_to_await(
+        &self,
+        c: ClientId,
+        call: &Call,
+        n: &Name,
+        m: &Name,
+        deadline: Option<Deadline>,
+    ) -> Change
+        requires read { AreTables self.now }
+        requires step { Step (past self.now) (entry_is.Call c call.now None) }
+        requires operation { operation call.now ≡ Awaits n.now m.now deadline }
+        ensures adds { result.added ≡ 3 }
+        ensures uses { let h = past self.now in
+            result.used ≡ last_lock h c (meant h m.now MutexClass) }
+        ensures touches { let h = past self.now in
+            result.touched ≡ Some (meant h m.now MutexClass) }
+    {
+        let mutex = self.state.find(m, ObjectClass::Mutex).unwrap();
+        Change {
+            added: 3,
+            used: self.last_lock(c, mutex),
+            touched: Some(mutex),
+        }
+    }
+
     // What a call changes that is left waiting.
     // [XSH pthread_mutex_lock, pthread_cond_wait, pthread_barrier_wait]
     fn change_to_wait(&self, c: ClientId, call: &Call) -> Change
@@ -63,17 +103,70 @@ impl<Q: WaitList, A: Allocator + Copy> Body<Q, A> {
                 used: 0,
                 touched: self.state.find(n, class_needed(lock_kind)),
             },
-            Operation::Awaits(_, m, _) => Change {
-                added: 3,
-                used: self.state.used_to_wait(c, call),
-                touched: self.state.find(m, ObjectClass::Mutex),
-            },
+            Operation::Awaits(n, m, deadline) => self.change_to_await(c, call, n, m, deadline),
             Operation::Arrives(n) => Change {
                 added: 3,
                 used: 0,
                 touched: self.state.find(n, ObjectClass::Barrier),
             },
             _ => NO_CHANGE,
+        }
+    }
+
+    // What an `unlock` changes that is answered 0.  [XSH pthread_mutex_unlock]
+    fn change_by_unlock(&self, c: ClientId, n: &Name) -> Change
+        requires { AreTables self.now }
+        ensures adds { result.added ≡ 0 }
+        ensures uses { let h = past self.now in
+            result.used ≡ last_lock_if h c (find h n.now MutexClass) }
+        ensures touches { result.touched ≡ find (past self.now) n.now MutexClass }
+    {
+        match self.state.find(n, ObjectClass::Mutex) {
+            Some(m) => Change {
+                added: 0,
+                used: self.last_lock(c, m),
+                touched: Some(m),
+            },
+            None => NO_CHANGE,
+        }
+    }
+
+    // What a `signal` changes: each wait that is woken has used one entry.
+    // [XSH pthread_cond_signal]
+    fn change_by_signal(&self, n: &Name) -> Change
+        requires { AreTables self.now }
+        ensures adds { result.added ≡ 0 }
+        ensures uses { let h = past self.now in
+            result.used ≡ one_if (nat_lt 0 (waiting_if h (find h n.now CondClass))) }
+        ensures touches { let h = past self.now in
+            result.touched ≡ bound_if h (find h n.now CondClass) }
+    {
+        match self.state.find(n, ObjectClass::Cond) {
+            Some(q) => Change {
+                added: 0,
+                used: if 0 < self.waiting(q) { 1 } else { 0 },
+                touched: self.bound(q),
+            },
+            None => NO_CHANGE,
+        }
+    }
+
+    // What a `broadcast` changes.  [XSH pthread_cond_broadcast]
+    fn change_by_broadcast(&self, n: &Name) -> Change
+        requires { AreTables self.now }
+        ensures adds { result.added ≡ 0 }
+        ensures uses { let h = past self.now in
+            result.used ≡ waiting_if h (find h n.now CondClass) }
+        ensures touches { let h = past self.now in
+            result.touched ≡ bound_if h (find h n.now CondClass) }
+    {
+        match self.state.find(n, ObjectClass::Cond) {
+            Some(q) => Change {
+                added: 0,
+                used: self.waiting(q),
+                touched: self.bound(q),
+            },
+            None => NO_CHANGE,
         }
     }
 
@@ -87,26 +180,14 @@ impl<Q: WaitList, A: Allocator + Copy> Body<Q, A> {
             ≡ touched_by_operation (past self.now) (operation call.now) }
     {
         match operation_of(call) {
-            Operation::Unlocks(n) => Change {
-                added: 0,
-                used: self.state.last_lock_found(c, n),
-                touched: self.state.find(n, ObjectClass::Mutex),
-            },
+            Operation::Unlocks(n) => self.change_by_unlock(c, n),
             Operation::Rwunlocks(n) => Change {
                 added: 0,
                 used: 0,
                 touched: self.state.find(n, ObjectClass::Rwlock),
             },
-            Operation::Signals(n) => Change {
-                added: 0,
-                used: self.first_found(n),
-                touched: self.bound_found(n),
-            },
-            Operation::Broadcasts(n) => Change {
-                added: 0,
-                used: self.waiting_found(n),
-                touched: self.bound_found(n),
-            },
+            Operation::Signals(n) => self.change_by_signal(n),
+            Operation::Broadcasts(n) => self.change_by_broadcast(n),
             _ => NO_CHANGE,
         }
     }

@@ -32,8 +32,8 @@ struct Before<A: Allocator + Copy = Global> {
 }
 
 impl<Q: WaitList, A: Allocator + Copy> Body<Q, A> {
-    /// Whether an entry, with the `need` entries that are reserved after it, passes the limit as the
-    /// history is, and not after a seal.
+    /// Whether an entry, with the `need` entries that are reserved after it, passes the limit as
+    /// the history is, and not after a seal.
     pub fn needs_seal(&self, need: u64) -> bool
         requires { need ≤ 8195 }
         ensures { let room = 1 + need in

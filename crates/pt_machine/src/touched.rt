@@ -3,12 +3,10 @@
 //! It is read off the tables as they are before the entry.
 
 ghost use Rattle.std.specs.Prelude.{None, Option, ℕ, ◌≡◌};
-ghost use Rattle.pt_types.specs.declared.operations.ObjectClass.TheVariants.{Cond as CondClass};
 ghost use Rattle.pt_model.specs.Histories.{History, ◌▷◌};
-ghost use Rattle.pt_model.specs.Objects.{find};
 ghost use Rattle.pt_model.specs.Room.{entry_for};
 ghost use Rattle.pt_touched.specs.Candidates.{entering_by};
-ghost use Rattle.pt_touched.specs.Touched.{bound_if, goal, object_if, open_call_of, touched};
+ghost use Rattle.pt_touched.specs.Touched.{goal, object_if, open_call_of, touched};
 ghost use Rattle.pt_records.specs.Callers.{opens_of};
 ghost use Rattle.pt_state.specs.Adds.{past};
 ghost use Rattle.pt_state.specs.Reads.{AreTables};
@@ -20,8 +18,7 @@ use pt_model::waiting_call::Role;
 use pt_records::Open;
 use pt_records::calls::at_object;
 use pt_state::Forced;
-use pt_types::operations::ObjectClass;
-use pt_types::{ClientId, Name, ObjectId};
+use pt_types::{ClientId, ObjectId};
 use pt_waitq::WaitList;
 use std::alloc::Allocator;
 
@@ -48,18 +45,6 @@ fn goal_of(open: &Open) -> ObjectId
 }
 
 impl<Q: WaitList, A: Allocator + Copy> Body<Q, A> {
-    // The mutex with which calls wait at the condition that is found, if some do.
-    // [XSH pthread_cond_wait]
-    pub(crate) fn bound_found(&self, n: &Name) -> Option<ObjectId>
-        requires { AreTables self.now }
-        ensures { let h = past self.now in result ≡ bound_if h (find h n.now CondClass) }
-    {
-        match self.state.find(n, ObjectClass::Cond) {
-            Some(q) => self.bound(q),
-            None => None,
-        }
-    }
-
     // The object at which the client's open call waits, if it has one.
     pub(crate) fn object_of(&self, c: ClientId) -> Option<ObjectId>
         requires { AreTables self.now }

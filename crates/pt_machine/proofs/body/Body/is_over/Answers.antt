@@ -12,9 +12,10 @@ returns g c =
     ap length c.entries.ensures
     ∙ (ap (λ s. length s.stored.entries) c.self.view_is
     ∙ sym (held-past c.args.self.now.stored)) in
+    let needed : c.plan.result.need ≡ need (h ▷ entry_for h c.args.event.now) =
+    c.plan.ensures.planned.needs in
     let total : length c.entries.result.now + 1 + c.plan.result.need
-    ≡ suc (held h) + need (h ▷ entry_for h c.args.event.now) = omega (arith, count, c.plan.ensures.planned.needs)
-    in
+    ≡ suc (held h) + need (h ▷ entry_for h c.args.event.now) = omega (arith, count, needed) in
     ap (λ (l : ℕ). nat_lt l (length c.entries.result.now + 1 + c.plan.result.need))
     (c.limit.ensures ∙ ap (λ s. s.stored.limit) c.self.view_is)
     ∙ ap (nat_lt c.args.self.now.stored.limit) total
