@@ -51,6 +51,10 @@ module _ {A : Type 0} (old : State A) (whole : IsWhole old) (v : Event)
   step : Step (past old) (entry_for (past old) v)
   step = step-event h v (settled old whole) ok
 
+  -- the event becomes the same entry behind the seal
+  pub entry-renewed : entry_for (past old) v ≡ entry_for (Begin (seal (past old))) v
+  entry-renewed = alike.enters v
+
   -- the entry may follow the seal
   pub step-renewed : Step (Begin (seal (past old))) (entry_for (past old) v)
   step-renewed = subst (Step g) (sym (alike.enters v)) (step-event g v quiet refused)

@@ -1,5 +1,5 @@
 -- What an accepted event wrote, after a seal or without one.
-use Rattle.std.proofs.Common.{◌≡◌, ℕ, ◌+◌, ◌-◌, ◌≤◌, ◌<◌, true, false, cond, List, [], ◌∷◌, ◌++◌, Option, Some, None, length, refl, sym, ap, ◌∙◌, subst, arith}
+use Rattle.std.proofs.Common.{◌≡◌, ℕ, ◌+◌, ◌-◌, ◌≤◌, ◌<◌, true, false, cond, List, [], Option, Some, None, length, refl, sym, ap, ◌∙◌, subst, arith}
 use Rattle.std.specs.Prelude.{MatchOption}
 use Rattle.pt_types.specs.declared.outcome.Outcome.{Outcome}
 use Rattle.pt_types.specs.declared.outcome.Refusal.{Refusal}
@@ -8,7 +8,7 @@ use Rattle.pt_types.specs.Limits.{most_places}
 use Rattle.pt_model.specs.declared.entry.Entry.{Entry}
 use Rattle.pt_model.specs.declared.entry.Event.{Event}
 use Rattle.pt_model.specs.Histories.{place}
-use Rattle.pt_model.specs.Room.{entry_for, needs_seal, refusal}
+use Rattle.pt_model.specs.Room.{needs_seal, refusal}
 use Rattle.pt_model.specs.Seals.{seal}
 use Rattle.pt_model.specs.Starts.{Start}
 use Rattle.pt_history.specs.Stored.{Stored, past_of}

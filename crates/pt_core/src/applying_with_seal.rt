@@ -1,20 +1,21 @@
 //! One event, before which the history is sealed if the event needs that.
 
-ghost use Rattle.std.specs.Prelude.{◌≡◌, ℕ, None, Some, true, nat_lt, if◌then◌else◌, IfErr, IfOk, IsOk, OnErr};
+ghost use Rattle.std.specs.Prelude.{◌≡◌, ◌≤◌, ℕ, None, Some, true, nat_lt, if◌then◌else◌, IfErr, IfOk, IsOk, OnErr};
 ghost use Rattle.pt_types.specs.Limits.{most_places};
 ghost use Rattle.pt_model.specs.Clients.{is_alive};
-ghost use Rattle.pt_model.specs.Room.{entry_for, needs_seal, refusal as refusal_in, refusal_with_seals as refusal_with_seals_in};
+ghost use Rattle.pt_model.specs.Histories.{◌▷◌};
+ghost use Rattle.pt_model.specs.Room.{entry_for, need as need_in, needs_seal, refusal as refusal_in, refusal_with_seals as refusal_with_seals_in};
 ghost use Rattle.pt_state.specs.Adds.{past};
 ghost use Rattle.pt_core.specs.ApplyingWithSeal.{IsAppliedWithSeal, IsRefusalWithSeals};
 ghost use Rattle.pt_core.specs.Cores.{kept, seen};
 ghost use Rattle.pt_core.specs.Wholes.{IsWhole};
 
 use crate::applied::{Applied, AppliedWithSeal};
-use crate::applying::{apply, told};
+use crate::applying::{apply_planned, told};
 use crate::renewing::enter_sealed;
 use crate::sealing::MOST_PLACES;
 use pt_machine::Body;
-use pt_model::{Entry, Event};
+use pt_model::Event;
 use pt_types::Refusal;
 use pt_waitq::WaitList;
 use std::alloc::Allocator;
@@ -43,8 +44,7 @@ pub fn refusal_with_seals<Q: WaitList, A: Allocator + Copy>(
     if let Some(refusal) = body.refusal(event) {
         return Some(refusal);
     }
-    let next = body.entry_for(event);
-    if body.needs_seal(&next) {
+    if body.needs_seal(body.plan(event).need) {
         return refusal_of_seal(body.len());
     }
     body.refusal_within(event)
@@ -55,11 +55,12 @@ pub fn refusal_with_seals<Q: WaitList, A: Allocator + Copy>(
 fn apply_sealed<Q: WaitList, A: Allocator + Copy>(
     body: &mut Body<Q, A>,
     event: &Event,
-    entry: &Entry,
+    need: u64,
 ) -> Result<AppliedWithSeal, Refusal>
     requires whole { IsWhole body.old }
     requires accepted { refusal_in (past body.old) event.now ≡ None }
-    requires entry { entry.now ≡ entry_for (past body.old) event.now }
+    requires need { let h = past body.old in need ≡ need_in (h ▷ entry_for h event.now) }
+    requires small { need ≤ 8195 }
     requires needs { needs_seal body.old.stored.limit (past body.old) event.now ≡ true }
     ensures whole { IsWhole body.new }
     ensures ok { IfOk result (λ applied.
@@ -72,7 +73,7 @@ fn apply_sealed<Q: WaitList, A: Allocator + Copy>(
     if first > MOST_PLACES {
         return Err(Refusal::Full);
     }
-    if let Err(refusal) = enter_sealed(body, event, entry) {
+    if let Err(refusal) = enter_sealed(body, event, need) {
         return Err(refusal);
     }
     let outcome = told(body, event, first);
@@ -108,11 +109,11 @@ pub fn apply_with_seal<Q: WaitList, A: Allocator + Copy>(
     if let Some(refusal) = body.refusal(event) {
         return Err(refusal);
     }
-    let entry = body.entry_for(event);
-    if body.needs_seal(&entry) {
-        return apply_sealed(body, event, &entry);
+    let plan = body.plan(event);
+    if body.needs_seal(plan.need) {
+        return apply_sealed(body, event, plan.need);
     }
-    match apply(body, event) {
+    match apply_planned(body, event, plan) {
         Ok(applied) => Ok(AppliedWithSeal {
             applied,
             sealed: None,

@@ -1,14 +1,22 @@
 -- LastTouches: what is touched, and whose call came last, as entries are pushed.
-use Rattle.std.proofs.Common.{◌≡◌, ℕ, Bool, true, false, cond, Option, None, refl, sym, ◌∙◌, subst}
+use Rattle.std.proofs.Common.{◌≡◌, ℕ, Bool, true, false, cond, List, Option, Some, None, refl, sym, ap, ◌∙◌, subst}
+use Rattle.std.specs.Prelude.{unwrap_or}
+use Rattle.pt_types.specs.declared.call.Call.{Call as Asked}
+use Rattle.pt_types.specs.declared.operations.ObjectClass.TheVariants.{Mutex as MutexClass}
+use Rattle.pt_types.specs.Operations.{Awaits, operation}
+use Rattle.pt_types.specs.Times.{Timespec}
 use Rattle.pt_model.specs.declared.entry.Entry.{Entry}
 use Rattle.pt_model.specs.declared.entry.Entry.TheVariants.{Join, Call, Death, Moment, Grant, Trip, Yield, Expire}
 use Rattle.pt_model.specs.Histories.{History, Begin, ◌▷◌, is_forced}
 use Rattle.pt_model.specs.declared.waiting_call.WaitingCall.{WaitingCall}
-use Rattle.pt_model.specs.WaitingCall.{is_arrival}
+use Rattle.pt_model.specs.WaitingCall.{is_arrival, meant}
 use Rattle.pt_model.specs.Grants.{grant_outcome}
 use Rattle.pt_model.specs.Forced.{service}
 use Rattle.pt_model.specs.Starts.{nothing}
-use Rattle.pt_model.specs.Steps.{begins}
+use Rattle.pt_model.specs.Objects.{find}
+use Rattle.pt_model.specs.Steps.{Step, begins}
+use Rattle.pt_model.proofs.Changes.{resolved}
+use Rattle.pt_state.proofs.StepLemmas.{called as called_by}
 use Rattle.pt_touched.specs.Candidates.{entering, entering_by}
 use Rattle.pt_touched.specs.Touched.{touched, touched_after, touched_by}
 use Rattle.pt_touched.proofs.Candidates.{begins_untouched}
@@ -19,6 +27,14 @@ use Rattle.pt_state.specs.Adds.{Adds, Stays, past}
 use Rattle.pt_state.specs.Serving.{called, entry_of}
 use Rattle.pt_machine.specs.LastTouched.{IsTouched}
 use Rattle.pt_machine.proofs.QueuedSame.{past-adds, past-stays}
+
+-- the mutex of a wait that comes is there
+pub awaited-there : (h : History) (c : ℕ) (call : Asked) (n m : List ℕ) (d : Option Timespec)
+    → Step h (Call c call None) → operation call ≡ Awaits n m d
+    → find h m MutexClass ≡ Some (meant h m MutexClass)
+awaited-there h c call n m d step is =
+    let known = (resolved h c call).awaited n m d is (sym (called_by h c call None step).told) in
+    known.1 ∙ ap (λ (o : Option ℕ). Some (unwrap_or o 0)) (sym known.1)
 
 -- an outer entry makes what is touched new
 outer-touches : (h : History) (e : Entry) → is_forced e ≡ false → (before : Option ℕ)

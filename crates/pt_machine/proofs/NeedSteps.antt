@@ -1,9 +1,11 @@
 -- NeedSteps: the entries that are kept count of, as entries are pushed.
 use Rattle.std.proofs.Common.{◌≡◌, ℕ, ◌+◌, ◌-◌, false, refl, sym, subst, arith}
 use Rattle.pt_model.specs.declared.entry.Entry.{Entry}
+use Rattle.pt_model.specs.declared.entry.Event.{Event}
+use Rattle.pt_model.specs.declared.entry.Event.TheVariants as event
 use Rattle.pt_model.specs.Histories.{History, Begin, ◌▷◌, is_forced}
 use Rattle.pt_model.specs.Starts.{nothing}
-use Rattle.pt_model.specs.Room.{need}
+use Rattle.pt_model.specs.Room.{entry_for, need}
 use Rattle.pt_model.specs.Steps.{Step, Follows}
 use Rattle.pt_state.specs.declared.state.State.{State}
 use Rattle.pt_state.specs.Adds.{Adds, past}
@@ -12,16 +14,25 @@ use Rattle.pt_state.proofs.NeedLemmas.{need-step}
 use Rattle.pt_machine.specs.Reserved.{IsReserved}
 use Rattle.pt_machine.proofs.QueuedSame.{past-adds}
 
+-- an event's entry is no forced one
+pub event-outer : (h : History) (v : Event) → is_forced (entry_for h v) ≡ false
+event-outer h (event.Join p) = refl
+event-outer h (event.Call c call) = refl
+event-outer h (event.Death c) = refl
+event-outer h (event.Moment k t) = refl
+
+-- what is reserved after an event's entry, by what is added and what is used
+pub need-event : (h : History) (v : Event) → Follows h → Step h (entry_for h v)
+    → need (h ▷ entry_for h v) + used_by h (entry_for h v) ≡ need h + added_by (entry_for h v)
+need-event h v f s = need-step h (entry_for h v) f s (event-outer h v)
+
 module _ {A : Type 0} (old new : State A) where
   -- after an outer entry
-  pub reserved-outer : (e : Entry) → Adds old e new → Follows (past old) → Step (past old) e
-      → is_forced e ≡ false → (reserved added used : ℕ) → reserved ≡ need (past old)
-      → added ≡ added_by e → used ≡ used_by (past old) e
-      → IsReserved (past new) (reserved + added - used)
-  reserved-outer e a f s o reserved added used k ad us =
-      subst (λ (h : History). IsReserved h (reserved + added - used))
-      (sym (past-adds old new e a))
-      (record { needs = omega (arith, need-step (past old) e f s o, k, ad, us) })
+  pub reserved-outer : (e : Entry) → Adds old e new → (reserved : ℕ)
+      → reserved ≡ need (past old ▷ e) → IsReserved (past new) reserved
+  reserved-outer e a reserved k =
+      subst (λ (h : History). IsReserved h reserved) (sym (past-adds old new e a))
+      (record { needs = k })
 
   -- after a forced entry
   pub reserved-forced : (e : Entry) → Adds old e new → (reserved used : ℕ)

@@ -7,15 +7,12 @@ use Rattle.pt_types.specs.declared.time.Clock.{Clock}
 use Rattle.pt_model.specs.Searches.{In}
 use Rattle.pt_model.specs.declared.waiting_call.WaitingCall.{WaitingCall}
 use Rattle.pt_model.specs.Histories.{History, Begin}
-use Rattle.pt_model.specs.Answers.{open_calls}
 use Rattle.pt_model.specs.Forced.{forced}
 use Rattle.pt_model.specs.Seals.{seal}
-use Rattle.pt_model.specs.StartRows.{reads_of}
-use Rattle.pt_model.specs.Starts.{Start}
 use Rattle.pt_model.specs.Steps.{Follows}
 use Rattle.pt_model.proofs.Agreeing.{calls-sealed}
 use Rattle.pt_model.proofs.Seats.{move-sealed}
-use Rattle.pt_history.specs.Stored.{Stored, past_of}
+use Rattle.pt_history.specs.Stored.{past_of}
 use Rattle.pt_state.specs.declared.state.State.{State}
 use Rattle.pt_state.specs.Adds.{past}
 use Rattle.pt_seal.specs.Sealed.{SealsWithRoom}

@@ -2,8 +2,9 @@
 
 ghost use Rattle.pt_state.specs.Adds.{Adds, IsReadyFor, Stays, past};
 ghost use Rattle.std.specs.Prelude.{IfErr, IsOk, OnErr, OnOk, ◌+◌, ◌<◌, ◌≡◌, false, vec_len};
-ghost use Rattle.pt_model.specs.Histories.{is_forced};
+ghost use Rattle.pt_model.specs.Room.{entry_for};
 ghost use Rattle.pt_machine.specs.Memory.{needs_memory};
+ghost use Rattle.pt_machine.specs.Planned.{IsPlanned};
 ghost use Rattle.pt_records.specs.Callers.{opens_of};
 ghost use Rattle.pt_state.specs.Serving.{IsFor, entry_of};
 ghost use Rattle.pt_model.specs.Answers.{open_place as open_place_in};
@@ -11,9 +12,10 @@ ghost use Rattle.pt_state.specs.Reads.{AreTables};
 ghost use Rattle.pt_history.specs.Stored.{begun};
 
 use crate::clock;
+use crate::planning::Plan;
 use crate::touched::caller_of;
-use pt_model::Entry;
-use pt_state::{Forced, State, added};
+use pt_model::Event;
+use pt_state::{Forced, State};
 use pt_timers::Timers;
 use pt_types::{ClientId, ObjectId, Refusal};
 use pt_waitq::{Chains, WaitList};
@@ -54,22 +56,29 @@ impl<Q: WaitList, A: Allocator + Copy> Model for Body<Q, A> {
 }
 
 impl<Q: WaitList, A: Allocator + Copy> Body<Q, A> {
-    /// Any outer entry. ENOMEM if a growth is refused: then nothing is pushed. An entry that
-    /// needs no memory, as a Death and a Moment, is never refused, and no forced entry comes here.
-    pub fn push_outer(&mut self, entry: &Entry) -> Result<(), Refusal>
-        requires ready { IsReadyFor self.old entry.now }
-        requires outer { is_forced entry.now ≡ false }
-        ensures ok { OnOk result (Adds self.old entry.now self.new) }
+    /// The entry of an event, with its plan. ENOMEM if a growth is refused: then nothing is
+    /// pushed. An entry that needs no memory, as a Death and a Moment, is never refused.
+    pub fn push_outer(&mut self, event: &Event, plan: Plan) -> Result<(), Refusal>
+        requires ready { IsReadyFor self.old (entry_for (past self.old) event.now) }
+        requires planned { IsPlanned (past self.old) event.now plan }
+        ensures ok { OnOk result
+            (Adds self.old (entry_for (past self.old) event.now) self.new) }
         ensures err { OnErr result (Stays self.old self.new) }
         ensures reason { IfErr result (λ refusal. refusal ≡ Refusal.Enomem) }
-        ensures enough { needs_memory entry.now ≡ false → IsOk result }
+        ensures enough { needs_memory (entry_for (past self.old) event.now) ≡ false
+            → IsOk result }
     {
-        let touched = self.touched_by(entry);
-        let need = self.need + added(entry) - self.used(entry);
-        clock::push_outer(&mut self.state, &mut self.queues, &mut self.timers, entry)?;
-        self.touched = touched;
-        self.entering = caller_of(entry);
-        self.need = need;
+        let answer = plan.answer;
+        clock::push_outer(
+            &mut self.state,
+            &mut self.queues,
+            &mut self.timers,
+            event,
+            answer,
+        )?;
+        self.touched = plan.touched;
+        self.entering = caller_of(event);
+        self.need = plan.need;
         Ok(())
     }
 

@@ -12,7 +12,7 @@ ghost use Rattle.pt_records.specs.Callers.{open_in, opens_of};
 ghost use Rattle.pt_types.specs.Times.{deadline_nanos, is_bad_deadline};
 ghost use Rattle.pt_machine.specs.Memory.{needs_memory, needs_memory_to_wait};
 ghost use Rattle.pt_state.specs.Outer.{makes_object};
-ghost use Rattle.pt_model.specs.Histories.{is_forced};
+ghost use Rattle.pt_machine.specs.Planned.{entry_with};
 ghost use Rattle.pt_state.specs.Serving.{IsFor, called, entry_of};
 ghost use Rattle.pt_table.specs.ClientRows.{client_value};
 ghost use Rattle.pt_model.specs.Found.{keep};
@@ -25,7 +25,7 @@ ghost use Rattle.pt_model.specs.Forced.{expires_before, forced, forced_service, 
 
 use crate::body::Body;
 use crate::{calls, clients, clock, forced};
-use pt_model::Entry;
+use pt_model::{Entry, Event};
 use pt_records::Open;
 use pt_state::{Forced, State};
 use pt_timers::Timers;
@@ -224,40 +224,64 @@ pub(crate) fn push_death<Q: WaitList, A: Allocator + Copy>(
     }
 }
 
-/// Any outer entry. ENOMEM if a growth is refused: then nothing is pushed. An entry that needs
-/// no memory is never refused, and no forced entry comes here.
+// A call, with the answer that it has at once. ENOMEM if a growth is refused.
+// [XSH, the call's page]
+fn push_call<Q: WaitList, A: Allocator + Copy>(
+    state: &mut State<A>,
+    queues: &mut Q,
+    timers: &mut Timers<A>,
+    c: ClientId,
+    call: &Call,
+    answer: Option<Outcome>,
+) -> Result<(), Refusal>
+    requires ready { IsReadyFor state.old (entry_is.Call c call.now answer) }
+    requires queued { IsQueued (past state.old) (Q.seen queues.old) }
+    requires timed { AreTimed (past state.old) timers.old }
+    ensures ok { OnOk result (Adds state.old (entry_is.Call c call.now answer) state.new) }
+    ensures err { OnErr result (Stays state.old state.new) }
+    ensures reason { IfErr result (λ refusal. refusal ≡ Refusal.Enomem) }
+    ensures enough { needs_memory (entry_is.Call c call.now answer) ≡ false → IsOk result }
+    ensures queued { IsQueued (past state.new) (Q.seen queues.new) }
+    ensures timed { AreTimed (past state.new) timers.new }
+{
+    match answer {
+        None => push_left(state, queues, timers, c, call),
+        Some(outcome) => push_answered(state, queues, timers, c, call, outcome),
+    }
+}
+
+/// The entry of an event, with the answer that its call has at once. ENOMEM if a growth is
+/// refused: then nothing is pushed. An entry that needs no memory is never refused.
 pub(crate) fn push_outer<Q: WaitList, A: Allocator + Copy>(
     state: &mut State<A>,
     queues: &mut Q,
     timers: &mut Timers<A>,
-    entry: &Entry,
+    event: &Event,
+    answer: Option<Outcome>,
 ) -> Result<(), Refusal>
-    requires ready { IsReadyFor state.old entry.now }
+    requires ready { IsReadyFor state.old (entry_with (past state.old) event.now answer) }
     requires queued { IsQueued (past state.old) (Q.seen queues.old) }
     requires timed { AreTimed (past state.old) timers.old }
-    requires outer { is_forced entry.now ≡ false }
-    ensures ok { OnOk result (Adds state.old entry.now state.new) }
+    ensures ok { OnOk result
+        (Adds state.old (entry_with (past state.old) event.now answer) state.new) }
     ensures err { OnErr result (Stays state.old state.new) }
     ensures reason { IfErr result (λ refusal. refusal ≡ Refusal.Enomem) }
-    ensures enough { needs_memory entry.now ≡ false → IsOk result }
+    ensures enough { needs_memory (entry_with (past state.old) event.now answer) ≡ false
+        → IsOk result }
     ensures queued { IsQueued (past state.new) (Q.seen queues.new) }
     ensures timed { AreTimed (past state.new) timers.new }
 {
-    match entry {
-        Entry::Join(_, priority) => clients::push_join(state, queues, *priority),
-        Entry::Call(c, call, None) => push_left(state, queues, timers, *c, call),
-        Entry::Call(c, call, Some(answer)) => {
-            push_answered(state, queues, timers, *c, call, *answer)
-        }
-        Entry::Death(c) => {
+    match event {
+        Event::Join(priority) => clients::push_join(state, queues, *priority),
+        Event::Call(c, call) => push_call(state, queues, timers, *c, call, answer),
+        Event::Death(c) => {
             push_death(state, queues, timers, *c);
             Ok(())
         }
-        Entry::Moment(clock, moment) => {
+        Event::Moment(clock, moment) => {
             clock::push_moment(state, queues, *clock, *moment);
             Ok(())
         }
-        _ => Ok(()),
     }
 }
 

@@ -1,6 +1,6 @@
 //! Condition variables: verdicts of waits, signals and broadcasts, and the waits that they move.
 
-ghost use Rattle.std.specs.Prelude.{IfSome, None, Some, ◌≡◌, ◌≤◌, filter, length, nat_lt, option_map, true};
+ghost use Rattle.std.specs.Prelude.{IfSome, None, Some, ◌≡◌, ◌≤◌, filter, length, option_map, true};
 ghost use Rattle.pt_types.specs.declared.outcome.Outcome.TheVariants as told;
 ghost use Rattle.pt_types.specs.Operations.{Awaits, Broadcasts, Signals, operation};
 ghost use Rattle.pt_types.specs.declared.operations.ObjectClass.TheVariants.{Cond as CondClass};
@@ -19,8 +19,6 @@ ghost use Rattle.pt_state.specs.Reads.{AreTables};
 ghost use Rattle.pt_model.specs.Verdicts.{bound_by, cond_view, on, operation_verdict as said_of};
 ghost use Rattle.pt_types.specs.Limits.{most_clients};
 ghost use Rattle.pt_types.specs.declared.outcome.Verdict.TheVariants as reply_of;
-ghost use Rattle.pt_state.specs.Needed.{waiting_if};
-ghost use Rattle.pt_records.specs.Counts.{one_if};
 
 use crate::body::Body;
 use crate::queues::take_place;
@@ -206,28 +204,5 @@ impl<Q: WaitList, A: Allocator + Copy> Body<Q, A> {
     {
         self.state
             .known_verdict(n, ObjectClass::Cond, Verdict::Reply(Outcome::Done))
-    }
-
-    // How many waits are at the condition that is found, if one is.  [XSH pthread_cond_wait]
-    pub(crate) fn waiting_found(&self, n: &Name) -> u64
-        requires { AreTables self.now }
-        ensures value { let h = past self.now in
-            result ≡ waiting_if h (find h n.now CondClass) }
-        ensures small { result ≤ 1024 }
-    {
-        match self.state.find(n, ObjectClass::Cond) {
-            Some(q) => self.waiting(q),
-            None => 0,
-        }
-    }
-
-    // One if waits are at the condition that is found.  [XSH pthread_cond_signal]
-    pub(crate) fn first_found(&self, n: &Name) -> u64
-        requires { AreTables self.now }
-        ensures value { let h = past self.now in
-            result ≡ one_if (nat_lt 0 (waiting_if h (find h n.now CondClass))) }
-        ensures small { result ≤ 1 }
-    {
-        if 0 < self.waiting_found(n) { 1 } else { 0 }
     }
 }

@@ -5,20 +5,19 @@ ghost use Rattle.pt_types.specs.Limits.{most_places};
 ghost use Rattle.pt_model.specs.Answers.{told};
 ghost use Rattle.pt_model.specs.Forced.{forced};
 ghost use Rattle.pt_model.specs.Histories.{Begin, held as held_in, is_forced, place, ◌▷◌};
-ghost use Rattle.pt_model.specs.Room.{need as need_in};
+ghost use Rattle.pt_model.specs.Room.{entry_for};
 ghost use Rattle.pt_model.specs.Seals.{seal};
 ghost use Rattle.pt_model.specs.Steps.{Follows, Step};
 ghost use Rattle.pt_history.specs.Stored.{past_of};
 ghost use Rattle.pt_records.specs.Logs.{log, logged};
 ghost use Rattle.pt_state.specs.Adds.{Stays, past};
-ghost use Rattle.pt_state.specs.Needed.{Admits};
 ghost use Rattle.pt_state.specs.Reads.{AreTables};
 ghost use Rattle.pt_seal.specs.Sealed.{SealsWithRoom};
 ghost use Rattle.pt_machine.specs.LastTouched.{IsTouched};
 ghost use Rattle.pt_machine.specs.Renewed.{AddsSealed};
 
 use crate::body::Body;
-use pt_model::Entry;
+use pt_model::Event;
 use pt_seal::{Unsealed, seal_with_room, unseal};
 use pt_types::{ClientId, ObjectId, Refusal};
 use pt_waitq::WaitList;
@@ -33,18 +32,16 @@ struct Before<A: Allocator + Copy = Global> {
 }
 
 impl<Q: WaitList, A: Allocator + Copy> Body<Q, A> {
-    /// Whether an entry, with all that must follow it, passes the limit as the history is, and not
-    /// after a seal.
-    pub fn needs_seal(&self, entry: &Entry) -> bool
-        requires read { AreTables self.now }
-        requires quiet { forced (past self.now) ≡ None }
-        requires admits { Admits (past self.now) entry.now }
-        ensures { let room = 1 + need_in (past self.now ▷ entry.now) in
+    /// Whether an entry, with the `need` entries that are reserved after it, passes the limit as
+    /// the history is, and not after a seal.
+    pub fn needs_seal(&self, need: u64) -> bool
+        requires { need ≤ 8195 }
+        ensures { let room = 1 + need in
             result ≡ (nat_lt self.now.stored.limit (held_in (past self.now) + room)
             && nat_le room self.now.stored.limit) }
     {
         let limit = self.state.stored.limit() as u64;
-        let room = 1 + self.need_after(entry);
+        let room = 1 + need;
         let held = self.state.stored.entries().len() as u64;
         limit < held + room && room <= limit
     }
@@ -96,23 +93,25 @@ impl<Q: WaitList, A: Allocator + Copy> Body<Q, A> {
         self.entering = before.entering;
     }
 
-    /// Seals the history with room for so many entries, and pushes any outer entry. ENOMEM if a
-    /// growth is refused: then nothing is sealed or pushed. No forced entry comes here.
-    pub fn push_outer_sealed(&mut self, entry: &Entry, room: u64) -> Result<(), Refusal>
+    /// Seals the history with room for so many entries, and pushes the entry of an event. ENOMEM
+    /// if a growth is refused: then nothing is sealed or pushed.
+    pub fn push_outer_sealed(&mut self, event: &Event, room: u64) -> Result<(), Refusal>
         requires read { AreTables self.old }
         requires settled { forced (past self.old) ≡ None }
         requires places { place (past self.old) ≤ most_places }
         requires room { room ≤ self.old.stored.limit }
         requires some { 0 < room }
-        requires step { Step (Begin (seal (past self.old))) entry.now }
-        requires spare { length (told (Begin (seal (past self.old))) entry.now) ≤ room }
-        requires outer { is_forced entry.now ≡ false }
-        ensures ok { OnOk result (AddsSealed self.old room entry.now self.new) }
+        requires step { let g = Begin (seal (past self.old)) in Step g (entry_for g event.now) }
+        requires spare { let g = Begin (seal (past self.old)) in
+            length (told g (entry_for g event.now)) ≤ room }
+        ensures ok { OnOk result (AddsSealed self.old room
+            (entry_for (Begin (seal (past self.old))) event.now) self.new) }
         ensures err { OnErr result (Stays self.old self.new) }
         ensures reason { IfErr result (λ refusal. refusal ≡ Refusal.Enomem) }
     {
         let before = self.seal_with_room(room)?;
-        match self.push_outer(entry) {
+        let plan = self.plan(event);
+        match self.push_outer(event, plan) {
             Ok(()) => Ok(()),
             Err(refusal) => {
                 self.unseal(before);

@@ -1,12 +1,10 @@
 //! Room: what an event needs, and which events are refused.
 
 ghost use Rattle.std.specs.Prelude.{Err, IfErr, IsOk, None, OnErr, OnOk, ◌+◌, ◌<◌, ◌↔◌, ◌≡◌, ◌≢◌, ◌≤◌, length, vec_capacity, vec_len};
-ghost use Rattle.pt_model.specs.Room.{entry_for as entry_for_in, is_over as is_over_in, need as need_in, refusal as refusal_in, refusal_within as refusal_within_in, reserved_for};
+ghost use Rattle.pt_model.specs.Room.{entry_for, is_over as is_over_in, need as need_in, refusal as refusal_in, refusal_within as refusal_within_in, reserved_for};
 ghost use Rattle.pt_state.specs.Adds.{past};
 ghost use Rattle.pt_state.specs.Reads.{AreTables};
-ghost use Rattle.pt_types.specs.Operations.{operation};
 ghost use Rattle.pt_model.specs.Histories.{◌▷◌};
-ghost use Rattle.pt_state.specs.Needed.{Admits, used_by, used_by_operation};
 ghost use Rattle.pt_model.specs.Forced.{forced, service};
 ghost use Rattle.pt_model.specs.declared.entry.Entry.TheVariants as entry_is;
 ghost use Rattle.pt_model.specs.Searches.{In};
@@ -18,15 +16,13 @@ ghost use Rattle.pt_state.specs.Serving.{IsFor, called, entry_of};
 ghost use Rattle.pt_machine.specs.Reserved.{gives_owner};
 
 use crate::body::Body;
+use pt_model::Event;
 use pt_model::waiting_call::{is_arrival, is_wait, mutex_of};
-use pt_model::{Entry, Event};
 use pt_records::Open;
 use pt_records::calls::reserved_by;
-use pt_state::{Forced, added};
-use pt_types::operations::{Operation, operation_of};
-use pt_types::tables::reply;
+use pt_state::Forced;
 use pt_types::views::is_acquired;
-use pt_types::{Call, ClientId, ObjectId, Outcome, Refusal};
+use pt_types::{ObjectId, Refusal};
 use pt_waitq::WaitList;
 use std::alloc::Allocator;
 
@@ -84,46 +80,6 @@ impl<Q: WaitList, A: Allocator + Copy> Body<Q, A> {
         ensures { result ≡ refusal_in (past self.now) event.now }
     {
         self.state.refusal(event)
-    }
-
-    // The same if a call is answered 0.
-    fn used_by_call(&self, c: ClientId, call: &Call) -> u64
-        requires { AreTables self.now }
-        ensures value { result
-            ≡ used_by_operation (past self.now) c (operation call.now) }
-        ensures small { result ≤ 1024 }
-    {
-        match operation_of(call) {
-            Operation::Unlocks(n) => self.state.last_lock_found(c, n),
-            Operation::Signals(n) => self.first_found(n),
-            Operation::Broadcasts(n) => self.waiting_found(n),
-            _ => 0,
-        }
-    }
-
-    // The entries that are no longer reserved from an outer entry on.
-    pub(crate) fn used(&self, entry: &Entry) -> u64
-        requires { AreTables self.now }
-        ensures value { result ≡ used_by (past self.now) entry.now }
-        ensures small { result ≤ 1024 }
-    {
-        match entry {
-            Entry::Death(c) => self.state.reserved_of(*c) + 1,
-            Entry::Call(c, call, None) => self.state.used_to_wait(*c, call),
-            Entry::Call(c, call, Some(Outcome::Done)) => self.used_by_call(*c, call),
-            _ => 0,
-        }
-    }
-
-    /// The entries reserved after the entry of an event that isn't refused, if none is forced.
-    pub fn need_after(&self, entry: &Entry) -> u64
-        requires read { AreTables self.now }
-        requires forced { forced (past self.now) ≡ None }
-        requires admits { Admits (past self.now) entry.now }
-        ensures value { result ≡ need_in (past self.now ▷ entry.now) }
-        ensures small { result ≤ 8195 }
-    {
-        self.need + added(entry) - self.used(entry)
     }
 
     // Whether the Grant of a call gives an owner to a robust mutex: one is reserved for its Yield.
@@ -195,33 +151,16 @@ impl<Q: WaitList, A: Allocator + Copy> Body<Q, A> {
         }
     }
 
-    /// The outer entry that an accepted event becomes.
-    #[tactic(auto, using(pt_history::proofs::Places::place_of_next))]
-    pub fn entry_for(&self, event: &Event) -> Entry
-        requires { AreTables self.now }
-        ensures { result ≡ entry_for_in (past self.now) event.now }
-    {
-        match event {
-            Event::Join(priority) => Entry::Join(ClientId(self.state.stored.len()), *priority),
-            Event::Call(c, call) => {
-                let answer = reply(self.verdict(*c, call));
-                Entry::Call(*c, call.copied(), answer)
-            }
-            Event::Death(c) => Entry::Death(*c),
-            Event::Moment(clock, moment) => Entry::Moment(*clock, *moment),
-        }
-    }
-
-    /// Whether the history, with one entry more and what must still be written, is longer than it
+    /// Whether the history, with an event's entry and all that must follow it, is longer than it
     /// may be.
-    fn is_over(&self, entry: &Entry) -> bool
+    fn is_over(&self, event: &Event) -> bool
         requires read { AreTables self.now }
-        requires quiet { forced (past self.now) ≡ None }
-        requires admits { Admits (past self.now) entry.now }
-        ensures { result ≡ is_over_in self.now.stored.limit (past self.now ▷ entry.now) }
+        requires step { Step (past self.now) (entry_for (past self.now) event.now) }
+        ensures { let h = past self.now in
+            result ≡ is_over_in self.now.stored.limit (h ▷ entry_for h event.now) }
     {
         let place = self.state.stored.entries().len() as u64;
-        (self.state.stored.limit() as u64) < place + 1 + self.need_after(entry)
+        (self.state.stored.limit() as u64) < place + 1 + self.plan(event).need
     }
 
     /// The first refusal that applies, or none, if no entry is forced.
@@ -235,7 +174,7 @@ impl<Q: WaitList, A: Allocator + Copy> Body<Q, A> {
         if refused.is_some() {
             return refused;
         }
-        if self.is_over(&self.entry_for(event)) {
+        if self.is_over(event) {
             Some(Refusal::Full)
         } else {
             None

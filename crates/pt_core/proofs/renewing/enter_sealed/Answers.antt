@@ -8,12 +8,9 @@ use Rattle.pt_model.specs.Steps.{Step}
 use Rattle.pt_state.specs.Adds.{past}
 use Rattle.pt_machine.specs.Renewed.{AddsSealed}
 use Rattle.pt_core.proofs.OpenLemmas.{room-asked}
-use Rattle.pt_core.proofs.RenewingLemmas.{step-renewed, roomy-added, enters-renewed}
+use Rattle.pt_core.proofs.RenewingLemmas.{entry-renewed, step-renewed, roomy-added, enters-renewed}
 use Rattle.pt_core.proofs.SealedCores.{settled}
 use Rattle.pt_core.proofs.renewing.enter_sealed.Goals as goal
-
-pub need_after-requires-clause-forced : goal.need_after-requires-clause-forced
-need_after-requires-clause-forced g c = settled c.args.body.now c.requires.whole
 
 pub push_outer_sealed-requires-clause-settled : goal.push_outer_sealed-requires-clause-settled
 push_outer_sealed-requires-clause-settled g c = settled c.args.body.now c.requires.whole
@@ -21,8 +18,10 @@ push_outer_sealed-requires-clause-settled g c = settled c.args.body.now c.requir
 pub push_outer_sealed-requires-clause-step : goal.push_outer_sealed-requires-clause-step
 push_outer_sealed-requires-clause-step g c =
     let s = c.args.body.now in
-    subst (λ (e : Entry). Step (Begin (seal (past s))) e) (sym c.requires.entry)
-    (step-renewed s c.requires.whole c.args.event.now c.requires.accepted)
+    let v = c.args.event.now in
+    subst (λ (e : Entry). Step (Begin (seal (past s))) e)
+    (entry-renewed s c.requires.whole v c.requires.accepted)
+    (step-renewed s c.requires.whole v c.requires.accepted)
 
 pub settle-requires : goal.settle-requires
 settle-requires g c =
@@ -31,8 +30,8 @@ settle-requires g c =
     let n = c.max-room.result in
     let needed = 1 + need (past s ▷ entry_for (past s) v) in
     let asked : n ≡ max s.stored.room needed =
-    c.max-room.ensures ∙ room-asked (past s) v c.args.entry.now s.stored.room c.room.result
-    c.need_after.result c.room.ensures.room c.requires.entry c.need_after.ensures.value in
+    c.max-room.ensures ∙ room-asked (past s) v s.stored.room c.room.result c.args.need
+    c.room.ensures.room c.requires.need in
     roomy-added s c.requires.whole v c.requires.accepted n
     (omega (arith, asked, le-max_right s.stored.room needed))
     (omega (arith, asked, le-max_left s.stored.room needed))
@@ -43,7 +42,8 @@ settle-requires g c =
           (omega (arith, c.requires.whole.kept.fits)) c.requires.fits,
     ))
     c.push_outer_sealed.new.self
-    (subst (λ (e : Entry). AddsSealed s n e c.push_outer_sealed.new.self) c.requires.entry
+    (subst (λ (e : Entry). AddsSealed s n e c.push_outer_sealed.new.self)
+    (sym (entry-renewed s c.requires.whole v c.requires.accepted))
     c.in_ok-push_outer_sealed.ensures.ok)
 
 pub returns-clause-ok : goal.returns-clause-ok
@@ -53,8 +53,8 @@ returns-clause-ok g c =
     let n = c.max-room.result in
     let needed = 1 + need (past s ▷ entry_for (past s) v) in
     let asked : n ≡ max s.stored.room needed =
-    c.max-room.ensures ∙ room-asked (past s) v c.args.entry.now s.stored.room c.room.result
-    c.need_after.result c.room.ensures.room c.requires.entry c.need_after.ensures.value in
+    c.max-room.ensures ∙ room-asked (past s) v s.stored.room c.room.result c.args.need
+    c.room.ensures.room c.requires.need in
     enters-renewed s c.requires.whole v c.requires.accepted n
     (omega (arith, asked, le-max_right s.stored.room needed))
     (omega (arith, asked, le-max_left s.stored.room needed))
@@ -65,6 +65,7 @@ returns-clause-ok g c =
           (omega (arith, c.requires.whole.kept.fits)) c.requires.fits,
     ))
     c.push_outer_sealed.new.self
-    (subst (λ (e : Entry). AddsSealed s n e c.push_outer_sealed.new.self) c.requires.entry
+    (subst (λ (e : Entry). AddsSealed s n e c.push_outer_sealed.new.self)
+    (sym (entry-renewed s c.requires.whole v c.requires.accepted))
     c.in_ok-push_outer_sealed.ensures.ok)
     c.settle.new.body.stored c.settle.ensures.settles

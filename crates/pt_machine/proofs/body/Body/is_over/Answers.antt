@@ -1,6 +1,6 @@
 use Rattle.std.proofs.Common.{◌≡◌, ◌+◌, ℕ, suc, ap, sym, ◌∙◌, length, nat_lt, arith}
 use Rattle.pt_model.specs.Histories.{held, ◌▷◌}
-use Rattle.pt_model.specs.Room.{need}
+use Rattle.pt_model.specs.Room.{entry_for, need}
 use Rattle.pt_state.specs.Adds.{past}
 use Rattle.pt_history.proofs.Places.{held-past}
 use Rattle.pt_machine.proofs.body.Body.is_over.Goals as goal
@@ -12,9 +12,10 @@ returns g c =
     ap length c.entries.ensures
     ∙ (ap (λ s. length s.stored.entries) c.self.view_is
     ∙ sym (held-past c.args.self.now.stored)) in
-    let total : length c.entries.result.now + 1 + c.need_after.result
-    ≡ suc (held h) + need (h ▷ c.args.entry.now) = omega (arith, count, c.need_after.ensures.value)
-    in
-    ap (λ (l : ℕ). nat_lt l (length c.entries.result.now + 1 + c.need_after.result))
+    let needed : c.plan.result.need ≡ need (h ▷ entry_for h c.args.event.now) =
+    c.plan.ensures.planned.needs in
+    let total : length c.entries.result.now + 1 + c.plan.result.need
+    ≡ suc (held h) + need (h ▷ entry_for h c.args.event.now) = omega (arith, count, needed) in
+    ap (λ (l : ℕ). nat_lt l (length c.entries.result.now + 1 + c.plan.result.need))
     (c.limit.ensures ∙ ap (λ s. s.stored.limit) c.self.view_is)
     ∙ ap (nat_lt c.args.self.now.stored.limit) total

@@ -1,7 +1,6 @@
 use Rattle.std.proofs.Common.{◌≡◌, ◌+◌, ◌≤◌, ◌<◌, ℕ, nat_lt, nat_le, ◌&&◌, ap, sym, ◌∙◌, length, arith}
 use Rattle.std.proofs.lemmas.Bool.Decides.{nat_tests}
-use Rattle.pt_model.specs.Histories.{held, ◌▷◌}
-use Rattle.pt_model.specs.Room.{need}
+use Rattle.pt_model.specs.Histories.{held}
 use Rattle.pt_state.specs.Adds.{past}
 use Rattle.pt_history.proofs.Places.{held-past}
 use Rattle.pt_machine.proofs.body.Body.needs_seal.Goals as goal
@@ -19,25 +18,24 @@ under limit entries room l = grind (arith, nat_tests)
 pub returns-then-limit-held : goal.returns-then-limit-held
 returns-then-limit-held g c =
     let s = c.args.self.now in
+    let room = 1 + c.args.need in
     let count : length c.entries.result.now ≡ held (past s) =
     ap length c.entries.ensures
     ∙ (ap (λ s. length s.stored.entries) c.self.view_is ∙ sym (held-past s.stored)) in
     let limit = c.limit-limit.ensures ∙ ap (λ s. s.stored.limit) c.self.view_is in
-    ap (nat_le (1 + c.need_after-room.result)) limit
-    ∙ (ap (λ (n : ℕ). nat_le (1 + n) s.stored.limit) c.need_after-room.ensures.value
-    ∙ within s.stored.limit (held (past s)) (1 + need (past s ▷ c.args.entry.now))
-    (omega (arith, count, limit, c.need_after-room.ensures.value, c.if-limit-held.true)))
+    ap (nat_le room) limit
+    ∙ within s.stored.limit (held (past s)) room
+    (omega (arith, count, limit, c.if-limit-held.true))
 
 pub returns-else-limit-held : goal.returns-else-limit-held
 returns-else-limit-held g c =
     let s = c.args.self.now in
+    let room = 1 + c.args.need in
     let count : length c.entries.result.now ≡ held (past s) =
     ap length c.entries.ensures
     ∙ (ap (λ s. length s.stored.entries) c.self.view_is ∙ sym (held-past s.stored)) in
     let limit = c.limit-limit.ensures ∙ ap (λ s. s.stored.limit) c.self.view_is in
-    ap (λ (l : ℕ). nat_lt l (length c.entries.result.now + (1 + c.need_after-room.result))) limit
-    ∙ (ap (λ (k : ℕ). nat_lt s.stored.limit (k + (1 + c.need_after-room.result))) count
-    ∙ (ap (λ (n : ℕ). nat_lt s.stored.limit (held (past s) + (1 + n)))
-    c.need_after-room.ensures.value
-    ∙ under s.stored.limit (held (past s)) (1 + need (past s ▷ c.args.entry.now))
-    (omega (arith, count, limit, c.need_after-room.ensures.value, c.if-limit-held.false))))
+    ap (λ (l : ℕ). nat_lt l (length c.entries.result.now + room)) limit
+    ∙ (ap (λ (k : ℕ). nat_lt s.stored.limit (k + room)) count
+    ∙ under s.stored.limit (held (past s)) room
+    (omega (arith, count, limit, c.if-limit-held.false)))

@@ -1,4 +1,4 @@
-use Rattle.std.proofs.Common.{◌≡◌, sym, ap, ◌∙◌, subst}
+use Rattle.std.proofs.Common.{◌≡◌, sym, ap, subst}
 use Rattle.pt_model.specs.Histories.{History, Begin}
 use Rattle.pt_model.specs.Seals.{seal}
 use Rattle.pt_history.specs.Stored.{past_of}

@@ -1,0 +1,61 @@
+use Rattle.std.proofs.Common.{◌≡◌, false, sym, ap, ◌∙◌, subst}
+use Rattle.std.specs.Prelude.{IsOk}
+use Rattle.pt_model.specs.Histories.{History}
+use Rattle.pt_model.specs.Room.{entry_for, refusal}
+use Rattle.pt_machine.specs.Memory.{needs_memory}
+use Rattle.pt_machine.specs.Planned.{IsPlanned}
+use Rattle.pt_core.proofs.AcceptingLemmas.{same-past}
+use Rattle.pt_core.proofs.ApplyingLemmas.{entered-applied}
+use Rattle.pt_core.proofs.OpenLemmas.{memory-open, open-within}
+use Rattle.pt_core.proofs.WholeLemmas.{whole-entered}
+use Rattle.pt_core.proofs.applying.apply_planned.Goals as goal
+
+pub make_room-requires-clause-need : goal.make_room-requires-clause-need
+make_room-requires-clause-need g c =
+    c.requires.planned.needs
+
+-- room alone was made, so the plan is right still
+pub enter-requires-clause-planned : goal.enter-requires-clause-planned
+enter-requires-clause-planned g c =
+    let made = c.in_default.ensures.ok.made in
+    subst (λ (h : History). IsPlanned h c.args.event.now c.args.plan)
+    (sym (same-past c.args.body.now.stored c.make_room.new.body.stored made.same_start
+    made.same_entries))
+    c.requires.planned
+
+pub returns-in-Err-enter-clause-err : goal.returns-in-Err-enter-clause-err
+returns-in-Err-enter-clause-err g c =
+    memory-open c.args.body.now c.make_room.new.body c.args.event.now
+    c.in_default.ensures.ok c.requires.accepted c.enter.result
+    c.in-Err-enter.refusal c.in-Err-enter.is c.in-Err-enter.ensures.reason c.enter.ensures.death
+
+pub returns-clause-whole : goal.returns-clause-whole
+returns-clause-whole g c =
+    let o = c.in_default.ensures.ok in
+    whole-entered c.make_room.new.body c.enter.new.body c.args.event.now o.made.ready
+    (ap (λ h. refusal h c.args.event.now)
+    (same-past c.args.body.now.stored c.make_room.new.body.stored o.made.same_start
+    o.made.same_entries)
+    ∙ c.requires.accepted)
+    c.in_default-enter.ensures.ok c.in_default-enter.ensures.roomy
+
+pub returns-clause-ok : goal.returns-clause-ok
+returns-clause-ok g c =
+    let o = c.in_default.ensures.ok in
+    entered-applied c.args.body.now.stored c.make_room.new.body.stored c.enter.new.body.stored
+    c.args.event.now o.made c.in_default-enter.ensures.ok
+    (open-within c.args.body.now c.make_room.new.body c.args.event.now o c.requires.accepted)
+    c.len-first.result c.len.result c.told-outcome.result
+    c.len-first.ensures c.len.ensures c.told-outcome.ensures
+
+pub returns-in-Err-clause-enough : goal.returns-in-Err-clause-enough
+returns-in-Err-clause-enough g c = λ there small.
+    subst (λ a. IsOk a) c.in-Err.is (c.make_room.ensures.enough there)
+
+pub returns-in-Err-enter-clause-enough : goal.returns-in-Err-enter-clause-enough
+returns-in-Err-enter-clause-enough g c = λ there small.
+    subst (λ a. IsOk a) c.in-Err-enter.is (c.enter.ensures.enough
+    (subst (λ (h : History). needs_memory (entry_for h c.args.event.now) ≡ false)
+    (sym (same-past c.args.body.now.stored c.make_room.new.body.stored
+    c.in_default.ensures.ok.made.same_start c.in_default.ensures.ok.made.same_entries))
+    small))

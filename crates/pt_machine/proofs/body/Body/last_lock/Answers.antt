@@ -1,0 +1,18 @@
+use Rattle.std.proofs.Common.{sym, ap, ◌∙◌}
+use Rattle.pt_table.specs.ObjectRows.{object_value}
+use Rattle.pt_records.specs.Counts.{counted, one_if, is_last_lock}
+use Rattle.pt_state.specs.Adds.{past}
+use Rattle.pt_state.specs.Needed.{last_lock}
+use Rattle.pt_state.proofs.LastLocks.{last-kept}
+use Rattle.pt_machine.proofs.body.Body.last_lock.Goals as goal
+
+pub returns-else-is_last : goal.returns-else-is_last
+returns-else-is_last g c =
+    let s = c.args.self.now in
+    let h = past s in
+    sym (ap one_if (sym c.is_last.ensures ∙ c.if-is_last.false))
+    ∙ (ap (counted (λ x. one_if (is_last_lock c.args.c x))) c.in-Some.ensures
+    ∙ (ap (λ t. counted (λ x. one_if (is_last_lock c.args.c x))
+    (object_value t.objects c.m.inside.0)) c.self.view_is
+    ∙ (last-kept h (object_value s.objects) c.requires.follows c.requires.object_rows.look
+    c.args.c c.m.inside.0 ∙ ap (last_lock h c.args.c) c.m.view_is)))

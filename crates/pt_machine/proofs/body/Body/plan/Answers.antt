@@ -1,0 +1,61 @@
+use Rattle.std.proofs.Common.{◌≡◌, arith, sym, ap, ◌∙◌, subst}
+use Rattle.pt_model.specs.declared.entry.Entry.{Entry}
+use Rattle.pt_model.specs.Room.{need}
+use Rattle.pt_model.specs.Steps.{Step}
+use Rattle.pt_touched.specs.Touched.{touched_by}
+use Rattle.pt_state.specs.Adds.{past}
+use Rattle.pt_state.specs.Needed.{added_by, used_by}
+use Rattle.pt_machine.proofs.NeedLimits.{need-most}
+use Rattle.pt_machine.proofs.NeedSteps.{need-event}
+use Rattle.pt_machine.proofs.body.Body.plan.Goals as goal
+
+pub change_by-change-requires-clause-step : goal.change_by-change-requires-clause-step
+change_by-change-requires-clause-step g c =
+    let h = past c.args.self.now in
+    subst (λ (e : Entry). Step h e) (sym c.answer_at_once-answer.ensures) c.requires.step
+
+pub overflow_add-result : goal.overflow_add-result
+overflow_add-result g c =
+    let s = c.args.self.now in
+    let before : c.self.inside.need ≡ need (past s) =
+    c.self.invariant.3.needs ∙ ap (λ s. need (past s)) c.self.view_is in
+    omega (arith, before, need-most s c.requires.read, c.change_by-change.ensures.small)
+
+pub overflow_sub-result : goal.overflow_sub-result
+overflow_sub-result g c =
+    let h = past c.args.self.now in
+    let enters = c.answer_at_once-answer.ensures in
+    let before : c.self.inside.need ≡ need h =
+    c.self.invariant.3.needs ∙ ap (λ s. need (past s)) c.self.view_is in
+    omega (
+      arith,
+      before,
+      c.change_by-change.ensures.adds ∙ ap added_by enters,
+      c.change_by-change.ensures.uses ∙ ap (used_by h) enters,
+      need-event h c.args.event.now c.requires.read.follows c.requires.step,
+    )
+
+pub returns-clause-planned : goal.returns-clause-planned
+returns-clause-planned g c =
+    let h = past c.args.self.now in
+    let enters = c.answer_at_once-answer.ensures in
+    let before : c.self.inside.need ≡ need h =
+    c.self.invariant.3.needs ∙ ap (λ s. need (past s)) c.self.view_is in
+    record {
+      enters = enters;
+      needs = omega (
+        arith,
+        before,
+        c.change_by-change.ensures.adds ∙ ap added_by enters,
+        c.change_by-change.ensures.uses ∙ ap (used_by h) enters,
+        need-event h c.args.event.now c.requires.read.follows c.requires.step,
+      );
+      touches = c.change_by-change.ensures.touches ∙ ap (touched_by h) enters;
+    }
+
+pub returns-clause-small : goal.returns-clause-small
+returns-clause-small g c =
+    let s = c.args.self.now in
+    let before : c.self.inside.need ≡ need (past s) =
+    c.self.invariant.3.needs ∙ ap (λ s. need (past s)) c.self.view_is in
+    omega (arith, before, need-most s c.requires.read, c.change_by-change.ensures.small)

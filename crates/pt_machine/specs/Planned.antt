@@ -1,0 +1,26 @@
+-- Planned: what an event's entry is and what it changes beside the tables, as they are found before
+-- the entry is pushed.
+use Rattle.std.specs.Prelude.{◌≡◌, Option}
+use Rattle.pt_types.specs.declared.outcome.Outcome.{Outcome}
+use Rattle.pt_model.specs.declared.entry.Entry.{Entry}
+use Rattle.pt_model.specs.declared.entry.Entry.TheVariants.{Join, Call, Death, Moment}
+use Rattle.pt_model.specs.declared.entry.Event.{Event}
+use Rattle.pt_model.specs.declared.entry.Event.TheVariants as event
+use Rattle.pt_model.specs.Histories.{History, ◌▷◌, place}
+use Rattle.pt_model.specs.Room.{need, entry_for}
+use Rattle.pt_touched.specs.Touched.{touched_by}
+use Rattle.pt_machine.specs.declared.planning.Plan.{Plan}
+
+-- the entry that an event becomes, given the answer that its call has at once  [profile]
+abbrev pub entry_with : History → Event → Option Outcome → Entry
+entry_with h (event.Join p) answer = Join (place h) p
+entry_with h (event.Call c call) answer = Call c call answer
+entry_with h (event.Death c) answer = Death c
+entry_with h (event.Moment k t) answer = Moment k t
+
+-- the answer that the event's call has at once, how many entries are reserved after its entry, and
+-- the one object that the entry touches  [profile]
+pub record IsPlanned (h : History) (v : Event) (p : Plan) : Type 0 where
+  pub enters : entry_with h v p.answer ≡ entry_for h v
+  pub needs : p.need ≡ need (h ▷ entry_for h v)
+  pub touches : p.touched ≡ touched_by h (entry_for h v)
