@@ -12,7 +12,7 @@ use std::sync::Wait;
 use std::sync::ledger::Ledger;
 
 /// How often the ring is looked at before the thread sleeps: some 30 microseconds.  [profile]
-const LOOKS: u32 = 500;
+const LOOKS: u32 = 3000;
 
 /// The most credit there is.  [profile]
 const MOST_CREDIT: u32 = 16;

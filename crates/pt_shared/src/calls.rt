@@ -38,7 +38,9 @@ impl<L: Ledger> Shared<L> {
             Ok(pass) => {
                 room.law_fits();
                 room.attach(session, pass.client());
-                self.ring_since(&room, place);
+                let woken = room.answered_since(place);
+                drop(room);
+                self.wake(woken);
                 Ok(pass)
             }
             Err(refusal) => Err(refusal),
@@ -63,7 +65,9 @@ impl<L: Ledger> Shared<L> {
         match room.hub.call(pass, call) {
             Ok(sent) => {
                 room.law_fits();
-                self.ring_since(&room, place);
+                let woken = room.answered_since(place);
+                drop(room);
+                self.wake(woken);
                 Ok(sent)
             }
             Err(refusal) => Err(refusal),
@@ -115,13 +119,19 @@ impl<L: Ledger> Shared<L> {
         match room.hub.call(pass, call) {
             Ok(sent) => {
                 room.law_fits();
-                self.ring_since(&room, place);
+                let woken = room.answered_since(place);
                 match room.hub.take(pass) {
                     Some(answer) => {
                         room.law_fits();
+                        drop(room);
+                        self.wake(woken);
                         Ok((sent, Some(answer)))
                     }
-                    None => Ok((sent, None)),
+                    None => {
+                        drop(room);
+                        self.wake(woken);
+                        Ok((sent, None))
+                    }
                 }
             }
             Err(refusal) => Err(refusal),
@@ -169,12 +179,15 @@ impl<L: Ledger> Shared<L> {
         ensures dies { Made (λ old new. Leaves old new pass result) }
     {
         let mut room = self.room.lock(rt);
-        room.detach(pass.client());
         room.law_fits();
         let place = room.hub.len();
+        let client = pass.client();
         let left = room.hub.die(pass);
         room.law_fits();
-        self.ring_since(&room, place);
+        room.detach(client);
+        let woken = room.answered_since(place);
+        drop(room);
+        self.wake(woken);
         left
     }
 
@@ -201,7 +214,9 @@ impl<L: Ledger> Shared<L> {
         match room.hub.moment(pass, clock, moment) {
             Ok(()) => {
                 room.law_fits();
-                self.ring_since(&room, place);
+                let woken = room.answered_since(place);
+                drop(room);
+                self.wake(woken);
                 Ok(())
             }
             Err(refusal) => Err(refusal),

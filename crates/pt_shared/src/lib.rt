@@ -12,5 +12,6 @@ mod bells;
 mod calls;
 mod sessions;
 mod shared;
+mod woken;
 
 pub use shared::{Room, Shared};
