@@ -1,10 +1,11 @@
 -- What an accepted event makes of a client's account.
-use Rattle.std.proofs.Common.{◌≡◌, ℕ, ◌+◌, ◌≤◌, ◌==◌, Bool, true, false, cond, Option, Some, None, is_some, refl, sym, ap, ◌∙◌, arith}
+use Rattle.std.proofs.Common.{◌≡◌, ℕ, ◌≤◌, ◌==◌, true, false, cond, Option, Some, None, is_some, refl, ap, ◌∙◌, arith}
 use Rattle.std.proofs.lemmas.Bool.Decides.{nat_tests}
 use Rattle.std.proofs.lemmas.Bool.{false≢true}
 use Rattle.pt_types.specs.declared.call.Call.{Call as Asked}
 use Rattle.pt_model.specs.declared.entry.Event.{Event}
 use Rattle.pt_model.specs.declared.entry.Event.TheVariants as event
+use Rattle.pt_model.specs.Starts.{Start}
 use Rattle.pt_model.specs.Histories.{◌▷◌, place}
 use Rattle.pt_model.specs.Clients.{client, is_alive}
 use Rattle.pt_model.specs.Queries.{latest}
@@ -15,10 +16,14 @@ use Rattle.pt_told.proofs.Strangers.{stranger-told, stranger-open}
 use Rattle.pt_core.specs.Cores.{Kept, past}
 use Rattle.pt_core.specs.Applying.{Applies}
 use Rattle.pt_hub.specs.declared.account.Account.{Account}
-use Rattle.pt_hub.specs.Desks.{IsServed, IsAccount, one_if}
+use Rattle.pt_hub.specs.Desks.{IsServed, IsAccount, awaiting, fresh, one_if, owed}
 use Rattle.pt_hub.proofs.AppliedLemmas.{follows-applied, alive-applied, latest-applied, place-applied, got-applied, tally-applied}
 
 module _ (old new : Kept) (v : Event) (b : IsStart old.start) (ok : Applies old v new) where
+  -- what was owed when the history was sealed stays so
+  pub same_owed : (c : ℕ) (w : Account) → owed new.start c w ≡ owed old.start c w
+  same_owed c w = ap (λ (s : Start). owed s c w) ok.starts
+
   -- the account of a client whose event it wasn't
   pub other-account : (c : ℕ) (o : Option Account) → asks c (entry_for (past old) v) ≡ 0
       → is_alive (past old ▷ entry_for (past old) v) c ≡ is_alive (past old) c
@@ -31,8 +36,8 @@ module _ (old new : Kept) (v : Event) (b : IsStart old.start) (ok : Applies old 
       alive-applied old new v b ok c ∙ (same ∙ k.alive) in
       record {
         alive = alive;
-        whole = omega (arith, tally-applied old new v b ok c alive, k.whole, none);
-        taken = omega (arith, got-applied old new v b ok c, k.taken);
+        whole = omega (arith, tally-applied old new v b ok c alive, k.whole, none, same_owed c w);
+        taken = omega (arith, got-applied old new v b ok c, k.taken, same_owed c w);
         asked = λ e. ap is_some (latest-applied old new v b ok c) ∙ late (k.asked e);
         small = omega (arith, place-applied old new v b ok, k.small);
       }
@@ -40,7 +45,7 @@ module _ (old new : Kept) (v : Event) (b : IsStart old.start) (ok : Applies old 
 -- a new client, which has no answer so far
 pub joined-account : (old new : Kept) (p : ℕ) (b : IsStart old.start)
     → Applies old (event.Join p) new → (c : ℕ) → c ≡ place (past old)
-    → IsAccount new c (Some (record { owed = 0; taken = 0; awaits = false }))
+    → IsAccount new c (Some fresh)
 joined-account old new p b ok c is =
     let f = follows-applied old new (event.Join p) b ok in
     let here : (place (past old) == c) ≡ true = grind (arith, nat_tests) in
@@ -66,7 +71,7 @@ joined-account old new p b ok c is =
 pub called-account : (old new : Kept) (c : ℕ) (call : Asked) (b : IsStart old.start)
     → Applies old (event.Call c call) new → (w : Account) → w.awaits ≡ false
     → IsServed old c w
-    → IsAccount new c (Some (record { owed = w.owed; taken = w.taken; awaits = true }))
+    → IsAccount new c (awaiting (Some w))
 called-account old new c call b ok w free k =
     let here : (c == c) ≡ true = grind (arith, nat_tests) in
     let alive : is_alive (past new) c ≡ true =
@@ -83,8 +88,14 @@ called-account old new c call b ok w free k =
         k.whole,
         one,
         idle,
+        same_owed old new (event.Call c call) b ok c w,
       );
-      taken = omega (arith, got-applied old new (event.Call c call) b ok c, k.taken);
+      taken = omega (
+        arith,
+        got-applied old new (event.Call c call) b ok c,
+        k.taken,
+        same_owed old new (event.Call c call) b ok c w,
+      );
       asked = λ e. ap is_some (latest-applied old new (event.Call c call) b ok c) ∙ late;
       small = omega (arith, place-applied old new (event.Call c call) b ok, k.small, idle);
     }

@@ -1,5 +1,5 @@
 -- Whether the answer in a receipt is that of the history.
-use Rattle.std.proofs.Common.{◌≡◌, ℕ, ◌<◌, ◌≤◌, Option, Some, None, IfSome, refl, sym, subst, arith}
+use Rattle.std.proofs.Common.{◌≡◌, ◌<◌, ◌≤◌, Some, None, IfSome, refl, subst, arith}
 use Rattle.pt_types.specs.declared.outcome.Outcome.{Outcome}
 use Rattle.pt_model.specs.Answers.{outcome}
 use Rattle.pt_told.specs.OwnEvents.{Finds}

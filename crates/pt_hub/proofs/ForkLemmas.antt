@@ -1,5 +1,5 @@
 -- Where the history differs from what clients left.
-use Rattle.std.proofs.Common.{◌≡◌, ℕ, suc, ◌+◌, ◌≤◌, max, List, [], length, drop, slice_get, Option, Some, None, IfSome, refl, sym, ap, ◌∙◌, subst, arith}
+use Rattle.std.proofs.Common.{◌≡◌, ℕ, suc, ◌+◌, ◌≤◌, max, List, [], length, drop, slice_get, Option, Some, None, IfSome, sym, ap, ◌∙◌, subst, arith}
 use Rattle.pt_model.specs.Searches.{Each}
 use Rattle.pt_model.specs.declared.entry.Event.{Event}
 use Rattle.pt_model.specs.declared.entry.Event.TheVariants as event

@@ -1,40 +1,94 @@
 -- A hub stays one at each event.
-use Rattle.std.proofs.Common.{◌≡◌, ◌+◌, ◌≤◌, ◌^◌, List, [], ap, arith}
+use Rattle.std.proofs.Common.{◌≡◌, ℕ, ◌+◌, ◌≤◌, ◌^◌, [], sym, ap, ◌∙◌, subst, arith}
+use Rattle.std.specs.Prelude.{Result, Ok, Err, IfOk, OnErr}
+use Rattle.pt_types.specs.declared.outcome.Refusal.{Refusal}
 use Rattle.pt_types.specs.Limits.{most_entries}
 use Rattle.pt_model.specs.declared.entry.Event.{Event}
 use Rattle.pt_model.specs.Starts.{nothing}
-use Rattle.pt_model.specs.Histories.{outer}
+use Rattle.pt_model.specs.Histories.{place, outer}
+use Rattle.pt_model.specs.Legal.{LegalBehind, events_of}
 use Rattle.pt_model.specs.Steps.{IsStart}
 use Rattle.pt_core.specs.declared.applied.Applied.{Applied}
+use Rattle.pt_core.specs.declared.applied.AppliedWithSeal.{AppliedWithSeal}
 use Rattle.pt_core.specs.Cores.{Kept, past}
 use Rattle.pt_core.specs.Applying.{IsApplied}
-use Rattle.pt_hub.specs.Desks.{kept}
+use Rattle.pt_core.specs.ApplyingWithSeal.{IsAppliedWithSeal, opened_with_seal}
+use Rattle.pt_core.specs.Sealing.{IsSealed}
+use Rattle.pt_hub.specs.Desks.{Desk, kept}
 use Rattle.pt_hub.specs.Hubs.{HubView, TallyView, IsHub}
 use Rattle.pt_hub.proofs.AppliedLemmas.{outer-applied, place-applied}
+use Rattle.pt_hub.proofs.SealedDesks.{outer-opened, place-opened, starts-opened}
 
--- one event more was counted, and one part at most was given away
-pub hub-more : (old new : HubView) (s t : TallyView) (v : Event) (a : Applied) → IsHub old s
-    → IsStart (kept old.desk).start → IsApplied (kept old.desk) v (kept new.desk) a
-    → t.outer ≡ s.outer + 1 → s.parts ≤ t.parts + 1 → new.opened ≡ old.opened
-    → new.booked ≡ t.outer → IsHub new t
-hub-more old new s t v a k b ok one part same booked =
-    record {
-      outer = omega (
+-- an event adds one outer entry, after a seal too
+module _ (k new : Kept) (v : Event) (a : AppliedWithSeal) (b : IsStart k.start)
+    (legal : LegalBehind k.start k.entries (events_of k.entries))
+    (ok : IsAppliedWithSeal k v new a) where
+  outer-grown : outer (past new) ≡ outer (past k) + 1
+  outer-grown =
+      outer-applied (opened_with_seal k v) new v (starts-opened k v b legal) ok.applied.applies
+      ∙ ap (λ n. n + 1) (outer-opened k v)
+
+  place-grown : place (past k) + 1 ≤ place (past new)
+  place-grown =
+      omega (
         arith,
-        k.outer,
-        one,
-        outer-applied (kept old.desk) (kept new.desk) v b ok.applies,
-      );
-      book = booked;
-      parts = omega (
-        arith,
-        k.parts,
-        part,
-        place-applied (kept old.desk) (kept new.desk) v b ok.applies,
-        same,
-      );
-      sessions = omega (arith, k.sessions, same);
-    }
+        place-opened k v,
+        place-applied (opened_with_seal k v) new v (starts-opened k v b legal) ok.applied.applies,
+      )
+
+module _ (old new : HubView) (s t : TallyView) (k : IsHub old s) where
+  grown : outer (past (kept new.desk)) ≡ outer (past (kept old.desk)) + 1
+      → place (past (kept old.desk)) + 1 ≤ place (past (kept new.desk))
+      → t.outer ≡ s.outer + 1 → s.parts ≤ t.parts + 1 → new.opened ≡ old.opened
+      → new.booked ≡ t.outer → IsHub new t
+  grown more later one part same booked =
+      record {
+        outer = omega (arith, k.outer, one, more);
+        book = booked;
+        parts = omega (arith, k.parts, part, later, same);
+        sessions = omega (arith, k.sessions, same);
+      }
+
+  -- one event more was counted, and one part at most was given away
+  pub hub-more : (v : Event) (a : AppliedWithSeal) → IsStart (kept old.desk).start
+      → LegalBehind (kept old.desk).start (kept old.desk).entries
+      (events_of (kept old.desk).entries)
+      → IsAppliedWithSeal (kept old.desk) v (kept new.desk) a
+      → t.outer ≡ s.outer + 1 → s.parts ≤ t.parts + 1 → new.opened ≡ old.opened
+      → new.booked ≡ t.outer → IsHub new t
+  hub-more v a b legal ok =
+      grown (outer-grown (kept old.desk) (kept new.desk) v a b legal ok)
+      (place-grown (kept old.desk) (kept new.desk) v a b legal ok)
+
+  -- the same for an event before which the history isn't sealed
+  pub hub-died : (v : Event) (a : Applied) → IsStart (kept old.desk).start
+      → IsApplied (kept old.desk) v (kept new.desk) a
+      → t.outer ≡ s.outer + 1 → s.parts ≤ t.parts + 1 → new.opened ≡ old.opened
+      → new.booked ≡ t.outer → IsHub new t
+  hub-died v a b ok =
+      grown (outer-applied (kept old.desk) (kept new.desk) v b ok.applies)
+      (place-applied (kept old.desk) (kept new.desk) v b ok.applies)
+
+-- the history was sealed, or nothing was done
+module _ (old : HubView) (new : Desk) (t : TallyView) (k : IsHub old t) where
+  after_seal : (at : ℕ) → IsSealed (kept old.desk) (kept new) at
+      → IsHub (record old { desk = new }) t
+  after_seal at s =
+      let outers : outer (past (kept new)) ≡ outer (past (kept old.desk)) =
+      ap (λ (n : Kept). outer (past n)) s.kept in
+      let places : place (past (kept new)) ≡ place (past (kept old.desk)) =
+      ap (λ (n : Kept). place (past n)) s.kept in
+      record {
+        outer = k.outer ∙ sym outers;
+        book = k.book;
+        parts = omega (arith, k.parts, places);
+        sessions = k.sessions;
+      }
+
+  pub hub-sealed : (r : Result ℕ Refusal) → IfOk r (IsSealed (kept old.desk) (kept new))
+      → OnErr r (new ≡ old.desk) → IsHub (record old { desk = new }) t
+  hub-sealed (Ok at) ok err = after_seal at ok
+  hub-sealed (Err e) ok err = subst (λ (d : Desk). IsHub (record old { desk = d }) t) (sym err) k
 
 -- before the first event
 pub hub-new : (v : HubView) (t : TallyView)

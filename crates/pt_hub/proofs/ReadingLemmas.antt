@@ -1,29 +1,29 @@
 -- What is read off an account.
-use Rattle.std.proofs.Common.{◌≡◌, ℕ, ◌+◌, ◌≤◌, ◌<◌, Bool, true, false, cond, ◌||◌, ◌⊎◌, inl, inr, nat_lt, nat_eq, Option, Some, None, is_some, refl, sym, ap, ◌∙◌, subst, arith}
-use Rattle.std.specs.Prelude.{IsSome}
-use Rattle.std.specs.Map.{lookup}
+use Rattle.std.proofs.Common.{◌≡◌, ℕ, ◌+◌, ◌≤◌, ◌<◌, Bool, true, false, cond, ◌||◌, ◌⊎◌, inl, inr, nat_lt, Option, Some, None, is_some, refl, sym, ap, ◌∙◌, subst, arith}
+use Rattle.std.specs.Prelude.{IsSome, ◌-◌, option_map}
 use Rattle.std.specs.Option.{option_or}
 use Rattle.std.proofs.lemmas.Bool.Decides.{nat_tests}
 use Rattle.std.proofs.lemmas.Bool.{false≢true}
 use Rattle.pt_types.specs.declared.call.Call.{Call as Asked}
 use Rattle.pt_types.specs.declared.outcome.Refusal.{Refusal}
-use Rattle.pt_types.specs.declared.outcome.Refusal.TheVariants.{Blocked}
+use Rattle.pt_types.specs.declared.outcome.Refusal.TheVariants.{Blocked, Full}
 use Rattle.pt_types.specs.Limits.{most_entries, most_places}
 use Rattle.pt_model.specs.declared.entry.Event.TheVariants as event
 use Rattle.pt_model.specs.Records.{Told}
-use Rattle.pt_model.specs.Histories.{History, place}
+use Rattle.pt_model.specs.Histories.{History}
 use Rattle.pt_model.specs.Clients.{is_alive}
 use Rattle.pt_model.specs.Answers.{open_place}
 use Rattle.pt_model.specs.Queries.{answer_of}
-use Rattle.pt_model.specs.Room.{refusal_within, refusal_for_room, refusal_of_stranger}
+use Rattle.pt_model.specs.Room.{is_full, refusal_with_seals, refusal_of_stranger}
 use Rattle.pt_model.specs.Legal.{events_of}
 use Rattle.pt_model.proofs.Legality.{behind-follows}
-use Rattle.pt_model.proofs.Histories.{place-behind}
 use Rattle.pt_told.specs.Tallies.{open_count}
 use Rattle.pt_core.specs.Cores.{past}
 use Rattle.pt_told.proofs.LatestCalls.{answer-tally, dead-open}
 use Rattle.pt_hub.specs.declared.account.Account.{Account}
-use Rattle.pt_hub.specs.Desks.{Desk, kept, account_of, is_untaken_in, is_untaken, is_blocked, next_answer, call_refusal, IsTakenButOne, owed_in, taken_in, got, after_taking, one_if, IsServed, IsAccount, IsDesk}
+use Rattle.pt_core.specs.Sealing.{sealed}
+use Rattle.pt_hub.specs.Desks.{Desk, kept, account_of, is_untaken_in, is_untaken, is_blocked, next_answer, call_refusal, IsOwedTheRest, IsTakenButOne, owed, owed_in, taken_in, got, after_taking, one_if, renewed, IsServed, IsAccount, IsDesk}
+use Rattle.pt_hub.proofs.SealedDesks.{lookup-renewed, owed-rest}
 
 -- whether an account awaits an answer
 abbrev pub awaits_in : Option Account → Bool
@@ -55,31 +55,33 @@ module _ (d : Desk) (k : IsDesk d) (c : ℕ) where
           → (is_some (open_place h c) || is_untaken_in (kept d) c o) ≡ awaits_in o
       go None dead = rw (dead-open h c dead) refl
       go (Some a) s =
-          served_blocked (a.owed + got (kept d) c) a.taken (open_place h c) a.awaits s.whole
-          s.taken
+          served_blocked (owed (kept d).start c a + got (kept d) c) a.taken (open_place h c)
+          a.awaits s.whole s.taken
 
   -- where a call isn't refused, the client lives and awaits nothing
   pub unblocked : (call : Asked) → call_refusal d c call ≡ None → is_blocked d c ≡ false
   unblocked call e = go (is_blocked d c) e
     where
-      go : (b : Bool) → cond b (Some Blocked) (refusal_within (kept d).limit h (event.Call c call))
-          ≡ None → b ≡ false
+      go : (b : Bool)
+          → cond b (Some Blocked) (refusal_with_seals (kept d).limit h (event.Call c call)) ≡ None
+          → b ≡ false
       go true e = absurd cc
       go false e = refl
 
   pub unrefused : (call : Asked) → call_refusal d c call ≡ None
-      → refusal_within (kept d).limit h (event.Call c call) ≡ None
+      → refusal_with_seals (kept d).limit h (event.Call c call) ≡ None
   unrefused call e = go (is_blocked d c) e
     where
-      go : (b : Bool) → cond b (Some Blocked) (refusal_within (kept d).limit h (event.Call c call))
-          ≡ None → refusal_within (kept d).limit h (event.Call c call) ≡ None
+      go : (b : Bool)
+          → cond b (Some Blocked) (refusal_with_seals (kept d).limit h (event.Call c call)) ≡ None
+          → refusal_with_seals (kept d).limit h (event.Call c call) ≡ None
       go true e = absurd cc
       go false e = e
 
   pub caller-lives : (call : Asked) → call_refusal d c call ≡ None → is_alive h c ≡ true
   caller-lives call e =
       lives (is_alive h c) (cond (is_some (open_place h c)) (Some Blocked) None)
-      (refusal_for_room (kept d).limit h (event.Call c call)) (unrefused call e)
+      (cond (is_full (kept d).limit h (event.Call c call)) (Some Full) None) (unrefused call e)
     where
       lives : (b : Bool) (o p : Option Refusal)
           → option_or (cond b o (Some (refusal_of_stranger h c))) p ≡ None → b ≡ true
@@ -111,12 +113,13 @@ module _ (d : Desk) (k : IsDesk d) (c : ℕ) where
           waits : a.awaits ≡ true
           waits = sym (ap awaits_in e) ∙ (sym blocked-awaits ∙ b)
 
-          taken_all : nat_lt a.taken (a.owed + got (kept d) c) ≡ false
+          taken_all : nat_lt a.taken (owed (kept d).start c a + got (kept d) c) ≡ false
           taken_all = sym (ap (is_untaken_in (kept d) c) e) ∙ t
 
           open_one : ◌≡◌ {A = ℕ} (cond (is_some (answer_of h c)) 0 1) 1
           open_one =
-              let le : a.owed + got (kept d) c ≤ a.taken = grind (arith, nat_tests) in
+              let le : owed (kept d).start c a + got (kept d) c ≤ a.taken =
+              grind (arith, nat_tests) in
               let one : one_if a.awaits ≡ 1 = rw waits refl in
               let tally = answer-tally h (behind-follows (kept d).start (kept d).entries
               (events_of (kept d).entries) k.starts k.legal) c s.alive (s.asked waits) in
@@ -153,13 +156,29 @@ module _ (d : Desk) (k : IsDesk d) (c : ℕ) where
       small false = omega arith
 
       go : (o : Option Account) → account_of d c ≡ o
-          → (owed_in o + got (kept d) c ≡ taken_in o) ⊎
-          (owed_in o + got (kept d) c ≡ taken_in o + 1)
+          → (owed_in (kept d).start c o + got (kept d) c ≡ taken_in o) ⊎
+          (owed_in (kept d).start c o + got (kept d) c ≡ taken_in o + 1)
       go None e = absurd (false≢true (sym (account None e) ∙ lives))
       go (Some a) e =
           let s = account (Some a) e in
-          parted (a.owed + got (kept d) c) a.taken (open_count h c) (one_if a.awaits) s.whole
-          s.taken (small (is_some (open_place h c))) (small a.awaits)
+          parted (owed (kept d).start c a + got (kept d) c) a.taken (open_count h c)
+          (one_if a.awaits) s.whole s.taken (small (is_some (open_place h c))) (small a.awaits)
+
+  -- whether the account after a seal is owed what the account before wasn't given
+  abbrev IsRest : Option Account → Option Account → Type 0
+  IsRest new old =
+      owed_in (sealed (kept d)).start c new
+      ≡ owed_in (kept d).start c old + got (kept d) c - taken_in old
+
+  -- if the history is sealed, it is owed the one that isn't taken
+  pub owed-the-rest : is_alive h c ≡ true → IsOwedTheRest d c
+  owed-the-rest lives =
+      subst (λ o. IsRest o (account_of d c)) (sym (lookup-renewed c d.accounts))
+      (go (account_of d c) refl)
+    where
+      go : (o : Option Account) → account_of d c ≡ o → IsRest (option_map renewed o) o
+      go None e = absurd (false≢true (sym (account None e) ∙ lives))
+      go (Some a) e = owed-rest (kept d) c a (account (Some a) e)
 
   -- while its call is open it has none
   pub next-open : is_some (open_place h c) ≡ true → next_answer d c ≡ None
@@ -175,9 +194,10 @@ module _ (d : Desk) (k : IsDesk d) (c : ℕ) where
       go (Some a) e =
           let s = account (Some a) e in
           let one : open_count h c ≡ 1 = rw o refl in
-          let le : a.owed + got (kept d) c ≤ a.taken =
+          let le : owed (kept d).start c a + got (kept d) c ≤ a.taken =
           omega (arith, s.whole, one, small a.awaits) in
-          let no : nat_lt a.taken (a.owed + got (kept d) c) ≡ false = grind (arith, nat_tests) in
+          let no : nat_lt a.taken (owed (kept d).start c a + got (kept d) c) ≡ false =
+          grind (arith, nat_tests) in
           rw no refl
 
   -- an answer that isn't taken
@@ -193,9 +213,9 @@ module _ (d : Desk) (k : IsDesk d) (c : ℕ) where
       false≢true (sym (ap (is_untaken_in (kept d) c) none) ∙ untaken s)
 
   module _ (a : Account) (e : account_of d c ≡ Some a) (s : IsSome (next_answer d c)) where
-    fewer : a.taken < a.owed + got (kept d) c
+    fewer : a.taken < owed (kept d).start c a + got (kept d) c
     fewer =
-        let lt : nat_lt a.taken (a.owed + got (kept d) c) ≡ true =
+        let lt : nat_lt a.taken (owed (kept d).start c a + got (kept d) c) ≡ true =
         sym (ap (is_untaken_in (kept d) c) e) ∙ untaken s in
         grind (arith, nat_tests)
 

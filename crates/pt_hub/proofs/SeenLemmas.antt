@@ -1,5 +1,5 @@
 -- What was read at a desk, and of a number, that are seen as others of the same value.
-use Rattle.std.proofs.Common.{◌≡◌, ℕ, ◌+◌, ◌≤◌, Bool, true, false, nat_eq, Option, Some, None, is_some, sym, ap, ◌∙◌, subst}
+use Rattle.std.proofs.Common.{◌≡◌, ℕ, ◌+◌, ◌≤◌, true, false, nat_eq, Option, Some, None, is_some, sym, ap, ◌∙◌}
 use Rattle.std.specs.Prelude.{IsSome, MatchOption}
 use Rattle.std.specs.Map.{lookup}
 use Rattle.pt_types.specs.declared.call.Call.{Call as Asked}
@@ -11,7 +11,7 @@ use Rattle.pt_model.specs.declared.entry.Event.TheVariants as event
 use Rattle.pt_model.specs.Records.{Told}
 use Rattle.pt_model.specs.Answers.{open_place}
 use Rattle.pt_model.specs.Queries.{answer_of}
-use Rattle.pt_model.specs.Room.{refusal_within}
+use Rattle.pt_model.specs.Room.{refusal_with_seals}
 use Rattle.pt_core.specs.Cores.{past}
 use Rattle.pt_core.specs.Applying.{IsWantOfMemory}
 use Rattle.pt_hub.specs.declared.account.Account.{Account}
@@ -56,12 +56,12 @@ module _ (d e : Desk) (k : IsDesk d) (same : d ≡ e) (c b : ℕ) (at : c ≡ b)
       caller-known d k c call here (sym none)
 
   pub caller-wanted : (call : Asked) (r : Refusal) → call_refusal e b call ≡ None
-      → MatchOption (refusal_within (kept d).limit (past (kept d)) (event.Call c call))
+      → MatchOption (refusal_with_seals (kept d).limit (past (kept d)) (event.Call c call))
       (IsWantOfMemory (event.Call c call) r) (λ x. r ≡ x)
       → r ≡ Enomem
   caller-wanted call r free w =
       let here : call_refusal d c call ≡ None = rw (same, at) free in
-      wanted-none (refusal_within (kept d).limit (past (kept d)) (event.Call c call)) r
+      wanted-none (refusal_with_seals (kept d).limit (past (kept d)) (event.Call c call)) r
       (event.Call c call) (unrefused d k c call here) w
 
   -- who takes an answer has an account, and took fewer than there are places

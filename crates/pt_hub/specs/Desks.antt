@@ -1,21 +1,26 @@
 -- Desks: a history with the accounts of its living clients.
-use Rattle.std.specs.Prelude.{ℕ, ◌≡◌, ◌+◌, ◌≤◌, ◌==◌, ◌⊎◌, Bool, true, false, ◌||◌, nat_lt, nat_eq, List, Option, Some, None, is_some, MatchOption, if◌then◌else◌}
+use Rattle.std.specs.Prelude.{ℕ, ◌≡◌, ◌+◌, ◌-◌, ◌≤◌, ◌==◌, ◌⊎◌, Bool, true, false, not, ◌&&◌, ◌||◌, nat_lt, nat_eq, List, map, Option, Some, None, is_some, MatchOption, if◌then◌else◌}
 use Rattle.std.specs.Map.{lookup}
 use Rattle.pt_types.specs.declared.call.Call.{Call as Asked}
 use Rattle.pt_types.specs.declared.outcome.Refusal.{Refusal}
 use Rattle.pt_types.specs.declared.outcome.Refusal.TheVariants.{Blocked, Enomem}
 use Rattle.pt_types.specs.Limits.{most_entries, most_places}
+use Rattle.pt_model.specs.declared.entry.Event.{Event}
 use Rattle.pt_model.specs.declared.entry.Event.TheVariants as event
 use Rattle.pt_model.specs.Records.{Told}
-use Rattle.pt_model.specs.Histories.{place, outer}
+use Rattle.pt_model.specs.Starts.{Start}
+use Rattle.pt_model.specs.Histories.{Begin, place, outer}
 use Rattle.pt_model.specs.Clients.{is_alive}
 use Rattle.pt_model.specs.Answers.{open_place}
 use Rattle.pt_model.specs.Queries.{latest, answer_of}
-use Rattle.pt_model.specs.Room.{refusal_within}
+use Rattle.pt_model.specs.Room.{needs_seal, refusal_with_seals}
 use Rattle.pt_model.specs.Legal.{LegalBehind, events_of}
 use Rattle.pt_model.specs.Steps.{IsStart}
 use Rattle.pt_told.specs.Tallies.{told_count, open_count}
+use Rattle.pt_core.specs.Applying.{Applies}
+use Rattle.pt_core.specs.ApplyingWithSeal.{opened_with_seal}
 use Rattle.pt_core.specs.Cores.{Kept, past, Seen, shown}
+use Rattle.pt_core.specs.Sealing.{sealed}
 use Rattle.pt_hub.specs.declared.account.Account.{Account}
 
 -- what is seen of the core, and the account of each living client
@@ -35,10 +40,24 @@ account_of d c = lookup (nat_eq c) d.accounts
 abbrev pub got : Kept → ℕ → ℕ
 got k c = told_count k.start k.entries c
 
--- the answers that were owed when the history was sealed; none if there is no account
-abbrev pub owed_in : Option Account → ℕ
-owed_in None = 0
-owed_in (Some a) = a.owed
+-- 1 if it is so, and else 0
+abbrev pub one_if : Bool → ℕ
+one_if b = if b then 1 else 0
+
+-- the answers that were owed when the history was sealed: one if an answer was awaited, and the
+-- call wasn't open then, so that the Start has its answer
+abbrev pub owed : Start → ℕ → Account → ℕ
+owed s c a = one_if (a.awaited && not (is_some (open_place (Begin s) c)))
+
+-- the same; none if there is no account
+abbrev pub owed_in : Start → ℕ → Option Account → ℕ
+owed_in s c None = 0
+owed_in s c (Some a) = owed s c a
+
+-- whether it awaited an answer then; not if there is no account
+abbrev pub awaited_in : Option Account → Bool
+awaited_in None = false
+awaited_in (Some a) = a.awaited
 
 -- how many answers an account took since then
 abbrev pub taken_in : Option Account → ℕ
@@ -47,16 +66,48 @@ taken_in (Some a) = a.taken
 
 -- the account once a call is made, whose answer is awaited
 abbrev pub awaiting : Option Account → Option Account
-awaiting o = Some (record { owed = owed_in o; taken = taken_in o; awaits = true })
+awaiting o = Some (record { awaited = awaited_in o; taken = taken_in o; awaits = true })
 
 -- the account once one answer more is taken
 abbrev pub after_taking : Option Account → Option Account
-after_taking o = Some (record { owed = owed_in o; taken = taken_in o + 1; awaits = false })
+after_taking o =
+    Some (record { awaited = awaited_in o; taken = taken_in o + 1; awaits = false })
+
+-- the account of a client that joins
+abbrev pub fresh : Account
+fresh = record { awaited = false; taken = 0; awaits = false }
+
+-- an account when the history is sealed: it awaited then what it awaits, and took nothing since
+abbrev pub renewed : Account → Account
+renewed a = record { awaited = a.awaits; taken = 0; awaits = a.awaits }
+
+-- all accounts when the history is sealed
+abbrev pub renewed_all : List (ℕ × Account) → List (ℕ × Account)
+renewed_all xs = map (λ e. (e.0, renewed e.1)) xs
+
+-- the accounts, renewed if the history is sealed
+abbrev pub renewed_if : Bool → List (ℕ × Account) → List (ℕ × Account)
+renewed_if b xs = if b then renewed_all xs else xs
+
+-- the accounts to which an accepted event's is added: renewed, if the event needs a seal
+abbrev pub opened_accounts : Desk → Event → List (ℕ × Account)
+opened_accounts d event =
+    renewed_if (needs_seal (kept d).limit (past (kept d)) event) d.accounts
+
+-- the account of a client among these
+abbrev pub opened_account : Desk → Event → ℕ → Option Account
+opened_account d event c = lookup (nat_eq c) (opened_accounts d event)
+
+-- the event is accepted, and its entries are added: to the old ones, or to none after a seal if the
+-- event needs that
+pub record AppliesWithSeal (old : Kept) (event : Event) (new : Kept) : Type 0 where
+  pub accepted : refusal_with_seals old.limit (past old) event ≡ None
+  pub applies : Applies (opened_with_seal old event) event new
 
 -- whether a client with this account has an answer that it hasn't taken
 abbrev pub is_untaken_in : Kept → ℕ → Option Account → Bool
 is_untaken_in k c None = false
-is_untaken_in k c (Some a) = nat_lt a.taken (a.owed + got k c)
+is_untaken_in k c (Some a) = nat_lt a.taken (owed k.start c a + got k c)
 
 -- whether a client has an answer that it hasn't taken
 abbrev pub is_untaken : Desk → ℕ → Bool
@@ -73,18 +124,21 @@ next_answer d c = if is_untaken d c then answer_of (past (kept d)) c else None
 -- of the answers owed and got since, all were taken, or all but one
 abbrev pub IsTakenButOne : Desk → ℕ → Type 0
 IsTakenButOne d c =
-    (owed_in (account_of d c) + got (kept d) c ≡ taken_in (account_of d c))
-    ⊎ (owed_in (account_of d c) + got (kept d) c ≡ taken_in (account_of d c) + 1)
+    (owed_in (kept d).start c (account_of d c) + got (kept d) c ≡ taken_in (account_of d c))
+    ⊎ (owed_in (kept d).start c (account_of d c) + got (kept d) c
+    ≡ taken_in (account_of d c) + 1)
 
--- 1 if it is so, and else 0
-abbrev pub one_if : Bool → ℕ
-one_if b = if b then 1 else 0
+-- when the history is sealed, a client is owed what it hadn't taken
+abbrev pub IsOwedTheRest : Desk → ℕ → Type 0
+IsOwedTheRest d c =
+    owed_in (sealed (kept d)).start c (lookup (nat_eq c) (renewed_all d.accounts))
+    ≡ owed_in (kept d).start c (account_of d c) + got (kept d) c - taken_in (account_of d c)
 
 -- the account is that of a living client: of its answers it took all but one at most
 pub record IsServed (k : Kept) (c : ℕ) (a : Account) : Type 0 where
   pub alive : is_alive (past k) c ≡ true
-  pub whole : a.owed + got k c + open_count (past k) c ≡ a.taken + one_if a.awaits
-  pub taken : a.taken ≤ a.owed + got k c
+  pub whole : owed k.start c a + got k c + open_count (past k) c ≡ a.taken + one_if a.awaits
+  pub taken : a.taken ≤ owed k.start c a + got k c
   pub asked : a.awaits ≡ true → is_some (latest (past k) c) ≡ true
   pub small : a.taken + one_if a.awaits ≤ place (past k)
 
@@ -94,20 +148,24 @@ IsAccount k c None = is_alive (past k) c ≡ false
 IsAccount k c (Some a) = IsServed k c a
 
 -- a legal history within its limits, and the accounts of its living clients
-pub record IsDesk (d : Desk) : Type 0 where
-  pub starts : IsStart (kept d).start
-  pub legal : LegalBehind (kept d).start (kept d).entries (events_of (kept d).entries)
-  pub accounts : (c : ℕ) → IsAccount (kept d) c (account_of d c)
-  pub limit : (kept d).limit ≡ most_entries
-  pub places : (kept d).start.at ≤ most_places
-  pub within : place (past (kept d)) ≤ most_places + most_entries
-  pub few : outer (past (kept d)) ≤ place (past (kept d))
+pub record IsDeskOf (k : Kept) (rows : List (ℕ × Account)) : Type 0 where
+  pub starts : IsStart k.start
+  pub legal : LegalBehind k.start k.entries (events_of k.entries)
+  pub accounts : (c : ℕ) → IsAccount k c (lookup (nat_eq c) rows)
+  pub limit : k.limit ≡ most_entries
+  pub places : k.start.at ≤ most_places
+  pub within : place (past k) ≤ most_places + most_entries
+  pub few : outer (past k) ≤ place (past k)
+
+-- what always holds of a desk
+abbrev pub IsDesk : Desk → Type 0
+IsDesk d = IsDeskOf (kept d) d.accounts
 
 -- why a call is refused, for another reason than lack of memory  [profile]
 abbrev pub call_refusal : Desk → ℕ → Asked → Option Refusal
 call_refusal d c call =
     if is_blocked d c then Some Blocked
-    else refusal_within (kept d).limit (past (kept d)) (event.Call c call)
+    else refusal_with_seals (kept d).limit (past (kept d)) (event.Call c call)
 
 -- the refusal that applies, or lack of memory if none does  [profile]
 abbrev pub IsRefusedAs : Option Refusal → Refusal → Type 0

@@ -15,10 +15,11 @@ use Rattle.pt_model.specs.Legal.{LegalBehind, events_of}
 use Rattle.pt_model.specs.Steps.{IsStart}
 use Rattle.pt_core.specs.Cores.{past}
 use Rattle.pt_core.specs.Applying.{Applies}
+use Rattle.pt_core.specs.Sealing.{IsSealed}
 use Rattle.pt_hub.specs.declared.pass.Receipt.{Receipt}
 use Rattle.pt_hub.specs.declared.pass.Sent.{Sent}
 use Rattle.pt_hub.specs.declared.pass.Answer.{Answer}
-use Rattle.pt_hub.specs.Desks.{Desk, kept, IsTakenButOne, Wrote, account_of, awaiting, after_taking, next_answer, one_if}
+use Rattle.pt_hub.specs.Desks.{Desk, kept, AppliesWithSeal, IsOwedTheRest, IsTakenButOne, Wrote, account_of, after_taking, awaiting, fresh, next_answer, one_if, opened_account, opened_accounts, renewed_all}
 use Rattle.pt_hub.specs.Passes.{PassView, LeftView}
 
 -- the history with the accounts; the open sessions with their marks; how many were opened; and
@@ -56,33 +57,35 @@ pub record Fits (v : HubView) : Type 0 where
   pub legal : LegalBehind (kept v.desk).start (kept v.desk).entries
       (events_of (kept v.desk).entries)
   pub taken : (c : ℕ) → is_alive (past (kept v.desk)) c ≡ true → IsTakenButOne v.desk c
+  pub owed : (c : ℕ) → is_alive (past (kept v.desk)) c ≡ true → IsOwedTheRest v.desk c
   pub book : v.booked ≡ outer_count v.desk
 
 -- a client joined, and this is its pass
 pub record Joins (old : HubView) (priority : ℕ) (new : HubView) (pass : PassView) : Type 0 where
-  pub applies : Applies (kept old.desk) (event.Join priority) (kept new.desk)
+  pub applies : AppliesWithSeal (kept old.desk) (event.Join priority) (kept new.desk)
   pub its_pass : pass ≡ record {
     client = next_place old.desk;
     priority = priority;
     receipts = [];
   }
-  pub account : Wrote old.desk.accounts new.desk.accounts (next_place old.desk)
-      (Some (record { owed = 0; taken = 0; awaits = false }))
+  pub account : Wrote (opened_accounts old.desk (event.Join priority)) new.desk.accounts
+      (next_place old.desk) (Some fresh)
   pub marks : new.marks ≡ old.marks
   pub opened : new.opened ≡ old.opened
 
 -- a client's call was sent
 pub record Sends (old : HubView) (before : PassView) (call : Asked) (new : HubView)
     (after : PassView) (s : Sent) : Type 0 where
-  pub applies : Applies (kept old.desk) (event.Call before.client call) (kept new.desk)
+  pub applies : AppliesWithSeal (kept old.desk) (event.Call before.client call) (kept new.desk)
   pub place : s.place ≡ next_place old.desk
   pub ready : s.ready ≡ is_some (outcome (past (kept new.desk)) s.place)
   pub its_pass : after ≡ record before {
     receipts = before.receipts
         ++ record { place = s.place; call = call; answer = None } ∷ [];
   }
-  pub account : Wrote old.desk.accounts new.desk.accounts before.client
-      (awaiting (account_of old.desk before.client))
+  pub account : Wrote (opened_accounts old.desk (event.Call before.client call))
+      new.desk.accounts before.client
+      (awaiting (opened_account old.desk (event.Call before.client call) before.client))
   pub marks : new.marks ≡ old.marks
   pub opened : new.opened ≡ old.opened
 
@@ -131,12 +134,20 @@ pub record Takes (old : HubView) (before : PassView) (new : HubView) (after : Pa
 
 -- a moment was handed in
 pub record Ticks (old : HubView) (k : Clock) (t : ℕ) (new : HubView) : Type 0 where
-  pub applies : Applies (kept old.desk) (event.Moment k t) (kept new.desk)
-  pub accounts : new.desk.accounts ≡ old.desk.accounts
+  pub applies : AppliesWithSeal (kept old.desk) (event.Moment k t) (kept new.desk)
+  pub accounts : new.desk.accounts ≡ opened_accounts old.desk (event.Moment k t)
   pub marks : new.marks ≡ old.marks
   pub opened : new.opened ≡ old.opened
 
--- a living client died
+-- the history was sealed, and goes on with this place: each account is renewed
+pub record Seals (old new : HubView) (at : ℕ) : Type 0 where
+  pub sealed : IsSealed (kept old.desk) (kept new.desk) at
+  pub accounts : new.desk.accounts ≡ renewed_all old.desk.accounts
+  pub marks : new.marks ≡ old.marks
+  pub opened : new.opened ≡ old.opened
+  pub booked : new.booked ≡ old.booked
+
+-- a living client died; the history isn't sealed for that
 pub record Dies (old : HubView) (c : ℕ) (new : HubView) : Type 0 where
   pub applies : Applies (kept old.desk) (event.Death c) (kept new.desk)
   pub account : Wrote old.desk.accounts new.desk.accounts c None

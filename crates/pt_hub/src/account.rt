@@ -1,17 +1,18 @@
-ghost use Rattle.std.specs.Prelude.{◌≡◌, ◌⊎◌, ◌<◌, Some, None, IsSome, nat_eq};
+ghost use Rattle.std.specs.Prelude.{◌≡◌, ◌⊎◌, ◌<◌, ◌≤◌, Some, None, true, IsSome, is_some, nat_eq};
 ghost use Rattle.std.specs.Map.{lookup};
 ghost use Rattle.indexmap.specs.IndexMap.{spare};
-ghost use Rattle.pt_hub.specs.Desks.{Wrote};
+ghost use Rattle.pt_hub.specs.Desks.{Wrote, awaiting, renewed, renewed_all, renewed_if};
 
 use indexmap::IndexMap;
 use std::alloc::Allocator;
 use std::hash::{BuildHasherDefault, FoldHasher};
 
-/// What the hub keeps of a living client: how many answers it was owed when the history was sealed,
-/// how many it took since, and whether it awaits one, from its call on until it takes the answer.
+/// What the hub keeps of a living client: whether it awaited an answer when the history was sealed,
+/// how many answers it took since, and whether it awaits one, from its call on until it takes the
+/// answer.
 #[derive(Clone, Copy, Debug, PartialEq, Eq)]
 pub struct Account {
-    pub owed: u64,
+    pub awaited: bool,
     pub taken: u64,
     pub awaits: bool,
 }
@@ -42,4 +43,47 @@ pub(crate) fn erase<A: Allocator + Copy>(accounts: &mut Accounts<A>, client: u64
     ensures { Wrote accounts.old.entries accounts.new.entries client None }
 {
     let _ = accounts.swap_remove(&client);
+}
+
+/// A client with an account awaits an answer from now on. It takes no memory.
+pub(crate) fn note_call<A: Allocator + Copy>(accounts: &mut Accounts<A>, client: u64)
+    requires { IsSome (lookup (nat_eq client) accounts.old.entries) }
+    ensures { Wrote accounts.old.entries accounts.new.entries client
+        (awaiting (lookup (nat_eq client) accounts.old.entries)) }
+{
+    let Some(account) = read(accounts, client) else {
+        unreachable!()
+    };
+    let account = Account {
+        awaited: account.awaited,
+        taken: account.taken,
+        awaits: true,
+    };
+    write(accounts, client, account);
+}
+
+/// The history is sealed. It takes no memory.
+pub(crate) fn renew<A: Allocator + Copy>(accounts: &mut Accounts<A>)
+    ensures entries { accounts.new.entries ≡ renewed_all accounts.old.entries }
+    ensures spare { spare accounts.old ≤ spare accounts.new }
+{
+    accounts.retain(
+        |_client: &u64, account: &mut Account| -> bool
+            ensures { (result ≡ true) × (account.new ≡ renewed account.old) }
+        {
+            account.awaited = account.awaits;
+            account.taken = 0;
+            true
+        },
+    );
+}
+
+/// The history is sealed, if it goes on with a place that is given. It takes no memory.
+pub(crate) fn renew_if<A: Allocator + Copy>(accounts: &mut Accounts<A>, sealed: Option<u64>)
+    ensures entries { accounts.new.entries ≡ renewed_if (is_some sealed) accounts.old.entries }
+    ensures spare { spare accounts.old ≤ spare accounts.new }
+{
+    if sealed.is_some() {
+        renew(accounts);
+    }
 }

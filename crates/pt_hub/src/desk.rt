@@ -10,18 +10,20 @@ ghost use Rattle.pt_model.specs.Histories.{place as place_of, outer};
 ghost use Rattle.pt_model.specs.Clients.{is_alive};
 ghost use Rattle.pt_model.specs.Answers.{outcome};
 ghost use Rattle.pt_model.specs.Queries.{least_deadline as least_deadline_in};
-ghost use Rattle.pt_model.specs.Room.{refusal_within};
+ghost use Rattle.pt_model.specs.Room.{refusal_with_seals};
 ghost use Rattle.pt_model.specs.Legal.{LegalBehind, events_of};
 ghost use Rattle.pt_model.specs.Steps.{IsStart};
 ghost use Rattle.pt_told.specs.OwnEvents.{own_at, own_event};
 ghost use Rattle.pt_core.specs.Cores.{past};
 ghost use Rattle.pt_core.specs.Applying.{IsApplied};
+ghost use Rattle.pt_core.specs.ApplyingWithSeal.{IsAppliedWithSeal};
+ghost use Rattle.pt_core.specs.Sealing.{IsSealed, seal_refusal};
 ghost use Rattle.pt_core.specs.Replies.{told_of};
-ghost use Rattle.pt_hub.specs.Desks.{Wrote, IsRefusedAs, kept, account_of, awaiting, after_taking, is_blocked, call_refusal, next_answer, IsTakenButOne};
+ghost use Rattle.pt_hub.specs.Desks.{Wrote, IsRefusedAs, kept, account_of, awaiting, after_taking, fresh, is_blocked, call_refusal, next_answer, opened_account, opened_accounts, renewed_all, IsOwedTheRest, IsTakenButOne};
 
-use crate::account::{Account, Accounts, erase, read, write};
+use crate::account::{Account, Accounts, erase, note_call, read, renew, renew_if, write};
 use indexmap::IndexMap;
-use pt_core::{Applied, Core, Reply};
+use pt_core::{Applied, AppliedWithSeal, Core, Reply};
 use pt_model::{Entry, Event};
 use pt_types::{Call, ClientId, Clock, Deadline, Moment, Outcome, Priority, Refusal};
 use std::alloc::Allocator;
@@ -71,31 +73,31 @@ impl<A: Allocator + Copy> Desk<A> {
     }
 
     /// A client joins, and gets an account.
-    pub fn join(&mut self, priority: Priority) -> Result<Applied, Refusal>
+    pub fn join(&mut self, priority: Priority) -> Result<AppliedWithSeal, Refusal>
         ensures ok { IfOk result (λ applied.
-            IsApplied (kept self.old) (event.Join priority) (kept self.new) applied) }
-        ensures account { OnOk result (Wrote self.old.accounts self.new.accounts
-            (place_of (past (kept self.old)))
-            (Some (record { owed = 0; taken = 0; awaits = false }))) }
-        ensures err { IfErr result (IsRefusedAs
-            (refusal_within (kept self.old).limit (past (kept self.old)) (event.Join priority))) }
+            IsAppliedWithSeal (kept self.old) (event.Join priority) (kept self.new) applied) }
+        ensures account { OnOk result (Wrote (opened_accounts self.old (event.Join priority))
+            self.new.accounts (place_of (past (kept self.old))) (Some fresh)) }
+        ensures err { IfErr result (IsRefusedAs (refusal_with_seals
+            (kept self.old).limit (past (kept self.old)) (event.Join priority))) }
         ensures unchanged { OnErr result (self.new ≡ self.old) }
     {
         let event = Event::Join(priority);
-        if let Some(refusal) = self.core.would_refuse(&event) {
+        if let Some(refusal) = self.core.would_refuse_with_seal(&event) {
             return Err(refusal);
         }
         if self.accounts.reserve(1).is_err() {
             return Err(Refusal::Enomem);
         }
-        match self.core.apply(event) {
+        match self.core.apply_with_seal(event) {
             Ok(applied) => {
+                renew_if(&mut self.accounts, applied.sealed);
                 let account = Account {
-                    owed: 0,
+                    awaited: false,
                     taken: 0,
                     awaits: false,
                 };
-                write(&mut self.accounts, applied.first, account);
+                write(&mut self.accounts, applied.applied.first, account);
                 Ok(applied)
             }
             Err(refusal) => Err(refusal),
@@ -119,32 +121,27 @@ impl<A: Allocator + Copy> Desk<A> {
         if self.is_blocked(c) {
             return Some(Refusal::Blocked);
         }
-        self.core.would_refuse(&Event::Call(c, call.copied()))
+        self.core
+            .would_refuse_with_seal(&Event::Call(c, call.copied()))
     }
 
     /// A client makes a call that isn't refused, and awaits its answer. ENOMEM if a growth is
     /// refused.
-    pub fn call(&mut self, c: ClientId, call: &Call) -> Result<Applied, Refusal>
+    pub fn call(&mut self, c: ClientId, call: &Call) -> Result<AppliedWithSeal, Refusal>
         requires { call_refusal self.old c call.now ≡ None }
         ensures ok { IfOk result (λ applied.
-            IsApplied (kept self.old) (event.Call c call.now) (kept self.new) applied) }
-        ensures account { OnOk result (Wrote self.old.accounts self.new.accounts c
-            (awaiting (account_of self.old c))) }
+            IsAppliedWithSeal (kept self.old) (event.Call c call.now) (kept self.new) applied) }
+        ensures first { IfOk result (λ applied.
+            applied.applied.first ≡ place_of (past (kept self.old))) }
+        ensures account { OnOk result (Wrote (opened_accounts self.old (event.Call c call.now))
+            self.new.accounts c (awaiting (opened_account self.old (event.Call c call.now) c))) }
         ensures err { IfErr result (λ refusal. refusal ≡ Refusal.Enomem) }
         ensures unchanged { OnErr result (self.new ≡ self.old) }
     {
-        let number = c.0;
-        let Some(account) = read(&self.accounts, number) else {
-            unreachable!()
-        };
-        match self.core.apply(Event::Call(c, call.copied())) {
+        match self.core.apply_with_seal(Event::Call(c, call.copied())) {
             Ok(applied) => {
-                let account = Account {
-                    owed: account.owed,
-                    taken: account.taken,
-                    awaits: true,
-                };
-                write(&mut self.accounts, number, account);
+                renew_if(&mut self.accounts, applied.sealed);
+                note_call(&mut self.accounts, c.0);
                 Ok(applied)
             }
             Err(refusal) => Err(refusal),
@@ -173,7 +170,7 @@ impl<A: Allocator + Copy> Desk<A> {
             unreachable!()
         };
         let account = Account {
-            owed: account.owed,
+            awaited: account.awaited,
             taken: account.taken + 1,
             awaits: false,
         };
@@ -198,23 +195,49 @@ impl<A: Allocator + Copy> Desk<A> {
     }
 
     /// A reading of a clock is handed in, which isn't refused. ENOMEM if a growth is refused.
-    pub fn moment(&mut self, clock: Clock, moment: Moment) -> Result<Applied, Refusal>
-        requires { refusal_within (kept self.old).limit (past (kept self.old))
+    pub fn moment(&mut self, clock: Clock, moment: Moment) -> Result<AppliedWithSeal, Refusal>
+        requires { refusal_with_seals (kept self.old).limit (past (kept self.old))
             (event.Moment clock moment) ≡ None }
-        ensures ok { IfOk result (λ applied.
-            IsApplied (kept self.old) (event.Moment clock moment) (kept self.new) applied) }
-        ensures accounts { self.new.accounts ≡ self.old.accounts }
+        ensures ok { IfOk result (λ applied. IsAppliedWithSeal (kept self.old)
+            (event.Moment clock moment) (kept self.new) applied) }
+        ensures accounts { OnOk result (self.new.accounts
+            ≡ opened_accounts self.old (event.Moment clock moment)) }
         ensures err { IfErr result (λ refusal. refusal ≡ Refusal.Enomem) }
         ensures unchanged { OnErr result (self.new ≡ self.old) }
     {
-        self.core.apply(Event::Moment(clock, moment))
+        match self.core.apply_with_seal(Event::Moment(clock, moment)) {
+            Ok(applied) => {
+                renew_if(&mut self.accounts, applied.sealed);
+                Ok(applied)
+            }
+            Err(refusal) => Err(refusal),
+        }
     }
 
-    /// Why an event would be refused, for another reason than lack of memory.
-    pub fn would_refuse(&self, event: &Event) -> Option<Refusal>
-        ensures { result ≡ refusal_within (kept self.now).limit (past (kept self.now)) event.now }
+    /// The history is sealed, and goes on with the place that is returned. FULL if that is above
+    /// 2^62, else ENOMEM if a growth is refused.
+    pub fn seal(&mut self) -> Result<u64, Refusal>
+        ensures ok { IfOk result (λ at. IsSealed (kept self.old) (kept self.new) at) }
+        ensures accounts { OnOk result (self.new.accounts ≡ renewed_all self.old.accounts) }
+        ensures err { IfErr result (λ refusal. refusal ≡ seal_refusal (kept self.old)) }
+        ensures unchanged { OnErr result (self.new ≡ self.old) }
     {
-        self.core.would_refuse(event)
+        match self.core.seal() {
+            Ok(at) => {
+                renew(&mut self.accounts);
+                Ok(at)
+            }
+            Err(refusal) => Err(refusal),
+        }
+    }
+
+    /// Why an event would be refused, for another reason than lack of memory and though a seal
+    /// makes room.
+    pub fn would_refuse(&self, event: &Event) -> Option<Refusal>
+        ensures { result ≡ refusal_with_seals (kept self.now).limit (past (kept self.now))
+            event.now }
+    {
+        self.core.would_refuse_with_seal(event)
     }
 
     /// The least deadline by this clock of the open calls that are not moved, as it was written.
@@ -225,9 +248,13 @@ impl<A: Allocator + Copy> Desk<A> {
         self.core.least_deadline(clock)
     }
 
-    /// Of a living client's answers all were taken, or all but one.
+    /// Of a living client's answers all were taken, or all but one; if the history is sealed, the
+    /// client is owed that one.
     pub fn law_taken(&self)
-        ensures { (c : ℕ) → is_alive (past (kept self.now)) c ≡ true → IsTakenButOne self.now c }
+        ensures taken { (c : ℕ) → is_alive (past (kept self.now)) c ≡ true
+            → IsTakenButOne self.now c }
+        ensures owed { (c : ℕ) → is_alive (past (kept self.now)) c ≡ true
+            → IsOwedTheRest self.now c }
     {
         let _ = &self.core;
     }

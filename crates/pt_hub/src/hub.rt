@@ -9,12 +9,13 @@ ghost use Rattle.pt_model.specs.Searches.{Each};
 ghost use Rattle.pt_model.specs.Starts.{nothing};
 ghost use Rattle.pt_model.specs.Clients.{is_alive};
 ghost use Rattle.pt_model.specs.Queries.{least_deadline as least_deadline_in};
-ghost use Rattle.pt_model.specs.Room.{refusal_within};
+ghost use Rattle.pt_model.specs.Room.{refusal_with_seals};
 ghost use Rattle.pt_model.specs.Legal.{LegalBehind, events_of};
 ghost use Rattle.pt_core.specs.Cores.{past};
+ghost use Rattle.pt_core.specs.Sealing.{seal_refusal};
 ghost use Rattle.pt_hub.specs.Desks.{IsRefusedAs, kept, call_refusal, one_if};
 ghost use Rattle.pt_hub.specs.Audiences.{audience_at};
-ghost use Rattle.pt_hub.specs.Hubs.{Joins, Sends, Ticks, Dies, Takes, takeable, next_place, outer_count, has_ended, Opens, IsNotOpened, EndsInput, Closes, Fits};
+ghost use Rattle.pt_hub.specs.Hubs.{Joins, Sends, Ticks, Seals, Dies, Takes, takeable, next_place, outer_count, has_ended, Opens, IsNotOpened, EndsInput, Closes, Fits};
 ghost use Rattle.pt_hub.specs.Passes.{events_found};
 ghost use Rattle.pt_hub.specs.Closing.{Holds, IsCloseFault};
 
@@ -102,10 +103,10 @@ impl<L: Ledger, A: Allocator + Copy> Hub<L, A> {
         }
     }
 
-    /// A client joins.
+    /// A client joins. The history is sealed first if the join needs the room.  [profile]
     pub fn join(&mut self, priority: Priority) -> Result<Pass<L, A>, Refusal>
         ensures ok { IfOk result (λ pass. Joins self.old priority self.new pass) }
-        ensures err { IfErr result (IsRefusedAs (refusal_within (kept self.old.desk).limit
+        ensures err { IfErr result (IsRefusedAs (refusal_with_seals (kept self.old.desk).limit
             (past (kept self.old.desk)) (event.Join priority))) }
         ensures unchanged { OnErr result (self.new ≡ self.old) }
     {
@@ -125,7 +126,8 @@ impl<L: Ledger, A: Allocator + Copy> Hub<L, A> {
         }
     }
 
-    /// A client makes a call, which is in its receipts from then on.
+    /// A client makes a call, which is in its receipts from then on. The history is sealed first if
+    /// the call needs the room.  [profile]
     pub fn call(&mut self, pass: &mut Pass<L, A>, call: Call) -> Result<Sent, Refusal>
         ensures ok { IfOk result (λ sent. Sends self.old pass.old call self.new pass.new sent) }
         ensures err { IfErr result (IsRefusedAs
@@ -151,7 +153,7 @@ impl<L: Ledger, A: Allocator + Copy> Hub<L, A> {
                 pass.receipts.push_reserved(receipt);
                 Ok(Sent {
                     place,
-                    ready: applied.outcome.is_some(),
+                    ready: applied.applied.outcome.is_some(),
                 })
             }
             Err(refusal) => Err(refusal),
@@ -216,7 +218,8 @@ impl<L: Ledger, A: Allocator + Copy> Hub<L, A> {
         }
     }
 
-    /// A reading of a clock is handed in.
+    /// A reading of a clock is handed in. The history is sealed first if the reading needs the
+    /// room.  [profile]
     pub fn moment(
         &mut self,
         pass: &mut ClockPass<L, A>,
@@ -226,7 +229,7 @@ impl<L: Ledger, A: Allocator + Copy> Hub<L, A> {
         ensures ok { OnOk result (Ticks self.old clock moment self.new) }
         ensures told { OnOk result (pass.new.moments
             ≡ pass.old.moments ++ record { clock = clock; moment = moment } ∷ []) }
-        ensures err { IfErr result (IsRefusedAs (refusal_within (kept self.old.desk).limit
+        ensures err { IfErr result (IsRefusedAs (refusal_with_seals (kept self.old.desk).limit
             (past (kept self.old.desk)) (event.Moment clock moment))) }
         ensures unchanged { OnErr result ((self.new ≡ self.old) × (pass.new ≡ pass.old)) }
     {
@@ -245,6 +248,17 @@ impl<L: Ledger, A: Allocator + Copy> Hub<L, A> {
             }
             Err(refusal) => Err(refusal),
         }
+    }
+
+    /// The history is sealed: its entries are dropped, and it goes on with the place that comes
+    /// next, which is returned. FULL if that place is above 2^62, else ENOMEM if a growth is
+    /// refused.  [profile]
+    pub fn seal(&mut self) -> Result<u64, Refusal>
+        ensures ok { IfOk result (λ at. Seals self.old self.new at) }
+        ensures err { IfErr result (λ refusal. refusal ≡ seal_refusal (kept self.old.desk)) }
+        ensures unchanged { OnErr result (self.new ≡ self.old) }
+    {
+        self.desk.seal()
     }
 
     /// The least deadline by this clock of the open calls that are not moved, as it was written.

@@ -4,7 +4,7 @@ ghost use Rattle.std.specs.Prelude.{◌≡◌, ◌∷◌, ◌++◌, [], None, tr
 ghost use Rattle.pt_types.specs.Times.{deadline_nanos};
 ghost use Rattle.pt_model.specs.declared.entry.Event.TheVariants as event;
 ghost use Rattle.pt_model.specs.Queries.{least_deadline as least_deadline_in};
-ghost use Rattle.pt_model.specs.Room.{refusal_within};
+ghost use Rattle.pt_model.specs.Room.{refusal_with_seals};
 ghost use Rattle.pt_core.specs.Cores.{past};
 ghost use Rattle.pt_hub.specs.Desks.{kept, IsRefusedAs, call_refusal};
 ghost use Rattle.pt_hub.specs.Hubs.{Joins, Leaves, Sends, Takes, Ticks, answered, has_ended, takeable};
@@ -28,7 +28,7 @@ impl<L: Ledger> Shared<L> {
         ensures pass { IfOk result (λ pass. (pass.priority ≡ priority) × (pass.receipts ≡ [])) }
         ensures ok { IfOk result (λ pass. Made (λ old new. Joins old priority new pass)) }
         ensures err { IfErr result (λ refusal. Found (λ hub. IsRefusedAs
-            (refusal_within (kept hub.desk).limit (past (kept hub.desk)) (event.Join priority))
+            (refusal_with_seals (kept hub.desk).limit (past (kept hub.desk)) (event.Join priority))
             refusal)) }
     {
         let mut room = self.room.lock(rt);
@@ -190,7 +190,7 @@ impl<L: Ledger> Shared<L> {
             ≡ pass.old.moments ++ record { clock = clock; moment = moment } ∷ []) }
         ensures ok { OnOk result (Made (λ old new. Ticks old clock moment new)) }
         ensures err { IfErr result (λ refusal. Found (λ hub. IsRefusedAs
-            (refusal_within (kept hub.desk).limit (past (kept hub.desk))
+            (refusal_with_seals (kept hub.desk).limit (past (kept hub.desk))
             (event.Moment clock moment))
             refusal)) }
         ensures unchanged { OnErr result (pass.new ≡ pass.old) }

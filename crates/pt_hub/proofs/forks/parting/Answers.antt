@@ -1,7 +1,6 @@
-use Rattle.std.proofs.Common.{◌≡◌, ◌≤◌, ◌+◌, ◌∙◌, max, length, Some, refl, sym, ap, arith}
+use Rattle.std.proofs.Common.{◌≤◌, ◌+◌, ◌∙◌, max, Some, sym, ap, arith}
 use Rattle.std.proofs.lemmas.Bool.Decides.{nat_tests}
 use Rattle.pt_hub.specs.Desks.{kept}
-use Rattle.pt_hub.specs.Closing.{claims}
 use Rattle.pt_hub.proofs.ForkLemmas.{part_begin, part_on, part_met, part_within, part_here, part_end, part_dead}
 use Rattle.pt_hub.proofs.forks.parting.Goals as goal
 

@@ -1,12 +1,30 @@
 use Rattle.pt_hub.specs.Desks.{Desk as Seen}
-use Rattle.pt_hub.proofs.DeskLemmas.{desk-called}
+use Rattle.pt_hub.proofs.OpenedDesks.{caller-there, desk-called, first-opened, wrote-called}
 use Rattle.pt_hub.proofs.desk.Desk.call.Goals as goal
+
+pub note_call-requires : goal.note_call-requires
+note_call-requires g c =
+    let old : Seen =
+    record { core = c.self.inside.core; accounts = c.self.inside.accounts.entries } in
+    caller-there old _ c.self.view_is c.self.invariant _ _ c.c.view_is _ _ c.copied.ensures
+    c.requires _ c.in-Ok.applied c.in-Ok.ensures.ok _ c.renew_if.ensures.entries
 
 pub invariant_of-self : goal.invariant_of-self
 invariant_of-self g c =
     let old : Seen =
     record { core = c.self.inside.core; accounts = c.self.inside.accounts.entries } in
-    let new : Seen = record { core = c.apply.new.self; accounts = c.write.new.accounts.entries } in
-    desk-called old new c.self.invariant _ _ c.c.view_is c.in-Ok.applied _ c.self.view_is _ _
-    c.copied.ensures c.requires c.in-Ok.ensures.ok c.in-Some.account c.in-Some.ensures
-    c.write.ensures
+    desk-called old _ c.self.view_is c.self.invariant _ _ c.c.view_is _ _ c.copied.ensures
+    c.requires _ c.in-Ok.applied c.in-Ok.ensures.ok _ c.renew_if.ensures.entries _
+    c.note_call.ensures
+
+pub returns-in-Ok-clause-first : goal.returns-in-Ok-clause-first
+returns-in-Ok-clause-first g c =
+    rw (← c.self.view_is) (first-opened _ _ _ c.in-Ok.applied c.in-Ok.ensures.ok)
+
+pub returns-in-Ok-clause-account : goal.returns-in-Ok-clause-account
+returns-in-Ok-clause-account g c =
+    let old : Seen =
+    record { core = c.self.inside.core; accounts = c.self.inside.accounts.entries } in
+    wrote-called old _ c.self.view_is c.self.invariant _ _ c.c.view_is _ _ c.copied.ensures
+    c.requires _ c.in-Ok.applied c.in-Ok.ensures.ok _ c.renew_if.ensures.entries _
+    c.note_call.ensures

@@ -6,6 +6,5 @@ pub invariant_of-self : goal.invariant_of-self
 invariant_of-self g c =
     let old : Seen =
     record { core = c.self.inside.core; accounts = c.self.inside.accounts.entries } in
-    let new : Seen = record { core = c.apply.new.self; accounts = c.erase.new.accounts.entries } in
-    desk-died old new c.self.invariant _ _ c.c.view_is c.in-Ok.applied c.in-Ok.ensures.ok
+    desk-died old _ _ c.self.invariant _ _ c.c.view_is c.in-Ok.applied c.in-Ok.ensures.ok
     c.erase.ensures

@@ -7,7 +7,5 @@ pub invariant_of-self : goal.invariant_of-self
 invariant_of-self g c =
     let old : Seen =
     record { core = c.self.inside.core; accounts = c.self.inside.accounts.entries } in
-    let new : Seen =
-    record { core = c.self.inside.core; accounts = c.write.new.accounts.entries } in
-    desk-took old new c.self.invariant _ _ c.c.view_is _ c.self.view_is c.requires
+    desk-took old _ _ c.self.invariant _ _ c.c.view_is _ c.self.view_is c.requires
     c.in-Some.account c.in-Some.ensures refl c.write.ensures

@@ -1,5 +1,7 @@
 use Rattle.std.proofs.Common.{arith, refl}
+use Rattle.pt_hub.specs.Passes.{PassView}
 use Rattle.pt_hub.specs.Hubs.{HubView}
+use Rattle.pt_hub.proofs.HubEvents.{sends}
 use Rattle.pt_hub.proofs.HubLemmas.{hub-more}
 use Rattle.pt_hub.proofs.hub.Hub.call.Goals as goal
 
@@ -21,6 +23,28 @@ invariant_of-self g c =
           c.self.inside.opened;
       booked = c.count.new.self.total;
     } in
-    hub-more old new c.self.inside.tally c.count.new.self _ c.in-Ok.applied c.self.invariant
-    c.len-place.ensures.starts c.in-Ok.ensures.ok
+    hub-more old new c.self.inside.tally c.count.new.self c.self.invariant _ c.in-Ok.applied
+    c.len-place.ensures.starts c.len-place.ensures.legal c.in-Ok.ensures.ok
     c.count.ensures.outer (omega (arith, c.count.ensures.left)) refl c.count.ensures.total
+
+pub returns-in-Ok-clause-ok : goal.returns-in-Ok-clause-ok
+returns-in-Ok-clause-ok g c =
+    let old : HubView =
+    record {
+      desk = c.self.inside.desk;
+      marks = c.self.inside.marks.entries;
+      opened =
+          c.self.inside.opened;
+      booked = c.self.inside.tally.total;
+    } in
+    let before : PassView =
+    record {
+      client = c.pass.inside.client;
+      priority = c.pass.inside.priority;
+      receipts = c.pass.inside.receipts.items;
+    } in
+    rw (← c.self.view_is, ← c.pass.view_is)
+    (sends old before c.args.call c.call.new.self c.count.new.self.total c.in-Ok.applied
+    c.in-Ok.ensures.ok c.in-Ok.ensures.first c.in-Ok.ensures.account c.len-place.result
+    c.len-place.ensures.value c.is_some.result c.is_some.ensures c.reserve.new.self.items
+    c.reserve.ensures.items c.push_reserved.new.self.items c.push_reserved.ensures.items)

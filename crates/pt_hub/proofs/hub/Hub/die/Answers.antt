@@ -1,6 +1,6 @@
 use Rattle.std.proofs.Common.{arith, refl}
 use Rattle.pt_hub.specs.Hubs.{HubView}
-use Rattle.pt_hub.proofs.HubLemmas.{hub-more}
+use Rattle.pt_hub.proofs.HubLemmas.{hub-died}
 use Rattle.pt_hub.proofs.hub.Hub.die.Goals as goal
 
 pub invariant_of-self : goal.invariant_of-self
@@ -21,6 +21,6 @@ invariant_of-self g c =
           c.self.inside.opened;
       booked = c.count.new.self.total;
     } in
-    hub-more old new c.self.inside.tally c.count.new.self _ c.in-Some.field-0 c.self.invariant
+    hub-died old new c.self.inside.tally c.count.new.self c.self.invariant _ c.in-Some.field-0
     c.len-died_at.ensures.starts c.in-Some.ensures.some
     c.count.ensures.outer (omega (arith, c.count.ensures.left)) refl c.count.ensures.total

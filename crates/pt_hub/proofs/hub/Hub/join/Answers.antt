@@ -1,5 +1,6 @@
 use Rattle.std.proofs.Common.{arith, refl}
 use Rattle.pt_hub.specs.Hubs.{HubView}
+use Rattle.pt_hub.proofs.HubEvents.{joins}
 use Rattle.pt_hub.proofs.HubLemmas.{hub-more}
 use Rattle.pt_hub.proofs.hub.Hub.join.Goals as goal
 
@@ -21,7 +22,22 @@ invariant_of-self g c =
           c.self.inside.opened;
       booked = c.count.new.self.total;
     } in
-    hub-more old new c.self.inside.tally c.count.new.self _ c.in-Ok.field-0 c.self.invariant
-    c.len-place.ensures.starts c.in-Ok.ensures.ok
+    hub-more old new c.self.inside.tally c.count.new.self c.self.invariant _ c.in-Ok.field-0
+    c.len-place.ensures.starts c.len-place.ensures.legal c.in-Ok.ensures.ok
     (omega (arith, c.count.ensures.outer, c.part-share.ensures.outer)) (omega
     (arith, c.count.ensures.left, c.part-share.ensures.parts)) refl c.count.ensures.total
+
+pub returns-in-Ok-clause-ok : goal.returns-in-Ok-clause-ok
+returns-in-Ok-clause-ok g c =
+    let old : HubView =
+    record {
+      desk = c.self.inside.desk;
+      marks = c.self.inside.marks.entries;
+      opened =
+          c.self.inside.opened;
+      booked = c.self.inside.tally.total;
+    } in
+    rw (← c.self.view_is)
+    (joins old c.args.priority c.join.new.self c.count.new.self.total c.in-Ok.field-0
+    c.in-Ok.ensures.ok c.in-Ok.ensures.account c.len-place.result c.len-place.ensures.value
+    c.new.result.items c.new.ensures.items)

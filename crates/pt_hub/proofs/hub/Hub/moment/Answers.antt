@@ -21,6 +21,6 @@ invariant_of-self g c =
           c.self.inside.opened;
       booked = c.count.new.self.total;
     } in
-    hub-more old new c.self.inside.tally c.count.new.self _ c.in-Ok.field-0 c.self.invariant
-    c.len.ensures.starts c.in-Ok.ensures.ok
+    hub-more old new c.self.inside.tally c.count.new.self c.self.invariant _ c.in-Ok.field-0
+    c.len.ensures.starts c.len.ensures.legal c.in-Ok.ensures.ok
     c.count.ensures.outer (omega (arith, c.count.ensures.left)) refl c.count.ensures.total
