@@ -2,6 +2,7 @@ use pt_types::{Call, Deadline, MutexKind, Name};
 
 mod play;
 mod rows;
+mod seals;
 mod sessions;
 mod threads;
 

@@ -3,7 +3,9 @@
 ghost use Rattle.std.specs.Prelude.{◌≡◌, ◌^◌};
 
 use super::{Word, call};
-use pt_hub::{Answer, ClockPass, CloseFault, CloseRefused, Closed, Hub, Left, Pass, Receipt, Sent};
+use pt_hub::{
+    Answer, Audience, ClockPass, CloseFault, CloseRefused, Closed, Hub, Left, Pass, Receipt, Sent,
+};
 use pt_types::{ClientId, Clock, Deadline, Moment, Outcome, Priority, Refusal};
 use std::alloc::Global;
 use std::marker::Brand;
@@ -36,8 +38,20 @@ pub(super) enum Step {
         sec: u64,
         nsec: u64,
     },
+    // The moment one second, so many times.
+    Moments {
+        count: u64,
+    },
     LeastDeadline {
         sec: u64,
+    },
+    // The entry at a place answers a call of this client, or nobody's if it was dropped by a seal.
+    Answers {
+        place: u64,
+        client: Option<u64>,
+    },
+    Seals {
+        at: u64,
     },
 }
 
@@ -94,6 +108,22 @@ fn advances<L: Ledger>(hub: &mut Hub<L>, clock: &mut ClockPass<L>, sec: u64, nse
     }
 }
 
+fn advances_often<L: Ledger>(hub: &mut Hub<L>, clock: &mut ClockPass<L>, count: u64) -> bool {
+    for _ in 0..count {
+        if !advances(hub, clock, 1, 0) {
+            return false;
+        }
+    }
+    true
+}
+
+fn audience(client: Option<u64>) -> Audience {
+    match client {
+        Some(client) => Audience::Client(ClientId(client)),
+        None => Audience::Nobody,
+    }
+}
+
 // Whether what a client does comes out as it must.
 fn comes_out<L: Ledger>(hub: &mut Hub<L>, pass: &mut Pass<L>, step: Step) -> bool {
     match step {
@@ -125,7 +155,10 @@ fn plays<L: Ledger>(
             None => false,
         },
         Step::Moment { sec, nsec } => advances(hub, clock, sec, nsec),
+        Step::Moments { count } => advances_often(hub, clock, count),
         Step::LeastDeadline { sec } => hub.least_deadline(Clock::Real) == Deadline::new(sec, 0),
+        Step::Answers { place, client } => hub.audience(place) == audience(client),
+        Step::Seals { at } => hub.seal() == Ok(at),
     }
 }
 
