@@ -6,7 +6,7 @@ pub mod AccountLemmas
 pub mod SealedDesks
 -- ReadingLemmas: what is read off an account
 pub mod ReadingLemmas
--- SeenLemmas: the same of a desk, or by a number, that equals another
+-- SeenLemmas: the same, for a desk and a client that are each written in two ways
 pub mod SeenLemmas
 -- DeskLemmas: a desk stays one at each event
 pub mod DeskLemmas

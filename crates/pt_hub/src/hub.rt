@@ -103,7 +103,7 @@ impl<L: Ledger, A: Allocator + Copy> Hub<L, A> {
         }
     }
 
-    /// A client joins.
+    /// A client joins. The history is sealed first if the join needs the room.  [profile]
     pub fn join(&mut self, priority: Priority) -> Result<Pass<L, A>, Refusal>
         ensures ok { IfOk result (λ pass. Joins self.old priority self.new pass) }
         ensures err { IfErr result (IsRefusedAs (refusal_with_seals (kept self.old.desk).limit
@@ -126,7 +126,8 @@ impl<L: Ledger, A: Allocator + Copy> Hub<L, A> {
         }
     }
 
-    /// A client makes a call, which is in its receipts from then on.
+    /// A client makes a call, which is in its receipts from then on. The history is sealed first if
+    /// the call needs the room.  [profile]
     pub fn call(&mut self, pass: &mut Pass<L, A>, call: Call) -> Result<Sent, Refusal>
         ensures ok { IfOk result (λ sent. Sends self.old pass.old call self.new pass.new sent) }
         ensures err { IfErr result (IsRefusedAs
@@ -217,7 +218,8 @@ impl<L: Ledger, A: Allocator + Copy> Hub<L, A> {
         }
     }
 
-    /// A reading of a clock is handed in.
+    /// A reading of a clock is handed in. The history is sealed first if the reading needs the
+    /// room.  [profile]
     pub fn moment(
         &mut self,
         pass: &mut ClockPass<L, A>,

@@ -1,5 +1,6 @@
 use pt_types::{Call, Deadline, MutexKind, Name};
 
+mod growth;
 mod play;
 mod rows;
 mod seals;

@@ -91,9 +91,9 @@ fn row_24_sealed(rt: HostRuntime) {
     assert!(rt; is_played(rt.alloc(), &ROW_24_SEALED));
 }
 
-// A history of at most 1,048,576 entries runs on past them. Of these five stay reserved: two for the
-// Deaths, and three for the open lock. So the moment at place 1,048,571 is the first one for which
-// there is no room, and seals: the Grant at place 4 is there before it, and gone after it.
+// A history of at most 1,048,576 entries runs on past them. Five of these stay reserved: two for
+// the Deaths, and three for the open lock. So the moment at place 1,048,571 is the first one for
+// which there is no room, and seals: the Grant at place 4 is there before it, and gone after it.
 const RUNS_ON: Row = Row {
     steps: &[
         Step::Sends {
