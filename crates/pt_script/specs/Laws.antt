@@ -19,8 +19,8 @@ pub record HasLine (s : Script) (t : Told) : Type 0 where
   pub noted : line_at s.calls t.place ≡ Some line
   pub own : number_of s.clients line.who ≡ Some t.client
 
--- Lines of answers: each answer of the history that the first lines lead to has its line, also after
--- all lines. So those from before a seal have theirs too.
+-- Lines of answers: each answer of the history that the first lines lead to has its line, also
+-- after all lines. So those from before a seal have theirs too.
 abbrev pub AnswersHaveLines : Type 0
 AnswersHaveLines =
     (lines more : List ScriptLine) (s last : Script) (text rest : List ℕ)

@@ -7,9 +7,9 @@
 //! whole, or, if the writer failed or memory was refused, to all that had come before the latest
 //! read. If the core lacked memory for a line, the text may have ENOMEM for it.
 //!
-//! If an event needs more room than the core's limit leaves, the history is sealed first: its entries
-//! are dropped, and it goes on from its seal. So there are never more than 1,048,576 entries, however
-//! long the script is. What is stored of the clients' names grows with the names alone.
+//! If an event needs more room than the core's limit leaves, the history is sealed first: its
+//! entries are dropped, and it goes on from its seal. So there are never more than 1,048,576
+//! entries, however long the script is. What is stored of clients grows with their names alone.
 //!
 //! `answer` is the program `ptserver script` over any reader, writer and writer of errors: its
 //! contract has the exit status and the report of a fault too.
