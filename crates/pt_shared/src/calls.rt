@@ -38,9 +38,7 @@ impl<L: Ledger> Shared<L> {
             Ok(pass) => {
                 room.law_fits();
                 room.attach(session, pass.client());
-                let woken = room.answered_since(place);
-                drop(room);
-                self.wake(woken);
+                self.ring_since(&room, place);
                 Ok(pass)
             }
             Err(refusal) => Err(refusal),
@@ -65,9 +63,7 @@ impl<L: Ledger> Shared<L> {
         match room.hub.call(pass, call) {
             Ok(sent) => {
                 room.law_fits();
-                let woken = room.answered_since(place);
-                drop(room);
-                self.wake(woken);
+                self.ring_since(&room, place);
                 Ok(sent)
             }
             Err(refusal) => Err(refusal),
@@ -119,19 +115,13 @@ impl<L: Ledger> Shared<L> {
         match room.hub.call(pass, call) {
             Ok(sent) => {
                 room.law_fits();
-                let woken = room.answered_since(place);
+                self.ring_since(&room, place);
                 match room.hub.take(pass) {
                     Some(answer) => {
                         room.law_fits();
-                        drop(room);
-                        self.wake(woken);
                         Ok((sent, Some(answer)))
                     }
-                    None => {
-                        drop(room);
-                        self.wake(woken);
-                        Ok((sent, None))
-                    }
+                    None => Ok((sent, None)),
                 }
             }
             Err(refusal) => Err(refusal),
@@ -179,15 +169,12 @@ impl<L: Ledger> Shared<L> {
         ensures dies { Made (λ old new. Leaves old new pass result) }
     {
         let mut room = self.room.lock(rt);
+        room.detach(pass.client());
         room.law_fits();
         let place = room.hub.len();
-        let client = pass.client();
         let left = room.hub.die(pass);
         room.law_fits();
-        room.detach(client);
-        let woken = room.answered_since(place);
-        drop(room);
-        self.wake(woken);
+        self.ring_since(&room, place);
         left
     }
 
@@ -214,9 +201,7 @@ impl<L: Ledger> Shared<L> {
         match room.hub.moment(pass, clock, moment) {
             Ok(()) => {
                 room.law_fits();
-                let woken = room.answered_since(place);
-                drop(room);
-                self.wake(woken);
+                self.ring_since(&room, place);
                 Ok(())
             }
             Err(refusal) => Err(refusal),

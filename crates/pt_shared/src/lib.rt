@@ -12,6 +12,5 @@ mod bells;
 mod calls;
 mod sessions;
 mod shared;
-mod woken;
 
 pub use shared::{Room, Shared};

@@ -4,7 +4,7 @@ ghost use Rattle.pt_hub.specs.Hubs.{Fits};
 
 use crate::attached::Attached;
 use crate::bells::{Bell, bells};
-use pt_hub::{Hub, SessionId};
+use pt_hub::{Audience, Hub, SessionId};
 use std::sync::ledger::Ledger;
 use std::sync::{Mutex, Wait};
 
@@ -65,12 +65,31 @@ impl<L: Ledger> Shared<L> {
         self.bell_of(session).ring();
     }
 
-    /// Wakes all sessions.
-    pub(crate) fn ring_all(&self) {
+    // Wakes all sessions.
+    fn ring_all(&self) {
         for bell in &self.bells {
             bell.ring();
         }
         self.bell.ring();
+    }
+
+    // Wakes the sessions whose calls the entry at a place answers.
+    fn ring_by(&self, room: &Room<L>, place: u64) {
+        match room.hub.audience(place) {
+            Audience::Nobody => {}
+            Audience::Client(client) => match room.session_of(client) {
+                Some(session) => self.ring(session),
+                None => self.ring_all(),
+            },
+            Audience::Everybody => self.ring_all(),
+        }
+    }
+
+    /// Wakes the sessions whose calls were answered by the entries from this place on.
+    pub(crate) fn ring_since(&self, room: &Room<L>, place: u64) {
+        for place in place..room.hub.len() {
+            self.ring_by(room, place);
+        }
     }
 
     /// How often a session's bell was rung.
