@@ -1,5 +1,5 @@
 -- Walked: a chain that is followed some steps from its head.
-use Rattle.std.proofs.Common.{◌≡◌, ◌+◌, ◌≤◌, ◌∙◌, ℕ, List, [], ◌∷◌, length, Option, Some, None, sym, subst, arith}
+use Rattle.std.proofs.Common.{◌≡◌, ◌+◌, ◌≤◌, ◌∙◌, ℕ, List, [], ◌∷◌, length, Option, Some, None, sym, ap, subst, arith}
 use Rattle.pt_table.specs.declared.objects.ObjectRow.{ObjectRow}
 use Rattle.pt_table.specs.Linked.{is_linked, next_number, number_before, IsChain, Leads}
 use Rattle.pt_table.proofs.Lookups.{some_inj, none_some}
@@ -29,11 +29,8 @@ module _ {T : Type 0} (rows : List (ObjectRow T)) where
       go [] r sum = absurd (none_some (sym r.1 ∙ e))
       go (n ∷ more) r sum = (
         more,
-        (
-          Some n,
-          subst (λ m. Leads (next_number rows) (number_before rows) (is_linked rows)
-              (Some n) (next_number rows m) more) (sym (some_inj (sym e ∙ r.1.0))) r.1.4,
-        ),
+        (Some n, subst (λ m. Leads (next_number rows) (number_before rows) (is_linked rows)
+            (Some n) (next_number rows m) more) (sym (some_inj (sym e ∙ r.1.0))) r.1.4),
         omega (arith, sum),
       )
 
