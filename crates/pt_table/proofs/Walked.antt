@@ -29,8 +29,11 @@ module _ {T : Type 0} (rows : List (ObjectRow T)) where
       go [] r sum = absurd (none_some (sym r.1 ∙ e))
       go (n ∷ more) r sum = (
         more,
-        (Some n, subst (λ m. Leads (next_number rows) (number_before rows) (is_linked rows)
-            (Some n) (next_number rows m) more) (sym (some_inj (sym e ∙ r.1.0))) r.1.4),
+        (
+          Some n,
+          subst (λ m. Leads (next_number rows) (number_before rows) (is_linked rows)
+              (Some n) (next_number rows m) more) (sym (some_inj (sym e ∙ r.1.0))) r.1.4,
+        ),
         omega (arith, sum),
       )
 
