@@ -16,8 +16,8 @@ mod Links
 mod Chained
 -- Places: where a number is listed, and what is left once it is added or taken out
 mod Places
--- Carried: the first entry, carried past blocks of entries to the end
-mod Carried
+-- Struck: entries of which some are struck out, and the others
+mod Struck
 -- Entered: a number put first in a chain
 mod Entered
 -- Taken: a number taken out of a chain

@@ -1,5 +1,5 @@
 -- Slots: where rows are, and the list of rows that they make.
-use Rattle.std.specs.Prelude.{◌≡◌, ◌≢◌, ◌≤◌, ℕ, List, [], ◌∷◌, Option, Some, None, IsSome, length, nat_eq, filter_map, slice_get, slice_index_or, slice_set}
+use Rattle.std.specs.Prelude.{◌≡◌, ◌≢◌, ◌≤◌, ◌+◌, ℕ, List, [], ◌∷◌, Option, Some, None, IsSome, length, nat_eq, filter_map, slice_get, slice_index_or, slice_set}
 use Rattle.std.specs.Option.{option_and_then, option_map}
 use Rattle.std.specs.Map.{lookup, remove_entry}
 
@@ -12,14 +12,28 @@ abbrev pub Distinct : List (ℕ × ℕ) → Type 0
 Distinct [] = Unit {0}
 Distinct (e ∷ es) = (lookup (nat_eq e.0) es ≡ None) × Distinct es
 
--- the number is the one at this index of the entries
-abbrev pub IsListedAt : List (ℕ × ℕ) → ℕ → ℕ → Type 0
-IsListedAt entries number index = option_map (λ e. e.0) (slice_get entries index) ≡ Some number
+-- an entry with its slot, if it is not struck out
+abbrev pub with_slot : ℕ × Option ℕ → Option (ℕ × ℕ)
+with_slot e = option_map (λ slot. (e.0, slot)) e.1
+
+-- the entries that are not struck out, with their slots
+abbrev pub left_of : List (ℕ × Option ℕ) → List (ℕ × ℕ)
+left_of entries = filter_map with_slot entries
+
+-- the number is the one at this index of the entries, and is not struck out
+abbrev pub IsLeftAt : List (ℕ × Option ℕ) → ℕ → ℕ → Type 0
+IsLeftAt entries number index =
+    (slot : ℕ) × (slice_get entries index ≡ Some (number, Some slot))
 
 -- each number has the same slot in both lists, and the second has none twice
 abbrev pub AreNumbers : List (ℕ × ℕ) → List (ℕ × ℕ) → Type 0
 AreNumbers slots order =
     ((n : ℕ) → lookup (nat_eq n) slots ≡ lookup (nat_eq n) order) × Distinct order
+
+-- the same of those that are not struck out, and so many are
+abbrev pub AreListed : List (ℕ × ℕ) → List (ℕ × Option ℕ) → ℕ → Type 0
+AreListed slots order struck =
+    AreNumbers slots (left_of order) × (length order ≡ struck + length (left_of order))
 
 -- the numbers with their slots, in the order in which they were added, and for how many more there
 -- is room

@@ -1,49 +1,81 @@
 //! The numbers of the rows, and the slot of each row.
 
-ghost use Rattle.std.specs.Prelude.{◌≡◌, ◌<◌, ◌++◌, [], ◌∷◌, None, IsSome, IfNone, OnOk, OnSome, drop, length, remove, take, vec_len, nat_eq, slice_get};
+ghost use Rattle.std.specs.Prelude.{◌≡◌, ◌<◌, ◌==◌, ◌+◌, ◌&&◌, ◌++◌, [], ◌∷◌, is_some, None, IsSome, IfNone, OnOk, OnSome, length, vec_len, nat_eq, slice_get};
+ghost use Rattle.std.specs.Option.{option_and_then};
 ghost use Rattle.std.specs.Map.{lookup};
-ghost use Rattle.pt_table.specs.Slots.{IsListedAt, without_number};
+ghost use Rattle.pt_table.specs.Slots.{left_of, with_slot, without_number, Distinct, IsLeftAt};
 
 use indexmap::IndexMap;
 use std::alloc::{AllocError, Allocator};
 use std::hash::{BuildHasherDefault, FoldHasher};
 use std::marker::Model;
 
-/// How many entries are moved at once.
-const BLOCK: usize = 256;
+/// A number in the order in which it was added, with the slot of its row; None if it was taken out.
+type Listed = (u64, Option<usize>);
 
 /// The numbers in the order in which they were added, each with the slot of its row.
 ///
-/// A number is found by its hash. One that is taken out is also found in the order, by a binary
-/// search if the numbers rise, so that taking it out moves the entries behind it and no more.
+/// A number is found by its hash. One that is taken out is struck out in the order, and those that
+/// are struck out leave it once they are more than the others: to move all entries behind each one
+/// that is taken out would cost more.
 #[derive(Drop)]
 pub(crate) struct Numbers<A: Allocator + Copy> {
-    order: Vec<(u64, usize), A>,
+    order: Vec<(u64, Option<usize>), A>,
+    /// How many entries of the order are struck out.
+    struck: usize,
     slots: IndexMap<u64, usize, BuildHasherDefault<FoldHasher>, A>,
 }
 
 impl<A: Allocator + Copy> Model for Numbers<A> {
     ghost use Rattle.std.specs.Prelude.{◌-◌, min, vec_capacity, vec_len};
     ghost use Rattle.indexmap.specs.IndexMap.{spare};
-    ghost use Rattle.pt_table.specs.Slots.{AreNumbers, Numbering};
+    ghost use Rattle.pt_table.specs.Slots.{left_of, AreListed, Numbering};
 
     ghost Value = { Numbering };
 
     ghost view = { λ n. record {
-      entries = n.order.items;
+      entries = left_of n.order.items;
       room = min (spare n.slots) (vec_capacity n.order - vec_len n.order);
     } };
 
-    ghost invariant = { λ n. AreNumbers n.slots.entries n.order.items };
+    ghost invariant = { λ n. AreListed n.slots.entries n.order.items n.struck };
+}
+
+// Whether an entry is the one of a number, and is not struck out.
+fn is_left(listed: &Listed, number: u64) -> bool
+    ensures { result ≡ (listed.now.0 == number) && is_some listed.now.1 }
+{
+    listed.0 == number && listed.1.is_some()
+}
+
+// An entry with its slot, if there is one that is not struck out.
+fn with_slot(listed: Option<Listed>) -> Option<(u64, usize)>
+    ensures { result ≡ option_and_then with_slot listed }
+{
+    let (number, slot) = listed?;
+    match slot {
+        Some(slot) => Some((number, slot)),
+        None => None,
+    }
+}
+
+// The entry at an index, struck out or not.
+fn entry_at(entries: &[Listed], index: usize) -> Option<Listed>
+    ensures { result ≡ slice_get entries.now index }
+{
+    match entries.get(index) {
+        Some(listed) => Some(*listed),
+        None => None,
+    }
 }
 
 // The index of a number that is listed, found by a look at each entry.
-fn scan(entries: &[(u64, usize)], number: u64) -> usize
-    requires { IsSome (lookup (nat_eq number) entries.now) }
-    ensures { IsListedAt entries.now number result }
+fn scan(entries: &[Listed], number: u64) -> usize
+    requires { IsSome (lookup (nat_eq number) (left_of entries.now)) }
+    ensures { IsLeftAt entries.now number result }
 {
     for i in 0..entries.len() {
-        if entries[i].0 == number {
+        if is_left(&entries[i], number) {
             return i;
         }
     }
@@ -51,49 +83,68 @@ fn scan(entries: &[(u64, usize)], number: u64) -> usize
 }
 
 // The index of a number that is listed. It is found by a binary search if the numbers rise.
-fn index_of(entries: &[(u64, usize)], number: u64) -> usize
-    requires { IsSome (lookup (nat_eq number) entries.now) }
-    ensures { IsListedAt entries.now number result }
+fn index_of(entries: &[Listed], number: u64) -> usize
+    requires { IsSome (lookup (nat_eq number) (left_of entries.now)) }
+    ensures { IsLeftAt entries.now number result }
 {
     let near = entries.partition_point(|entry| entry.0 < number);
-    match entries.get(near) {
-        Some(entry) if entry.0 == number => near,
+    match entry_at(entries, near) {
+        Some(listed) if is_left(&listed, number) => near,
         _ => scan(entries, number),
     }
 }
 
-// Takes the first entry to the end.
-fn turn(entries: &mut [(u64, usize)])
-    ensures { entries.new ≡ drop 1 entries.old ++ take 1 entries.old }
+// The entry at an index of those that are not struck out, found by a look at each entry.
+fn nth_left(entries: &[Listed], index: usize) -> Option<(u64, usize)>
+    ensures { result ≡ slice_get (left_of entries.now) index }
 {
-    if !entries.is_empty() {
-        entries.rotate_left(1);
+    let mut before = index;
+    for i in 0..entries.len() {
+        if let Some(slot) = entries[i].1 {
+            if before == 0 {
+                return Some((entries[i].0, slot));
+            }
+            before -= 1;
+        }
     }
+    None
 }
 
-// Takes the first entry to the end, past one block of entries after the other: a long run is slow
-// to move by one place.
-fn first_to_end(entries: &mut [(u64, usize)])
-    ensures { entries.new ≡ drop 1 entries.old ++ take 1 entries.old }
+// Strikes a number out that is listed.
+fn strike<A: Allocator + Copy>(order: &mut Vec<(u64, Option<usize>), A>, number: u64)
+    requires listed { IsSome (lookup (nat_eq number) (left_of order.old.items)) }
+    requires once { Distinct (left_of order.old.items) }
+    ensures left { left_of order.new.items ≡ without_number (left_of order.old.items) number }
+    ensures count { length (left_of order.old.items) ≡ length (left_of order.new.items) + 1 }
+    ensures len { vec_len order.new ≡ vec_len order.old }
 {
-    if entries.len() <= BLOCK {
-        turn(entries);
-        return;
-    }
-    let (block, _) = entries.split_at_mut(BLOCK);
-    turn(block);
-    let (_, behind) = entries.split_at_mut(BLOCK - 1);
-    first_to_end(behind);
+    let index = index_of(order.as_slice(), number);
+    order[index] = (number, None);
 }
 
-// Takes the entry at an index out.
-fn take_at<A: Allocator + Copy>(entries: &mut Vec<(u64, usize), A>, index: usize)
-    requires { index < vec_len entries.old }
-    ensures { entries.new.items ≡ remove entries.old.items index }
+// Takes those that are struck out from the order.
+fn pack<A: Allocator + Copy>(order: &mut Vec<(u64, Option<usize>), A>)
+    ensures left { left_of order.new.items ≡ left_of order.old.items }
+    ensures len { vec_len order.new ≡ length (left_of order.old.items) }
 {
-    let (_, behind) = entries.as_mut_slice().split_at_mut(index);
-    first_to_end(behind);
-    entries.pop();
+    order.retain(|entry| entry.1.is_some());
+}
+
+// Takes those that are struck out from the order if they are more than the others, and returns how
+// many are struck out then.
+fn pack_if_sparse<A: Allocator + Copy>(
+    order: &mut Vec<(u64, Option<usize>), A>,
+    struck: usize,
+) -> usize
+    requires { vec_len order.old ≡ struck + length (left_of order.old.items) }
+    ensures left { left_of order.new.items ≡ left_of order.old.items }
+    ensures len { vec_len order.new ≡ result + length (left_of order.old.items) }
+{
+    if struck <= order.len() - struck {
+        return struck;
+    }
+    pack(order);
+    0
 }
 
 impl<A: Allocator + Copy> Numbers<A> {
@@ -103,6 +154,7 @@ impl<A: Allocator + Copy> Numbers<A> {
     {
         Numbers {
             order: Vec::new(alloc),
+            struck: 0,
             slots: IndexMap::new(alloc),
         }
     }
@@ -111,7 +163,7 @@ impl<A: Allocator + Copy> Numbers<A> {
     pub(crate) fn len(&self) -> usize
         ensures { result ≡ length self.now.entries }
     {
-        self.order.len()
+        self.order.len() - self.struck
     }
 
     /// The slot of a number.
@@ -128,10 +180,10 @@ impl<A: Allocator + Copy> Numbers<A> {
     pub(crate) fn get_index(&self, index: usize) -> Option<(u64, usize)>
         ensures { result ≡ slice_get self.now.entries index }
     {
-        match self.order.get(index) {
-            Some(entry) => Some(*entry),
-            None => None,
+        if self.struck > 0 {
+            return nth_left(self.order.as_slice(), index);
         }
+        with_slot(entry_at(self.order.as_slice(), index))
     }
 
     /// Makes room for one more number.
@@ -149,7 +201,7 @@ impl<A: Allocator + Copy> Numbers<A> {
         requires new { lookup (nat_eq number) self.old.entries ≡ None }
         ensures { self.new.entries ≡ self.old.entries ++ (number, slot) ∷ [] }
     {
-        self.order.push_reserved((number, slot));
+        self.order.push_reserved((number, Some(slot)));
         self.slots.insert(number, slot).unwrap();
     }
 
@@ -160,8 +212,8 @@ impl<A: Allocator + Copy> Numbers<A> {
         ensures left { OnSome result (self.new.entries ≡ without_number self.old.entries number) }
     {
         let slot = self.get(number)?;
-        let index = index_of(self.order.as_slice(), number);
-        take_at(&mut self.order, index);
+        strike(&mut self.order, number);
+        self.struck = pack_if_sparse(&mut self.order, self.struck + 1);
         let _ = self.slots.swap_remove(&number);
         Some(slot)
     }

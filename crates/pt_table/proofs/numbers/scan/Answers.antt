@@ -1,14 +1,25 @@
+use Rattle.std.proofs.Common.{◌∙◌, None, refl, sym}
 use Rattle.std.proofs.lemmas.Option.{slice_get-get_or}
-use Rattle.pt_table.proofs.Places.{unlisted-below, unlisted-next}
+use Rattle.pt_table.proofs.Struck.{left-at, past-other, not-past}
 use Rattle.pt_table.proofs.numbers.scan.Goals as goal
+
+pub loop-i-init : goal.loop-i-init
+loop-i-init c = refl
 
 pub loop-i-preserved : goal.loop-i-preserved
 loop-i-preserved c =
-    unlisted-next c.args.number c.loop-i.i c.args.entries.now _
-    (slice_get-get_or c.args.entries.now c.loop-i.i (0, 0) c.loop-i-test.true)
-    c.if-entries-i.false c.loop-i.invariant
+    past-other c.args.number c.loop-i.i c.args.entries.now _
+    (slice_get-get_or c.args.entries.now c.loop-i.i (0, None) c.loop-i-test.true)
+    (sym c.is_left.ensures ∙ c.if-is_left.false)
+    ∙ c.loop-i.invariant
+
+pub returns-then-is_left : goal.returns-then-is_left
+returns-then-is_left c =
+    left-at c.args.number c.loop-i.i c.args.entries.now _
+    (slice_get-get_or c.args.entries.now c.loop-i.i (0, None) c.loop-i-test.true)
+    (sym c.is_left.ensures ∙ c.if-is_left.true)
 
 pub unreachable-requires : goal.unreachable-requires
 unreachable-requires c =
-    unlisted-below c.args.number c.loop-i.i c.args.entries.now c.loop-i-test.false
+    not-past c.args.number c.loop-i.i c.args.entries.now c.loop-i-test.false
     c.loop-i.invariant c.requires

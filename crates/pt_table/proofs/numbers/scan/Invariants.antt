@@ -1,8 +1,9 @@
-use Rattle.std.proofs.Common.{◌≡◌, ◌≢◌, ◌<◌, ℕ, Some}
-use Rattle.std.specs.Prelude.{slice_get}
+use Rattle.std.proofs.Common.{◌≡◌, nat_eq, drop}
+use Rattle.std.specs.Map.{lookup}
+use Rattle.pt_table.specs.Slots.{left_of}
 use Rattle.pt_table.proofs.numbers.scan.Given as goal
 
--- no entry so far has the number
 abbrev pub invariant-loop-i : goal.invariant-loop-i
 invariant-loop-i l =
-    (k : ℕ) (e : ℕ × ℕ) → k < l.i → slice_get l.entries k ≡ Some e → e.0 ≢ l.number
+    lookup (nat_eq l.fn.number) (left_of (drop l.i l.fn.entries))
+    ≡ lookup (nat_eq l.fn.number) (left_of l.fn.entries)

@@ -1,29 +1,30 @@
-use Rattle.std.proofs.Common.{◌∙◌, ap, arith}
-use Rattle.pt_table.specs.Slots.{without_number}
-use Rattle.pt_table.proofs.Places.{AreNumbers-taken, listed-within, remove-listed}
+use Rattle.std.proofs.Common.{◌∙◌, ap, arith, length, subst, sym}
+use Rattle.pt_table.specs.Slots.{left_of, AreNumbers}
+use Rattle.pt_table.proofs.Places.{AreNumbers-taken}
 use Rattle.pt_table.proofs.numbers.Numbers.take.Goals as goal
 
-pub take_at-requires : goal.take_at-requires
-take_at-requires g c =
+pub pack_if_sparse-self-inside-requires : goal.pack_if_sparse-self-inside-requires
+pack_if_sparse-self-inside-requires g c =
     omega (
       arith,
-      listed-within c.args.number c.index_of-index.result c.as_slice.result.now
-          c.index_of-index.ensures,
-      c.as_slice.ensures.len,
+      c.strike.ensures.len,
+      c.strike.ensures.count,
+      c.self.invariant.1,
+      c.self.inside.order.ok.0,
     )
 
 pub invariant_of-self : goal.invariant_of-self
 invariant_of-self g c =
-    let at = rw c.as_slice.ensures.value at c.index_of-index.ensures in
-    rw c.take_at.ensures
-    (AreNumbers-taken c.self.inside.slots.entries c.self.inside.order.items c.self.invariant
-    c.args.number c.index_of-index.result at c.swap_remove.new.self.entries
-    c.swap_remove.ensures.updates.0)
-
-pub returns-clause-left : goal.returns-clause-left
-returns-clause-left g c =
-    let at = rw c.as_slice.ensures.value at c.index_of-index.ensures in
-    c.take_at.ensures
-    ∙ remove-listed c.args.number c.index_of-index.result c.self.inside.order.items
-    c.self.invariant.1 at
-    ∙ ap (λ v. without_number v.entries c.args.number) c.self.view_is
+    let packed = c.pack_if_sparse-self-inside in
+    let left = packed.ensures.left ∙ c.strike.ensures.left in (
+      subst (AreNumbers c.swap_remove.new.self.entries) (sym left)
+          (AreNumbers-taken c.self.inside.slots.entries (left_of c.self.inside.order.items)
+          c.self.invariant.0 c.args.number c.swap_remove.new.self.entries
+          c.swap_remove.ensures.updates.0),
+      omega (
+        arith,
+        ap length packed.ensures.left,
+        packed.ensures.len,
+        packed.new.order.ok.0,
+      ),
+    )

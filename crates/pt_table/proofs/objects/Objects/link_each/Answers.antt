@@ -1,4 +1,4 @@
-use Rattle.std.proofs.Common.{◌≡◌, ◌-◌, ◌∷◌, ℕ, None, Some, length, take, sym, subst, arith}
+use Rattle.std.proofs.Common.{◌≡◌, ◌-◌, ◌∷◌, None, Some, take, sym, subst, arith}
 use Rattle.std.specs.Prelude.{slice_index_or}
 use Rattle.pt_table.specs.Linked.{IsChain}
 use Rattle.pt_table.proofs.Gathered.{IsGathered, gathers-none, last-free, last-there, gathers-more, gathers-all}

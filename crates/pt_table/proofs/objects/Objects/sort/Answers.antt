@@ -1,4 +1,4 @@
-use Rattle.std.proofs.Common.{◌≤◌, ◌<◌, ℕ, List, length, subst, arith}
+use Rattle.std.proofs.Common.{◌≤◌, ℕ, List, length, subst, arith}
 use Rattle.std.specs.Bool.{OnTrue}
 use Rattle.pt_table.specs.Linked.{IsChain}
 use Rattle.pt_table.proofs.Counted.{chain-fits}
