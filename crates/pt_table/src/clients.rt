@@ -167,6 +167,8 @@ impl<T, A: Allocator + Copy> Clients<T, A> {
         ensures rows { self.new ≡ without_client self.old number }
     {
         let row = take_out(&mut self.rows, &mut self.numbers, number)?;
+        // Each broadcast walks over all clients by their indices.
+        self.numbers.pack();
         let ClientRow { number: _, value } = row;
         Some(value)
     }

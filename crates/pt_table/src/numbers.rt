@@ -217,4 +217,14 @@ impl<A: Allocator + Copy> Numbers<A> {
         let _ = self.slots.swap_remove(&number);
         Some(slot)
     }
+
+    /// Takes those that are struck out from the order, so that a number is found by its index.
+    pub(crate) fn pack(&mut self)
+        ensures { self.new.entries ≡ self.old.entries }
+    {
+        if self.struck > 0 {
+            pack(&mut self.order);
+            self.struck = 0;
+        }
+    }
 }

@@ -23,8 +23,8 @@ returns-in_err-row-clause-rows g c =
 pub invariant_of-self-2 : goal.invariant_of-self-2
 invariant_of-self-2 g c =
     numbered_removed c.self.invariant c.args.self.now c.self.view_is c.args.number
-    c.take_out.new.rows.slots c.take_out.new.numbers.entries c.in_ok-row.row
-    c.in_ok-row.ensures.row c.in_ok-row.ensures.left
+    c.take_out.new.rows.slots c.pack.new.self.entries c.in_ok-row.row
+    c.in_ok-row.ensures.row (c.pack.ensures ∙ c.in_ok-row.ensures.left)
 
 pub returns-clause-value : goal.returns-clause-value
 returns-clause-value g c =
@@ -36,5 +36,5 @@ returns-clause-value g c =
 pub returns-clause-rows : goal.returns-clause-rows
 returns-clause-rows g c =
     view_removed c.self.invariant c.args.self.now c.self.view_is c.args.number
-    c.take_out.new.rows.slots c.take_out.new.numbers.entries c.in_ok-row.row
-    c.in_ok-row.ensures.row c.in_ok-row.ensures.left
+    c.take_out.new.rows.slots c.pack.new.self.entries c.in_ok-row.row
+    c.in_ok-row.ensures.row (c.pack.ensures ∙ c.in_ok-row.ensures.left)
