@@ -2,3 +2,9 @@
 pub mod Counts
 -- Places: the places of a stored history
 pub mod Places
+-- Kept: the invariant of a stored history
+pub mod Kept
+-- Growing: what a stored entry appends
+pub mod Growing
+-- Stable: stored entries stay the same while the records grow
+pub mod Stable

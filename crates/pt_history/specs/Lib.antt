@@ -1,1 +1,3 @@
+pub mod Compact
+pub mod Records
 pub mod Stored

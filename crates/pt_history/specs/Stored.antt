@@ -1,8 +1,13 @@
 -- Stored: what is seen of a stored history.
-use Rattle.std.specs.Prelude.{ℕ, ◌+◌, ◌≡◌, ◌≤◌, List, []}
+use Rattle.std.specs.Prelude.{ℕ, ◌+◌, ◌≡◌, ◌≤◌, List, [], map, length, vec_len}
+use Rattle.std.specs.List.{All}
 use Rattle.pt_types.specs.Limits.{most_places}
 use Rattle.pt_model.specs.declared.entry.Entry.{Entry}
 use Rattle.pt_model.specs.StartRows.{StartRows, no_rows, reads_of}
+use Rattle.pt_history.specs.declared.compact.Compact.{Compact}
+use Rattle.pt_history.specs.declared.records.Records.{Records}
+use Rattle.pt_history.specs.Compact.{base_of, decoded, IsStored}
+use Rattle.pt_history.specs.Records.{parts_of, HasRoom}
 use Rattle.pt_model.specs.Histories.{History, behind, outer}
 
 -- the rows that it begins with, the entries since, their greatest number, and for how many more
@@ -32,3 +37,14 @@ pub record IsWithin (at len room limit capacity : ℕ) : Type 0 where
 pub record IsCounted (start : StartRows) (entries : List Entry) (count : ℕ) : Type 0 where
   pub before : start.outer ≤ start.at
   pub all : count ≡ outer (behind (reads_of start) entries)
+
+-- the entries that stored ones are, in a history that begins at a place
+abbrev pub entries_of : {A : Type 0} → ℕ → Records A → List Compact → List Entry
+entries_of at records entries = map (decoded (base_of at) (parts_of records)) entries
+
+-- what each stored entry refers to is there, and so is the room for more
+pub record IsRecorded {A : Type 0} (records : Records A) (entries : List Compact)
+    (more : ℕ) : Type 0 where
+  pub stored : All (IsStored (parts_of records)) entries
+  pub room : HasRoom records more
+  pub few : vec_len records.wholes ≤ length entries

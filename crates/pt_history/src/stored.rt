@@ -1,6 +1,8 @@
 ghost use Rattle.std.specs.Prelude.{◌≡◌, if◌then◌else◌};
 ghost use Rattle.pt_model.specs.Histories.{is_forced};
 
+use crate::compact::{Compact, base};
+use crate::records::Records;
 use pt_model::{Entry, Start};
 use pt_types::Refusal;
 use std::alloc::{Allocator, Global};
@@ -11,7 +13,8 @@ use std::marker::Model;
 #[derive(Drop)]
 pub struct History<A: Allocator + Copy = Global> {
     start: Start<A>,
-    entries: Vec<Entry, A>,
+    entries: Vec<Compact, A>,
+    records: Records<A>,
     outer: u64,
     limit: u32,
     room: u64,
@@ -28,7 +31,7 @@ fn outer_in(entry: &Entry) -> u64
 }
 
 impl<A: Allocator + Copy> Model for History<A> {
-    ghost use Rattle.pt_history.specs.Stored.{Stored, IsWithin, IsCounted};
+    ghost use Rattle.pt_history.specs.Stored.{Stored, IsWithin, IsCounted, IsRecorded, entries_of};
     ghost use Rattle.std.specs.Prelude.{◌+◌, ◌≤◌, vec_len, vec_capacity};
     ghost use Rattle.pt_model.specs.StartRows.{rows_of};
 
@@ -36,18 +39,19 @@ impl<A: Allocator + Copy> Model for History<A> {
 
     ghost view = { λ h. record {
       start = rows_of h.start;
-      entries = h.entries.items;
+      entries = entries_of h.start.at h.records h.entries.items;
       limit = h.limit;
       room = h.room;
     } };
 
     ghost invariant = { λ h.
         IsWithin h.start.at (vec_len h.entries) h.room h.limit (vec_capacity h.entries)
-        × IsCounted (rows_of h.start) h.entries.items h.outer };
+        × IsCounted (rows_of h.start) (entries_of h.start.at h.records h.entries.items) h.outer
+        × IsRecorded h.records h.entries.items h.room };
 }
 
 impl<A: Allocator + Copy> History<A> {
-    ghost use Rattle.std.specs.Prelude.{◌≡◌, ◌↔◌, ◌+◌, ◌-◌, ◌<◌, ◌≤◌, [], ◌∷◌, ◌++◌, length, slice_get, option_copied, None, IsOk, OnOk, OnErr, IfErr, ◌≢◌};
+    ghost use Rattle.std.specs.Prelude.{◌≡◌, ◌↔◌, ◌+◌, ◌-◌, ◌<◌, ◌≤◌, [], ◌∷◌, ◌++◌, length, slice_get, None, IsOk, OnOk, OnErr, IfErr, ◌≢◌};
     ghost use Rattle.pt_types.specs.Limits.{most_places};
     ghost use Rattle.pt_model.specs.StartRows.{no_rows, rows_of};
     ghost use Rattle.pt_history.specs.Stored.{Stored, begun, past_of};
@@ -60,6 +64,7 @@ impl<A: Allocator + Copy> History<A> {
         History {
             start: Start::new(alloc),
             entries: Vec::new(alloc),
+            records: Records::new(alloc),
             outer: 0,
             limit,
             room: 0,
@@ -83,6 +88,9 @@ impl<A: Allocator + Copy> History<A> {
         if self.entries.reserve(room as usize).is_err() {
             return Err(Refusal::Enomem);
         }
+        if self.records.reserve(room).is_err() {
+            return Err(Refusal::Enomem);
+        }
         self.room = room;
         Ok(())
     }
@@ -97,7 +105,8 @@ impl<A: Allocator + Copy> History<A> {
             } }
     {
         self.outer += outer_in(&entry);
-        self.entries.push_reserved(entry);
+        let compact = self.records.store(base(self.start.at), entry);
+        self.entries.push_reserved(compact);
         self.room -= 1;
     }
 
@@ -111,6 +120,7 @@ impl<A: Allocator + Copy> History<A> {
         self.outer = start.outer;
         self.start = start;
         self.entries.clear();
+        self.records.clear();
     }
 
     /// What the history begins with.
@@ -122,7 +132,8 @@ impl<A: Allocator + Copy> History<A> {
 
     /// The number of entries since the Start.
     pub fn held(&self) -> u64
-        ensures { result ≡ length self.now.entries }
+        ensures held { result ≡ length self.now.entries }
+        ensures within { result ≤ self.now.limit }
     {
         self.entries.len() as u64
     }
@@ -142,22 +153,16 @@ impl<A: Allocator + Copy> History<A> {
     }
 
     /// The entry at a place, if there is one; places before the Start have none.
-    pub fn entry(&self, place: u64) -> Option<&Entry>
+    pub fn entry(&self, place: u64) -> Option<Entry>
         ensures before { place < self.now.start.at → result ≡ None }
         ensures since { self.now.start.at ≤ place
-            → option_copied result ≡ slice_get self.now.entries (place - self.now.start.at) }
+            → result ≡ slice_get self.now.entries (place - self.now.start.at) }
     {
         if place < self.start.at {
             return None;
         }
-        self.entries.get((place - self.start.at) as usize)
-    }
-
-    /// All entries since the Start, in order.
-    pub fn entries(&self) -> &[Entry]
-        ensures { result.now ≡ self.now.entries }
-    {
-        self.entries.as_slice()
+        let compact = *self.entries.get((place - self.start.at) as usize)?;
+        Some(self.records.entry(base(self.start.at), compact))
     }
 
     /// The greatest number of entries since the Start.

@@ -1,7 +1,6 @@
 //! Whose calls an entry answers.
 
 ghost use Rattle.std.specs.Prelude.{◌≡◌};
-ghost use Rattle.std.specs.Option.{option_copied};
 ghost use Rattle.pt_hub.specs.Desks.{kept};
 ghost use Rattle.pt_hub.specs.Audiences.{audience_at, caller_if, entry_at};
 
@@ -21,8 +20,8 @@ pub enum Audience {
 
 impl<A: Allocator + Copy> Desk<A> {
     // The entry at a place.
-    fn at(&self, place: u64) -> Option<&Entry>
-        ensures { option_copied result ≡ entry_at (kept self.now) place }
+    fn at(&self, place: u64) -> Option<Entry>
+        ensures { result ≡ entry_at (kept self.now) place }
     {
         self.entry(place)
     }
@@ -32,7 +31,7 @@ impl<A: Allocator + Copy> Desk<A> {
         ensures { result ≡ caller_if (entry_at (kept self.now) place) }
     {
         match self.at(place) {
-            Some(Entry::Call(client, _, _)) => Audience::Client(*client),
+            Some(Entry::Call(client, _, _)) => Audience::Client(client),
             _ => Audience::Everybody,
         }
     }
@@ -42,7 +41,7 @@ impl<A: Allocator + Copy> Desk<A> {
         ensures { result ≡ audience_at (kept self.now) place }
     {
         match self.at(place) {
-            Some(Entry::Grant(call, _) | Entry::Expire(call)) => self.caller(*call),
+            Some(Entry::Grant(call, _) | Entry::Expire(call)) => self.caller(call),
             Some(Entry::Trip(_)) => Audience::Everybody,
             _ => Audience::Nobody,
         }

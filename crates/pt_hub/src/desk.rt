@@ -1,6 +1,6 @@
 //! The core with an account for each living client.
 
-ghost use Rattle.std.specs.Prelude.{◌≡◌, ◌+◌, ◌-◌, ◌<◌, ◌≤◌, ℕ, [], Some, None, false, true, length, option_map, option_copied, slice_get, nat_eq, IfOk, IfErr, IfSome, IfNone, OnOk, OnErr, IsSome};
+ghost use Rattle.std.specs.Prelude.{◌≡◌, ◌+◌, ◌-◌, ◌<◌, ◌≤◌, ℕ, [], Some, None, false, true, length, option_map, slice_get, nat_eq, IfOk, IfErr, IfSome, IfNone, OnOk, OnErr, IsSome};
 ghost use Rattle.std.specs.Map.{lookup};
 ghost use Rattle.pt_types.specs.Limits.{most_entries, most_places};
 ghost use Rattle.pt_types.specs.Times.{deadline_nanos};
@@ -272,10 +272,10 @@ impl<A: Allocator + Copy> Desk<A> {
     }
 
     /// The entry at a place, if the history has it.
-    pub fn entry(&self, place: u64) -> Option<&Entry>
+    pub fn entry(&self, place: u64) -> Option<Entry>
         ensures before { place < (kept self.now).start.at → result ≡ None }
-        ensures since { (kept self.now).start.at ≤ place → option_copied result
-            ≡ slice_get (kept self.now).entries (place - (kept self.now).start.at) }
+        ensures since { (kept self.now).start.at ≤ place
+            → result ≡ slice_get (kept self.now).entries (place - (kept self.now).start.at) }
     {
         self.core.entry(place)
     }
@@ -300,7 +300,7 @@ impl<A: Allocator + Copy> Desk<A> {
         ensures { result ≡ own_at (kept self.now).start (kept self.now).entries c place }
     {
         match self.core.entry(place) {
-            Some(entry) => own_event(entry, c),
+            Some(entry) => own_event(&entry, c),
             None => None,
         }
     }

@@ -1,6 +1,6 @@
 //! Answers and entries, as the tables have them.
 
-ghost use Rattle.std.specs.Prelude.{None, ◌+◌, ◌-◌, ◌<◌, ◌≡◌, ◌≤◌, length, map, option_copied, slice_get};
+ghost use Rattle.std.specs.Prelude.{None, ◌+◌, ◌-◌, ◌<◌, ◌≡◌, ◌≤◌, length, map, slice_get};
 ghost use Rattle.pt_model.specs.Histories.{outer};
 ghost use Rattle.pt_model.specs.Answers.{outcome as said};
 ghost use Rattle.pt_state.specs.Adds.{past};
@@ -40,19 +40,12 @@ impl<Q: WaitList, A: Allocator + Copy> Body<Q, A> {
     }
 
     /// The entry at a place, if there is one; places before the Start have none.
-    pub fn entry(&self, place: u64) -> Option<&Entry>
+    pub fn entry(&self, place: u64) -> Option<Entry>
         ensures before { place < self.now.stored.start.at → result ≡ None }
-        ensures since { self.now.stored.start.at ≤ place → option_copied result
-            ≡ slice_get self.now.stored.entries (place - self.now.stored.start.at) }
+        ensures since { self.now.stored.start.at ≤ place
+            → result ≡ slice_get self.now.stored.entries (place - self.now.stored.start.at) }
     {
         self.state.stored.entry(place)
-    }
-
-    /// All entries, in order.
-    pub fn entries(&self) -> &[Entry]
-        ensures { result.now ≡ self.now.stored.entries }
-    {
-        self.state.stored.entries()
     }
 
     /// The answer to the call at a place.  [XSH, the call's page]

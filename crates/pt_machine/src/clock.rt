@@ -333,7 +333,7 @@ impl<Q: WaitList, A: Allocator + Copy> Body<Q, A> {
         ensures { result ≡ caller (past self.now) place }
     {
         match self.state.stored.entry(place)? {
-            Entry::Call(c, _, _) => Some(*c),
+            Entry::Call(c, _, _) => Some(c),
             _ => None,
         }
     }

@@ -42,7 +42,7 @@ impl<Q: WaitList, A: Allocator + Copy> Body<Q, A> {
     {
         let limit = self.state.stored.limit() as u64;
         let room = 1 + need;
-        let held = self.state.stored.entries().len() as u64;
+        let held = self.state.stored.held();
         limit < held + room && room <= limit
     }
 

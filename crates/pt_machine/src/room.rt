@@ -159,8 +159,8 @@ impl<Q: WaitList, A: Allocator + Copy> Body<Q, A> {
         ensures { let h = past self.now in
             result ≡ is_over_in self.now.stored.limit (h ▷ entry_for h event.now) }
     {
-        let place = self.state.stored.entries().len() as u64;
-        (self.state.stored.limit() as u64) < place + 1 + self.plan(event).need
+        let held = self.state.stored.held();
+        (self.state.stored.limit() as u64) < held + 1 + self.plan(event).need
     }
 
     /// The first refusal that applies, or none, if no entry is forced.

@@ -45,11 +45,11 @@ fn play_row_38(rt: &impl Abort, core: &mut Core) -> Result<(), Fail> {
     writes(rt, core, ask(0, Call::Lock(m)), Some(5), (5, 6))?;
     assert_eq!(rt; core.first(), 5);
     assert!(rt; core.entry(4).is_none());
-    assert!(rt; core.entry(6) == Some(&Entry::Grant(5, Outcome::Done)));
+    assert!(rt; core.entry(6) == Some(Entry::Grant(5, Outcome::Done)));
     writes(rt, core, moment(1, 0)?, None, (7, 7))?;
     writes(rt, core, moment(2, 0)?, None, (8, 8))?;
     writes(rt, core, die(0), None, (9, 10))?;
-    assert!(rt; core.entry(10) == Some(&Entry::Yield(ObjectId(1))));
+    assert!(rt; core.entry(10) == Some(Entry::Yield(ObjectId(1))));
     assert_eq!(rt; core.seal()?, 11);
     assert_eq!(rt; core.seal()?, 11);
     assert_eq!(rt; core.outer(), 8);
@@ -72,7 +72,7 @@ fn play_row_38_with_a_yield(rt: &impl Abort, core: &mut Core) -> Result<(), Fail
     writes(rt, core, moment(1, 0)?, None, (4, 4))?;
     writes(rt, core, moment(2, 0)?, Some(5), (5, 5))?;
     writes(rt, core, die(0), None, (6, 7))?;
-    assert!(rt; core.entry(7) == Some(&Entry::Yield(ObjectId(1))));
+    assert!(rt; core.entry(7) == Some(Entry::Yield(ObjectId(1))));
     Ok(())
 }
 

@@ -11,11 +11,11 @@ returns-in_err-c g c =
 pub returns-in-Call : goal.returns-in-Call
 returns-in-Call g c =
     sym (caller-stored c.self.inside.state c.args.self.now c.self.view_is c.args.place
-    (Some c.in_ok-c.field-0.now) c.requires c.in_ok-c.ensures.since
+    (Some c.in_ok-c.field-0) c.requires c.in_ok-c.ensures.since
     ∙ ap caller_of c.in-Call.is)
 
 pub returns-in_default : goal.returns-in_default
 returns-in_default g c =
     sym (caller-stored c.self.inside.state c.args.self.now c.self.view_is c.args.place
-    (Some c.in_ok-c.field-0.now) c.requires c.in_ok-c.ensures.since
-    ∙ no-caller c.in_ok-c.field-0.now c.in_default.not-Call)
+    (Some c.in_ok-c.field-0) c.requires c.in_ok-c.ensures.since
+    ∙ no-caller c.in_ok-c.field-0 c.in_default.not-Call)

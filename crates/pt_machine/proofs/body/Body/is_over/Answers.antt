@@ -8,14 +8,14 @@ use Rattle.pt_machine.proofs.body.Body.is_over.Goals as goal
 pub returns : goal.returns
 returns g c =
     let h = past c.args.self.now in
-    let count : length c.entries.result.now ≡ held h =
-    ap length c.entries.ensures
+    let count : c.held-held.result ≡ held h =
+    c.held-held.ensures.held
     ∙ (ap (λ s. length s.stored.entries) c.self.view_is
     ∙ sym (held-past c.args.self.now.stored)) in
     let needed : c.plan.result.need ≡ need (h ▷ entry_for h c.args.event.now) =
     c.plan.ensures.planned.needs in
-    let total : length c.entries.result.now + 1 + c.plan.result.need
+    let total : c.held-held.result + 1 + c.plan.result.need
     ≡ suc (held h) + need (h ▷ entry_for h c.args.event.now) = omega (arith, count, needed) in
-    ap (λ (l : ℕ). nat_lt l (length c.entries.result.now + 1 + c.plan.result.need))
+    ap (λ (l : ℕ). nat_lt l (c.held-held.result + 1 + c.plan.result.need))
     (c.limit.ensures ∙ ap (λ s. s.stored.limit) c.self.view_is)
     ∙ ap (nat_lt c.args.self.now.stored.limit) total

@@ -19,8 +19,8 @@ pub returns-then-limit-held : goal.returns-then-limit-held
 returns-then-limit-held g c =
     let s = c.args.self.now in
     let room = 1 + c.args.need in
-    let count : length c.entries.result.now ≡ held (past s) =
-    ap length c.entries.ensures
+    let count : c.held-held.result ≡ held (past s) =
+    c.held-held.ensures.held
     ∙ (ap (λ s. length s.stored.entries) c.self.view_is ∙ sym (held-past s.stored)) in
     let limit = c.limit-limit.ensures ∙ ap (λ s. s.stored.limit) c.self.view_is in
     ap (nat_le room) limit
@@ -31,11 +31,11 @@ pub returns-else-limit-held : goal.returns-else-limit-held
 returns-else-limit-held g c =
     let s = c.args.self.now in
     let room = 1 + c.args.need in
-    let count : length c.entries.result.now ≡ held (past s) =
-    ap length c.entries.ensures
+    let count : c.held-held.result ≡ held (past s) =
+    c.held-held.ensures.held
     ∙ (ap (λ s. length s.stored.entries) c.self.view_is ∙ sym (held-past s.stored)) in
     let limit = c.limit-limit.ensures ∙ ap (λ s. s.stored.limit) c.self.view_is in
-    ap (λ (l : ℕ). nat_lt l (length c.entries.result.now + room)) limit
+    ap (λ (l : ℕ). nat_lt l (c.held-held.result + room)) limit
     ∙ (ap (λ (k : ℕ). nat_lt s.stored.limit (k + room)) count
     ∙ under s.stored.limit (held (past s)) room
     (omega (arith, count, limit, c.if-limit-held.false)))

@@ -1,0 +1,10 @@
+use Rattle.std.proofs.Common.{arith}
+use Rattle.pt_history.proofs.Growing.{shows-appended, append-texts}
+use Rattle.pt_history.proofs.records.Records.store_wait.Goals as goal
+
+pub returns : goal.returns
+returns g c =
+    let t = c.in_ok-first.ensures.some in
+    shows-appended _ _ _ _ _ _
+    (append-texts c.args.self.now c.two_texts.new.texts _ t.items (omega (arith, t.len)) t.capacity)
+    (rw (t.same, t.next, c.in-Wait.is)) t.texts

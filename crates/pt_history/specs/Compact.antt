@@ -1,0 +1,152 @@
+-- Compact: the entry that a stored one is.
+use Rattle.std.specs.Prelude.{ℕ, ◌+◌, ◌-◌, ◌<◌, ◌≤◌, ◌≡◌, List, length, take, drop, Option, Some, None, slice_index_or}
+use Rattle.pt_types.specs.Names.{IsName}
+use Rattle.pt_types.specs.Times.{Timespec}
+use Rattle.pt_types.specs.declared.time.Clock.{Clock}
+use Rattle.pt_types.specs.declared.outcome.Outcome.{Outcome}
+use Rattle.pt_types.specs.declared.outcome.Outcome.TheVariants.{Done as DoneOutcome, Serial as SerialOutcome, Eperm as EpermOutcome, Einval as EinvalOutcome, Ebusy as EbusyOutcome, Eagain as EagainOutcome, Edeadlk as EdeadlkOutcome, Etimedout as EtimedoutOutcome, Eownerdead as EownerdeadOutcome, Enotrecoverable as EnotrecoverableOutcome}
+use Rattle.pt_types.specs.declared.operations.LockKind.{LockKind}
+use Rattle.pt_types.specs.declared.operations.LockKind.TheVariants.{MutexLock, ReadLock, WriteLock}
+use Rattle.pt_types.specs.declared.call.Call.{Call}
+use Rattle.pt_types.specs.declared.call.Call.TheVariants.{MutexInit, Lock, Trylock, Timedlock, Clocklock, Timedrdlock, Clockrdlock, Timedwrlock, Clockwrlock, Wait as WaitCall, Timedwait, Clockwait, BarrierInit, Unlock, Consistent, MutexDestroy, RwlockInit, Rdlock, Tryrdlock, Wrlock, Trywrlock, Rwunlock, RwlockDestroy, CondInit, CondDestroy, Signal, Broadcast, Bwait, BarrierDestroy}
+use Rattle.pt_model.specs.declared.entry.Entry.{Entry}
+use Rattle.pt_model.specs.declared.entry.Entry.TheVariants.{Join as JoinEntry, Call as CallEntry, Death as DeathEntry, Moment as MomentEntry, Grant as GrantEntry, Trip as TripEntry, Yield as YieldEntry, Expire as ExpireEntry}
+use Rattle.pt_history.specs.declared.compact.Word.{Word}
+use Rattle.pt_history.specs.declared.compact.Word.TheVariants.{MutexInit as MutexInitWord, Lock as LockWord, Trylock as TrylockWord, Unlock as UnlockWord, Consistent as ConsistentWord, MutexDestroy as MutexDestroyWord, RwlockInit as RwlockInitWord, Rdlock as RdlockWord, Tryrdlock as TryrdlockWord, Wrlock as WrlockWord, Trywrlock as TrywrlockWord, Rwunlock as RwunlockWord, RwlockDestroy as RwlockDestroyWord, CondInit as CondInitWord, CondDestroy as CondDestroyWord, Signal as SignalWord, Broadcast as BroadcastWord, Bwait as BwaitWord, BarrierDestroy as BarrierDestroyWord}
+use Rattle.pt_history.specs.declared.compact.Answer.{Answer}
+use Rattle.pt_history.specs.declared.compact.Answer.TheVariants.{Waits, Done, Serial, Eperm, Einval, Ebusy, Eagain, Edeadlk, Etimedout, Eownerdead, Enotrecoverable}
+use Rattle.pt_history.specs.declared.compact.TimeLimit.{TimeLimit}
+use Rattle.pt_history.specs.declared.compact.Compact.{Compact}
+use Rattle.pt_history.specs.declared.compact.Compact.TheVariants.{Join, Named, Barrier, Timed, Wait, TimedWait, Death, Moment, Grant, Trip, Yield, Expire, Whole}
+
+-- the call of a word and a name
+abbrev pub spelled : Word → List ℕ → Call
+spelled (MutexInitWord kind robust) n = MutexInit n kind robust
+spelled LockWord n = Lock n
+spelled TrylockWord n = Trylock n
+spelled UnlockWord n = Unlock n
+spelled ConsistentWord n = Consistent n
+spelled MutexDestroyWord n = MutexDestroy n
+spelled RwlockInitWord n = RwlockInit n
+spelled RdlockWord n = Rdlock n
+spelled TryrdlockWord n = Tryrdlock n
+spelled WrlockWord n = Wrlock n
+spelled TrywrlockWord n = Trywrlock n
+spelled RwunlockWord n = Rwunlock n
+spelled RwlockDestroyWord n = RwlockDestroy n
+spelled CondInitWord n = CondInit n
+spelled CondDestroyWord n = CondDestroy n
+spelled SignalWord n = Signal n
+spelled BroadcastWord n = Broadcast n
+spelled BwaitWord n = Bwait n
+spelled BarrierDestroyWord n = BarrierDestroy n
+
+-- the number from which the numbers of a history count that begins at a place
+abbrev pub base_of : ℕ → ℕ
+base_of at = at - 2147483648
+
+-- the text of a length that begins at an index
+abbrev pub text_at : List ℕ → ℕ → ℕ → List ℕ
+text_at texts from count = take count (drop from texts)
+
+-- the outcome of an answer
+abbrev pub answered : Answer → Option Outcome
+answered Waits = None
+answered Done = Some DoneOutcome
+answered Serial = Some SerialOutcome
+answered Eperm = Some EpermOutcome
+answered Einval = Some EinvalOutcome
+answered Ebusy = Some EbusyOutcome
+answered Eagain = Some EagainOutcome
+answered Edeadlk = Some EdeadlkOutcome
+answered Etimedout = Some EtimedoutOutcome
+answered Eownerdead = Some EownerdeadOutcome
+answered Enotrecoverable = Some EnotrecoverableOutcome
+
+-- the call for a lock with a deadline, and perhaps a clock
+abbrev pub with_limit : LockKind → List ℕ → Timespec → Option Clock → Call
+with_limit MutexLock n d None = Timedlock n d
+with_limit MutexLock n d (Some k) = Clocklock n k d
+with_limit ReadLock n d None = Timedrdlock n d
+with_limit ReadLock n d (Some k) = Clockrdlock n k d
+with_limit WriteLock n d None = Timedwrlock n d
+with_limit WriteLock n d (Some k) = Clockwrlock n k d
+
+-- the wait with a deadline, and perhaps a clock
+abbrev pub wait_until : List ℕ → List ℕ → Timespec → Option Clock → Call
+wait_until n m d None = Timedwait n m d
+wait_until n m d (Some k) = Clockwait n m k d
+
+-- what stored entries refer to: texts, limits, readings, and entries that are stored whole
+pub record Parts : Type 0 where
+  pub texts : List ℕ
+  pub limits : List TimeLimit
+  pub moments : List ℕ
+  pub wholes : List Entry
+
+-- the limit at an index
+abbrev pub limit_at : Parts → ℕ → TimeLimit
+limit_at p l =
+    slice_index_or p.limits l
+    (record { deadline = record { sec = 0; nsec = 0 }; clock = None })
+
+-- the entry that a stored one is, over a base
+abbrev pub decoded : ℕ → Parts → Compact → Entry
+decoded b p (Join k c) = JoinEntry (b + c) k
+decoded b p (Named w a n c i) = CallEntry (b + c) (spelled w (text_at p.texts i n)) (answered a)
+decoded b p (Barrier a n c i k) =
+    CallEntry (b + c) (BarrierInit (text_at p.texts i n) k) (answered a)
+decoded b p (Timed k a n c i l) =
+    CallEntry (b + c)
+    (with_limit k (text_at p.texts i n) (limit_at p l).deadline (limit_at p l).clock)
+    (answered a)
+decoded b p (Wait a n m c i) =
+    CallEntry (b + c) (WaitCall (text_at p.texts i n) (text_at p.texts (i + n) m)) (answered a)
+decoded b p (TimedWait a n m c i l) =
+    CallEntry (b + c)
+    (wait_until (text_at p.texts i n) (text_at p.texts (i + n) m)
+    (limit_at p l).deadline (limit_at p l).clock)
+    (answered a)
+decoded b p (Death c) = DeathEntry (b + c)
+decoded b p (Moment k i) = MomentEntry k (slice_index_or p.moments i 0)
+decoded b p (Grant x j) = GrantEntry (b + j) x
+decoded b p (Trip o) = TripEntry (b + o)
+decoded b p (Yield o) = YieldEntry (b + o)
+decoded b p (Expire j) = ExpireEntry (b + j)
+decoded b p (Whole i) = slice_index_or p.wholes i (TripEntry 0)
+
+-- a name is there
+pub record IsText (texts : List ℕ) (from count : ℕ) : Type 0 where
+  pub within : from + count ≤ length texts
+  pub name : IsName (text_at texts from count)
+
+-- two names are there, one after the other
+pub record AreTexts (texts : List ℕ) (from first second : ℕ) : Type 0 where
+  pub one : IsText texts from first
+  pub other : IsText texts (from + first) second
+
+-- a name and a limit are there
+pub record HasLimit (p : Parts) (from count l : ℕ) : Type 0 where
+  pub text : IsText p.texts from count
+  pub limit : l < length p.limits
+
+-- two names and a limit are there
+pub record HaveLimit (p : Parts) (from first second l : ℕ) : Type 0 where
+  pub texts : AreTexts p.texts from first second
+  pub limit : l < length p.limits
+
+-- what a stored entry refers to is there
+abbrev pub IsStored : Parts → Compact → Type 0
+IsStored p (Named w a n c i) = IsText p.texts i n
+IsStored p (Barrier a n c i k) = IsText p.texts i n
+IsStored p (Timed k a n c i l) = HasLimit p i n l
+IsStored p (Wait a n m c i) = AreTexts p.texts i n m
+IsStored p (TimedWait a n m c i l) = HaveLimit p i n m l
+IsStored p (Moment k i) = i < length p.moments
+IsStored p (Whole i) = i < length p.wholes
+IsStored p _ = Unit {0}
+
+-- a stored entry is this one, whatever else is stored
+pub record ShowsAlone (b : ℕ) (c : Compact) (e : Entry) : Type 0 where
+  pub same : (p : Parts) → decoded b p c ≡ e
+  pub stored : (p : Parts) → IsStored p c

@@ -1,0 +1,83 @@
+-- Records: the parts that stored entries refer to, and how they grow.
+use Rattle.std.specs.Prelude.{ℕ, suc, ◌+◌, ◌*◌, ◌≤◌, ◌≡◌, List, [], ◌++◌, Option, Some, None, vec_len, vec_capacity}
+use Rattle.std.specs.Prelude.{Vec}
+use Rattle.pt_model.specs.declared.entry.Entry.{Entry}
+use Rattle.pt_history.specs.declared.compact.Compact.{Compact}
+use Rattle.pt_history.specs.declared.records.Records.{Records}
+use Rattle.pt_history.specs.Compact.{Parts, IsText, AreTexts, text_at, decoded, IsStored}
+
+-- nothing
+abbrev pub no_parts : Parts
+no_parts = record { texts = []; limits = []; moments = []; wholes = [] }
+
+-- the lists that are stored
+abbrev pub parts_of : {A : Type 0} → Records A → Parts
+parts_of r =
+    record {
+      texts = r.texts.items;
+      limits = r.limits.items;
+      moments = r.moments.items;
+      wholes = r.wholes.items;
+    }
+
+-- parts with more at their ends
+abbrev pub joined : Parts → Parts → Parts
+joined p q =
+    record {
+      texts = p.texts ++ q.texts;
+      limits = p.limits ++ q.limits;
+      moments = p.moments ++ q.moments;
+      wholes = p.wholes ++ q.wholes;
+    }
+
+-- parts that only grew
+pub record HasGrown (old new : Parts) : Type 0 where
+  pub more : Parts
+  pub joined : new ≡ joined old more
+
+-- whatever so many entries are, there is room for what they refer to: two names have 64 bytes
+pub record HasRoom {A : Type 0} (r : Records A) (n : ℕ) : Type 0 where
+  pub texts : vec_len r.texts + 64 * n ≤ vec_capacity r.texts
+  pub limits : vec_len r.limits + n ≤ vec_capacity r.limits
+  pub moments : vec_len r.moments + n ≤ vec_capacity r.moments
+  pub wholes : vec_len r.wholes + n ≤ vec_capacity r.wholes
+
+-- the same parts, and no less room
+pub record KeepsParts {A : Type 0} (old new : Records A) : Type 0 where
+  pub same : parts_of new ≡ parts_of old
+  pub room : (n : ℕ) → HasRoom old n → HasRoom new n
+  pub few : vec_len new.wholes ≡ vec_len old.wholes
+
+-- a stored entry is this one, and what it refers to was appended
+pub record Shows {A : Type 0} (b : ℕ) (e : Entry) (old new : Records A) (c : Compact)
+    : Type 0 where
+  pub same : decoded b (parts_of new) c ≡ e
+  pub stored : IsStored (parts_of new) c
+  pub grown : HasGrown (parts_of old) (parts_of new)
+  pub room : (n : ℕ) → HasRoom old (suc n) → HasRoom new n
+  pub few : vec_len new.wholes ≤ suc (vec_len old.wholes)
+
+-- a name was appended, of this length and from this index on
+pub record IsAppended {A : Type 0} (old new : Vec ℕ A) (name : List ℕ)
+    (count from : ℕ) : Type 0 where
+  pub items : new.items ≡ old.items ++ name
+  pub text : IsText new.items from count
+  pub same : text_at new.items from count ≡ name
+  pub len : vec_len new ≤ vec_len old + 32
+  pub capacity : vec_capacity old ≤ vec_capacity new
+
+-- two names were appended, of these lengths and from this index on
+pub record AreAppended {A : Type 0} (old new : Vec ℕ A) (one other : List ℕ)
+    (first second from : ℕ) : Type 0 where
+  pub items : new.items ≡ old.items ++ (one ++ other)
+  pub texts : AreTexts new.items from first second
+  pub same : text_at new.items from first ≡ one
+  pub next : text_at new.items (from + first) second ≡ other
+  pub len : vec_len new ≤ vec_len old + 64
+  pub capacity : vec_capacity old ≤ vec_capacity new
+
+-- a stored entry is this one, if there is one; else nothing changed
+abbrev pub ShowsIfSome : {A : Type 0} → ℕ → Entry → Records A → Records A → Option Compact
+    → Type 0
+ShowsIfSome b e old new None = new ≡ old
+ShowsIfSome b e old new (Some c) = Shows b e old new c

@@ -1,0 +1,292 @@
+//! Entries as they are stored: numbers of 32 bits beside where the rest is found.
+
+ghost use Rattle.std.specs.Prelude.{◌≡◌, ◌+◌, ◌-◌, IfSome};
+ghost use Rattle.pt_history.specs.Compact.{spelled, base_of, answered, with_limit, wait_until, ShowsAlone};
+ghost use Rattle.pt_types.specs.declared.call.Call.TheVariants.{BarrierInit};
+
+use pt_model::Entry;
+use pt_types::operations::LockKind;
+use pt_types::{Call, Clock, Deadline, MutexKind, Name, Outcome, Priority};
+use std::mem::size_of;
+
+/// A call word whose only object is its one name.
+#[derive(Clone, Copy)]
+pub(crate) enum Word {
+    MutexInit(MutexKind, bool),
+    Lock,
+    Trylock,
+    Unlock,
+    Consistent,
+    MutexDestroy,
+    RwlockInit,
+    Rdlock,
+    Tryrdlock,
+    Wrlock,
+    Trywrlock,
+    Rwunlock,
+    RwlockDestroy,
+    CondInit,
+    CondDestroy,
+    Signal,
+    Broadcast,
+    Bwait,
+    BarrierDestroy,
+}
+
+/// The answer that a call got at once, or that it waits.
+#[derive(Clone, Copy)]
+pub(crate) enum Answer {
+    Waits,
+    Done,
+    Serial,
+    Eperm,
+    Einval,
+    Ebusy,
+    Eagain,
+    Edeadlk,
+    Etimedout,
+    Eownerdead,
+    Enotrecoverable,
+}
+
+/// The deadline of a call, and its clock if the call names one.
+#[derive(Clone, Copy)]
+pub(crate) struct TimeLimit {
+    pub(crate) deadline: Deadline,
+    pub(crate) clock: Option<Clock>,
+}
+
+/// An entry in 16 bytes. Its numbers count from the base of its history. Small fields come first,
+/// so that they share a word with the tag.
+#[derive(Clone, Copy)]
+pub(crate) enum Compact {
+    /// The priority and the client.
+    Join(Priority, u32),
+    /// The word, the answer, the length of the name, the client, and where the name begins.
+    Named(Word, Answer, u8, u32, u32),
+    /// The making of a barrier: as `Named`, with its count last.
+    Barrier(Answer, u8, u32, u32, u32),
+    /// A call for a lock with a deadline: as `Named`, with the index of its limit last.
+    Timed(LockKind, Answer, u8, u32, u32, u32),
+    /// A wait: the answer, the lengths of both names, the client, and where the names begin.
+    Wait(Answer, u8, u8, u32, u32),
+    /// A wait with a deadline: as `Wait`, with the index of its limit last.
+    TimedWait(Answer, u8, u8, u32, u32, u32),
+    Death(u32),
+    /// The clock, and the index of the reading.
+    Moment(Clock, u32),
+    Grant(Outcome, u32),
+    Trip(u32),
+    Yield(u32),
+    Expire(u32),
+    /// The index of an entry that is stored whole.
+    Whole(u32),
+}
+
+const _: () = prove!(size_of::<Compact>() == 16);
+
+/// The answer to a call.
+pub(crate) fn answer_of(outcome: Option<Outcome>) -> Answer
+    ensures { answered result ≡ outcome }
+{
+    match outcome {
+        None => Answer::Waits,
+        Some(Outcome::Done) => Answer::Done,
+        Some(Outcome::Serial) => Answer::Serial,
+        Some(Outcome::Eperm) => Answer::Eperm,
+        Some(Outcome::Einval) => Answer::Einval,
+        Some(Outcome::Ebusy) => Answer::Ebusy,
+        Some(Outcome::Eagain) => Answer::Eagain,
+        Some(Outcome::Edeadlk) => Answer::Edeadlk,
+        Some(Outcome::Etimedout) => Answer::Etimedout,
+        Some(Outcome::Eownerdead) => Answer::Eownerdead,
+        Some(Outcome::Enotrecoverable) => Answer::Enotrecoverable,
+    }
+}
+
+/// The outcome of an answer; None if the call waits.
+pub(crate) fn outcome_of(answer: Answer) -> Option<Outcome>
+    ensures { result ≡ answered answer }
+{
+    match answer {
+        Answer::Waits => None,
+        Answer::Done => Some(Outcome::Done),
+        Answer::Serial => Some(Outcome::Serial),
+        Answer::Eperm => Some(Outcome::Eperm),
+        Answer::Einval => Some(Outcome::Einval),
+        Answer::Ebusy => Some(Outcome::Ebusy),
+        Answer::Eagain => Some(Outcome::Eagain),
+        Answer::Edeadlk => Some(Outcome::Edeadlk),
+        Answer::Etimedout => Some(Outcome::Etimedout),
+        Answer::Eownerdead => Some(Outcome::Eownerdead),
+        Answer::Enotrecoverable => Some(Outcome::Enotrecoverable),
+    }
+}
+
+/// The number from which the numbers of a history count that begins at a place.
+pub(crate) fn base(at: u64) -> u64
+    ensures { result ≡ base_of at }
+{
+    at.saturating_sub(2_147_483_648)
+}
+
+/// A place as it is counted from the base; None if that takes more than 32 bits.
+pub(crate) fn near(base: u64, place: u64) -> Option<u32>
+    ensures { IfSome result (λ n. base + n ≡ place) }
+{
+    if place < base || place - base > 4_294_967_295 {
+        return None;
+    }
+    Some((place - base) as u32)
+}
+
+/// The word and the name of a call that has one name and nothing else.
+pub(crate) fn named(call: &Call) -> Option<(Word, &Name)>
+    ensures { IfSome result (λ p. spelled p.0 p.1.now ≡ call.now) }
+{
+    match call {
+        Call::MutexInit(name, kind, robust) => Some((Word::MutexInit(*kind, *robust), name)),
+        Call::Lock(name) => Some((Word::Lock, name)),
+        Call::Trylock(name) => Some((Word::Trylock, name)),
+        Call::Unlock(name) => Some((Word::Unlock, name)),
+        Call::Consistent(name) => Some((Word::Consistent, name)),
+        Call::MutexDestroy(name) => Some((Word::MutexDestroy, name)),
+        Call::RwlockInit(name) => Some((Word::RwlockInit, name)),
+        Call::Rdlock(name) => Some((Word::Rdlock, name)),
+        Call::Tryrdlock(name) => Some((Word::Tryrdlock, name)),
+        Call::Wrlock(name) => Some((Word::Wrlock, name)),
+        Call::Trywrlock(name) => Some((Word::Trywrlock, name)),
+        Call::Rwunlock(name) => Some((Word::Rwunlock, name)),
+        Call::RwlockDestroy(name) => Some((Word::RwlockDestroy, name)),
+        Call::CondInit(name) => Some((Word::CondInit, name)),
+        Call::CondDestroy(name) => Some((Word::CondDestroy, name)),
+        Call::Signal(name) => Some((Word::Signal, name)),
+        Call::Broadcast(name) => Some((Word::Broadcast, name)),
+        Call::Bwait(name) => Some((Word::Bwait, name)),
+        Call::BarrierDestroy(name) => Some((Word::BarrierDestroy, name)),
+        _ => None,
+    }
+}
+
+/// The call of a word and a name.
+pub(crate) fn call_of(word: Word, name: Name) -> Call
+    ensures { result ≡ spelled word name }
+{
+    match word {
+        Word::MutexInit(kind, robust) => Call::MutexInit(name, kind, robust),
+        Word::Lock => Call::Lock(name),
+        Word::Trylock => Call::Trylock(name),
+        Word::Unlock => Call::Unlock(name),
+        Word::Consistent => Call::Consistent(name),
+        Word::MutexDestroy => Call::MutexDestroy(name),
+        Word::RwlockInit => Call::RwlockInit(name),
+        Word::Rdlock => Call::Rdlock(name),
+        Word::Tryrdlock => Call::Tryrdlock(name),
+        Word::Wrlock => Call::Wrlock(name),
+        Word::Trywrlock => Call::Trywrlock(name),
+        Word::Rwunlock => Call::Rwunlock(name),
+        Word::RwlockDestroy => Call::RwlockDestroy(name),
+        Word::CondInit => Call::CondInit(name),
+        Word::CondDestroy => Call::CondDestroy(name),
+        Word::Signal => Call::Signal(name),
+        Word::Broadcast => Call::Broadcast(name),
+        Word::Bwait => Call::Bwait(name),
+        Word::BarrierDestroy => Call::BarrierDestroy(name),
+    }
+}
+
+fn limit(deadline: Deadline, clock: Option<Clock>) -> TimeLimit
+    ensures { result ≡ record { deadline = deadline; clock = clock } }
+{
+    TimeLimit { deadline, clock }
+}
+
+/// The lock, the name and the limit of a call for a lock with a deadline.
+pub(crate) fn timed(call: &Call) -> Option<(LockKind, &Name, TimeLimit)>
+    ensures { IfSome result (λ p. with_limit p.0 p.1.now p.2.deadline p.2.clock ≡ call.now) }
+{
+    match call {
+        Call::Timedlock(name, deadline) => {
+            Some((LockKind::MutexLock, name, limit(*deadline, None)))
+        }
+        Call::Clocklock(name, clock, deadline) => {
+            Some((LockKind::MutexLock, name, limit(*deadline, Some(*clock))))
+        }
+        Call::Timedrdlock(name, deadline) => {
+            Some((LockKind::ReadLock, name, limit(*deadline, None)))
+        }
+        Call::Clockrdlock(name, clock, deadline) => {
+            Some((LockKind::ReadLock, name, limit(*deadline, Some(*clock))))
+        }
+        Call::Timedwrlock(name, deadline) => {
+            Some((LockKind::WriteLock, name, limit(*deadline, None)))
+        }
+        Call::Clockwrlock(name, clock, deadline) => {
+            Some((LockKind::WriteLock, name, limit(*deadline, Some(*clock))))
+        }
+        _ => None,
+    }
+}
+
+/// The call for a lock with a deadline.
+pub(crate) fn timed_call(kind: LockKind, name: Name, limit: TimeLimit) -> Call
+    ensures { result ≡ with_limit kind name limit.deadline limit.clock }
+{
+    let deadline = limit.deadline;
+    match (kind, limit.clock) {
+        (LockKind::MutexLock, None) => Call::Timedlock(name, deadline),
+        (LockKind::MutexLock, Some(clock)) => Call::Clocklock(name, clock, deadline),
+        (LockKind::ReadLock, None) => Call::Timedrdlock(name, deadline),
+        (LockKind::ReadLock, Some(clock)) => Call::Clockrdlock(name, clock, deadline),
+        (LockKind::WriteLock, None) => Call::Timedwrlock(name, deadline),
+        (LockKind::WriteLock, Some(clock)) => Call::Clockwrlock(name, clock, deadline),
+    }
+}
+
+/// The name and the count of a barrier that is made; None if the count takes more than 32 bits.
+pub(crate) fn barrier(call: &Call) -> Option<(&Name, u32)>
+    ensures { IfSome result (λ p. BarrierInit p.0.now p.1 ≡ call.now) }
+{
+    match call {
+        Call::BarrierInit(name, count) => Some((name, near(0, *count)?)),
+        _ => None,
+    }
+}
+
+/// Both names and the limit of a wait with a deadline.
+pub(crate) fn timed_wait(call: &Call) -> Option<(&Name, &Name, TimeLimit)>
+    ensures { IfSome result (λ p. wait_until p.0.now p.1.now p.2.deadline p.2.clock ≡ call.now) }
+{
+    match call {
+        Call::Timedwait(cond, mutex, deadline) => Some((cond, mutex, limit(*deadline, None))),
+        Call::Clockwait(cond, mutex, clock, deadline) => {
+            Some((cond, mutex, limit(*deadline, Some(*clock))))
+        }
+        _ => None,
+    }
+}
+
+/// The wait with a deadline.
+pub(crate) fn wait_call(cond: Name, mutex: Name, limit: TimeLimit) -> Call
+    ensures { result ≡ wait_until cond mutex limit.deadline limit.clock }
+{
+    match limit.clock {
+        None => Call::Timedwait(cond, mutex, limit.deadline),
+        Some(clock) => Call::Clockwait(cond, mutex, clock, limit.deadline),
+    }
+}
+
+/// The stored form of an entry that needs nothing beside it.
+pub(crate) fn alone(base: u64, entry: &Entry) -> Option<Compact>
+    ensures { IfSome result (λ c. ShowsAlone base c entry.now) }
+{
+    match entry {
+        Entry::Join(client, priority) => Some(Compact::Join(*priority, near(base, client.0)?)),
+        Entry::Death(client) => Some(Compact::Death(near(base, client.0)?)),
+        Entry::Grant(place, outcome) => Some(Compact::Grant(*outcome, near(base, *place)?)),
+        Entry::Trip(barrier) => Some(Compact::Trip(near(base, barrier.0)?)),
+        Entry::Yield(mutex) => Some(Compact::Yield(near(base, mutex.0)?)),
+        Entry::Expire(place) => Some(Compact::Expire(near(base, *place)?)),
+        Entry::Call(..) | Entry::Moment(..) => None,
+    }
+}

@@ -1,0 +1,173 @@
+//! Entries as they are stored.
+
+ghost use Rattle.std.specs.Prelude.{◌≡◌, ◌+◌, ◌<◌, ◌≤◌, None, IfSome, vec_len};
+ghost use Rattle.pt_history.specs.Compact.{decoded, answered};
+ghost use Rattle.pt_history.specs.Records.{HasRoom, Shows, ShowsIfSome};
+ghost use Rattle.pt_model.specs.declared.entry.Entry.TheVariants.{Call as CallEntry, Moment as MomentEntry};
+
+use crate::compact::{Answer, Compact, alone, answer_of, barrier, named, near, timed, timed_wait};
+use crate::records::{Records, one_text, short, two_texts};
+use pt_model::Entry;
+use pt_types::{Call, Clock, Moment};
+use std::alloc::Allocator;
+
+impl<A: Allocator + Copy> Records<A> {
+    // A call of one name.
+    fn store_named(
+        &mut self,
+        base: u64,
+        client: u32,
+        call: &Call,
+        answer: Answer,
+    ) -> Option<Compact>
+        requires { HasRoom self.old 1 }
+        ensures { ShowsIfSome base (CallEntry (base + client) call.now (answered answer))
+            self.old self.new result }
+    {
+        let (word, name) = named(call)?;
+        let (length, from) = one_text(&mut self.texts, name)?;
+        Some(Compact::Named(word, answer, length, client, from))
+    }
+
+    // The making of a barrier.
+    fn store_barrier(
+        &mut self,
+        base: u64,
+        client: u32,
+        call: &Call,
+        answer: Answer,
+    ) -> Option<Compact>
+        requires { HasRoom self.old 1 }
+        ensures { ShowsIfSome base (CallEntry (base + client) call.now (answered answer))
+            self.old self.new result }
+    {
+        let (name, count) = barrier(call)?;
+        let (length, from) = one_text(&mut self.texts, name)?;
+        Some(Compact::Barrier(answer, length, client, from, count))
+    }
+
+    // A call for a lock with a deadline.
+    fn store_timed(
+        &mut self,
+        base: u64,
+        client: u32,
+        call: &Call,
+        answer: Answer,
+    ) -> Option<Compact>
+        requires { HasRoom self.old 1 }
+        ensures { ShowsIfSome base (CallEntry (base + client) call.now (answered answer))
+            self.old self.new result }
+    {
+        let Some((kind, name, limit)) = timed(call) else {
+            return None;
+        };
+        let index = short(self.limits.len())?;
+        let (length, from) = one_text(&mut self.texts, name)?;
+        self.limits.push_reserved(limit);
+        Some(Compact::Timed(kind, answer, length, client, from, index))
+    }
+
+    // A wait without a deadline.
+    fn store_wait(&mut self, base: u64, client: u32, call: &Call, answer: Answer) -> Option<Compact>
+        requires { HasRoom self.old 1 }
+        ensures { ShowsIfSome base (CallEntry (base + client) call.now (answered answer))
+            self.old self.new result }
+    {
+        let Call::Wait(cond, mutex) = call else {
+            return None;
+        };
+        let (first, second, from) = two_texts(&mut self.texts, cond, mutex)?;
+        Some(Compact::Wait(answer, first, second, client, from))
+    }
+
+    // A wait with a deadline.
+    fn store_timed_wait(
+        &mut self,
+        base: u64,
+        client: u32,
+        call: &Call,
+        answer: Answer,
+    ) -> Option<Compact>
+        requires { HasRoom self.old 1 }
+        ensures { ShowsIfSome base (CallEntry (base + client) call.now (answered answer))
+            self.old self.new result }
+    {
+        let Some((cond, mutex, limit)) = timed_wait(call) else {
+            return None;
+        };
+        let index = short(self.limits.len())?;
+        let (first, second, from) = two_texts(&mut self.texts, cond, mutex)?;
+        self.limits.push_reserved(limit);
+        Some(Compact::TimedWait(answer, first, second, client, from, index))
+    }
+
+    // A call.
+    fn store_call(&mut self, base: u64, client: u32, call: &Call, answer: Answer) -> Option<Compact>
+        requires { HasRoom self.old 1 }
+        ensures { ShowsIfSome base (CallEntry (base + client) call.now (answered answer))
+            self.old self.new result }
+    {
+        match call {
+            Call::BarrierInit(..) => self.store_barrier(base, client, call, answer),
+            Call::Wait(..) => self.store_wait(base, client, call, answer),
+            Call::Timedwait(..) | Call::Clockwait(..) => {
+                self.store_timed_wait(base, client, call, answer)
+            }
+            Call::Timedlock(..)
+            | Call::Clocklock(..)
+            | Call::Timedrdlock(..)
+            | Call::Clockrdlock(..)
+            | Call::Timedwrlock(..)
+            | Call::Clockwrlock(..) => self.store_timed(base, client, call, answer),
+            _ => self.store_named(base, client, call, answer),
+        }
+    }
+
+    // A reading of a clock.
+    fn store_moment(&mut self, base: u64, clock: Clock, moment: Moment) -> Option<Compact>
+        requires { HasRoom self.old 1 }
+        ensures { ShowsIfSome base (MomentEntry clock moment) self.old self.new result }
+    {
+        let index = short(self.moments.len())?;
+        self.moments.push_reserved(moment);
+        Some(Compact::Moment(clock, index))
+    }
+
+    // An entry whose numbers fit.
+    fn store_short(&mut self, base: u64, entry: &Entry) -> Option<Compact>
+        requires { HasRoom self.old 1 }
+        ensures { ShowsIfSome base entry.now self.old self.new result }
+    {
+        match entry {
+            Entry::Call(client, call, answer) => {
+                let client = near(base, client.0)?;
+                self.store_call(base, client, call, answer_of(*answer))
+            }
+            Entry::Moment(clock, moment) => self.store_moment(base, *clock, *moment),
+            _ => alone(base, entry),
+        }
+    }
+
+    // An entry as it is.
+    fn store_whole(&mut self, base: u64, entry: Entry) -> Compact
+        requires room { HasRoom self.old 1 }
+        requires few { vec_len self.old.wholes ≤ 4294967295 }
+        ensures { Shows base entry self.old self.new result }
+    {
+        let index = self.wholes.len() as u32;
+        self.wholes.push_reserved(entry);
+        Compact::Whole(index)
+    }
+
+    /// Stores what an entry refers to, and returns its stored form. It takes no memory.
+    pub(crate) fn store(&mut self, base: u64, entry: Entry) -> Compact
+        requires room { HasRoom self.old 1 }
+        requires few { vec_len self.old.wholes ≤ 4294967295 }
+        ensures { Shows base entry self.old self.new result }
+    {
+        match self.store_short(base, &entry) {
+            Some(compact) => compact,
+            None => self.store_whole(base, entry),
+        }
+    }
+}
