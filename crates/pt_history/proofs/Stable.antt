@@ -1,5 +1,7 @@
 -- Stored entries stay the same while the records grow.
-use Rattle.std.proofs.Common.{ℕ, zero, suc, slice_index_or, ◌≡◌, ◌+◌, ◌<◌, ◌≤◌, List, [], ◌∷◌, ◌++◌, length, map, take, drop, refl, sym, ap, ◌∙◌, arith, subst, length-append}
+use Rattle.std.proofs.Common.{ℕ, zero, suc, slice_index_or, ◌≡◌, ◌+◌, ◌<◌, ◌≤◌, List, [], ◌∷◌, ◌++◌}
+use Rattle.std.proofs.Common.{length, map, take, drop, refl, sym, ap, ◌∙◌, arith, subst}
+use Rattle.std.proofs.Common.{length-append}
 use Rattle.std.proofs.lemmas.List.{take-append-le, drop-append-le, get_or_append_left}
 use Rattle.std.proofs.Common.{length-drop}
 use Rattle.std.specs.List.{All}
@@ -7,7 +9,9 @@ use Rattle.pt_types.specs.Names.{IsName}
 use Rattle.pt_model.specs.declared.entry.Entry.{Entry}
 use Rattle.pt_model.specs.declared.entry.Entry.TheVariants.{Moment as MomentEntry}
 use Rattle.pt_history.specs.declared.compact.Compact.{Compact}
-use Rattle.pt_history.specs.declared.compact.Compact.TheVariants.{Join, Named, Barrier, Timed, Wait, TimedWait, Death, Moment, Grant, Trip, Yield, Expire, Whole}
+use Rattle.pt_history.specs.declared.compact.Compact.TheVariants.{Join, Named, Barrier, Timed, Wait}
+use Rattle.pt_history.specs.declared.compact.Compact.TheVariants.{TimedWait, Death, Moment, Grant}
+use Rattle.pt_history.specs.declared.compact.Compact.TheVariants.{Trip, Yield, Expire, Whole}
 use Rattle.pt_history.specs.Compact.{Parts, decoded, IsStored, IsText, AreTexts, text_at}
 use Rattle.pt_history.specs.Records.{joined, HasGrown, HasRoom}
 use Rattle.pt_history.specs.declared.records.Records.{Records}

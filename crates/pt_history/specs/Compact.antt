@@ -1,23 +1,68 @@
 -- Compact: the entry that a stored one is.
-use Rattle.std.specs.Prelude.{ℕ, ◌+◌, ◌-◌, ◌<◌, ◌≤◌, ◌≡◌, List, length, take, drop, Option, Some, None, slice_index_or}
+use Rattle.std.specs.Prelude.{ℕ, ◌+◌, ◌-◌, ◌<◌, ◌≤◌, ◌≡◌, List, length, take, drop, Option, Some}
+use Rattle.std.specs.Prelude.{None, slice_index_or}
 use Rattle.pt_types.specs.Names.{IsName}
 use Rattle.pt_types.specs.Times.{Timespec}
 use Rattle.pt_types.specs.declared.time.Clock.{Clock}
 use Rattle.pt_types.specs.declared.outcome.Outcome.{Outcome}
-use Rattle.pt_types.specs.declared.outcome.Outcome.TheVariants.{Done as DoneOutcome, Serial as SerialOutcome, Eperm as EpermOutcome, Einval as EinvalOutcome, Ebusy as EbusyOutcome, Eagain as EagainOutcome, Edeadlk as EdeadlkOutcome, Etimedout as EtimedoutOutcome, Eownerdead as EownerdeadOutcome, Enotrecoverable as EnotrecoverableOutcome}
+use Rattle.pt_types.specs.declared.outcome.Outcome.TheVariants.{Done as DoneOutcome}
+use Rattle.pt_types.specs.declared.outcome.Outcome.TheVariants.{Serial as SerialOutcome}
+use Rattle.pt_types.specs.declared.outcome.Outcome.TheVariants.{Eperm as EpermOutcome}
+use Rattle.pt_types.specs.declared.outcome.Outcome.TheVariants.{Einval as EinvalOutcome}
+use Rattle.pt_types.specs.declared.outcome.Outcome.TheVariants.{Ebusy as EbusyOutcome}
+use Rattle.pt_types.specs.declared.outcome.Outcome.TheVariants.{Eagain as EagainOutcome}
+use Rattle.pt_types.specs.declared.outcome.Outcome.TheVariants.{Edeadlk as EdeadlkOutcome}
+use Rattle.pt_types.specs.declared.outcome.Outcome.TheVariants.{Etimedout as EtimedoutOutcome}
+use Rattle.pt_types.specs.declared.outcome.Outcome.TheVariants.{Eownerdead as EownerdeadOutcome}
+use Rattle.pt_types.specs.declared.outcome.Outcome.TheVariants.{Enotrecoverable as EnotrecoverableOutcome}
 use Rattle.pt_types.specs.declared.operations.LockKind.{LockKind}
 use Rattle.pt_types.specs.declared.operations.LockKind.TheVariants.{MutexLock, ReadLock, WriteLock}
 use Rattle.pt_types.specs.declared.call.Call.{Call}
-use Rattle.pt_types.specs.declared.call.Call.TheVariants.{MutexInit, Lock, Trylock, Timedlock, Clocklock, Timedrdlock, Clockrdlock, Timedwrlock, Clockwrlock, Wait as WaitCall, Timedwait, Clockwait, BarrierInit, Unlock, Consistent, MutexDestroy, RwlockInit, Rdlock, Tryrdlock, Wrlock, Trywrlock, Rwunlock, RwlockDestroy, CondInit, CondDestroy, Signal, Broadcast, Bwait, BarrierDestroy}
+use Rattle.pt_types.specs.declared.call.Call.TheVariants.{MutexInit, Lock, Trylock, Timedlock}
+use Rattle.pt_types.specs.declared.call.Call.TheVariants.{Clocklock, Timedrdlock, Clockrdlock}
+use Rattle.pt_types.specs.declared.call.Call.TheVariants.{Timedwrlock, Clockwrlock}
+use Rattle.pt_types.specs.declared.call.Call.TheVariants.{Wait as WaitCall, Timedwait, Clockwait}
+use Rattle.pt_types.specs.declared.call.Call.TheVariants.{BarrierInit, Unlock, Consistent}
+use Rattle.pt_types.specs.declared.call.Call.TheVariants.{MutexDestroy, RwlockInit, Rdlock}
+use Rattle.pt_types.specs.declared.call.Call.TheVariants.{Tryrdlock, Wrlock, Trywrlock, Rwunlock}
+use Rattle.pt_types.specs.declared.call.Call.TheVariants.{RwlockDestroy, CondInit, CondDestroy}
+use Rattle.pt_types.specs.declared.call.Call.TheVariants.{Signal, Broadcast, Bwait, BarrierDestroy}
 use Rattle.pt_model.specs.declared.entry.Entry.{Entry}
-use Rattle.pt_model.specs.declared.entry.Entry.TheVariants.{Join as JoinEntry, Call as CallEntry, Death as DeathEntry, Moment as MomentEntry, Grant as GrantEntry, Trip as TripEntry, Yield as YieldEntry, Expire as ExpireEntry}
+use Rattle.pt_model.specs.declared.entry.Entry.TheVariants.{Join as JoinEntry, Call as CallEntry}
+use Rattle.pt_model.specs.declared.entry.Entry.TheVariants.{Death as DeathEntry}
+use Rattle.pt_model.specs.declared.entry.Entry.TheVariants.{Moment as MomentEntry}
+use Rattle.pt_model.specs.declared.entry.Entry.TheVariants.{Grant as GrantEntry, Trip as TripEntry}
+use Rattle.pt_model.specs.declared.entry.Entry.TheVariants.{Yield as YieldEntry}
+use Rattle.pt_model.specs.declared.entry.Entry.TheVariants.{Expire as ExpireEntry}
 use Rattle.pt_history.specs.declared.compact.Word.{Word}
-use Rattle.pt_history.specs.declared.compact.Word.TheVariants.{MutexInit as MutexInitWord, Lock as LockWord, Trylock as TrylockWord, Unlock as UnlockWord, Consistent as ConsistentWord, MutexDestroy as MutexDestroyWord, RwlockInit as RwlockInitWord, Rdlock as RdlockWord, Tryrdlock as TryrdlockWord, Wrlock as WrlockWord, Trywrlock as TrywrlockWord, Rwunlock as RwunlockWord, RwlockDestroy as RwlockDestroyWord, CondInit as CondInitWord, CondDestroy as CondDestroyWord, Signal as SignalWord, Broadcast as BroadcastWord, Bwait as BwaitWord, BarrierDestroy as BarrierDestroyWord}
+use Rattle.pt_history.specs.declared.compact.Word.TheVariants.{MutexInit as MutexInitWord}
+use Rattle.pt_history.specs.declared.compact.Word.TheVariants.{Lock as LockWord}
+use Rattle.pt_history.specs.declared.compact.Word.TheVariants.{Trylock as TrylockWord}
+use Rattle.pt_history.specs.declared.compact.Word.TheVariants.{Unlock as UnlockWord}
+use Rattle.pt_history.specs.declared.compact.Word.TheVariants.{Consistent as ConsistentWord}
+use Rattle.pt_history.specs.declared.compact.Word.TheVariants.{MutexDestroy as MutexDestroyWord}
+use Rattle.pt_history.specs.declared.compact.Word.TheVariants.{RwlockInit as RwlockInitWord}
+use Rattle.pt_history.specs.declared.compact.Word.TheVariants.{Rdlock as RdlockWord}
+use Rattle.pt_history.specs.declared.compact.Word.TheVariants.{Tryrdlock as TryrdlockWord}
+use Rattle.pt_history.specs.declared.compact.Word.TheVariants.{Wrlock as WrlockWord}
+use Rattle.pt_history.specs.declared.compact.Word.TheVariants.{Trywrlock as TrywrlockWord}
+use Rattle.pt_history.specs.declared.compact.Word.TheVariants.{Rwunlock as RwunlockWord}
+use Rattle.pt_history.specs.declared.compact.Word.TheVariants.{RwlockDestroy as RwlockDestroyWord}
+use Rattle.pt_history.specs.declared.compact.Word.TheVariants.{CondInit as CondInitWord}
+use Rattle.pt_history.specs.declared.compact.Word.TheVariants.{CondDestroy as CondDestroyWord}
+use Rattle.pt_history.specs.declared.compact.Word.TheVariants.{Signal as SignalWord}
+use Rattle.pt_history.specs.declared.compact.Word.TheVariants.{Broadcast as BroadcastWord}
+use Rattle.pt_history.specs.declared.compact.Word.TheVariants.{Bwait as BwaitWord}
+use Rattle.pt_history.specs.declared.compact.Word.TheVariants.{BarrierDestroy as BarrierDestroyWord}
 use Rattle.pt_history.specs.declared.compact.Answer.{Answer}
-use Rattle.pt_history.specs.declared.compact.Answer.TheVariants.{Waits, Done, Serial, Eperm, Einval, Ebusy, Eagain, Edeadlk, Etimedout, Eownerdead, Enotrecoverable}
+use Rattle.pt_history.specs.declared.compact.Answer.TheVariants.{Waits, Done, Serial, Eperm, Einval}
+use Rattle.pt_history.specs.declared.compact.Answer.TheVariants.{Ebusy, Eagain, Edeadlk, Etimedout}
+use Rattle.pt_history.specs.declared.compact.Answer.TheVariants.{Eownerdead, Enotrecoverable}
 use Rattle.pt_history.specs.declared.compact.TimeLimit.{TimeLimit}
 use Rattle.pt_history.specs.declared.compact.Compact.{Compact}
-use Rattle.pt_history.specs.declared.compact.Compact.TheVariants.{Join, Named, Barrier, Timed, Wait, TimedWait, Death, Moment, Grant, Trip, Yield, Expire, Whole}
+use Rattle.pt_history.specs.declared.compact.Compact.TheVariants.{Join, Named, Barrier, Timed, Wait}
+use Rattle.pt_history.specs.declared.compact.Compact.TheVariants.{TimedWait, Death, Moment, Grant}
+use Rattle.pt_history.specs.declared.compact.Compact.TheVariants.{Trip, Yield, Expire, Whole}
 
 -- the call of a word and a name
 abbrev pub spelled : Word → List ℕ → Call

@@ -1,7 +1,8 @@
 //! Entries as they are stored: numbers of 32 bits beside where the rest is found.
 
 ghost use Rattle.std.specs.Prelude.{◌≡◌, ◌+◌, ◌-◌, IfSome};
-ghost use Rattle.pt_history.specs.Compact.{spelled, base_of, answered, with_limit, wait_until, ShowsAlone};
+ghost use Rattle.pt_history.specs.Compact.{spelled, base_of, answered, with_limit, wait_until};
+ghost use Rattle.pt_history.specs.Compact.{ShowsAlone};
 ghost use Rattle.pt_types.specs.declared.call.Call.TheVariants.{BarrierInit};
 
 use pt_model::Entry;

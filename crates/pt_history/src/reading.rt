@@ -2,7 +2,9 @@
 
 ghost use Rattle.std.specs.Prelude.{◌≡◌, ◌+◌, ◌<◌, ◌≤◌, length};
 ghost use Rattle.pt_types.specs.Limits.{most_places};
-ghost use Rattle.pt_history.specs.Compact.{decoded, answered, limit_at, HasLimit, HaveLimit, IsStored, IsText, AreTexts, text_at, with_limit, wait_until};
+ghost use Rattle.pt_history.specs.Compact.{decoded, answered, limit_at, HasLimit, HaveLimit};
+ghost use Rattle.pt_history.specs.Compact.{IsStored, IsText, AreTexts, text_at, with_limit};
+ghost use Rattle.pt_history.specs.Compact.{wait_until};
 ghost use Rattle.pt_history.specs.Records.{parts_of};
 ghost use Rattle.pt_types.specs.declared.call.Call.TheVariants.{Wait};
 ghost use Rattle.pt_model.specs.declared.entry.Entry.TheVariants.{Call as CallEntry};

@@ -1,8 +1,10 @@
 //! What stored entries refer to: the texts of names, the deadlines, the readings of clocks, and
 //! the few entries whose numbers don't fit 32 bits.
 
-ghost use Rattle.std.specs.Prelude.{ℕ, IsOk, ◌≡◌, ◌+◌, ◌≤◌, ◌++◌, length, None, IfSome, OnOk, vec_len, vec_capacity};
-ghost use Rattle.pt_history.specs.Records.{no_parts, parts_of, HasRoom, IsAppended, AreAppended, KeepsParts};
+ghost use Rattle.std.specs.Prelude.{ℕ, IsOk, ◌≡◌, ◌+◌, ◌≤◌, ◌++◌, length, None, IfSome, OnOk};
+ghost use Rattle.std.specs.Prelude.{vec_len, vec_capacity};
+ghost use Rattle.pt_history.specs.Records.{no_parts, parts_of, HasRoom, IsAppended, AreAppended};
+ghost use Rattle.pt_history.specs.Records.{KeepsParts};
 
 use crate::compact::TimeLimit;
 use pt_model::Entry;

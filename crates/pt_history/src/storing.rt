@@ -3,7 +3,8 @@
 ghost use Rattle.std.specs.Prelude.{◌≡◌, ◌+◌, ◌<◌, ◌≤◌, None, IfSome, vec_len};
 ghost use Rattle.pt_history.specs.Compact.{decoded, answered};
 ghost use Rattle.pt_history.specs.Records.{HasRoom, Shows, ShowsIfSome};
-ghost use Rattle.pt_model.specs.declared.entry.Entry.TheVariants.{Call as CallEntry, Moment as MomentEntry};
+ghost use Rattle.pt_model.specs.declared.entry.Entry.TheVariants.{Call as CallEntry};
+ghost use Rattle.pt_model.specs.declared.entry.Entry.TheVariants.{Moment as MomentEntry};
 
 use crate::compact::{Answer, Compact, alone, answer_of, barrier, named, near, timed, timed_wait};
 use crate::records::{Records, one_text, short, two_texts};

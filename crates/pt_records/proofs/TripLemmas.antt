@@ -145,7 +145,7 @@ whole new old n e is =
     ap (λ m. take m (new ++ drop (length new) old)) (is ∙ sym e)
     ∙ take_front new (drop (length new) old)
 
--- the answers behind others
+-- the answers after others
 pub tail-logged : (xs ys : List Answered) (qs : List (ℕ × Told))
     → map logged ys ≡ map logged xs ++ qs → map logged (drop (length xs) ys) ≡ qs
 tail-logged [] ys qs e = e

@@ -16,7 +16,7 @@ type Listed = (u64, Option<usize>);
 /// The numbers in the order in which they were added, each with the slot of its row.
 ///
 /// A number is found by its hash. One that is taken out is struck out in the order, and those that
-/// are struck out leave it once they are more than the others: to move all entries behind each one
+/// are struck out leave it once they are more than the others: to move all entries after each one
 /// that is taken out would cost more.
 #[derive(Drop)]
 pub(crate) struct Numbers<A: Allocator + Copy> {
