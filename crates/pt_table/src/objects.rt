@@ -303,6 +303,14 @@ impl<T, A: Allocator + Copy> Objects<T, A> {
         Some(value)
     }
 
+    /// Prepares for a walk over all objects by their indices, which a removal makes slow. It takes
+    /// no memory.
+    pub fn pack(&mut self)
+        ensures { self.new ≡ self.old }
+    {
+        self.numbers.pack();
+    }
+
     /// Adds an object with its value, or returns the value.
     ///
     /// # Errors
