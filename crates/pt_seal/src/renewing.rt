@@ -71,6 +71,8 @@ pub fn seal_with_room<A: Allocator + Copy>(
     let Ok(answers) = Vec::with_capacity(state.alloc, room as usize) else {
         return Err(Refusal::Enomem);
     };
+    // The rows of the Start are copied from the objects by their indices.
+    state.objects.pack();
     let stored = sealed_history(state, room)?;
     Ok(Unsealed {
         stored: replace(&mut state.stored, stored),

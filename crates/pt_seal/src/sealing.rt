@@ -20,6 +20,8 @@ pub fn seal<A: Allocator + Copy>(state: &mut State<A>) -> Result<(), AllocError>
     ensures ok { OnOk result (Seals state.old state.new) }
     ensures err { OnErr result (state.new ≡ state.old) }
 {
+    // The rows of the Start are copied from the objects by their indices.
+    state.objects.pack();
     let start = start_of(state)?;
     state.stored.seal(start);
     state.answers.clear();

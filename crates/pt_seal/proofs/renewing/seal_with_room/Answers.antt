@@ -6,7 +6,11 @@ use Rattle.pt_seal.proofs.renewing.seal_with_room.Goals as goal
 pub returns-clause-ok : goal.returns-clause-ok
 returns-clause-ok g c =
     let old = c.args.state.now in
-    let new = record old { stored = c.replace.new.dest; answers = c.replace-2.new.dest } in
+    let new = record old {
+      stored = c.replace.new.dest;
+      objects = c.pack.new.self;
+      answers = c.replace-2.new.dest;
+    } in
     let there = c.replace.ensures.after in
     let empty = c.replace-2.ensures.after in
     let starts = ap (λ s. reads_of s.start) there ∙ c.in_ok-stored.ensures.starts in
@@ -16,7 +20,7 @@ returns-clause-ok g c =
       entries = entries;
       limit = ap (λ s. s.limit) there ∙ c.in_ok-stored.ensures.limit;
       room = ap (λ s. s.room) there ∙ c.in_ok-stored.ensures.room;
-      read = tables-sealed old new c.requires.read starts entries refl refl refl refl
+      read = tables-sealed old new c.requires.read starts entries refl c.pack.ensures refl refl
           (ap (λ v. v.items) empty ∙ c.in-Ok.ensures.items);
       answers = ap vec_len empty ∙ c.in-Ok.ensures.len;
       held = omega (arith, ap vec_capacity empty, c.in-Ok.ensures.capacity);
