@@ -159,10 +159,10 @@ impl<A: Allocator + Copy> State<A> {
         ensures view { IfSome result (λ found. found.1.now.seen
             ≡ mutex_view (past self.now) found.0) }
     {
-        let m = self.find(n, ObjectClass::Mutex)?;
-        match self.mutex_at(m) {
-            Some(kept) => Some((m, kept)),
-            None => None,
+        let (number, object) = self.objects.named(n)?;
+        match object {
+            Object::Mutex(kept) => Some((ObjectId(number), kept)),
+            _ => None,
         }
     }
 
