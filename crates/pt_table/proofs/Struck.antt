@@ -1,5 +1,5 @@
 -- Struck: entries of which some are struck out, and the others.
-use Rattle.std.proofs.Common.{◌≡◌, ◌≤◌, ◌+◌, ◌&&◌, ◌==◌, ◌∙◌, ℕ, zero, suc, Bool, true, false, true≢false, cond, nat_eq, List, [], ◌∷◌, ◌++◌, length, drop, arith, refl, ap, sym, subst, Option, None, Some, is_some, IsSome}
+use Rattle.std.proofs.Common.{◌≡◌, ◌≤◌, ◌+◌, ◌&&◌, ◌==◌, ◌∙◌, ℕ, zero, suc, Bool, true, false, true≢false, cond, nat_eq, List, [], ◌∷◌, ◌++◌, length, drop, arith, refl, ap, sym, subst, Option, None, Some, is_some, IsSome, IfSome}
 use Rattle.std.proofs.Math.ListN.{set}
 use Rattle.std.specs.Prelude.{slice_get}
 use Rattle.std.specs.List.{filter, cons_option}
@@ -54,6 +54,33 @@ listed-left n s (suc i) ((m, Some t) ∷ es) at = by (nat_eq n m) (listed-left n
     by true l = refl
     by false l = l
 
+-- a number that is listed after another one is not the other
+other-first : (n s i m : ℕ) (es : List (ℕ × Option ℕ)) → lookup (nat_eq m) (left_of es) ≡ None
+    → slice_get es i ≡ Some (n, Some s) → nat_eq n m ≡ false
+other-first n s i m es once at =
+    differs n m (λ same. true≢false (sym (listed-left n s i es at)
+    ∙ ap is_some (ap (λ k. lookup (nat_eq k) (left_of es)) same ∙ once)))
+
+-- one that is not struck out has its slot
+pub found-left : (n s i : ℕ) (es : List (ℕ × Option ℕ)) → Distinct (left_of es)
+    → slice_get es i ≡ Some (n, Some s) → lookup (nat_eq n) (left_of es) ≡ Some s
+found-left n s i [] once at = absurd (none_some at)
+found-left n s zero (e ∷ es) once at =
+    ap (λ x. lookup (nat_eq n) (cons_option (with_slot x) (left_of es))) (some_inj at)
+    ∙ ap (λ b. cond b (Some s) (lookup (nat_eq n) (left_of es))) (eq-eqb n n refl)
+found-left n s (suc i) ((m, None) ∷ es) once at = found-left n s i es once at
+found-left n s (suc i) ((m, Some t) ∷ es) once at =
+    ap (λ b. cond b (Some t) (lookup (nat_eq n) (left_of es))) (other-first n s i m es once.0 at)
+    ∙ found-left n s i es once.1 at
+
+-- and so has an entry of the number, if it has one
+pub found-if-left : (n i : ℕ) (es : List (ℕ × Option ℕ)) → Distinct (left_of es) → (m : ℕ)
+    (slot : Option ℕ) → slice_get es i ≡ Some (m, slot) → m ≡ n
+    → IfSome slot (λ s. lookup (nat_eq n) (left_of es) ≡ Some s)
+found-if-left n i es once m None at same = tt
+found-if-left n i es once m (Some s) at same =
+    found-left n s i es once (at ∙ ap (λ k. Some (k, Some s)) same)
+
 -- the others are left once a number is struck out
 pub left-struck : (n s i : ℕ) (es : List (ℕ × Option ℕ)) → Distinct (left_of es)
     → slice_get es i ≡ Some (n, Some s)
@@ -66,11 +93,8 @@ left-struck n s zero (e ∷ es) once at =
 left-struck n s (suc i) ((m, None) ∷ es) once at = left-struck n s i es once at
 left-struck n s (suc i) ((m, Some t) ∷ es) once at =
     ap (λ xs. (m, t) ∷ xs) (left-struck n s i es once.1 at)
-    ∙ sym (ap (λ b. cond b (left_of es) ((m, t) ∷ remove_entry (nat_eq n) (left_of es))) apart)
-  where
-    apart : nat_eq n m ≡ false
-    apart = differs n m (λ same. true≢false (sym (listed-left n s i es at)
-        ∙ ap is_some (ap (λ k. lookup (nat_eq k) (left_of es)) same ∙ once.0)))
+    ∙ sym (ap (λ b. cond b (left_of es) ((m, t) ∷ remove_entry (nat_eq n) (left_of es)))
+    (other-first n s i m es once.0 at))
 
 -- one is left less
 pub one-less : (n : ℕ) (es : List (ℕ × ℕ)) → IsSome (lookup (nat_eq n) es)

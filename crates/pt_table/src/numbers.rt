@@ -1,6 +1,6 @@
 //! The numbers of the rows, and the slot of each row.
 
-ghost use Rattle.std.specs.Prelude.{◌≡◌, ◌<◌, ◌==◌, ◌+◌, ◌&&◌, ◌++◌, [], ◌∷◌, is_some, None, IsSome, IfNone, OnOk, OnSome, length, vec_len, nat_eq, slice_get};
+ghost use Rattle.std.specs.Prelude.{◌≡◌, ◌<◌, ◌==◌, ◌+◌, ◌&&◌, ◌++◌, [], ◌∷◌, is_some, None, IsSome, IfNone, IfSome, Some, OnOk, OnSome, length, vec_len, nat_eq, slice_get};
 ghost use Rattle.std.specs.Option.{option_and_then};
 ghost use Rattle.std.specs.Map.{lookup};
 ghost use Rattle.pt_table.specs.Slots.{left_of, with_slot, without_number, Distinct, IsLeftAt};
@@ -15,9 +15,10 @@ type Listed = (u64, Option<usize>);
 
 /// The numbers in the order in which they were added, each with the slot of its row.
 ///
-/// A number is found by its hash. One that is taken out is struck out in the order, and those that
-/// are struck out leave it once they are more than the others: to move all entries after each one
-/// that is taken out would cost more.
+/// Numbers that follow one another are found by their distance from the first, any other by its
+/// hash. One that is taken out is struck out in the order, and those that are struck out leave it
+/// once they are more than the others: to move all entries after each one that is taken out would
+/// cost more.
 #[derive(Drop)]
 pub(crate) struct Numbers<A: Allocator + Copy> {
     order: Vec<(u64, Option<usize>), A>,
@@ -66,6 +67,19 @@ fn entry_at(entries: &[Listed], index: usize) -> Option<Listed>
     match entries.get(index) {
         Some(listed) => Some(*listed),
         None => None,
+    }
+}
+
+// The slot of a number that is listed as far after the first entry as it is above its number.
+fn slot_by_distance(entries: &[Listed], number: u64) -> Option<usize>
+    requires { Distinct (left_of entries.now) }
+    ensures { IfSome result (λ slot. lookup (nat_eq number) (left_of entries.now) ≡ Some slot) }
+{
+    let (first, _) = entry_at(entries, 0)?;
+    let distance = number.checked_sub(first)?;
+    match entry_at(entries, distance as usize) {
+        Some((listed, slot)) if listed == number => slot,
+        _ => None,
     }
 }
 
@@ -170,6 +184,9 @@ impl<A: Allocator + Copy> Numbers<A> {
     pub(crate) fn get(&self, number: u64) -> Option<usize>
         ensures value { result ≡ lookup (nat_eq number) self.now.entries }
     {
+        if let Some(slot) = slot_by_distance(self.order.as_slice(), number) {
+            return Some(slot);
+        }
         match self.slots.get(&number) {
             Some(slot) => Some(*slot),
             None => None,
