@@ -4,6 +4,7 @@ mod history;
 mod lanes;
 mod model;
 mod refusing;
+mod stored;
 mod table;
 mod timers;
 mod types;

@@ -1,5 +1,5 @@
 use super::*;
-use pt_core::AppliedWithSeal;
+use pt_core::Applied;
 use pt_failing_alloc::{Refusing, refuse_each};
 use std::alloc::Global;
 
@@ -7,9 +7,9 @@ type Refused<'a> = Core<&'a Refusing<Global>>;
 
 // An event is applied, the first time or the second: a refused growth leaves the core as it was.
 // The answer says whether one was refused.
-fn lands(core: &mut Refused, event: Event) -> Result<(AppliedWithSeal, bool), &'static str> {
+fn lands(core: &mut Refused, event: Event) -> Result<(Applied, bool), &'static str> {
     let before = (core.first(), core.len());
-    match core.apply_with_seal(event.copied()) {
+    match core.apply(event.copied()) {
         Ok(done) => return Ok((done, false)),
         Err(Refusal::Enomem) => {}
         Err(_) => return Err("an event is refused"),
@@ -17,7 +17,7 @@ fn lands(core: &mut Refused, event: Event) -> Result<(AppliedWithSeal, bool), &'
     if (core.first(), core.len()) != before {
         return Err("a refused event changed the core");
     }
-    match core.apply_with_seal(event) {
+    match core.apply(event) {
         Ok(done) => Ok((done, true)),
         Err(_) => Err("an event is refused twice"),
     }
@@ -31,13 +31,13 @@ fn lands_at(
     places: (u64, u64),
 ) -> Result<bool, &'static str> {
     let (done, met) = lands(core, event)?;
-    if done.sealed != sealed || (done.applied.first, done.applied.last) != places {
+    if done.sealed != sealed || (done.first, done.last) != places {
         return Err("an event is written elsewhere");
     }
     Ok(met)
 }
 
-// A client joins, makes a robust mutex and locks it, behind a seal.
+// A client joins, makes a robust mutex and locks it, after a seal.
 fn plays_refused(core: &mut Refused) -> Result<bool, &'static str> {
     let priority = Priority::new(10).ok_or("a priority")?;
     let m = Name::new(b"m").ok_or("a name")?;

@@ -8,16 +8,16 @@ fn writes(
     sealed: Option<u64>,
     places: (u64, u64),
 ) -> Result<(), Fail> {
-    let done = core.apply_with_seal(event)?;
+    let done = core.apply(event)?;
     assert_eq!(rt; done.sealed, sealed);
-    assert_eq!(rt; (done.applied.first, done.applied.last), places);
+    assert_eq!(rt; (done.first, done.last), places);
     Ok(())
 }
 
 // An event is refused so: nothing is written, and nothing is sealed.
 fn refuses(rt: &impl Abort, core: &mut Core, event: Event, refusal: Refusal) {
     let before = (core.first(), core.len());
-    assert_eq!(rt; core.apply_with_seal(event), Err(refusal));
+    assert_eq!(rt; core.apply(event), Err(refusal));
     assert_eq!(rt; (core.first(), core.len()), before);
 }
 
@@ -30,14 +30,14 @@ fn begins(rt: &impl Abort, core: &mut Core, m: &Name) -> Result<(), Fail> {
 
 // The second lock has no room without a seal.
 #[test]
-fn row_38(rt: HostRuntime) -> Result<(), Fail> {
+fn row_23(rt: HostRuntime) -> Result<(), Fail> {
     lend(
         Core::with_limit(rt.alloc(), 7)?,
-        |core| play_row_38(&rt, core),
+        |core| play_row_23(&rt, core),
     )
 }
 
-fn play_row_38(rt: &impl Abort, core: &mut Core) -> Result<(), Fail> {
+fn play_row_23(rt: &impl Abort, core: &mut Core) -> Result<(), Fail> {
     let m = name(b"m")?;
     begins(rt, core, &m)?;
     writes(rt, core, ask(0, Call::Lock(m.copied())), None, (2, 3))?;
@@ -58,14 +58,14 @@ fn play_row_38(rt: &impl Abort, core: &mut Core) -> Result<(), Fail> {
 
 // The same, if a Yield must still be written.
 #[test]
-fn row_38_with_a_yield(rt: HostRuntime) -> Result<(), Fail> {
+fn row_23_with_a_yield(rt: HostRuntime) -> Result<(), Fail> {
     lend(
         Core::with_limit(rt.alloc(), 7)?,
-        |core| play_row_38_with_a_yield(&rt, core),
+        |core| play_row_23_with_a_yield(&rt, core),
     )
 }
 
-fn play_row_38_with_a_yield(rt: &impl Abort, core: &mut Core) -> Result<(), Fail> {
+fn play_row_23_with_a_yield(rt: &impl Abort, core: &mut Core) -> Result<(), Fail> {
     let m = name(b"m")?;
     begins(rt, core, &m)?;
     writes(rt, core, ask(0, Call::Lock(m)), None, (2, 3))?;
@@ -110,14 +110,14 @@ fn play_row_38_of_four(rt: &impl Abort, four: &mut Core) -> Result<(), Fail> {
 
 // Histories of one entry each.
 #[test]
-fn row_38_of_one(rt: HostRuntime) -> Result<(), Fail> {
+fn row_35(rt: HostRuntime) -> Result<(), Fail> {
     lend(
         Core::with_limit(rt.alloc(), 1)?,
-        |core| play_row_38_of_one(&rt, core),
+        |core| play_row_35(&rt, core),
     )
 }
 
-fn play_row_38_of_one(rt: &impl Abort, one: &mut Core) -> Result<(), Fail> {
+fn play_row_35(rt: &impl Abort, one: &mut Core) -> Result<(), Fail> {
     refuses(rt, one, join(10)?, Refusal::Full);
     writes(rt, one, moment(1, 0)?, None, (0, 0))?;
     writes(rt, one, moment(2, 0)?, Some(1), (1, 1))
@@ -125,14 +125,14 @@ fn play_row_38_of_one(rt: &impl Abort, one: &mut Core) -> Result<(), Fail> {
 
 // And of none: no seal makes room.
 #[test]
-fn row_38_of_none(rt: HostRuntime) -> Result<(), Fail> {
+fn row_35_of_none(rt: HostRuntime) -> Result<(), Fail> {
     lend(
         Core::with_limit(rt.alloc(), 0)?,
-        |core| play_row_38_of_none(&rt, core),
+        |core| play_row_35_of_none(&rt, core),
     )
 }
 
-fn play_row_38_of_none(rt: &impl Abort, none: &mut Core) -> Result<(), Fail> {
+fn play_row_35_of_none(rt: &impl Abort, none: &mut Core) -> Result<(), Fail> {
     refuses(rt, none, moment(1, 0)?, Refusal::Full);
     Ok(())
 }

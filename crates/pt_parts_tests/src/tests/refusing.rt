@@ -53,12 +53,14 @@ fn refuses_each_in_turn(rt: HostRuntime) -> Result<(), Fail> {
     Ok(())
 }
 
+// Asks for the blocks, and reports that some memory was not there.
+fn three_blocks_met(heap: &Refusing<Global>) -> Result<bool, AllocError> {
+    three_blocks(heap)?;
+    Ok(true)
+}
+
 #[test]
 fn tells_want_of_memory_that_there_was_not(rt: HostRuntime) -> Result<(), Fail> {
-    let refused = refuse_each(rt.alloc(), 100, |heap| -> Result<bool, AllocError> {
-        three_blocks(heap)?;
-        Ok(true)
-    })?;
-    assert!(rt; refused.is_none());
+    assert!(rt; refuse_each(rt.alloc(), 100, three_blocks_met)?.is_none());
     Ok(())
 }

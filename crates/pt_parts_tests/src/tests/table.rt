@@ -125,7 +125,7 @@ fn is_taken_seen(clients: &mut Clients<u32>) -> bool {
             return false;
         }
     }
-    clients.len() == 2 && clients.nth(1).is_some_and(|pair| pair.0 == 5)
+    clients.len() == 2 && matches!(clients.nth(1), Some((5, _)))
 }
 
 // Writes to a client's value, and takes another client out.
@@ -137,7 +137,7 @@ fn is_removed(clients: &mut Clients<u32>) -> bool {
     removed == [Some(30), None]
         && clients.at(5).copied() == Some(51)
         && clients.at(3).is_none()
-        && clients.nth(0).is_some_and(|pair| *pair.1 == 51)
+        && matches!(clients.nth(0), Some((_, 51)))
 }
 
 #[test]
@@ -159,7 +159,7 @@ fn are_taken_seen(objects: &mut Objects<u32>, m: &Name, n: &Name, o: &Name) -> b
             return false;
         }
     }
-    objects.find(m) == Some(3) && objects.nth(1).is_some_and(|pair| pair.0 == 4)
+    objects.find(m) == Some(3) && matches!(objects.nth(1), Some((4, _)))
 }
 
 // The first object is taken out, and another one put in with its name.
@@ -298,8 +298,8 @@ fn at_most_4096_objects(rt: HostRuntime) {
 
 #[test]
 fn each_growth_is_refused_in_turn(rt: HostRuntime) -> Result<(), Fail> {
-    assert!(rt; refuse_each(rt.alloc(), 100, add_clients)?.is_some_and(|growths| growths > 2));
-    assert!(rt; refuse_each(rt.alloc(), 100, add_objects)?.is_some_and(|growths| growths > 4));
+    assert!(rt; refuse_each(rt.alloc(), 100, add_clients)? > Some(2));
+    assert!(rt; refuse_each(rt.alloc(), 100, add_objects)? > Some(4));
     Ok(())
 }
 
@@ -318,12 +318,13 @@ fn new_tables_take_no_memory(rt: HostRuntime) {
 }
 
 #[test]
-fn faults_print_their_texts(rt: HostRuntime) {
+fn faults_print_their_texts(rt: HostRuntime) -> Result<(), Fail> {
     let printed = format!(in rt.alloc();
         "{}, {}, {}",
         TableFault::Taken,
         TableFault::AtLimit,
         TableFault::Memory
-    );
-    assert!(rt; printed.is_ok_and(|text| text.as_str() == "taken, at the limit, out of memory"));
+    )?;
+    assert!(rt; printed.as_str() == "taken, at the limit, out of memory");
+    Ok(())
 }

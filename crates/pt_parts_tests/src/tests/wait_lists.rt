@@ -143,9 +143,10 @@ fn make_again<W: WaitList>(list: &mut W, object: ObjectId) -> Result<(), Refusal
 // Whose waiter is taken out: the first of the queue, or the client's own.
 fn leaving<W: WaitList>(list: &W, step: &Step) -> ClientId {
     match step.change {
-        Change::RemoveFirst => list
-            .first(ObjectId(step.object))
-            .map_or(ClientId(step.client), |first| first.client),
+        Change::RemoveFirst => match list.first(ObjectId(step.object)) {
+            Some(first) => first.client,
+            None => ClientId(step.client),
+        },
         _ => ClientId(step.client),
     }
 }
