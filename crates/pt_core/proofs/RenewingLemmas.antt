@@ -51,7 +51,7 @@ module _ {A : Type 0} (old : State A) (whole : IsWhole old) (v : Event)
   step : Step (past old) (entry_for (past old) v)
   step = step-event h v (settled old whole) ok
 
-  -- the event becomes the same entry behind the seal
+  -- the event becomes the same entry after the seal
   pub entry-renewed : entry_for (past old) v ≡ entry_for (Begin (seal (past old))) v
   entry-renewed = alike.enters v
 

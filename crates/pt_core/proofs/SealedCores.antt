@@ -1,6 +1,7 @@
 -- A core whose entries were dropped.
-use Rattle.std.proofs.Common.{◌≡◌, ◌≤◌, ◌<◌, ℕ, true, false, cond, nat_le, List, [], None, length, refl, sym, ap, ◌∙◌, subst, arith}
+use Rattle.std.proofs.Common.{◌≡◌, ◌≤◌, ◌<◌, ℕ, Bool, true, false, cond, nat_le, nat_lt, List, [], Some, None, length, refl, sym, ap, ◌∙◌, subst, arith}
 use Rattle.std.proofs.lemmas.Bool.Decides.{nat_tests}
+use Rattle.pt_types.specs.declared.outcome.Refusal.{Refusal}
 use Rattle.pt_types.specs.declared.outcome.Refusal.TheVariants.{Enomem, Full}
 use Rattle.pt_history.specs.Stored.{Stored}
 use Rattle.pt_model.specs.Histories.{place}
@@ -33,6 +34,32 @@ le-false a b l = grind (arith, nat_tests)
 
 le-true : (a b : ℕ) → a ≤ b → nat_le a b ≡ true
 le-true a b l = grind (arith, nat_tests)
+
+lt-true : (a b : ℕ) → nat_lt a b ≡ true → a < b
+lt-true a b e = grind (arith, nat_tests)
+
+lt-false : (a b : ℕ) → nat_lt a b ≡ false → b ≤ a
+lt-false a b e = grind (arith, nat_tests)
+
+-- why a history can't go on from a place
+pub places-lack : (at : ℕ) (r : Refusal)
+    → Some r ≡ cond (nat_lt most_places at) (Some Full) None → (r ≡ Full) × (most_places < at)
+places-lack at r e = go (nat_lt most_places at) refl e
+  where
+    go : (b : Bool) → nat_lt most_places at ≡ b → Some r ≡ cond b (Some Full) None
+        → (r ≡ Full) × (most_places < at)
+    go true eb e = (cc, lt-true most_places at eb)
+    go false eb e = absurd cc
+
+-- it can go on
+pub places-left : (at : ℕ) → None ≡ cond (nat_lt most_places at) (Some Full) None
+    → at ≤ most_places
+places-left at e = go (nat_lt most_places at) refl e
+  where
+    go : (b : Bool) → nat_lt most_places at ≡ b → None ≡ cond b (Some Full) None
+        → at ≤ most_places
+    go true eb e = absurd cc
+    go false eb e = lt-false most_places at eb
 
 -- no numbers are left for places
 pub refused-full : (s : Stored) → most_places < place (past_of s) → Full ≡ seal_refusal (kept s)

@@ -1,4 +1,4 @@
--- Renewing: an event's entry and what must follow it, added behind a seal.
+-- Renewing: an event's entry and what must follow it, added after a seal.
 use Rattle.std.specs.Prelude.{◌≡◌, [], None}
 use Rattle.pt_model.specs.declared.entry.Event.{Event}
 use Rattle.pt_model.specs.Room.{refusal}

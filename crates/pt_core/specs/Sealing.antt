@@ -13,8 +13,8 @@ sealed k = record k { start = seal (past k); entries = [] }
 
 -- the history was sealed, and goes on with this place
 pub record IsSealed (old new : Kept) (at : ℕ) : Type 0 where
-  pub told : at ≡ place (past old)
-  pub kept : new ≡ sealed old
+  pub next : at ≡ place (past old)
+  pub core : new ≡ sealed old
   pub within : at ≤ most_places
 
 -- no numbers are left for the places of a history that goes on; else lack of memory  [profile]

@@ -1,4 +1,4 @@
-//! An accepted event's entry, and the forced ones after it, pushed behind a seal.
+//! An accepted event's entry, and the forced ones after it, pushed after a seal.
 
 ghost use Rattle.std.specs.Prelude.{◌≡◌, ◌≤◌, None, OnOk, OnErr, IfErr};
 ghost use Rattle.pt_types.specs.Limits.{most_places};

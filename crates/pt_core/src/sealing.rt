@@ -1,6 +1,7 @@
 //! A core whose entries are dropped.
 
-ghost use Rattle.std.specs.Prelude.{IfErr, IfOk, OnErr, ◌≡◌};
+ghost use Rattle.std.specs.Prelude.{IfErr, IfOk, None, OnErr, Some, nat_lt, if◌then◌else◌, ◌≡◌};
+ghost use Rattle.pt_types.specs.Limits.{most_places};
 ghost use Rattle.pt_core.specs.Cores.{kept, seen};
 ghost use Rattle.pt_core.specs.Sealing.{IsSealed, seal_refusal};
 ghost use Rattle.pt_core.specs.Wholes.{IsWhole};
@@ -11,9 +12,21 @@ use pt_waitq::WaitList;
 use std::alloc::Allocator;
 
 /// The greatest place with which a history can begin.  [profile]
-pub const MOST_PLACES: u64 = 1 << 62;
+const MOST_PLACES: u64 = 1 << 62;
+
+/// Why a history can't go on from this place.  [profile]
+pub fn refusal_of_seal(place: u64) -> Option<Refusal>
+    ensures { result ≡ if nat_lt most_places place then Some Refusal.Full else None }
+{
+    if place > MOST_PLACES {
+        Some(Refusal::Full)
+    } else {
+        None
+    }
+}
 
 /// Drops the entries: the history goes on from its seal, with the place that is returned.
+/// [profile]
 pub fn seal<Q: WaitList, A: Allocator + Copy>(body: &mut Body<Q, A>) -> Result<u64, Refusal>
     requires { IsWhole body.old }
     ensures whole { IsWhole body.new }
@@ -23,8 +36,8 @@ pub fn seal<Q: WaitList, A: Allocator + Copy>(body: &mut Body<Q, A>) -> Result<u
     ensures unchanged { OnErr result (seen body.new.stored ≡ seen body.old.stored) }
 {
     let at = body.len();
-    if at > MOST_PLACES {
-        return Err(Refusal::Full);
+    if let Some(refusal) = refusal_of_seal(at) {
+        return Err(refusal);
     }
     match body.seal() {
         Ok(()) => Ok(at),

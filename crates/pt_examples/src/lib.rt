@@ -146,7 +146,7 @@ pub fn row_37()
     ensures { IsPlayed37 }
 {}
 
-/// Row 23: the room in a short history, and the refusal FULL.
+/// Row 23 without seals: the numbers of a short history, and the refusal FULL.
 pub fn row_23()
     ensures seven { IsFullAtSeven }
     ensures seven_and_a_yield { IsFullBeforeYield }
@@ -155,7 +155,7 @@ pub fn row_23()
     ensures none { IsFullAtNone }
 {}
 
-/// Row 38: the room in short histories that are sealed if they need it.
+/// Rows 23, 35 and 38: the room in short histories that are sealed if they need it.
 pub fn row_38()
     ensures seven { IsSealedAtSeven }
     ensures twice { IsTwiceSealed }

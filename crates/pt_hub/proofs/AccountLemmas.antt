@@ -14,12 +14,12 @@ use Rattle.pt_model.specs.Steps.{IsStart}
 use Rattle.pt_told.specs.Tallies.{asks}
 use Rattle.pt_told.proofs.Strangers.{stranger-told, stranger-open}
 use Rattle.pt_core.specs.Cores.{Kept, past}
-use Rattle.pt_core.specs.Applying.{Applies}
+use Rattle.pt_core.specs.Applying.{Writes}
 use Rattle.pt_hub.specs.declared.account.Account.{Account}
 use Rattle.pt_hub.specs.Desks.{IsServed, IsAccount, awaiting, fresh, one_if, owed}
 use Rattle.pt_hub.proofs.AppliedLemmas.{follows-applied, alive-applied, latest-applied, place-applied, got-applied, tally-applied}
 
-module _ (old new : Kept) (v : Event) (b : IsStart old.start) (ok : Applies old v new) where
+module _ (old new : Kept) (v : Event) (b : IsStart old.start) (ok : Writes old v new) where
   -- what was owed when the history was sealed stays so
   pub same_owed : (c : ℕ) (w : Account) → owed new.start c w ≡ owed old.start c w
   same_owed c w = ap (λ (s : Start). owed s c w) ok.starts
@@ -44,7 +44,7 @@ module _ (old new : Kept) (v : Event) (b : IsStart old.start) (ok : Applies old 
 
 -- a new client, which has no answer so far
 pub joined-account : (old new : Kept) (p : ℕ) (b : IsStart old.start)
-    → Applies old (event.Join p) new → (c : ℕ) → c ≡ place (past old)
+    → Writes old (event.Join p) new → (c : ℕ) → c ≡ place (past old)
     → IsAccount new c (Some fresh)
 joined-account old new p b ok c is =
     let f = follows-applied old new (event.Join p) b ok in
@@ -69,7 +69,7 @@ joined-account old new p b ok c is =
 
 -- a client that awaited nothing, and makes a call
 pub called-account : (old new : Kept) (c : ℕ) (call : Asked) (b : IsStart old.start)
-    → Applies old (event.Call c call) new → (w : Account) → w.awaits ≡ false
+    → Writes old (event.Call c call) new → (w : Account) → w.awaits ≡ false
     → IsServed old c w
     → IsAccount new c (awaiting (Some w))
 called-account old new c call b ok w free k =
@@ -102,7 +102,7 @@ called-account old new c call b ok w free k =
 
 -- a client that dies has none
 pub died-account : (old new : Kept) (c : ℕ) (b : IsStart old.start)
-    → Applies old (event.Death c) new → IsAccount new c None
+    → Writes old (event.Death c) new → IsAccount new c None
 died-account old new c b ok =
     let here : (c == c) ≡ true = grind (arith, nat_tests) in
     let dies : is_some (cond (c == c) None (client (past old) c)) ≡ false = rw here refl in

@@ -20,7 +20,7 @@ use Rattle.pt_told.specs.GoesOn.{GoesOn}
 use Rattle.pt_told.proofs.EventTallies.{events-more, before-more, alive-more, latest-more, outer-more, place-more, told-more, tally-more}
 use Rattle.pt_core.specs.declared.applied.Applied.{Applied}
 use Rattle.pt_core.specs.Cores.{Kept, past}
-use Rattle.pt_core.specs.Applying.{Applies, IsApplied}
+use Rattle.pt_core.specs.Applying.{Writes, IsWritten}
 use Rattle.pt_hub.specs.Desks.{got}
 
 -- what isn't refused is within its limit
@@ -33,7 +33,7 @@ roomy limit g o e = go o (is_over limit g) e
     go None true e = absurd cc
     go None false e = refl
 
-module _ (old new : Kept) (v : Event) (b : IsStart old.start) (ok : Applies old v new) where
+module _ (old new : Kept) (v : Event) (b : IsStart old.start) (ok : Writes old v new) where
   abbrev pub x : Entry
   x = entry_for (past old) v
 
@@ -95,7 +95,7 @@ module _ (old new : Kept) (v : Event) (b : IsStart old.start) (ok : Applies old 
       )
 
   -- the entries are within their limit
-  pub within-applied : (a : Applied) → IsApplied old v new a → length new.entries ≤ old.limit
+  pub within-applied : (a : Applied) → IsWritten old v new a → length new.entries ≤ old.limit
   within-applied a done =
       let fits : is_over old.limit (past old ▷ x) ≡ false =
       roomy old.limit (past old ▷ x) (refusal (past old) v) ok.accepted in

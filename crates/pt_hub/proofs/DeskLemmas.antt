@@ -17,7 +17,7 @@ use Rattle.pt_model.specs.Steps.{IsStart, begins}
 use Rattle.pt_model.proofs.Histories.{place-behind}
 use Rattle.pt_core.specs.declared.applied.Applied.{Applied}
 use Rattle.pt_core.specs.Cores.{Kept, past}
-use Rattle.pt_core.specs.Applying.{IsApplied}
+use Rattle.pt_core.specs.Applying.{IsWritten}
 use Rattle.pt_hub.specs.declared.account.Account.{Account}
 use Rattle.pt_hub.specs.Desks.{Desk, kept, account_of, awaiting, after_taking, fresh, next_answer, IsAccount, IsDesk, IsDeskOf, Wrote}
 use Rattle.pt_hub.proofs.AppliedLemmas.{starts-applied, legal-applied, outer-applied, place-applied, within-applied}
@@ -38,38 +38,38 @@ written new xs ys c o w mine others b = subst (IsAccount new b) (sym (w b)) (go 
     go false e = others b e
 
 module _ (old new : Kept) (xs ys : List (ℕ × Account)) (d : IsDeskOf old xs) where
-  module _ (v : Event) (a : Applied) (ok : IsApplied old v new a) where
+  module _ (v : Event) (a : Applied) (ok : IsWritten old v new a) where
     desk : ((b : ℕ) → IsAccount new b (lookup (nat_eq b) ys)) → IsDeskOf new ys
     desk accounts =
         record {
-          starts = starts-applied old new v d.starts ok.applies;
-          legal = legal-applied old new v d.starts ok.applies;
+          starts = starts-applied old new v d.starts ok.writes;
+          legal = legal-applied old new v d.starts ok.writes;
           accounts = accounts;
-          limit = ok.applies.same_limit ∙ d.limit;
-          places = omega (arith, ap (λ (s : Start). s.at) ok.applies.starts, d.places);
+          limit = ok.writes.same_limit ∙ d.limit;
+          places = omega (arith, ap (λ (s : Start). s.at) ok.writes.starts, d.places);
           within = omega (
             arith,
-            within-applied old new v d.starts ok.applies a ok,
+            within-applied old new v d.starts ok.writes a ok,
             place-behind new.start new.entries,
-            ap (λ (s : Start). s.at) ok.applies.starts,
+            ap (λ (s : Start). s.at) ok.writes.starts,
             d.places,
             d.limit,
           );
           few = omega (
             arith,
-            outer-applied old new v d.starts ok.applies,
-            place-applied old new v d.starts ok.applies,
+            outer-applied old new v d.starts ok.writes,
+            place-applied old new v d.starts ok.writes,
             d.few,
           );
         }
 
-  pub desk-join : (p : ℕ) (a : Applied) → IsApplied old (event.Join p) new a
+  pub desk-join : (p : ℕ) (a : Applied) → IsWritten old (event.Join p) new a
       → (c : ℕ) → c ≡ place (past old) → Wrote xs ys c (Some fresh) → IsDeskOf new ys
   desk-join p a ok c is w =
       desk (event.Join p) a ok
       (written new xs ys c (Some fresh) w
-      (joined-account old new p d.starts ok.applies c is)
-      (λ b e. other-account old new (event.Join p) d.starts ok.applies b
+      (joined-account old new p d.starts ok.writes c is)
+      (λ b e. other-account old new (event.Join p) d.starts ok.writes b
       (lookup (nat_eq b) xs) refl (newcomer b e) (λ t. t) (d.accounts b)))
     where
       newcomer : (b : ℕ) → (c == b) ≡ false
@@ -80,35 +80,35 @@ module _ (old new : Kept) (xs ys : List (ℕ × Account)) (d : IsDeskOf old xs) 
           rw apart refl
 
   pub desk-call : (c : ℕ) (call : Asked) (a : Applied)
-      → IsApplied old (event.Call c call) new a → (w : Account)
+      → IsWritten old (event.Call c call) new a → (w : Account)
       → lookup (nat_eq c) xs ≡ Some w → w.awaits ≡ false
       → Wrote xs ys c (awaiting (Some w)) → IsDeskOf new ys
   desk-call c call a ok w there free wrote =
       desk (event.Call c call) a ok
       (written new xs ys c (awaiting (Some w)) wrote
-      (called-account old new c call d.starts ok.applies w free
+      (called-account old new c call d.starts ok.writes w free
       (subst (IsAccount old c) there (d.accounts c)))
-      (λ b e. other-account old new (event.Call c call) d.starts ok.applies b
+      (λ b e. other-account old new (event.Call c call) d.starts ok.writes b
       (lookup (nat_eq b) xs) (rw e refl) refl (later b e) (d.accounts b)))
     where
       later : (b : ℕ) → (c == b) ≡ false → is_some (latest (past old) b) ≡ true
           → is_some (cond (c == b) (Some (place (past old))) (latest (past old) b)) ≡ true
       later b e t = rw e t
 
-  pub desk-death : (c : ℕ) (a : Applied) → IsApplied old (event.Death c) new a
+  pub desk-death : (c : ℕ) (a : Applied) → IsWritten old (event.Death c) new a
       → Wrote xs ys c None → IsDeskOf new ys
   desk-death c a ok w =
       desk (event.Death c) a ok
-      (written new xs ys c None w (died-account old new c d.starts ok.applies)
-      (λ b e. other-account old new (event.Death c) d.starts ok.applies b
+      (written new xs ys c None w (died-account old new c d.starts ok.writes)
+      (λ b e. other-account old new (event.Death c) d.starts ok.writes b
       (lookup (nat_eq b) xs) refl (rw e refl) (λ t. t) (d.accounts b)))
 
   pub desk-moment : (k : Clock) (t : ℕ) (a : Applied)
-      → IsApplied old (event.Moment k t) new a → ys ≡ xs → IsDeskOf new ys
+      → IsWritten old (event.Moment k t) new a → ys ≡ xs → IsDeskOf new ys
   desk-moment k t a ok same =
       desk (event.Moment k t) a ok
       (λ b. subst (IsAccount new b) (sym (ap (lookup (nat_eq b)) same))
-      (other-account old new (event.Moment k t) d.starts ok.applies b
+      (other-account old new (event.Moment k t) d.starts ok.writes b
       (lookup (nat_eq b) xs) refl refl (λ l. l) (d.accounts b)))
 
 -- the accounts alone were written
@@ -130,11 +130,11 @@ desk-take old new xs ys d c w same mine wrote =
 -- the same, where a number was read twice
 module _ (old : Desk) (new : Kept) (ys : List (ℕ × Account)) (d : IsDesk old)
     (c b : ℕ) (at : c ≡ b) where
-  pub desk-died : (a : Applied) → IsApplied (kept old) (event.Death b) new a
+  pub desk-died : (a : Applied) → IsWritten (kept old) (event.Death b) new a
       → Wrote old.accounts ys c None → IsDeskOf new ys
   desk-died a ok w =
       desk-death (kept old) new old.accounts ys d c a
-      (subst (λ n. IsApplied (kept old) (event.Death n) new a) (sym at) ok) w
+      (subst (λ n. IsWritten (kept old) (event.Death n) new a) (sym at) ok) w
 
   pub desk-took : (seen : Desk) → old ≡ seen → IsSome (next_answer seen b) → (w : Account)
       → Some w ≡ account_of old c → new ≡ kept old

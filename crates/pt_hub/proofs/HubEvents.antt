@@ -5,22 +5,22 @@ use Rattle.pt_model.specs.declared.entry.Event.{Event}
 use Rattle.pt_model.specs.declared.entry.Event.TheVariants as event
 use Rattle.pt_model.specs.Histories.{place as place_of}
 use Rattle.pt_model.specs.Answers.{outcome}
-use Rattle.pt_core.specs.declared.applied.AppliedWithSeal.{AppliedWithSeal}
+use Rattle.pt_core.specs.declared.applied.Applied.{Applied}
 use Rattle.pt_core.specs.Cores.{Kept, past}
-use Rattle.pt_core.specs.ApplyingWithSeal.{IsAppliedWithSeal}
+use Rattle.pt_core.specs.Applying.{Applies, IsApplied}
 use Rattle.pt_hub.specs.declared.pass.Receipt.{Receipt}
-use Rattle.pt_hub.specs.Desks.{Desk, kept, AppliesWithSeal, Wrote, awaiting, fresh, opened_account, opened_accounts}
+use Rattle.pt_hub.specs.Desks.{Desk, kept, Wrote, awaiting, fresh, opened_account, opened_accounts}
 use Rattle.pt_hub.specs.Passes.{PassView}
 use Rattle.pt_hub.specs.Hubs.{HubView, Joins, Sends, next_place}
 
 -- what was applied
-applies : (old new : Kept) (v : Event) (a : AppliedWithSeal) → IsAppliedWithSeal old v new a
-    → AppliesWithSeal old v new
-applies old new v a ok = record { accepted = ok.accepted; applies = ok.applied.applies }
+applies : (old new : Kept) (v : Event) (a : Applied) → IsApplied old v new a
+    → Applies old v new
+applies old new v a ok = record { accepted = ok.accepted; writes = ok.written.writes }
 
 -- a client joined
-module _ (old : HubView) (p : ℕ) (desk : Desk) (booked : ℕ) (a : AppliedWithSeal)
-    (ok : IsAppliedWithSeal (kept old.desk) (event.Join p) (kept desk) a)
+module _ (old : HubView) (p : ℕ) (desk : Desk) (booked : ℕ) (a : Applied)
+    (ok : IsApplied (kept old.desk) (event.Join p) (kept desk) a)
     (wrote : Wrote (opened_accounts old.desk (event.Join p)) desk.accounts
     (place_of (past (kept old.desk))) (Some fresh)) where
   pub joins : (c : ℕ) → c ≡ next_place old.desk → (rs : List Receipt) → rs ≡ []
@@ -48,13 +48,13 @@ module _ (old : HubView) (before : PassView) (call : Asked) where
   abbrev receipt : ℕ → Receipt
   receipt j = record { place = j; call = call; answer = None }
 
-  module _ (desk : Desk) (booked : ℕ) (a : AppliedWithSeal)
-      (ok : IsAppliedWithSeal (kept old.desk) sent (kept desk) a)
-      (first : a.applied.first ≡ next_place old.desk)
+  module _ (desk : Desk) (booked : ℕ) (a : Applied)
+      (ok : IsApplied (kept old.desk) sent (kept desk) a)
+      (first : a.first ≡ next_place old.desk)
       (wrote : Wrote (opened_accounts old.desk sent) desk.accounts before.client
       (awaiting (opened_account old.desk sent before.client))) where
     pub sends : (place : ℕ) → place ≡ next_place old.desk → (ready : Bool)
-        → ready ≡ is_some a.applied.outcome → (made : List Receipt) → made ≡ before.receipts
+        → ready ≡ is_some a.outcome → (made : List Receipt) → made ≡ before.receipts
         → (rs : List Receipt) → rs ≡ made ++ receipt place ∷ []
         → Sends old before call (record old { desk = desk; booked = booked })
         (record before { receipts = rs }) (record { place = place; ready = ready })
@@ -62,7 +62,7 @@ module _ (old : HubView) (before : PassView) (call : Asked) where
         record {
           applies = applies (kept old.desk) (kept desk) sent a ok;
           place = is;
-          ready = told ∙ (ap is_some ok.applied.told
+          ready = told ∙ (ap is_some ok.written.told
               ∙ ap (λ n. is_some (outcome (past (kept desk)) n)) (first ∙ sym is));
           its_pass = ap (λ (xs : List Receipt). record before { receipts = xs })
               (grown ∙ ap (λ (xs : List Receipt). xs ++ receipt place ∷ []) same);

@@ -9,10 +9,8 @@ use Rattle.pt_model.specs.Histories.{place, outer}
 use Rattle.pt_model.specs.Legal.{LegalBehind, events_of}
 use Rattle.pt_model.specs.Steps.{IsStart}
 use Rattle.pt_core.specs.declared.applied.Applied.{Applied}
-use Rattle.pt_core.specs.declared.applied.AppliedWithSeal.{AppliedWithSeal}
 use Rattle.pt_core.specs.Cores.{Kept, past}
-use Rattle.pt_core.specs.Applying.{IsApplied}
-use Rattle.pt_core.specs.ApplyingWithSeal.{IsAppliedWithSeal, opened_with_seal}
+use Rattle.pt_core.specs.Applying.{IsApplied, IsWritten, opened}
 use Rattle.pt_core.specs.Sealing.{IsSealed}
 use Rattle.pt_hub.specs.Desks.{Desk, kept}
 use Rattle.pt_hub.specs.Hubs.{HubView, TallyView, IsHub}
@@ -20,12 +18,12 @@ use Rattle.pt_hub.proofs.AppliedLemmas.{outer-applied, place-applied}
 use Rattle.pt_hub.proofs.SealedDesks.{outer-opened, place-opened, starts-opened}
 
 -- an event adds one outer entry, after a seal too
-module _ (k new : Kept) (v : Event) (a : AppliedWithSeal) (b : IsStart k.start)
+module _ (k new : Kept) (v : Event) (a : Applied) (b : IsStart k.start)
     (legal : LegalBehind k.start k.entries (events_of k.entries))
-    (ok : IsAppliedWithSeal k v new a) where
+    (ok : IsApplied k v new a) where
   outer-grown : outer (past new) ≡ outer (past k) + 1
   outer-grown =
-      outer-applied (opened_with_seal k v) new v (starts-opened k v b legal) ok.applied.applies
+      outer-applied (opened k v) new v (starts-opened k v b legal) ok.written.writes
       ∙ ap (λ n. n + 1) (outer-opened k v)
 
   place-grown : place (past k) + 1 ≤ place (past new)
@@ -33,7 +31,7 @@ module _ (k new : Kept) (v : Event) (a : AppliedWithSeal) (b : IsStart k.start)
       omega (
         arith,
         place-opened k v,
-        place-applied (opened_with_seal k v) new v (starts-opened k v b legal) ok.applied.applies,
+        place-applied (opened k v) new v (starts-opened k v b legal) ok.written.writes,
       )
 
 module _ (old new : HubView) (s t : TallyView) (k : IsHub old s) where
@@ -50,10 +48,10 @@ module _ (old new : HubView) (s t : TallyView) (k : IsHub old s) where
       }
 
   -- one event more was counted, and one part at most was given away
-  pub hub-more : (v : Event) (a : AppliedWithSeal) → IsStart (kept old.desk).start
+  pub hub-more : (v : Event) (a : Applied) → IsStart (kept old.desk).start
       → LegalBehind (kept old.desk).start (kept old.desk).entries
       (events_of (kept old.desk).entries)
-      → IsAppliedWithSeal (kept old.desk) v (kept new.desk) a
+      → IsApplied (kept old.desk) v (kept new.desk) a
       → t.outer ≡ s.outer + 1 → s.parts ≤ t.parts + 1 → new.opened ≡ old.opened
       → new.booked ≡ t.outer → IsHub new t
   hub-more v a b legal ok =
@@ -62,12 +60,12 @@ module _ (old new : HubView) (s t : TallyView) (k : IsHub old s) where
 
   -- the same for an event before which the history isn't sealed
   pub hub-died : (v : Event) (a : Applied) → IsStart (kept old.desk).start
-      → IsApplied (kept old.desk) v (kept new.desk) a
+      → IsWritten (kept old.desk) v (kept new.desk) a
       → t.outer ≡ s.outer + 1 → s.parts ≤ t.parts + 1 → new.opened ≡ old.opened
       → new.booked ≡ t.outer → IsHub new t
   hub-died v a b ok =
-      grown (outer-applied (kept old.desk) (kept new.desk) v b ok.applies)
-      (place-applied (kept old.desk) (kept new.desk) v b ok.applies)
+      grown (outer-applied (kept old.desk) (kept new.desk) v b ok.writes)
+      (place-applied (kept old.desk) (kept new.desk) v b ok.writes)
 
 -- the history was sealed, or nothing was done
 module _ (old : HubView) (new : Desk) (t : TallyView) (k : IsHub old t) where
@@ -75,9 +73,9 @@ module _ (old : HubView) (new : Desk) (t : TallyView) (k : IsHub old t) where
       → IsHub (record old { desk = new }) t
   after_seal at s =
       let outers : outer (past (kept new)) ≡ outer (past (kept old.desk)) =
-      ap (λ (n : Kept). outer (past n)) s.kept in
+      ap (λ (n : Kept). outer (past n)) s.core in
       let places : place (past (kept new)) ≡ place (past (kept old.desk)) =
-      ap (λ (n : Kept). place (past n)) s.kept in
+      ap (λ (n : Kept). place (past n)) s.core in
       record {
         outer = k.outer ∙ sym outers;
         book = k.book;

@@ -9,9 +9,9 @@ use Rattle.pt_model.specs.declared.entry.Event.{Event}
 use Rattle.pt_model.specs.declared.entry.Event.TheVariants as event
 use Rattle.pt_model.specs.Histories.{place}
 use Rattle.pt_model.specs.Room.{needs_seal}
-use Rattle.pt_core.specs.declared.applied.AppliedWithSeal.{AppliedWithSeal}
+use Rattle.pt_core.specs.declared.applied.Applied.{Applied}
 use Rattle.pt_core.specs.Cores.{Kept, past}
-use Rattle.pt_core.specs.ApplyingWithSeal.{IsAppliedWithSeal, opened_with_seal}
+use Rattle.pt_core.specs.Applying.{IsApplied, IsWritten, opened}
 use Rattle.pt_core.specs.Sealing.{IsSealed, sealed}
 use Rattle.pt_hub.specs.declared.account.Account.{Account}
 use Rattle.pt_hub.specs.Desks.{Desk, kept, account_of, awaiting, call_refusal, fresh, opened_account, opened_accounts, renewed, renewed_all, renewed_if, IsDesk, IsDeskOf, Wrote}
@@ -36,14 +36,25 @@ idle true xs c w e free =
 idle false xs c w e free = record { account = w; there = e; free = free }
 
 -- the event's place is the next one, after a seal too
-pub first-opened : (k new : Kept) (v : Event) (a : AppliedWithSeal) → IsAppliedWithSeal k v new a
-    → a.applied.first ≡ place (past k)
-first-opened k new v a ok = ok.applied.first ∙ place-opened k v
+pub first-opened : (k new : Kept) (v : Event) (a : Applied) → IsApplied k v new a
+    → a.first ≡ place (past k)
+first-opened k new v a ok = ok.written.first ∙ place-opened k v
 
-module _ (k new : Kept) (xs zs : List (ℕ × Account)) (v : Event) (a : AppliedWithSeal)
-    (ok : IsAppliedWithSeal k v new a) (is : zs ≡ renewed_if (is_some a.sealed) xs) where
+-- without a seal the entries were added to the old ones
+pub written-unsealed : (k new : Kept) (v : Event) (a : Applied) → IsApplied k v new a
+    → a.sealed ≡ None → IsWritten k v new a
+written-unsealed k new v a ok quiet =
+    go (needs_seal k.limit (past k) v) (sym ok.sealed ∙ quiet) ok.written
+  where
+    go : (b : Bool) → cond b (Some (place (past k))) None ≡ None
+        → IsWritten (cond b (sealed k) k) v new a → IsWritten k v new a
+    go true e w = absurd cc
+    go false e w = w
+
+module _ (k new : Kept) (xs zs : List (ℕ × Account)) (v : Event) (a : Applied)
+    (ok : IsApplied k v new a) (is : zs ≡ renewed_if (is_some a.sealed) xs) where
   needed : is_some a.sealed ≡ needs_seal k.limit (past k) v
-  needed = ap is_some ok.told ∙ go (needs_seal k.limit (past k) v)
+  needed = ap is_some ok.sealed ∙ go (needs_seal k.limit (past k) v)
     where
       go : (b : Bool) → is_some (cond b (Some (place (past k))) None) ≡ b
       go true = refl
@@ -54,24 +65,24 @@ module _ (k new : Kept) (xs zs : List (ℕ × Account)) (v : Event) (a : Applied
   rows-opened = is ∙ ap (λ b. renewed_if b xs) needed
 
   module _ (d : IsDeskOf k xs) where
-    pub opened : IsDeskOf (opened_with_seal k v) zs
-    opened =
-        subst (IsDeskOf (opened_with_seal k v)) (sym rows-opened)
+    pub desk-opened : IsDeskOf (opened k v) zs
+    desk-opened =
+        subst (IsDeskOf (opened k v)) (sym rows-opened)
         (opened-desk k v xs d ok.accepted)
 
 -- a client joins
-module _ (k new : Kept) (xs made zs ys : List (ℕ × Account)) (p : ℕ) (a : AppliedWithSeal)
-    (ok : IsAppliedWithSeal k (event.Join p) new a) (same : made ≡ xs)
+module _ (k new : Kept) (xs made zs ys : List (ℕ × Account)) (p : ℕ) (a : Applied)
+    (ok : IsApplied k (event.Join p) new a) (same : made ≡ xs)
     (is : zs ≡ renewed_if (is_some a.sealed) made)
-    (wrote : Wrote zs ys a.applied.first (Some fresh)) where
+    (wrote : Wrote zs ys a.first (Some fresh)) where
   is_of : zs ≡ renewed_if (is_some a.sealed) xs
   is_of = is ∙ ap (renewed_if (is_some a.sealed)) same
 
   pub desk-joined : IsDeskOf k xs → IsDeskOf new ys
   desk-joined d =
-      desk-join (opened_with_seal k (event.Join p)) new zs ys
-      (opened k new xs zs (event.Join p) a ok is_of d) p a.applied ok.applied a.applied.first
-      ok.applied.first wrote
+      desk-join (opened k (event.Join p)) new zs ys
+      (desk-opened k new xs zs (event.Join p) a ok is_of d) p a ok.written a.first
+      ok.written.first wrote
 
   pub wrote-joined : Wrote (renewed_if (needs_seal k.limit (past k) (event.Join p)) xs) ys
       (place (past k)) (Some fresh)
@@ -84,13 +95,13 @@ module _ (k new : Kept) (xs made zs ys : List (ℕ × Account)) (p : ℕ) (a : A
 -- a client makes a call that isn't refused
 module _ (old seen : Desk) (same : old ≡ seen) (d : IsDesk old) (c b : ℕ)
     (at : c ≡ b) (call said : Asked) (by : said ≡ call)
-    (free : call_refusal seen b call ≡ None) (new : Kept) (a : AppliedWithSeal)
-    (ok : IsAppliedWithSeal (kept old) (event.Call b said) new a) (zs : List (ℕ × Account))
+    (free : call_refusal seen b call ≡ None) (new : Kept) (a : Applied)
+    (ok : IsApplied (kept old) (event.Call b said) new a) (zs : List (ℕ × Account))
     (is : zs ≡ renewed_if (is_some a.sealed) old.accounts) where
-  ok_of : IsAppliedWithSeal (kept old) (event.Call c call) new a
+  ok_of : IsApplied (kept old) (event.Call c call) new a
   ok_of =
-      subst (λ (x : Asked). IsAppliedWithSeal (kept old) (event.Call c x) new a) by
-      (subst (λ n. IsAppliedWithSeal (kept old) (event.Call n said) new a) (sym at) ok)
+      subst (λ (x : Asked). IsApplied (kept old) (event.Call c x) new a) by
+      (subst (λ n. IsApplied (kept old) (event.Call n said) new a) (sym at) ok)
 
   free_of : call_refusal old c call ≡ None
   free_of =
@@ -112,10 +123,10 @@ module _ (old seen : Desk) (same : old ≡ seen) (d : IsDesk old) (c b : ℕ)
   module _ (ys : List (ℕ × Account)) (wrote : Wrote zs ys c (awaiting (lookup (nat_eq c) zs))) where
     pub desk-called : IsDeskOf new ys
     desk-called =
-        desk-call (opened_with_seal (kept old) (event.Call c call)) new zs ys
-        (opened (kept old) new old.accounts zs (event.Call c call) a ok_of is
-        d) c call a.applied
-        ok_of.applied idle_of.account idle_of.there idle_of.free
+        desk-call (opened (kept old) (event.Call c call)) new zs ys
+        (desk-opened (kept old) new old.accounts zs (event.Call c call) a ok_of is
+        d) c call a
+        ok_of.written idle_of.account idle_of.there idle_of.free
         (subst (λ o. Wrote zs ys c (awaiting o)) idle_of.there wrote)
 
     pub wrote-called : Wrote (opened_accounts seen (event.Call b call)) ys b
@@ -129,18 +140,18 @@ module _ (old seen : Desk) (same : old ≡ seen) (d : IsDesk old) (c b : ℕ)
         (rows-opened (kept old) new old.accounts zs (event.Call c call) a ok_of is) wrote))
 
 -- a moment is handed in
-module _ (k new : Kept) (xs zs : List (ℕ × Account)) (z : Clock) (t : ℕ) (a : AppliedWithSeal)
-    (ok : IsAppliedWithSeal k (event.Moment z t) new a)
+module _ (k new : Kept) (xs zs : List (ℕ × Account)) (z : Clock) (t : ℕ) (a : Applied)
+    (ok : IsApplied k (event.Moment z t) new a)
     (is : zs ≡ renewed_if (is_some a.sealed) xs) where
   pub desk-ticked : IsDeskOf k xs → IsDeskOf new zs
   desk-ticked d =
-      desk-moment (opened_with_seal k (event.Moment z t)) new zs zs
-      (opened k new xs zs (event.Moment z t) a ok is d) z t a.applied ok.applied refl
+      desk-moment (opened k (event.Moment z t)) new zs zs
+      (desk-opened k new xs zs (event.Moment z t) a ok is d) z t a ok.written refl
 
 -- the history is sealed
 pub desk-sealed : (k new : Kept) (xs ys : List (ℕ × Account)) (at : ℕ) → IsDeskOf k xs
     → IsSealed k new at → ys ≡ renewed_all xs → IsDeskOf new ys
 desk-sealed k new xs ys at d s is =
-    subst (λ (n : Kept). IsDeskOf n ys) (sym s.kept)
+    subst (λ (n : Kept). IsDeskOf n ys) (sym s.core)
     (subst (IsDeskOf (sealed k)) (sym is)
-    (sealed-desk k xs d (subst (λ n. n ≤ most_places) s.told s.within)))
+    (sealed-desk k xs d (subst (λ n. n ≤ most_places) s.next s.within)))

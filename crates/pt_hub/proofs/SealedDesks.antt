@@ -25,7 +25,7 @@ use Rattle.pt_model.proofs.Induction.{start-seal}
 use Rattle.pt_model.proofs.Legality.{behind-follows, behind-settled}
 use Rattle.pt_told.specs.Tallies.{open_count}
 use Rattle.pt_core.specs.Cores.{Kept, past}
-use Rattle.pt_core.specs.ApplyingWithSeal.{opened_with_seal}
+use Rattle.pt_core.specs.Applying.{opened}
 use Rattle.pt_core.specs.Sealing.{sealed}
 use Rattle.pt_hub.specs.declared.account.Account.{Account}
 use Rattle.pt_hub.specs.Desks.{got, one_if, owed, renewed, renewed_all, renewed_if, IsAccount, IsDeskOf, IsServed}
@@ -134,14 +134,14 @@ numbered o over at most e = go o over (nat_lt most at) refl e
 
 module _ (k : Kept) (v : Event) where
   -- the places and the outer entries go on
-  pub place-opened : place (past (opened_with_seal k v)) ≡ place (past k)
+  pub place-opened : place (past (opened k v)) ≡ place (past k)
   place-opened = go (needs_seal k.limit (past k) v)
     where
       go : (b : Bool) → place (past (cond b (sealed k) k)) ≡ place (past k)
       go true = refl
       go false = refl
 
-  pub outer-opened : outer (past (opened_with_seal k v)) ≡ outer (past k)
+  pub outer-opened : outer (past (opened k v)) ≡ outer (past k)
   outer-opened = go (needs_seal k.limit (past k) v)
     where
       go : (b : Bool) → outer (past (cond b (sealed k) k)) ≡ outer (past k)
@@ -149,7 +149,7 @@ module _ (k : Kept) (v : Event) where
       go false = refl
 
   pub starts-opened : IsStart k.start → LegalBehind k.start k.entries (events_of k.entries)
-      → IsStart (opened_with_seal k v).start
+      → IsStart (opened k v).start
   starts-opened b legal = go (needs_seal k.limit (past k) v)
     where
       go : (t : Bool) → IsStart (cond t (sealed k) k).start
@@ -169,7 +169,7 @@ module _ (k : Kept) (v : Event) where
   -- a desk is one once it is opened for an event that is accepted
   pub opened-desk : (xs : List (ℕ × Account)) → IsDeskOf k xs
       → refusal_with_seals k.limit (past k) v ≡ None
-      → IsDeskOf (opened_with_seal k v) (renewed_if (needs_seal k.limit (past k) v) xs)
+      → IsDeskOf (opened k v) (renewed_if (needs_seal k.limit (past k) v) xs)
   opened-desk xs d ok = go (needs_seal k.limit (past k) v) refl
     where
       go : (b : Bool) → needs_seal k.limit (past k) v ≡ b

@@ -17,8 +17,6 @@ use Rattle.pt_model.specs.Room.{needs_seal, refusal_with_seals}
 use Rattle.pt_model.specs.Legal.{LegalBehind, events_of}
 use Rattle.pt_model.specs.Steps.{IsStart}
 use Rattle.pt_told.specs.Tallies.{told_count, open_count}
-use Rattle.pt_core.specs.Applying.{Applies}
-use Rattle.pt_core.specs.ApplyingWithSeal.{opened_with_seal}
 use Rattle.pt_core.specs.Cores.{Kept, past, Seen, shown}
 use Rattle.pt_core.specs.Sealing.{sealed}
 use Rattle.pt_hub.specs.declared.account.Account.{Account}
@@ -97,12 +95,6 @@ opened_accounts d event =
 -- the account of a client among these
 abbrev pub opened_account : Desk → Event → ℕ → Option Account
 opened_account d event c = lookup (nat_eq c) (opened_accounts d event)
-
--- the event is accepted, and its entries are added: to the old ones, or to none after a seal if the
--- event needs that
-pub record AppliesWithSeal (old : Kept) (event : Event) (new : Kept) : Type 0 where
-  pub accepted : refusal_with_seals old.limit (past old) event ≡ None
-  pub applies : Applies (opened_with_seal old event) event new
 
 -- whether a client with this account has an answer that it hasn't taken
 abbrev pub is_untaken_in : Kept → ℕ → Option Account → Bool

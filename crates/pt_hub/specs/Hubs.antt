@@ -14,12 +14,12 @@ use Rattle.pt_model.specs.Answers.{outcome}
 use Rattle.pt_model.specs.Legal.{LegalBehind, events_of}
 use Rattle.pt_model.specs.Steps.{IsStart}
 use Rattle.pt_core.specs.Cores.{past}
-use Rattle.pt_core.specs.Applying.{Applies}
+use Rattle.pt_core.specs.Applying.{Applies, Writes}
 use Rattle.pt_core.specs.Sealing.{IsSealed}
 use Rattle.pt_hub.specs.declared.pass.Receipt.{Receipt}
 use Rattle.pt_hub.specs.declared.pass.Sent.{Sent}
 use Rattle.pt_hub.specs.declared.pass.Answer.{Answer}
-use Rattle.pt_hub.specs.Desks.{Desk, kept, AppliesWithSeal, IsOwedTheRest, IsTakenButOne, Wrote, account_of, after_taking, awaiting, fresh, next_answer, one_if, opened_account, opened_accounts, renewed_all}
+use Rattle.pt_hub.specs.Desks.{Desk, kept, IsOwedTheRest, IsTakenButOne, Wrote, account_of, after_taking, awaiting, fresh, next_answer, one_if, opened_account, opened_accounts, renewed_all}
 use Rattle.pt_hub.specs.Passes.{PassView, LeftView}
 
 -- the history with the accounts; the open sessions with their marks; how many were opened; and
@@ -62,7 +62,7 @@ pub record Fits (v : HubView) : Type 0 where
 
 -- a client joined, and this is its pass
 pub record Joins (old : HubView) (priority : ℕ) (new : HubView) (pass : PassView) : Type 0 where
-  pub applies : AppliesWithSeal (kept old.desk) (event.Join priority) (kept new.desk)
+  pub applies : Applies (kept old.desk) (event.Join priority) (kept new.desk)
   pub its_pass : pass ≡ record {
     client = next_place old.desk;
     priority = priority;
@@ -76,7 +76,7 @@ pub record Joins (old : HubView) (priority : ℕ) (new : HubView) (pass : PassVi
 -- a client's call was sent
 pub record Sends (old : HubView) (before : PassView) (call : Asked) (new : HubView)
     (after : PassView) (s : Sent) : Type 0 where
-  pub applies : AppliesWithSeal (kept old.desk) (event.Call before.client call) (kept new.desk)
+  pub applies : Applies (kept old.desk) (event.Call before.client call) (kept new.desk)
   pub place : s.place ≡ next_place old.desk
   pub ready : s.ready ≡ is_some (outcome (past (kept new.desk)) s.place)
   pub its_pass : after ≡ record before {
@@ -134,7 +134,7 @@ pub record Takes (old : HubView) (before : PassView) (new : HubView) (after : Pa
 
 -- a moment was handed in
 pub record Ticks (old : HubView) (k : Clock) (t : ℕ) (new : HubView) : Type 0 where
-  pub applies : AppliesWithSeal (kept old.desk) (event.Moment k t) (kept new.desk)
+  pub applies : Applies (kept old.desk) (event.Moment k t) (kept new.desk)
   pub accounts : new.desk.accounts ≡ opened_accounts old.desk (event.Moment k t)
   pub marks : new.marks ≡ old.marks
   pub opened : new.opened ≡ old.opened
@@ -149,7 +149,7 @@ pub record Seals (old new : HubView) (at : ℕ) : Type 0 where
 
 -- a living client died; the history isn't sealed for that
 pub record Dies (old : HubView) (c : ℕ) (new : HubView) : Type 0 where
-  pub applies : Applies (kept old.desk) (event.Death c) (kept new.desk)
+  pub writes : Writes (kept old.desk) (event.Death c) (kept new.desk)
   pub account : Wrote old.desk.accounts new.desk.accounts c None
   pub marks : new.marks ≡ old.marks
   pub opened : new.opened ≡ old.opened

@@ -15,15 +15,14 @@ ghost use Rattle.pt_model.specs.Legal.{LegalBehind, events_of};
 ghost use Rattle.pt_model.specs.Steps.{IsStart};
 ghost use Rattle.pt_told.specs.OwnEvents.{own_at, own_event};
 ghost use Rattle.pt_core.specs.Cores.{past};
-ghost use Rattle.pt_core.specs.Applying.{IsApplied};
-ghost use Rattle.pt_core.specs.ApplyingWithSeal.{IsAppliedWithSeal};
+ghost use Rattle.pt_core.specs.Applying.{IsApplied, IsWritten};
 ghost use Rattle.pt_core.specs.Sealing.{IsSealed, seal_refusal};
 ghost use Rattle.pt_core.specs.Replies.{told_of};
 ghost use Rattle.pt_hub.specs.Desks.{Wrote, IsRefusedAs, kept, account_of, awaiting, after_taking, fresh, is_blocked, call_refusal, next_answer, opened_account, opened_accounts, renewed_all, IsOwedTheRest, IsTakenButOne};
 
 use crate::account::{Account, Accounts, erase, note_call, read, renew, renew_if, write};
 use indexmap::IndexMap;
-use pt_core::{Applied, AppliedWithSeal, Core, Reply};
+use pt_core::{Applied, Core, Reply};
 use pt_model::{Entry, Event};
 use pt_types::{Call, ClientId, Clock, Deadline, Moment, Outcome, Priority, Refusal};
 use std::alloc::Allocator;
@@ -73,9 +72,9 @@ impl<A: Allocator + Copy> Desk<A> {
     }
 
     /// A client joins, and gets an account.
-    pub fn join(&mut self, priority: Priority) -> Result<AppliedWithSeal, Refusal>
+    pub fn join(&mut self, priority: Priority) -> Result<Applied, Refusal>
         ensures ok { IfOk result (λ applied.
-            IsAppliedWithSeal (kept self.old) (event.Join priority) (kept self.new) applied) }
+            IsApplied (kept self.old) (event.Join priority) (kept self.new) applied) }
         ensures account { OnOk result (Wrote (opened_accounts self.old (event.Join priority))
             self.new.accounts (place_of (past (kept self.old))) (Some fresh)) }
         ensures err { IfErr result (IsRefusedAs (refusal_with_seals
@@ -83,13 +82,13 @@ impl<A: Allocator + Copy> Desk<A> {
         ensures unchanged { OnErr result (self.new ≡ self.old) }
     {
         let event = Event::Join(priority);
-        if let Some(refusal) = self.core.would_refuse_with_seal(&event) {
+        if let Some(refusal) = self.core.would_refuse(&event) {
             return Err(refusal);
         }
         if self.accounts.reserve(1).is_err() {
             return Err(Refusal::Enomem);
         }
-        match self.core.apply_with_seal(event) {
+        match self.core.apply(event) {
             Ok(applied) => {
                 renew_if(&mut self.accounts, applied.sealed);
                 let account = Account {
@@ -97,7 +96,7 @@ impl<A: Allocator + Copy> Desk<A> {
                     taken: 0,
                     awaits: false,
                 };
-                write(&mut self.accounts, applied.applied.first, account);
+                write(&mut self.accounts, applied.first, account);
                 Ok(applied)
             }
             Err(refusal) => Err(refusal),
@@ -121,24 +120,23 @@ impl<A: Allocator + Copy> Desk<A> {
         if self.is_blocked(c) {
             return Some(Refusal::Blocked);
         }
-        self.core
-            .would_refuse_with_seal(&Event::Call(c, call.copied()))
+        self.core.would_refuse(&Event::Call(c, call.copied()))
     }
 
     /// A client makes a call that isn't refused, and awaits its answer. ENOMEM if a growth is
     /// refused.
-    pub fn call(&mut self, c: ClientId, call: &Call) -> Result<AppliedWithSeal, Refusal>
+    pub fn call(&mut self, c: ClientId, call: &Call) -> Result<Applied, Refusal>
         requires { call_refusal self.old c call.now ≡ None }
         ensures ok { IfOk result (λ applied.
-            IsAppliedWithSeal (kept self.old) (event.Call c call.now) (kept self.new) applied) }
+            IsApplied (kept self.old) (event.Call c call.now) (kept self.new) applied) }
         ensures first { IfOk result (λ applied.
-            applied.applied.first ≡ place_of (past (kept self.old))) }
+            applied.first ≡ place_of (past (kept self.old))) }
         ensures account { OnOk result (Wrote (opened_accounts self.old (event.Call c call.now))
             self.new.accounts c (awaiting (opened_account self.old (event.Call c call.now) c))) }
         ensures err { IfErr result (λ refusal. refusal ≡ Refusal.Enomem) }
         ensures unchanged { OnErr result (self.new ≡ self.old) }
     {
-        match self.core.apply_with_seal(Event::Call(c, call.copied())) {
+        match self.core.apply(Event::Call(c, call.copied())) {
             Ok(applied) => {
                 renew_if(&mut self.accounts, applied.sealed);
                 note_call(&mut self.accounts, c.0);
@@ -177,10 +175,12 @@ impl<A: Allocator + Copy> Desk<A> {
         write(&mut self.accounts, c.0, account);
     }
 
-    /// A living client dies. An answer that it hasn't taken is dropped. `None` if it doesn't live.
+    /// A living client dies, for which the history is never sealed. An answer that it hasn't taken
+    /// is dropped. `None` if it doesn't live.
     pub fn die(&mut self, c: ClientId) -> Option<Applied>
         ensures some { IfSome result (λ applied.
-            IsApplied (kept self.old) (event.Death c) (kept self.new) applied) }
+            IsWritten (kept self.old) (event.Death c) (kept self.new) applied) }
+        ensures unsealed { IfSome result (λ applied. applied.sealed ≡ None) }
         ensures account { IsSome result → Wrote self.old.accounts self.new.accounts c None }
         ensures none { IfNone result ((is_alive (past (kept self.old)) c ≡ false)
             × (self.new ≡ self.old)) }
@@ -195,17 +195,17 @@ impl<A: Allocator + Copy> Desk<A> {
     }
 
     /// A reading of a clock is handed in, which isn't refused. ENOMEM if a growth is refused.
-    pub fn moment(&mut self, clock: Clock, moment: Moment) -> Result<AppliedWithSeal, Refusal>
+    pub fn moment(&mut self, clock: Clock, moment: Moment) -> Result<Applied, Refusal>
         requires { refusal_with_seals (kept self.old).limit (past (kept self.old))
             (event.Moment clock moment) ≡ None }
-        ensures ok { IfOk result (λ applied. IsAppliedWithSeal (kept self.old)
+        ensures ok { IfOk result (λ applied. IsApplied (kept self.old)
             (event.Moment clock moment) (kept self.new) applied) }
         ensures accounts { OnOk result (self.new.accounts
             ≡ opened_accounts self.old (event.Moment clock moment)) }
         ensures err { IfErr result (λ refusal. refusal ≡ Refusal.Enomem) }
         ensures unchanged { OnErr result (self.new ≡ self.old) }
     {
-        match self.core.apply_with_seal(Event::Moment(clock, moment)) {
+        match self.core.apply(Event::Moment(clock, moment)) {
             Ok(applied) => {
                 renew_if(&mut self.accounts, applied.sealed);
                 Ok(applied)
@@ -237,7 +237,7 @@ impl<A: Allocator + Copy> Desk<A> {
         ensures { result ≡ refusal_with_seals (kept self.now).limit (past (kept self.now))
             event.now }
     {
-        self.core.would_refuse_with_seal(event)
+        self.core.would_refuse(event)
     }
 
     /// The least deadline by this clock of the open calls that are not moved, as it was written.

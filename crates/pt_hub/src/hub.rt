@@ -153,7 +153,7 @@ impl<L: Ledger, A: Allocator + Copy> Hub<L, A> {
                 pass.receipts.push_reserved(receipt);
                 Ok(Sent {
                     place,
-                    ready: applied.applied.outcome.is_some(),
+                    ready: applied.outcome.is_some(),
                 })
             }
             Err(refusal) => Err(refusal),

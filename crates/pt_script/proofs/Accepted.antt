@@ -18,10 +18,8 @@ use Rattle.pt_model.specs.Queries.{answers_behind}
 use Rattle.pt_model.specs.Room.{refusal_with_seals, entry_for}
 use Rattle.pt_model.proofs.Histories.{place-behind}
 use Rattle.pt_core.specs.declared.applied.Applied.{Applied}
-use Rattle.pt_core.specs.declared.applied.AppliedWithSeal.{AppliedWithSeal}
 use Rattle.pt_core.specs.Cores.{Kept, past}
-use Rattle.pt_core.specs.Applying.{IsApplied, IsWantOfMemory}
-use Rattle.pt_core.specs.ApplyingWithSeal.{opened_with_seal, IsAppliedWithSeal, IsRefusalWithSeals}
+use Rattle.pt_core.specs.Applying.{IsApplied, IsRefusal, IsWantOfMemory, IsWritten, opened}
 use Rattle.pt_script.specs.declared.line_id.LineId.{LineId}
 use Rattle.pt_script.specs.declared.engine.Mark.{Mark}
 use Rattle.pt_script.specs.declared.engine.Mark.TheVariants as mark
@@ -78,13 +76,13 @@ answers_added core added first is =
     gap = omega (arith, is, place-behind core.start core.entries)
 
 -- the answers of an accepted event are those of its entries
-pub answers_are : (core next : Kept) (v : Event) (a : Applied) (applied : IsApplied core v next a)
+pub answers_are : (core next : Kept) (v : Event) (a : Applied) (applied : IsWritten core v next a)
     → answers_behind next.start a.first next.entries
-    ≡ replies_from (past core) (entry_for (past core) v ∷ applied.applies.extends.0)
+    ≡ replies_from (past core) (entry_for (past core) v ∷ applied.writes.extends.0)
 answers_are core next v a applied =
-    ap (λ (s : Start). answers_behind s a.first next.entries) applied.applies.starts
-    ∙ ap (answers_behind core.start a.first) applied.applies.extends.1
-    ∙ answers_added core (entry_for (past core) v ∷ applied.applies.extends.0) a.first
+    ap (λ (s : Start). answers_behind s a.first next.entries) applied.writes.starts
+    ∙ ap (answers_behind core.start a.first) applied.writes.extends.1
+    ∙ answers_added core (entry_for (past core) v ∷ applied.writes.extends.0) a.first
     applied.first
 
 -- the same core, with as many entries as there may be at most
@@ -95,33 +93,33 @@ limited : (core : Kept) → core.limit ≡ most_entries → core ≡ full core
 limited core is = ap (λ n. let k : Kept = record core { limit = n } in k) is
 
 -- an event that is applied leaves the limit
-pub limit_next : (core next : Kept) (v : Event) (a : AppliedWithSeal) → core.limit ≡ most_entries
-    → IsAppliedWithSeal core v next a → next.limit ≡ most_entries
+pub limit_next : (core next : Kept) (v : Event) (a : Applied) → core.limit ≡ most_entries
+    → IsApplied core v next a → next.limit ≡ most_entries
 limit_next core next v a is done =
-    done.applied.applies.same_limit ∙ limit_opened core v ∙ is
+    done.written.writes.same_limit ∙ limit_opened core v ∙ is
 
-applied_full : (core next : Kept) (v : Event) (a : AppliedWithSeal) → core.limit ≡ most_entries
-    → IsAppliedWithSeal core v next a → IsAppliedWithSeal (full core) v (full next) a
+applied_full : (core next : Kept) (v : Event) (a : Applied) → core.limit ≡ most_entries
+    → IsApplied core v next a → IsApplied (full core) v (full next) a
 applied_full core next v a is done =
-    let from = subst (λ k. IsAppliedWithSeal k v next a) (limited core is) done in
-    subst (λ k. IsAppliedWithSeal (full core) v k a)
+    let from = subst (λ k. IsApplied k v next a) (limited core is) done in
+    subst (λ k. IsApplied (full core) v k a)
     (limited next (limit_next core next v a is done)) from
 
 -- the place of its entry is the next one, sealed or not
-pub place_first : (core next : Kept) (v : Event) (a : AppliedWithSeal)
-    → IsAppliedWithSeal core v next a → a.applied.first ≡ place (past core)
-place_first core next v a done = done.applied.first ∙ place_opened core v
+pub place_first : (core next : Kept) (v : Event) (a : Applied)
+    → IsApplied core v next a → a.first ≡ place (past core)
+place_first core next v a done = done.written.first ∙ place_opened core v
 
 -- an accepted event: its parts were noted, and its answers appended
 pub accepted : (s : Script) (core next : Kept) (names known : Known)
-    (calls noted : List (ℕ × LineId)) (v : Event) (line : LineId) (a : AppliedWithSeal) (m : Mark)
+    (calls noted : List (ℕ × LineId)) (v : Event) (line : LineId) (a : Applied) (m : Mark)
     (out greeted told : List ℕ)
     → s ≡ seen_as core names calls → core.limit ≡ most_entries → m ≡ mark_of v
-    → IsAppliedWithSeal core v next a
-    → known ≡ record names { clients = clients_marked m line.who a.applied.first names.clients }
-    → noted ≡ calls_marked m line a.applied.first calls
+    → IsApplied core v next a
+    → known ≡ record names { clients = clients_marked m line.who a.first names.clients }
+    → noted ≡ calls_marked m line a.first calls
     → greeted ≡ out ++ greeting_marked m line
-    → told ≡ greeted ++ told_text noted (answers_behind next.start a.applied.first next.entries)
+    → told ≡ greeted ++ told_text noted (answers_behind next.start a.first next.entries)
     → Adds (SaysOf s v line (seen_as next known noted)) out told
 accepted s core next names known calls noted v line a m out greeted told is whole marks applies
     knows notes greets tells =
@@ -130,23 +128,23 @@ accepted s core next names known calls noted v line a m out greeted told is whol
       grows =
           tells
           ∙ ap (λ ts. greeted ++ told_text noted ts)
-          (answers_are opened (full next) v a.applied done.applied)
+          (answers_are begins (full next) v a done.written)
           ∙ ap (λ xs. xs ++ answers) greets
           ∙ append_assoc out (greeting_marked m line) answers;
       holds = accepts (record {
         accepted = done.accepted;
-        applies = done.applied.applies;
+        writes = done.written.writes;
         added = added;
-        extends = done.applied.applies.extends.1;
+        extends = done.written.writes.extends.1;
         seen = ap (λ k. k.seen) knows;
         clients =
             ap (λ k. k.clients) knows
-            ∙ ap (λ n. clients_marked n line.who a.applied.first names.clients) marks
+            ∙ ap (λ n. clients_marked n line.who a.first names.clients) marks
             ∙ ap (λ n. clients_marked (mark_of v) line.who n names.clients) here
             ∙ clients_as v line.who (place (past core)) names.clients;
         calls =
             notes
-            ∙ ap (λ n. calls_marked n line a.applied.first calls) marks
+            ∙ ap (λ n. calls_marked n line a.first calls) marks
             ∙ ap (λ n. calls_marked (mark_of v) line n calls) here
             ∙ calls_as v line (place (past core)) calls;
         written =
@@ -155,34 +153,34 @@ accepted s core next names known calls noted v line a m out greeted told is whol
       });
     })
   where
-    opened : Kept
-    opened = opened_with_seal (full core) v
+    begins : Kept
+    begins = opened (full core) v
 
-    done : IsAppliedWithSeal (full core) v (full next) a
+    done : IsApplied (full core) v (full next) a
     done = applied_full core next v a whole applies
 
-    here : a.applied.first ≡ place (past core)
+    here : a.first ≡ place (past core)
     here = place_first core next v a applies
 
     added : List Entry
-    added = entry_for (past opened) v ∷ done.applied.applies.extends.0
+    added = entry_for (past begins) v ∷ done.written.writes.extends.0
 
     answers : List ℕ
-    answers = told_text noted (replies_from (past opened) added)
+    answers = told_text noted (replies_from (past begins) added)
 
 -- a refused event: its refusal was appended, and nothing else changed
 pub refused : (s : Script) (core next : Kept) (names : Known)
     (calls noted : List (ℕ × LineId)) (v : Event) (line : LineId) (why : Refusal)
     (out told : List ℕ)
     → s ≡ seen_as core names calls → core.limit ≡ most_entries → next ≡ core → noted ≡ calls
-    → IsRefusalWithSeals core v why → told ≡ out ++ refusal_text line why
+    → IsRefusal core v why → told ≡ out ++ refusal_text line why
     → Adds (SaysOf s v line (seen_as next names noted)) out told
 refused s core next names calls noted v line why out told is whole stays kept refuses_it tells =
     subst (λ t. Adds (SaysOf t v line (seen_as next names noted)) out told) (sym is) (record {
       text = refusal_text line why;
       grows = tells;
       holds = by (refusal_with_seals most_entries (past core) v) refl
-          (subst (λ k. IsRefusalWithSeals k v why) (limited core whole) refuses_it);
+          (subst (λ k. IsRefusal k v why) (limited core whole) refuses_it);
     })
   where
     same : seen_as next names noted ≡ seen_as core names calls

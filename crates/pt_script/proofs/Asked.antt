@@ -17,10 +17,8 @@ use Rattle.pt_model.specs.Steps.{Follows, begins}
 use Rattle.pt_model.proofs.Lists.{Each-weaker}
 use Rattle.pt_told.proofs.EventTallies.{latest-more, place-more}
 use Rattle.pt_core.specs.declared.applied.Applied.{Applied}
-use Rattle.pt_core.specs.declared.applied.AppliedWithSeal.{AppliedWithSeal}
 use Rattle.pt_core.specs.Cores.{Kept, past}
-use Rattle.pt_core.specs.Applying.{IsApplied}
-use Rattle.pt_core.specs.ApplyingWithSeal.{opened_with_seal, IsAppliedWithSeal}
+use Rattle.pt_core.specs.Applying.{IsApplied, IsWritten, opened}
 use Rattle.pt_script.specs.declared.line_id.LineId.{LineId}
 use Rattle.pt_script.specs.declared.engine.Mark.{Mark}
 use Rattle.pt_script.specs.Scripts.{line_at, calls_with, told_text}
@@ -59,7 +57,7 @@ lines_sealed asked calls h are = record {
     go c j false e = absurd cc
 
 lines_opened : (asked calls : List (ℕ × LineId)) (core : Kept) (v : Event)
-    → AreLines asked calls (past core) → AreLines asked calls (past (opened_with_seal core v))
+    → AreLines asked calls (past core) → AreLines asked calls (past (opened core v))
 lines_opened asked calls core v are =
     opened_by (λ k. AreLines asked calls (past k)) core v (λ e. are)
     (λ e. lines_sealed asked calls (past core) are)
@@ -108,7 +106,7 @@ stored_after asked stored calls h v line are sets c j e =
 
 -- an event that is applied to a core, which is sealed already if the event needs that
 module _ (core next : Kept) (v : Event) (a : Applied) (l : IsLegal core)
-    (applied : IsApplied core v next a) where
+    (applied : IsWritten core v next a) where
   abbrev h : History
   h = past core
 
@@ -116,19 +114,19 @@ module _ (core next : Kept) (v : Event) (a : Applied) (l : IsLegal core)
   x = entry_for (past core) v
 
   abbrev fs : List Entry
-  fs = applied.applies.extends.0
+  fs = applied.writes.extends.0
 
   whole : past next ≡ onto (h ▷ x) fs
-  whole = longer core next v applied.applies
+  whole = longer core next v applied.writes
 
   none : events_of fs ≡ []
   none =
-      none_forced core.start core.entries next.entries fs v applied.applies.extends.1
-      (same_start core next v applied.applies)
+      none_forced core.start core.entries next.entries fs v applied.writes.extends.1
+      (same_start core next v applied.writes)
 
   follows : Follows (onto (h ▷ x) fs)
   follows =
-      subst Follows whole (legal_follow next (legal_next core next v applied.applies l))
+      subst Follows whole (legal_follow next (legal_next core next v applied.writes l))
 
   -- each answer of an accepted event is to its client's latest call
   answers_latest : Each (IsToLatest (past next)) (replies_from h (x ∷ fs))
@@ -139,15 +137,15 @@ module _ (core next : Kept) (v : Event) (a : Applied) (l : IsLegal core)
   below : place h < place (past next)
   below =
       let more = place-more core.start core.entries v next.entries
-      (goes_on core next v applied.applies l) in
-      let same = ap (λ (s : Start). place (behind s next.entries)) applied.applies.starts in
+      (goes_on core next v applied.writes l) in
+      let same = ap (λ (s : Start). place (behind s next.entries)) applied.writes.starts in
       omega (arith, more, same)
 
   latest_same : (c : ℕ) → latest (past next) c ≡ latest (h ▷ x) c
   latest_same c =
-      ap (λ (s : Start). latest (behind s next.entries) c) applied.applies.starts
+      ap (λ (s : Start). latest (behind s next.entries) c) applied.writes.starts
       ∙ latest-more core.start core.entries v next.entries
-      (goes_on core next v applied.applies l) c
+      (goes_on core next v applied.writes l) c
 
   lines_after : (asked stored calls noted : List (ℕ × LineId)) (line : LineId)
       → AreLines asked calls h → IsAsked (mark_of v) line asked stored
@@ -172,39 +170,39 @@ module _ (core next : Kept) (v : Event) (a : Applied) (l : IsLegal core)
       (λ t. IsLineOf stored noted t.client t.place)
       (λ t to. are.stored t.client t.place to) (replies_from h (x ∷ fs)) answers_latest))
 
-module _ (core next : Kept) (v : Event) (a : AppliedWithSeal) (is : IsSound core)
-    (done : IsAppliedWithSeal core v next a) where
-  legal : IsLegal (opened_with_seal core v)
+module _ (core next : Kept) (v : Event) (a : Applied) (is : IsSound core)
+    (done : IsApplied core v next a) where
+  legal : IsLegal (opened core v)
   legal = legal_opened core is.legal v
 
   -- what a core and the lines keep, after an accepted event
   pub kept_lines : (asked stored calls noted : List (ℕ × LineId)) (line : LineId) (m : Mark)
       → AreLines asked calls (past core) → m ≡ mark_of v → IsAsked m line asked stored
-      → noted ≡ calls_marked m line a.applied.first calls
+      → noted ≡ calls_marked m line a.first calls
       → IsSound next × AreLines stored noted (past next)
   kept_lines asked stored calls noted line m are marks sets notes = (
     record {
       limit = limit_next core next v a is.limit done;
-      legal = legal_next (opened_with_seal core v) next v done.applied.applies legal;
+      legal = legal_next (opened core v) next v done.written.writes legal;
     },
-    lines_after (opened_with_seal core v) next v a.applied legal done.applied asked stored calls
+    lines_after (opened core v) next v a legal done.written asked stored calls
         noted line (lines_opened asked calls core v are)
         (subst (λ n. IsAsked n line asked stored) marks sets) all,
   )
     where
-      all : noted ≡ calls_with v line (place (past (opened_with_seal core v))) calls
+      all : noted ≡ calls_with v line (place (past (opened core v))) calls
       all =
           notes
-          ∙ ap (λ n. calls_marked n line a.applied.first calls) marks
-          ∙ ap (λ n. calls_marked (mark_of v) line n calls) done.applied.first
-          ∙ calls_as v line (place (past (opened_with_seal core v))) calls
+          ∙ ap (λ n. calls_marked n line a.first calls) marks
+          ∙ ap (λ n. calls_marked (mark_of v) line n calls) done.written.first
+          ∙ calls_as v line (place (past (opened core v))) calls
 
   -- the answers of an accepted event were appended under the lines of their calls
   pub told_alike : (stored noted : List (ℕ × LineId)) (out told : List ℕ)
       → AreLines stored noted (past next)
-      → told ≡ out ++ latest_text stored (answers_behind next.start a.applied.first next.entries)
-      → told ≡ out ++ told_text noted (answers_behind next.start a.applied.first next.entries)
+      → told ≡ out ++ latest_text stored (answers_behind next.start a.first next.entries)
+      → told ≡ out ++ told_text noted (answers_behind next.start a.first next.entries)
   told_alike stored noted out told are tells =
       tells
       ∙ ap (λ text. out ++ text)
-      (answers_alike (opened_with_seal core v) next v a.applied legal done.applied stored noted are)
+      (answers_alike (opened core v) next v a legal done.written stored noted are)

@@ -27,8 +27,7 @@ use Rattle.pt_model.proofs.Legality.{events_of-legal}
 use Rattle.pt_model.proofs.Lists.{Each-weaker}
 use Rattle.pt_told.proofs.EventTallies.{place-more}
 use Rattle.pt_core.specs.Cores.{Kept, past}
-use Rattle.pt_core.specs.Applying.{Applies}
-use Rattle.pt_core.specs.ApplyingWithSeal.{opened_with_seal}
+use Rattle.pt_core.specs.Applying.{Writes, opened}
 use Rattle.pt_script.specs.declared.line_id.LineId.{LineId}
 use Rattle.pt_script.specs.Scripts.{Script, begun, core_of, line_id, calls_with, clients_with, event_for, event_of_body, event_of_line, join_for, line_at, number_named, number_of, of_client}
 use Rattle.pt_script.specs.Says.{SaysAll, SaysOf, SaysTo, IsAccepted, counted, opened_for, refuses, lacks, accepts}
@@ -177,7 +176,7 @@ IsWellNoted s = AreNoted (core_of s) s.clients s.calls
 -- those of a seal are
 opened_noted : (core : Kept) (v : Event) (clients : List (List ℕ × ℕ))
     (calls : List (ℕ × LineId)) → AreNoted core clients calls
-    → AreNoted (opened_with_seal core v) clients calls
+    → AreNoted (opened core v) clients calls
 opened_noted core v clients calls n =
     opened_by (λ k. AreNoted k clients calls) core v (λ e. n) (λ e. record {
       legal = legal_sealed core n.legal;
@@ -221,7 +220,7 @@ lines_after core clients calls v line n asked j c e =
 -- and after those that must follow it
 next_noted : (core next : Kept) (v : Event) (line : LineId) (clients : List (List ℕ × ℕ))
     (calls : List (ℕ × LineId)) → AreNoted core clients calls → IsAsked v line.who clients
-    → Applies core v next
+    → Writes core v next
     → AreNoted next (clients_with v line.who (place (past core)) clients)
     (calls_with v line (place (past core)) calls)
 next_noted core next v line clients calls n asked a = record {
@@ -259,7 +258,7 @@ event_noted s v line next text n asked a =
     (clients_with v line.who (place (past (opened_for s v))) s.clients) rows)
     (ap (λ at. calls_with v line at s.calls) there ∙ sym a.calls)
     (next_noted (opened_for s v) (core_of next) v line s.clients s.calls
-    (opened_noted (core_of s) v s.clients s.calls n) asked a.applies))
+    (opened_noted (core_of s) v s.clients s.calls n) asked a.writes))
   where
     there : place (past (opened_for s v)) ≡ place (past (core_of s))
     there = place_opened (core_of s) v

@@ -20,7 +20,7 @@ use Rattle.pt_model.proofs.Legality.{legal-more}
 use Rattle.pt_model.proofs.OneList.{one_list}
 use Rattle.pt_model.proofs.Steps.{step-event}
 use Rattle.pt_core.specs.Cores.{Kept, past}
-use Rattle.pt_core.specs.Applying.{Applies, is_death}
+use Rattle.pt_core.specs.Applying.{Writes, is_death}
 use Rattle.pt_script.specs.declared.line_id.LineId.{LineId}
 use Rattle.pt_script.specs.Scripts.{Script, begun, core_of, line_id, calls_with, clients_with, event_of_line, greeting, refusal_text, told_text}
 use Rattle.pt_script.specs.Says.{SaysAll, SaysOf, SaysTo, IsRefused, IsAccepted, counted, opened_for, refusal_of_event, refuses, lacks, accepts}
@@ -66,7 +66,7 @@ same_refused s v line a xs b ys p q =
 same_accepted : (s : Script) (v : Event) (line : LineId) (a : Script) (xs : List ℕ) (b : Script)
     (ys : List ℕ) → IsAccepted s v line a xs → IsAccepted s v line b ys → Same a xs b ys
 same_accepted s v line a xs b ys p q = (
-  same_script a b (p.applies.starts ∙ sym q.applies.starts) entries (p.seen ∙ sym q.seen)
+  same_script a b (p.writes.starts ∙ sym q.writes.starts) entries (p.seen ∙ sym q.seen)
       (p.clients ∙ sym q.clients) calls,
   p.written
       ∙ ap (λ es. greeting v line ++ told_text a.calls (replies_from (past core) es)) added
@@ -80,7 +80,7 @@ same_accepted s v line a xs b ys p q = (
     entries : a.entries ≡ b.entries
     entries =
         one_list core.start (events_of core.entries ++ v ∷ []) a.entries b.entries
-        (same_start core (core_of a) v p.applies) (same_start core (core_of b) v q.applies)
+        (same_start core (core_of a) v p.writes) (same_start core (core_of b) v q.writes)
 
     calls : a.calls ≡ b.calls
     calls = p.calls ∙ sym q.calls
@@ -159,7 +159,7 @@ can_accept s v line legal none = (
   greeting v line ++ told_text next.calls (replies_from h (entry ∷ rest.0)),
   record {
     accepted = none;
-    applies = applies;
+    writes = writes;
     added = entry ∷ rest.0;
     extends = refl;
     seen = refl;
@@ -167,7 +167,7 @@ can_accept s v line legal none = (
     calls = refl;
     written = refl;
   },
-  legal_next core (core_of next) v applies there,
+  legal_next core (core_of next) v writes there,
 )
   where
     core : Kept
@@ -216,8 +216,8 @@ can_accept s v line legal none = (
         (λ x. (entry ≡ x) × LegalFrom (h ▷ entry) rest.0 (v ∷ []))) (sym settled)
         (open_to, refl, rest.1))
 
-    applies : Applies core v (core_of next)
-    applies = record {
+    writes : Writes core v (core_of next)
+    writes = record {
       accepted = within;
       starts = refl;
       extends = (rest.0, refl);
@@ -356,7 +356,7 @@ legal_of : (s : Script) (v : Event) (line : LineId) (next : Script) (text : List
 legal_of s v line next text legal (refuses r) = subst IsLegalAfter (sym r.same) legal
 legal_of s v line next text legal (lacks r) = subst IsLegalAfter (sym r.same) legal
 legal_of s v line next text legal (accepts a) =
-    legal_next (opened_for s v) (core_of next) v a.applies (legal_opened (core_of s) legal v)
+    legal_next (opened_for s v) (core_of next) v a.writes (legal_opened (core_of s) legal v)
 
 legal_to : (s : Script) (line : LineId) (r : Result Event Refusal) (next : Script) (text : List ℕ)
     → IsLegalAfter s → SaysTo s line r next text → IsLegalAfter next

@@ -16,8 +16,7 @@ use Rattle.pt_model.proofs.Induction.{start-seal}
 use Rattle.pt_model.proofs.Legality.{behind-follows, behind-settled, events_of-legal}
 use Rattle.pt_told.specs.GoesOn.{GoesOn}
 use Rattle.pt_core.specs.Cores.{Kept, past}
-use Rattle.pt_core.specs.Applying.{Applies}
-use Rattle.pt_core.specs.ApplyingWithSeal.{opened_with_seal}
+use Rattle.pt_core.specs.Applying.{Writes, opened}
 use Rattle.pt_core.specs.Sealing.{sealed}
 use Rattle.pt_script.specs.Engines.{IsLegal}
 
@@ -25,7 +24,7 @@ use Rattle.pt_script.specs.Engines.{IsLegal}
 pub opened_by : (P : Kept → Type 0) (core : Kept) (v : Event)
     → (needs_seal core.limit (past core) v ≡ false → P core)
     → (needs_seal core.limit (past core) v ≡ true → P (sealed core))
-    → P (opened_with_seal core v)
+    → P (opened core v)
 opened_by P core v same after = go (needs_seal core.limit (past core) v) refl
   where
     go : (b : Bool) → needs_seal core.limit (past core) v ≡ b → P (cond b (sealed core) core)
@@ -34,11 +33,11 @@ opened_by P core v same after = go (needs_seal core.limit (past core) v) refl
 
 -- the next place is the same, and so is the limit
 pub place_opened : (core : Kept) (v : Event)
-    → place (past (opened_with_seal core v)) ≡ place (past core)
+    → place (past (opened core v)) ≡ place (past core)
 place_opened core v =
     opened_by (λ k. place (past k) ≡ place (past core)) core v (λ e. refl) (λ e. refl)
 
-pub limit_opened : (core : Kept) (v : Event) → (opened_with_seal core v).limit ≡ core.limit
+pub limit_opened : (core : Kept) (v : Event) → (opened core v).limit ≡ core.limit
 limit_opened core v = opened_by (λ k. k.limit ≡ core.limit) core v (λ e. refl) (λ e. refl)
 
 module _ (core : Kept) (l : IsLegal core) where
@@ -61,10 +60,10 @@ module _ (core : Kept) (l : IsLegal core) where
         legal = (sym sealed_alike.forces ∙ legal_settle, refl);
       }
 
-  pub legal_opened : (v : Event) → IsLegal (opened_with_seal core v)
+  pub legal_opened : (v : Event) → IsLegal (opened core v)
   legal_opened v = opened_by IsLegal core v (λ e. l) (λ e. legal_sealed)
 
-module _ (core next : Kept) (v : Event) (a : Applies core v next) where
+module _ (core next : Kept) (v : Event) (a : Writes core v next) where
   -- the Start stays
   pub same_start : LegalBehind core.start next.entries (events_of core.entries ++ v ∷ [])
   same_start =

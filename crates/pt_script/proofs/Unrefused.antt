@@ -16,8 +16,8 @@ use Rattle.pt_model.proofs.GoesAlike.{agrees_on}
 use Rattle.pt_model.proofs.Induction.{start-seal}
 use Rattle.pt_model.proofs.Steps.{step-event}
 use Rattle.pt_core.specs.Cores.{Kept, past}
-use Rattle.pt_core.specs.ApplyingWithSeal.{opened_with_seal}
-use Rattle.pt_core.proofs.AcceptingWithSeal.{needs-parts, refused-without}
+use Rattle.pt_core.specs.Applying.{opened}
+use Rattle.pt_core.proofs.SealNeeds.{needs-parts, refused-without}
 use Rattle.pt_script.specs.Engines.{IsLegal}
 use Rattle.pt_script.proofs.Opened.{legal_follow, legal_settle, opened_by, sealed_alike}
 
@@ -71,8 +71,8 @@ module _ (core : Kept) (l : IsLegal core) (v : Event)
       ∙ ap (λ b. cond b (Some Full) None)
       (none_over core.limit (1 + need (g ▷ entry_for g v)) (omega (arith, room, need_sealed)))
 
-  pub unrefused_opened : refusal_within (opened_with_seal core v).limit
-      (past (opened_with_seal core v)) v ≡ None
+  pub unrefused_opened : refusal_within (opened core v).limit
+      (past (opened core v)) v ≡ None
   unrefused_opened =
       opened_by (λ k. refusal_within k.limit (past k) v ≡ None) core v
       (λ same. sym (refused-without core.limit h v same) ∙ none)

@@ -11,15 +11,14 @@ use Rattle.pt_model.specs.Histories.{place}
 use Rattle.pt_model.specs.Answers.{replies_from}
 use Rattle.pt_model.specs.Room.{refusal_with_seals}
 use Rattle.pt_core.specs.Cores.{Kept, past}
-use Rattle.pt_core.specs.Applying.{Applies, is_death}
-use Rattle.pt_core.specs.ApplyingWithSeal.{opened_with_seal}
+use Rattle.pt_core.specs.Applying.{Writes, is_death, opened}
 use Rattle.pt_script.specs.declared.line_id.LineId.{LineId}
 use Rattle.pt_script.specs.Scripts.{Script, core_of, line_id, event_of_line, told_text, refusal_text, clients_with, calls_with, greeting}
 
 -- the core to which an accepted event's entries are added: its history is sealed before, if the
 -- event needs that room  [profile]
 abbrev pub opened_for : Script → Event → Kept
-opened_for s event = opened_with_seal (core_of s) event
+opened_for s event = opened (core_of s) event
 
 -- why an event of a line is refused, or none; the line may have a refusal of its own before
 -- [profile]
@@ -52,7 +51,7 @@ pub record IsUnmet (s : Script) (event : Event) (line : LineId) (next : Script)
 pub record IsAccepted (s : Script) (event : Event) (line : LineId) (next : Script)
     (text : List ℕ) : Type 0 where
   pub accepted : refusal_of_event s event ≡ None
-  pub applies : Applies (opened_for s event) event (core_of next)
+  pub writes : Writes (opened_for s event) event (core_of next)
   pub added : List Entry
   pub extends : next.entries ≡ (opened_for s event).entries ++ added
   pub seen : next.seen ≡ s.seen

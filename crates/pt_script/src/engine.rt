@@ -242,9 +242,9 @@ impl<A: Allocator + Copy> Engine<A> {
             return Err(ScriptFault::Memory);
         }
         let mark = mark_of(&event);
-        match self.core.apply_with_seal(event) {
+        match self.core.apply(event) {
             Ok(done) => {
-                let place = done.applied.first;
+                let place = done.first;
                 note(
                     &mut self.names,
                     &mut self.asked,

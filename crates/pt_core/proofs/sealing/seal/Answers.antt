@@ -1,6 +1,6 @@
 use Rattle.std.proofs.Common.{sym, ◌∙◌, arith}
 use Rattle.pt_history.proofs.Places.{place_of_next}
-use Rattle.pt_core.proofs.SealedCores.{settled, whole-sealed, kept-sealed, refused-full, refused-memory}
+use Rattle.pt_core.proofs.SealedCores.{settled, whole-sealed, kept-sealed, places-lack, places-left, refused-full, refused-memory}
 use Rattle.pt_core.proofs.sealing.seal.Goals as goal
 
 pub seal-requires-clause-settled : goal.seal-requires-clause-settled
@@ -9,7 +9,8 @@ seal-requires-clause-settled g c = settled c.args.body.now c.requires
 pub seal-requires-clause-places : goal.seal-requires-clause-places
 seal-requires-clause-places g c =
     let next = place_of_next c.args.body.now.stored in
-    omega (arith, next, c.len-at.ensures, c.if-at-gt-MOST_PLACES.false)
+    let left = places-left c.len-at.result (sym c.in_default.is ∙ c.refusal_of_seal.ensures) in
+    omega (arith, next, c.len-at.ensures, left)
 
 pub returns-in-Ok-clause-whole : goal.returns-in-Ok-clause-whole
 returns-in-Ok-clause-whole g c =
@@ -19,20 +20,21 @@ pub returns-in-Ok-clause-ok : goal.returns-in-Ok-clause-ok
 returns-in-Ok-clause-ok g c =
     let next = place_of_next c.args.body.now.stored in
     record {
-      told = c.len-at.ensures ∙ sym next;
-      kept = kept-sealed c.args.body.now c.requires c.seal.new.self c.in-Ok.ensures.ok;
-      within = omega (arith, c.if-at-gt-MOST_PLACES.false);
+      next = c.len-at.ensures ∙ sym next;
+      core = kept-sealed c.args.body.now c.requires c.seal.new.self c.in-Ok.ensures.ok;
+      within = places-left c.len-at.result (sym c.in_default.is ∙ c.refusal_of_seal.ensures);
     }
 
-pub returns-then-at-gt-MOST_PLACES-clause-err : goal.returns-then-at-gt-MOST_PLACES-clause-err
-returns-then-at-gt-MOST_PLACES-clause-err g c =
+pub returns-in-Some-clause-err : goal.returns-in-Some-clause-err
+returns-in-Some-clause-err g c =
     let next = place_of_next c.args.body.now.stored in
-    refused-full c.args.body.now.stored
-    (omega (arith, next, c.len-at.ensures, c.if-at-gt-MOST_PLACES.true))
+    let lack = places-lack c.len-at.result c.in-Some.refusal
+    (sym c.in-Some.is ∙ c.refusal_of_seal.ensures) in
+    lack.0 ∙ refused-full c.args.body.now.stored (omega (arith, next, c.len-at.ensures, lack.1))
 
 pub returns-in-Err-clause-err : goal.returns-in-Err-clause-err
 returns-in-Err-clause-err g c =
     let next = place_of_next c.args.body.now.stored in
+    let left = places-left c.len-at.result (sym c.in_default.is ∙ c.refusal_of_seal.ensures) in
     c.in-Err.ensures.reason
-    ∙ refused-memory c.args.body.now.stored
-    (omega (arith, next, c.len-at.ensures, c.if-at-gt-MOST_PLACES.false))
+    ∙ refused-memory c.args.body.now.stored (omega (arith, next, c.len-at.ensures, left))

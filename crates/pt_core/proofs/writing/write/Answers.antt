@@ -1,14 +1,14 @@
-use Rattle.std.proofs.Common.{◌≡◌, false, sym, ap, ◌∙◌, subst}
+use Rattle.std.proofs.Common.{◌≡◌, false, None, sym, ap, ◌∙◌, subst}
 use Rattle.std.specs.Prelude.{IsOk}
 use Rattle.pt_model.specs.Histories.{History}
 use Rattle.pt_model.specs.Room.{entry_for, refusal}
 use Rattle.pt_machine.specs.Memory.{needs_memory}
 use Rattle.pt_machine.specs.Planned.{IsPlanned}
 use Rattle.pt_core.proofs.AcceptingLemmas.{same-past}
-use Rattle.pt_core.proofs.ApplyingLemmas.{entered-applied}
+use Rattle.pt_core.proofs.WritingLemmas.{entered-written}
 use Rattle.pt_core.proofs.OpenLemmas.{memory-open, open-within}
 use Rattle.pt_core.proofs.WholeLemmas.{whole-entered}
-use Rattle.pt_core.proofs.applying.apply_planned.Goals as goal
+use Rattle.pt_core.proofs.writing.write.Goals as goal
 
 pub make_room-requires-clause-need : goal.make_room-requires-clause-need
 make_room-requires-clause-need g c =
@@ -42,10 +42,10 @@ returns-clause-whole g c =
 pub returns-clause-ok : goal.returns-clause-ok
 returns-clause-ok g c =
     let o = c.in_default.ensures.ok in
-    entered-applied c.args.body.now.stored c.make_room.new.body.stored c.enter.new.body.stored
+    entered-written c.args.body.now.stored c.make_room.new.body.stored c.enter.new.body.stored
     c.args.event.now o.made c.in_default-enter.ensures.ok
     (open-within c.args.body.now c.make_room.new.body c.args.event.now o c.requires.accepted)
-    c.len-first.result c.len.result c.told-outcome.result
+    c.len-first.result c.len.result c.told-outcome.result None
     c.len-first.ensures c.len.ensures c.told-outcome.ensures
 
 pub returns-in-Err-clause-enough : goal.returns-in-Err-clause-enough

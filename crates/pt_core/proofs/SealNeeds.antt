@@ -8,7 +8,7 @@ use Rattle.pt_model.specs.declared.entry.Event.{Event}
 use Rattle.pt_model.specs.declared.entry.Event.TheVariants as event
 use Rattle.pt_model.specs.Histories.{History, ◌▷◌, place, held}
 use Rattle.pt_model.specs.Clients.{is_alive}
-use Rattle.pt_model.specs.Room.{refusal, entry_for, is_over, room_for, needs_seal, is_full, refusal_within, refusal_with_seals}
+use Rattle.pt_model.specs.Room.{need, refusal, entry_for, is_over, room_for, needs_seal, is_full, refusal_within, refusal_with_seals}
 use Rattle.pt_history.specs.Stored.{Stored, past_of}
 use Rattle.pt_history.proofs.Places.{held-past}
 use Rattle.pt_core.specs.Cores.{IsKept}
@@ -16,7 +16,7 @@ use Rattle.pt_core.specs.Applying.{is_death}
 use Rattle.pt_core.specs.Settling.{IsReady}
 use Rattle.pt_core.proofs.AcceptingLemmas.{death-fits, unrefused-alive}
 
--- where a limit is passed without a seal, and not after one
+-- a limit is passed without a seal, and not after one
 passes : (limit held room : ℕ) → (nat_lt limit (held + room) && nat_le room limit) ≡ true
     → (limit < held + room) × (room ≤ limit)
 passes limit held room e = grind (arith, nat_tests)
@@ -58,6 +58,13 @@ module _ (limit : ℕ) (h : History) (v : Event) where
   pub needs-parts : needs_seal limit h v ≡ true
       → (limit < held h + room_for h v) × (room_for h v ≤ limit)
   needs-parts e = passes limit (held h) (room_for h v) e
+
+  -- the same, of what a plan says that is needed
+  pub planned-seal : (n : ℕ) (needed : Bool) → n ≡ need (h ▷ entry_for h v)
+      → needed ≡ (nat_lt limit (held h + (1 + n)) && nat_le (1 + n) limit)
+      → needed ≡ needs_seal limit h v
+  planned-seal n needed en is =
+      is ∙ ap (λ (k : ℕ). nat_lt limit (held h + (1 + k)) && nat_le (1 + k) limit) en
 
   over_as_it_stands : is_over limit (h ▷ entry_for h v) ≡ nat_lt limit (held h + room_for h v)
   over_as_it_stands = ap (nat_lt limit) (omega arith)

@@ -1,0 +1,73 @@
+//! One accepted event, written without a seal.
+
+ghost use Rattle.std.specs.Prelude.{◌≡◌, ◌≤◌, None, true, false, IfOk, IfErr, IsOk, OnErr};
+ghost use Rattle.pt_model.specs.Room.{refusal as refusal_in, entry_for};
+ghost use Rattle.pt_state.specs.Adds.{past};
+ghost use Rattle.pt_state.specs.Reads.{AreTables};
+ghost use Rattle.pt_machine.specs.Memory.{needs_memory};
+ghost use Rattle.pt_machine.specs.Planned.{IsPlanned};
+ghost use Rattle.pt_core.specs.Cores.{kept, seen};
+ghost use Rattle.pt_core.specs.Wholes.{HasEnough, IsWhole};
+ghost use Rattle.pt_core.specs.Applying.{IsWritten, IsNotWritten, is_death as is_death_of, told_at_once};
+
+use crate::applied::Applied;
+use crate::settling::{enter, make_room};
+use pt_machine::{Body, Plan};
+use pt_model::Event;
+use pt_types::{Outcome, Refusal};
+use pt_waitq::WaitList;
+use std::alloc::Allocator;
+
+/// The answer that an event's own call has by now.
+pub fn told<Q: WaitList, A: Allocator + Copy>(
+    body: &Body<Q, A>,
+    event: &Event,
+    first: u64,
+) -> Option<Outcome>
+    requires { AreTables body.now }
+    ensures { result ≡ told_at_once event.now (past body.now) first }
+{
+    match event {
+        Event::Join(_) => Some(Outcome::Done),
+        Event::Call(..) => body.outcome(first),
+        Event::Death(_) | Event::Moment(..) => None,
+    }
+}
+
+/// An accepted event with its plan, and all that must follow it, without a seal. A refusal changes
+/// nothing.  [profile]
+pub fn write<Q: WaitList, A: Allocator + Copy>(
+    body: &mut Body<Q, A>,
+    event: &Event,
+    plan: Plan,
+) -> Result<Applied, Refusal>
+    requires whole { IsWhole body.old }
+    requires accepted { refusal_in (past body.old) event.now ≡ None }
+    requires planned { IsPlanned (past body.old) event.now plan }
+    requires small { plan.need ≤ 8195 }
+    ensures whole { IsWhole body.new }
+    ensures ok { IfOk result (λ applied.
+        IsWritten (kept body.old.stored) event.now (kept body.new.stored) applied) }
+    ensures unsealed { IfOk result (λ applied. applied.sealed ≡ None) }
+    ensures err { IfErr result (λ refusal.
+        IsNotWritten (kept body.old.stored) event.now refusal) }
+    ensures unchanged { OnErr result (seen body.new.stored ≡ seen body.old.stored) }
+    ensures death { is_death_of event.now ≡ true → IsOk result }
+    ensures enough { HasEnough body.old event.now
+        → needs_memory (entry_for (past body.old) event.now) ≡ false → IsOk result }
+{
+    if let Err(refusal) = make_room(body, event, plan.need) {
+        return Err(refusal);
+    }
+    let first = body.len();
+    if let Err(refusal) = enter(body, event, plan) {
+        return Err(refusal);
+    }
+    let outcome = told(body, event, first);
+    Ok(Applied {
+        first,
+        last: body.len() - 1,
+        outcome,
+        sealed: None,
+    })
+}
