@@ -1,11 +1,9 @@
 -- LinkLemmas: rows that are added can be put into a chain.
-use Rattle.std.proofs.Common.{◌≡◌, ◌∙◌, ◌<◌, ◌||◌, ◌+◌, ℕ, Bool, true, false, cond, nat_eq, List, [], ◌∷◌, Option, Some, None, is_some, refl, sym, ap, subst, arith, true≢false}
+use Rattle.std.proofs.Common.{◌≡◌, ◌∙◌, ◌||◌, ◌+◌, ℕ, Bool, true, false, cond, nat_eq, List, Option, Some, None, is_some, refl, ap, arith, true≢false}
 use Rattle.std.specs.Option.{option_map}
-use Rattle.std.proofs.lemmas.Bool.{eqb-true}
-use Rattle.pt_table.specs.declared.link.Link.{Link}
 use Rattle.pt_table.specs.declared.objects.ObjectRow.{ObjectRow}
-use Rattle.pt_table.specs.ObjectRows.{object_at, link_of, has_object, and_object, is_taken, out_of_chains}
-use Rattle.pt_table.specs.Linked.{linked_by, is_linked}
+use Rattle.pt_table.specs.ObjectRows.{object_at, link_of, and_object, is_taken, out_of_chains}
+use Rattle.pt_table.specs.Linked.{linked_by}
 use Rattle.pt_table.proofs.ChainCallers.{link-added}
 use Rattle.pt_parts_tests.specs.Linking.{AreFree, IsFree}
 
