@@ -1,6 +1,6 @@
 //! Whose calls an entry answers.
 
-ghost use Rattle.std.specs.Prelude.{◌≡◌};
+ghost use Rattle.std.specs.Prelude.{◌≡◌, Some};
 ghost use Rattle.pt_hub.specs.Desks.{kept};
 ghost use Rattle.pt_hub.specs.Audiences.{audience_at, caller_if, entry_at};
 
@@ -18,6 +18,16 @@ pub enum Audience {
     Everybody,
 }
 
+// The client of an entry, if that is a call.
+fn caller_of(entry: &Entry) -> Audience
+    ensures { result ≡ caller_if (Some entry.now) }
+{
+    match entry {
+        Entry::Call(client, _, _) => Audience::Client(*client),
+        _ => Audience::Everybody,
+    }
+}
+
 impl<A: Allocator + Copy> Desk<A> {
     // The entry at a place.
     fn at(&self, place: u64) -> Option<Entry>
@@ -31,8 +41,8 @@ impl<A: Allocator + Copy> Desk<A> {
         ensures { result ≡ caller_if (entry_at (kept self.now) place) }
     {
         match self.at(place) {
-            Some(Entry::Call(client, _, _)) => Audience::Client(client),
-            _ => Audience::Everybody,
+            Some(entry) => caller_of(&entry),
+            None => Audience::Everybody,
         }
     }
 
