@@ -18,10 +18,10 @@ use Rattle.pt_model.proofs.Induction.{start-seal}
 use Rattle.pt_model.proofs.Steps.{step-event}
 use Rattle.pt_state.specs.declared.state.State.{State}
 use Rattle.pt_state.specs.Adds.{Adds, past}
-use Rattle.pt_seal.specs.Sealed.{SealsWithRoom}
+use Rattle.pt_seal.specs.Sealed.{SealsWithRoom, StaysOrGrows}
 use Rattle.pt_machine.specs.Renewed.{AddsSealed}
 use Rattle.pt_machine.proofs.UnsealedBodies.{past-renewed}
-use Rattle.pt_history.specs.Stored.{Stored}
+use Rattle.pt_history.specs.Stored.{Stored, past_of}
 use Rattle.pt_core.specs.Renewing.{EntersSealed}
 use Rattle.pt_core.specs.Settling.{Settles}
 use Rattle.pt_core.specs.Wholes.{IsWhole, IsRoomy, HasRoom}
@@ -166,3 +166,14 @@ module _ {A : Type 0} (old : State A) (whole : IsWhole old) (v : Event)
           accepted = accepted_there;
           enters = enters-outer a.sealed v open_there accepted_there after added new st;
         }
+
+-- more memory for answers leaves the room for what must follow
+pub roomy-kept : {A : Type 0} (old new : State A) → StaysOrGrows old new → IsRoomy old
+    → IsRoomy new
+roomy-kept old new s r =
+    let same : need (past new) ≡ need (past old) = ap (λ (t : Stored). need (past_of t)) s.stored in
+    record {
+      read = s.read;
+      room = omega (arith, same, ap (λ (t : Stored). t.room) s.stored, r.room);
+      spare = omega (arith, same, s.told, s.held, r.spare);
+    }

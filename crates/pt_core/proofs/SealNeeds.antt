@@ -1,5 +1,6 @@
 -- Which events need a seal, and when an event is refused if a seal makes room.
-use Rattle.std.proofs.Common.{◌≡◌, ℕ, ◌+◌, ◌≤◌, ◌<◌, Bool, true, false, cond, nat_le, nat_lt, ◌&&◌, ◌||◌, Some, None, refl, sym, ap, ◌∙◌, arith}
+use Rattle.std.proofs.Common.{◌≡◌, ℕ, ◌+◌, ◌≤◌, ◌<◌, Bool, true, false, cond, nat_le, nat_lt, ◌&&◌}
+use Rattle.std.proofs.Common.{◌||◌, Some, None, refl, sym, ap, ◌∙◌, arith}
 use Rattle.std.proofs.lemmas.Bool.Decides.{nat_tests}
 use Rattle.std.specs.Option.{option_or}
 use Rattle.pt_types.specs.declared.outcome.Refusal.TheVariants.{Full}
@@ -8,7 +9,8 @@ use Rattle.pt_model.specs.declared.entry.Event.{Event}
 use Rattle.pt_model.specs.declared.entry.Event.TheVariants as event
 use Rattle.pt_model.specs.Histories.{History, ◌▷◌, place, held}
 use Rattle.pt_model.specs.Clients.{is_alive}
-use Rattle.pt_model.specs.Room.{need, refusal, entry_for, is_over, room_for, needs_seal, is_full, refusal_within, refusal_with_seals}
+use Rattle.pt_model.specs.Room.{need, refusal, entry_for, is_over, room_for, needs_seal, is_full}
+use Rattle.pt_model.specs.Room.{refusal_within, refusal_with_seals}
 use Rattle.pt_history.specs.Stored.{Stored, past_of}
 use Rattle.pt_history.proofs.Places.{held-past}
 use Rattle.pt_core.specs.Cores.{IsKept}

@@ -1,5 +1,6 @@
 -- A core whose entries were dropped.
-use Rattle.std.proofs.Common.{◌≡◌, ◌≤◌, ◌<◌, ℕ, Bool, true, false, cond, nat_le, nat_lt, List, [], Some, None, length, refl, sym, ap, ◌∙◌, subst, arith}
+use Rattle.std.proofs.Common.{◌≡◌, ◌≤◌, ◌<◌, ℕ, Bool, true, false, cond, nat_le, nat_lt, List, []}
+use Rattle.std.proofs.Common.{Some, None, length, refl, sym, ap, ◌∙◌, subst, arith}
 use Rattle.std.proofs.lemmas.Bool.Decides.{nat_tests}
 use Rattle.pt_types.specs.declared.outcome.Refusal.{Refusal}
 use Rattle.pt_types.specs.declared.outcome.Refusal.TheVariants.{Enomem, Full}

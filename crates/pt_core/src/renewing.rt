@@ -34,7 +34,8 @@ pub fn enter_sealed<Q: WaitList, A: Allocator + Copy>(
     ensures reason { IfErr result (λ refusal. refusal ≡ Refusal.Enomem) }
 {
     let room = body.room().max(1 + need);
-    body.push_outer_sealed(event, room)?;
+    let unsealed = body.push_outer_sealed(event, room)?;
     settle(body);
+    body.take_memory(unsealed);
     Ok(())
 }

@@ -8,7 +8,8 @@ ghost use Rattle.pt_machine.specs.Memory.{needs_memory};
 ghost use Rattle.pt_machine.specs.Planned.{IsPlanned};
 ghost use Rattle.pt_core.specs.Cores.{kept, seen};
 ghost use Rattle.pt_core.specs.Wholes.{HasEnough, IsWhole};
-ghost use Rattle.pt_core.specs.Applying.{IsWritten, IsNotWritten, is_death as is_death_of, told_at_once};
+ghost use Rattle.pt_core.specs.Applying.{IsWritten, IsNotWritten, is_death as is_death_of};
+ghost use Rattle.pt_core.specs.Applying.{told_at_once};
 
 use crate::applied::Applied;
 use crate::settling::{enter, make_room};
@@ -29,7 +30,7 @@ pub fn told<Q: WaitList, A: Allocator + Copy>(
 {
     match event {
         Event::Join(_) => Some(Outcome::Done),
-        Event::Call(..) => body.outcome(first),
+        Event::Call(..) => body.recent_outcome(first),
         Event::Death(_) | Event::Moment(..) => None,
     }
 }

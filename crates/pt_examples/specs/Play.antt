@@ -1,5 +1,6 @@
 -- Play: events played out by the definitions alone.
-use Rattle.std.specs.Prelude.{ℕ, zero, suc, List, [], ◌∷◌, ◌++◌, map, Option, Some, None, Result, Ok, Err}
+use Rattle.std.specs.Prelude.{ℕ, zero, suc, List, [], ◌∷◌, ◌++◌, map, Option, Some, None, Result}
+use Rattle.std.specs.Prelude.{Ok, Err}
 use Rattle.pt_types.specs.Limits.{most_entries}
 use Rattle.pt_types.specs.Times.{Timespec}
 use Rattle.pt_types.specs.declared.outcome.Outcome.{Outcome}

@@ -1,5 +1,6 @@
 -- SealedPlay: events played by the definitions alone, with a history that is sealed between them.
-use Rattle.std.specs.Prelude.{◌≡◌, ℕ, List, [], ◌∷◌, ◌++◌, map, Option, Some, None, Result, Ok, Err, if◌then◌else◌}
+use Rattle.std.specs.Prelude.{◌≡◌, ℕ, List, [], ◌∷◌, ◌++◌, map, Option, Some, None, Result, Ok, Err}
+use Rattle.std.specs.Prelude.{if◌then◌else◌}
 use Rattle.std.specs.Option.{option_to_list}
 use Rattle.pt_types.specs.declared.outcome.Outcome.{Outcome}
 use Rattle.pt_types.specs.declared.outcome.Refusal.{Refusal}

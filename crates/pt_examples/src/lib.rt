@@ -28,10 +28,17 @@ ghost use Rattle.pt_examples.specs.Row37.{IsPlayed37};
 ghost use Rattle.pt_examples.specs.Row39.{IsPlayed39, IsTold39};
 ghost use Rattle.pt_examples.specs.Row40.{IsPlayed40, IsAnswered40};
 ghost use Rattle.pt_examples.specs.Row41.{IsPlayed41};
-ghost use Rattle.pt_examples.specs.Row23.{IsFullAtSeven, IsFullBeforeYield, IsFullAtSix, IsFullAtOne, IsFullAtNone};
-ghost use Rattle.pt_examples.specs.SealedRows.{IsSealedAtSeven, IsTwiceSealed, IsSealedBeforeYield, IsSealedAtSix, IsSealedAtFour, IsSealedAtOne, IsSealedAtNone};
-ghost use Rattle.pt_examples.specs.SealedAlike.{IsAlike2, IsAlike3, IsAlike5, IsAlike6, IsAlike7, IsAlike8, IsAlike9, IsAlike10, IsAlike11, IsAlike12, IsAlike13, IsAlike14, IsAlike15, IsAlike16, IsAlike18, IsAlike19, IsAlike20};
-ghost use Rattle.pt_examples.specs.TableLimits.{HasMostLocks, HasMostReads, HasMostObjects, HasMostAtBarrier};
+ghost use Rattle.pt_examples.specs.Row23.{IsFullAtSeven, IsFullBeforeYield, IsFullAtSix};
+ghost use Rattle.pt_examples.specs.Row23.{IsFullAtOne, IsFullAtNone};
+ghost use Rattle.pt_examples.specs.SealedRows.{IsSealedAtSeven, IsTwiceSealed, IsSealedBeforeYield};
+ghost use Rattle.pt_examples.specs.SealedRows.{IsSealedAtSix, IsSealedAtFour, IsSealedAtOne};
+ghost use Rattle.pt_examples.specs.SealedRows.{IsSealedAtNone};
+ghost use Rattle.pt_examples.specs.SealedAlike.{IsAlike2, IsAlike3, IsAlike5, IsAlike6, IsAlike7};
+ghost use Rattle.pt_examples.specs.SealedAlike.{IsAlike8, IsAlike9, IsAlike10, IsAlike11};
+ghost use Rattle.pt_examples.specs.SealedAlike.{IsAlike12, IsAlike13, IsAlike14, IsAlike15};
+ghost use Rattle.pt_examples.specs.SealedAlike.{IsAlike16, IsAlike18, IsAlike19, IsAlike20};
+ghost use Rattle.pt_examples.specs.TableLimits.{HasMostLocks, HasMostReads, HasMostObjects};
+ghost use Rattle.pt_examples.specs.TableLimits.{HasMostAtBarrier};
 
 /// Row 2: the reply comes before the grant.
 pub fn row_2()

@@ -8,7 +8,8 @@ use prog.Memory.{Memory}
 use prog.Routine.{Routine}
 use types.Logic.{Logic, sem}
 use contract.Monad.{Fun}
-use types.Kit.{‵, raw, ◌⊛◌, some, later, ◌$◌, ◌∵◌, !, qed, move, keep, use1, split, join, pick, fjoin, feq_i, feq_l, check, show, await, updating, now as at_once, done}
+use types.Kit.{‵, raw, ◌⊛◌, some, later, ◌$◌, ◌∵◌, !, qed, move, keep, use1, split, join, pick}
+use types.Kit.{fjoin, feq_i, feq_l, check, show, await, updating, now as at_once, done}
 use denote.Memory.{hidden_shr}
 use denote.Builtin.{bool}
 use denote.Steps.{nothing, only}

@@ -7,6 +7,7 @@ ghost use Rattle.pt_history.specs.Records.{no_parts, parts_of, HasRoom, IsAppend
 ghost use Rattle.pt_history.specs.Records.{KeepsParts};
 
 use crate::compact::TimeLimit;
+use crate::memory::take_memory;
 use pt_model::Entry;
 use pt_types::{Moment, Name};
 use std::alloc::{AllocError, Allocator};
@@ -114,5 +115,15 @@ impl<A: Allocator + Copy> Records<A> {
         self.limits.clear();
         self.moments.clear();
         self.wholes.clear();
+    }
+
+    /// Moves the records into the memory of others that are needed no more, if those have as much.
+    pub(crate) fn take_memory(&mut self, other: Records<A>)
+        ensures { KeepsParts self.old self.new }
+    {
+        take_memory(&mut self.texts, other.texts);
+        take_memory(&mut self.limits, other.limits);
+        take_memory(&mut self.moments, other.moments);
+        take_memory(&mut self.wholes, other.wholes);
     }
 }

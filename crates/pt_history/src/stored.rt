@@ -2,6 +2,7 @@ ghost use Rattle.std.specs.Prelude.{◌≡◌, if◌then◌else◌};
 ghost use Rattle.pt_model.specs.Histories.{is_forced};
 
 use crate::compact::{Compact, base};
+use crate::memory::take_memory;
 use crate::records::Records;
 use pt_model::{Entry, Start};
 use pt_types::Refusal;
@@ -122,6 +123,14 @@ impl<A: Allocator + Copy> History<A> {
         self.start = start;
         self.entries.clear();
         self.records.clear();
+    }
+
+    /// Moves the entries into the memory of a history that is needed no more, if that has as much.
+    pub fn take_memory(&mut self, other: History<A>)
+        ensures { self.new ≡ self.old }
+    {
+        take_memory(&mut self.entries, other.entries);
+        self.records.take_memory(other.records);
     }
 
     /// What the history begins with.

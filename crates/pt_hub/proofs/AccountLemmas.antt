@@ -1,5 +1,6 @@
 -- What an accepted event makes of a client's account.
-use Rattle.std.proofs.Common.{◌≡◌, ℕ, ◌≤◌, ◌==◌, true, false, cond, Option, Some, None, is_some, refl, ap, ◌∙◌, arith}
+use Rattle.std.proofs.Common.{◌≡◌, ℕ, ◌≤◌, ◌==◌, true, false, cond, Option, Some, None, is_some}
+use Rattle.std.proofs.Common.{refl, ap, ◌∙◌, arith}
 use Rattle.std.proofs.lemmas.Bool.Decides.{nat_tests}
 use Rattle.std.proofs.lemmas.Bool.{false≢true}
 use Rattle.pt_types.specs.declared.call.Call.{Call as Asked}
@@ -17,7 +18,8 @@ use Rattle.pt_core.specs.Cores.{Kept, past}
 use Rattle.pt_core.specs.Applying.{Writes}
 use Rattle.pt_hub.specs.declared.account.Account.{Account}
 use Rattle.pt_hub.specs.Desks.{IsServed, IsAccount, awaiting, fresh, one_if, owed}
-use Rattle.pt_hub.proofs.AppliedLemmas.{follows-applied, alive-applied, latest-applied, place-applied, got-applied, tally-applied}
+use Rattle.pt_hub.proofs.AppliedLemmas.{follows-applied, alive-applied, latest-applied}
+use Rattle.pt_hub.proofs.AppliedLemmas.{place-applied, got-applied, tally-applied}
 
 module _ (old new : Kept) (v : Event) (b : IsStart old.start) (ok : Writes old v new) where
   -- what was owed when the history was sealed stays so

@@ -1,5 +1,6 @@
 -- What an accepted event makes of what is read off the history.
-use Rattle.std.proofs.Common.{◌≡◌, ℕ, ◌+◌, ◌≤◌, true, [], ◌∷◌, ◌++◌, length, Option, None, refl, sym, ap, ◌∙◌, subst, arith}
+use Rattle.std.proofs.Common.{◌≡◌, ℕ, ◌+◌, ◌≤◌, true, [], ◌∷◌, ◌++◌, length, Option, None, refl}
+use Rattle.std.proofs.Common.{sym, ap, ◌∙◌, subst, arith}
 use Rattle.std.proofs.lemmas.Bool.Decides.{nat_tests}
 use Rattle.std.specs.Option.{option_or}
 use Rattle.std.specs.Prelude.{Bool, false, Some, cond}
@@ -17,7 +18,8 @@ use Rattle.pt_model.specs.Steps.{IsStart, Follows}
 use Rattle.pt_model.proofs.Histories.{place-behind, held-behind}
 use Rattle.pt_told.specs.Tallies.{told_count, open_count, asks}
 use Rattle.pt_told.specs.GoesOn.{GoesOn}
-use Rattle.pt_told.proofs.EventTallies.{events-more, before-more, alive-more, latest-more, outer-more, place-more, told-more, tally-more}
+use Rattle.pt_told.proofs.EventTallies.{events-more, before-more, alive-more, latest-more}
+use Rattle.pt_told.proofs.EventTallies.{outer-more, place-more, told-more, tally-more}
 use Rattle.pt_core.specs.declared.applied.Applied.{Applied}
 use Rattle.pt_core.specs.Cores.{Kept, past}
 use Rattle.pt_core.specs.Applying.{Writes, IsWritten}

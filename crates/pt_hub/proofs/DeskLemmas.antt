@@ -1,5 +1,6 @@
 -- A desk stays one at each event.
-use Rattle.std.proofs.Common.{◌≡◌, ℕ, ◌==◌, Bool, true, false, cond, List, [], Option, Some, None, is_some, refl, sym, ap, ◌∙◌, subst, arith}
+use Rattle.std.proofs.Common.{◌≡◌, ℕ, ◌==◌, Bool, true, false, cond, List, [], Option, Some, None}
+use Rattle.std.proofs.Common.{is_some, refl, sym, ap, ◌∙◌, subst, arith}
 use Rattle.std.specs.Map.{lookup}
 use Rattle.std.specs.Prelude.{nat_eq, IsSome}
 use Rattle.std.proofs.lemmas.Bool.Decides.{nat_tests}
@@ -19,8 +20,10 @@ use Rattle.pt_core.specs.declared.applied.Applied.{Applied}
 use Rattle.pt_core.specs.Cores.{Kept, past}
 use Rattle.pt_core.specs.Applying.{IsWritten}
 use Rattle.pt_hub.specs.declared.account.Account.{Account}
-use Rattle.pt_hub.specs.Desks.{Desk, kept, account_of, awaiting, after_taking, fresh, next_answer, IsAccount, IsDesk, IsDeskOf, Wrote}
-use Rattle.pt_hub.proofs.AppliedLemmas.{starts-applied, legal-applied, outer-applied, place-applied, within-applied}
+use Rattle.pt_hub.specs.Desks.{Desk, kept, account_of, awaiting, after_taking, fresh, next_answer}
+use Rattle.pt_hub.specs.Desks.{IsAccount, IsDesk, IsDeskOf, Wrote}
+use Rattle.pt_hub.proofs.AppliedLemmas.{starts-applied, legal-applied, outer-applied, place-applied}
+use Rattle.pt_hub.proofs.AppliedLemmas.{within-applied}
 use Rattle.pt_hub.proofs.AccountLemmas.{other-account, joined-account, called-account, died-account}
 use Rattle.pt_hub.proofs.ReadingLemmas.{taken-account}
 

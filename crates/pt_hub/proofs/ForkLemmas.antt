@@ -1,5 +1,6 @@
 -- Where the history differs from what clients left.
-use Rattle.std.proofs.Common.{◌≡◌, ℕ, suc, ◌+◌, ◌≤◌, max, List, [], length, drop, slice_get, Option, Some, None, IfSome, sym, ap, ◌∙◌, subst, arith}
+use Rattle.std.proofs.Common.{◌≡◌, ℕ, suc, ◌+◌, ◌≤◌, max, List, [], length, drop, slice_get, Option}
+use Rattle.std.proofs.Common.{Some, None, IfSome, sym, ap, ◌∙◌, subst, arith}
 use Rattle.pt_model.specs.Searches.{Each}
 use Rattle.pt_model.specs.declared.entry.Event.{Event}
 use Rattle.pt_model.specs.declared.entry.Event.TheVariants as event
@@ -9,10 +10,12 @@ use Rattle.pt_model.specs.Steps.{IsStart}
 use Rattle.pt_model.proofs.Legality.{behind-follows}
 use Rattle.pt_told.specs.OwnEvents.{own_at, placed_since, place_if, PartsAt, Finds, Compares}
 use Rattle.pt_told.proofs.Partings.{parts-found}
-use Rattle.pt_told.proofs.Walks.{Walks, own_left, own-end, own-dead, walk-begin, walk-on, walk-met, walk-parts, walk-end}
+use Rattle.pt_told.proofs.Walks.{Walks, own_left, own-end, own-dead, walk-begin, walk-on, walk-met}
+use Rattle.pt_told.proofs.Walks.{walk-parts, walk-end}
 use Rattle.pt_core.specs.Cores.{Kept, past}
 use Rattle.pt_hub.specs.Passes.{LeftView}
-use Rattle.pt_hub.specs.Closing.{claims, own_events, claims_since, IsAnswered, IsMistold, AnyAt, DiffersAt, Holds, IsLeastFork, lesser}
+use Rattle.pt_hub.specs.Closing.{claims, own_events, claims_since, IsAnswered, IsMistold, AnyAt}
+use Rattle.pt_hub.specs.Closing.{DiffersAt, Holds, IsLeastFork, lesser}
 use Rattle.pt_hub.proofs.FindLemmas.{finds-lesser, finds-as}
 use Rattle.pt_hub.proofs.ClaimLemmas.{index-within}
 

@@ -1,5 +1,6 @@
 -- A desk stays one at each event, before which the history is sealed if the event needs that.
-use Rattle.std.proofs.Common.{◌≡◌, ℕ, ◌≤◌, Bool, true, false, cond, nat_eq, List, Option, Some, None, is_some, refl, sym, ap, ◌∙◌, subst}
+use Rattle.std.proofs.Common.{◌≡◌, ℕ, ◌≤◌, Bool, true, false, cond, nat_eq, List, Option, Some}
+use Rattle.std.proofs.Common.{None, is_some, refl, sym, ap, ◌∙◌, subst}
 use Rattle.std.specs.Map.{lookup}
 use Rattle.std.specs.Prelude.{IsSome, option_map}
 use Rattle.pt_types.specs.declared.call.Call.{Call as Asked}
@@ -14,7 +15,9 @@ use Rattle.pt_core.specs.Cores.{Kept, past}
 use Rattle.pt_core.specs.Applying.{IsApplied, IsWritten, opened}
 use Rattle.pt_core.specs.Sealing.{IsSealed, sealed}
 use Rattle.pt_hub.specs.declared.account.Account.{Account}
-use Rattle.pt_hub.specs.Desks.{Desk, kept, account_of, awaiting, call_refusal, fresh, opened_account, opened_accounts, renewed, renewed_all, renewed_if, IsDesk, IsDeskOf, Wrote}
+use Rattle.pt_hub.specs.Desks.{Desk, kept, account_of, awaiting, call_refusal, fresh}
+use Rattle.pt_hub.specs.Desks.{opened_account, opened_accounts, renewed, renewed_all, renewed_if}
+use Rattle.pt_hub.specs.Desks.{IsDesk, IsDeskOf, Wrote}
 use Rattle.pt_hub.proofs.DeskLemmas.{desk-join, desk-call, desk-moment}
 use Rattle.pt_hub.proofs.ReadingLemmas.{caller-known, caller-idle}
 use Rattle.pt_hub.proofs.SealedDesks.{lookup-renewed, opened-desk, place-opened, sealed-desk}

@@ -1,5 +1,6 @@
 -- What is read off an account.
-use Rattle.std.proofs.Common.{◌≡◌, ℕ, ◌+◌, ◌≤◌, ◌<◌, Bool, true, false, cond, ◌||◌, ◌⊎◌, inl, inr, nat_lt, Option, Some, None, is_some, refl, sym, ap, ◌∙◌, subst, arith}
+use Rattle.std.proofs.Common.{◌≡◌, ℕ, ◌+◌, ◌≤◌, ◌<◌, Bool, true, false, cond, ◌||◌, ◌⊎◌, inl, inr}
+use Rattle.std.proofs.Common.{nat_lt, Option, Some, None, is_some, refl, sym, ap, ◌∙◌, subst, arith}
 use Rattle.std.specs.Prelude.{IsSome, ◌-◌, option_map}
 use Rattle.std.specs.Option.{option_or}
 use Rattle.std.proofs.lemmas.Bool.Decides.{nat_tests}
@@ -22,7 +23,10 @@ use Rattle.pt_core.specs.Cores.{past}
 use Rattle.pt_told.proofs.LatestCalls.{answer-tally, dead-open}
 use Rattle.pt_hub.specs.declared.account.Account.{Account}
 use Rattle.pt_core.specs.Sealing.{sealed}
-use Rattle.pt_hub.specs.Desks.{Desk, kept, account_of, is_untaken_in, is_untaken, is_blocked, next_answer, call_refusal, IsOwedTheRest, IsTakenButOne, owed, owed_in, taken_in, got, after_taking, one_if, renewed, IsServed, IsAccount, IsDesk}
+use Rattle.pt_hub.specs.Desks.{Desk, kept, account_of, is_untaken_in, is_untaken, is_blocked}
+use Rattle.pt_hub.specs.Desks.{next_answer, call_refusal, IsOwedTheRest, IsTakenButOne, owed}
+use Rattle.pt_hub.specs.Desks.{owed_in, taken_in, got, after_taking, one_if, renewed, IsServed}
+use Rattle.pt_hub.specs.Desks.{IsAccount, IsDesk}
 use Rattle.pt_hub.proofs.SealedDesks.{lookup-renewed, owed-rest}
 
 -- whether an account awaits an answer

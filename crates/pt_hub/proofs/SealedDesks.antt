@@ -1,5 +1,7 @@
 -- A desk whose history is sealed.
-use Rattle.std.proofs.Common.{◌≡◌, ℕ, ◌+◌, ◌-◌, ◌≤◌, Bool, true, false, cond, not, ◌&&◌, ◌||◌, nat_lt, nat_eq, List, Option, Some, None, is_some, refl, sym, ap, ◌∙◌, subst, arith}
+use Rattle.std.proofs.Common.{◌≡◌, ℕ, ◌+◌, ◌-◌, ◌≤◌, Bool, true, false, cond, not, ◌&&◌, ◌||◌}
+use Rattle.std.proofs.Common.{nat_lt, nat_eq, List, Option, Some, None, is_some, refl, sym, ap, ◌∙◌}
+use Rattle.std.proofs.Common.{subst, arith}
 use Rattle.std.specs.Map.{lookup}
 use Rattle.std.specs.Option.{option_or}
 use Rattle.std.specs.Prelude.{option_map}
@@ -28,7 +30,8 @@ use Rattle.pt_core.specs.Cores.{Kept, past}
 use Rattle.pt_core.specs.Applying.{opened}
 use Rattle.pt_core.specs.Sealing.{sealed}
 use Rattle.pt_hub.specs.declared.account.Account.{Account}
-use Rattle.pt_hub.specs.Desks.{got, one_if, owed, renewed, renewed_all, renewed_if, IsAccount, IsDeskOf, IsServed}
+use Rattle.pt_hub.specs.Desks.{got, one_if, owed, renewed, renewed_all, renewed_if, IsAccount}
+use Rattle.pt_hub.specs.Desks.{IsDeskOf, IsServed}
 
 -- a client's account once the accounts are renewed
 pub lookup-renewed : (c : ℕ) (xs : List (ℕ × Account))

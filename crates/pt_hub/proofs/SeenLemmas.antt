@@ -1,5 +1,6 @@
 -- What was read at a desk, and of a number, that are seen as others of the same value.
-use Rattle.std.proofs.Common.{◌≡◌, ℕ, ◌+◌, ◌≤◌, true, false, nat_eq, Option, Some, None, is_some, sym, ap, ◌∙◌}
+use Rattle.std.proofs.Common.{◌≡◌, ℕ, ◌+◌, ◌≤◌, true, false, nat_eq, Option, Some, None, is_some}
+use Rattle.std.proofs.Common.{sym, ap, ◌∙◌}
 use Rattle.std.specs.Prelude.{IsSome, MatchOption}
 use Rattle.std.specs.Map.{lookup}
 use Rattle.pt_types.specs.declared.call.Call.{Call as Asked}
@@ -15,8 +16,11 @@ use Rattle.pt_model.specs.Room.{refusal_with_seals}
 use Rattle.pt_core.specs.Cores.{past}
 use Rattle.pt_core.specs.Applying.{IsWantOfMemory}
 use Rattle.pt_hub.specs.declared.account.Account.{Account}
-use Rattle.pt_hub.specs.Desks.{Desk, kept, is_blocked, next_answer, call_refusal, IsRefusedAs, IsDesk}
-use Rattle.pt_hub.proofs.ReadingLemmas.{awaits_in, blocked-awaits, unrefused, caller-known, next-blocked, next-free, next-open, taker-known, taker-small}
+use Rattle.pt_hub.specs.Desks.{Desk, kept, is_blocked, next_answer, call_refusal, IsRefusedAs}
+use Rattle.pt_hub.specs.Desks.{IsDesk}
+use Rattle.pt_hub.proofs.ReadingLemmas.{awaits_in, blocked-awaits, unrefused, caller-known}
+use Rattle.pt_hub.proofs.ReadingLemmas.{next-blocked, next-free, next-open, taker-known}
+use Rattle.pt_hub.proofs.ReadingLemmas.{taker-small}
 
 -- what refuses an event for which the core has no refusal is lack of memory
 pub wanted : (known : Option Refusal) (r : Refusal) (e : Event)

@@ -1,5 +1,7 @@
 -- Hubs: what is seen of a hub, what always holds of it, and what each call makes of it.
-use Rattle.std.specs.Prelude.{ℕ, ◌≡◌, ◌+◌, ◌≤◌, ◌==◌, Bool, true, false, nat_eq, List, [], ◌∷◌, ◌++◌, length, Option, Some, None, is_some, is_none, slice_get, slice_set, ◌-◌, ◌&&◌, ◌^◌, ◌≢◌, ◌⊎◌, if◌then◌else◌}
+use Rattle.std.specs.Prelude.{ℕ, ◌≡◌, ◌+◌, ◌≤◌, ◌==◌, Bool, true, false, nat_eq, List, [], ◌∷◌}
+use Rattle.std.specs.Prelude.{◌++◌, length, Option, Some, None, is_some, is_none, slice_get}
+use Rattle.std.specs.Prelude.{slice_set, ◌-◌, ◌&&◌, ◌^◌, ◌≢◌, ◌⊎◌, if◌then◌else◌}
 use Rattle.std.specs.Map.{lookup}
 use Rattle.pt_types.specs.declared.call.Call.{Call as Asked}
 use Rattle.pt_types.specs.declared.outcome.Outcome.{Outcome}
@@ -19,7 +21,9 @@ use Rattle.pt_core.specs.Sealing.{IsSealed}
 use Rattle.pt_hub.specs.declared.pass.Receipt.{Receipt}
 use Rattle.pt_hub.specs.declared.pass.Sent.{Sent}
 use Rattle.pt_hub.specs.declared.pass.Answer.{Answer}
-use Rattle.pt_hub.specs.Desks.{Desk, kept, IsOwedTheRest, IsTakenButOne, Wrote, account_of, after_taking, awaiting, fresh, next_answer, one_if, opened_account, opened_accounts, renewed_all}
+use Rattle.pt_hub.specs.Desks.{Desk, kept, IsOwedTheRest, IsTakenButOne, Wrote, account_of}
+use Rattle.pt_hub.specs.Desks.{after_taking, awaiting, fresh, next_answer, one_if, opened_account}
+use Rattle.pt_hub.specs.Desks.{opened_accounts, renewed_all}
 use Rattle.pt_hub.specs.Passes.{PassView, LeftView}
 
 -- the history with the accounts; the open sessions with their marks; how many were opened; and

@@ -1,6 +1,8 @@
 //! The core with an account for each living client.
 
-ghost use Rattle.std.specs.Prelude.{◌≡◌, ◌+◌, ◌-◌, ◌<◌, ◌≤◌, ℕ, [], Some, None, false, true, length, option_map, slice_get, nat_eq, IfOk, IfErr, IfSome, IfNone, OnOk, OnErr, IsSome};
+ghost use Rattle.std.specs.Prelude.{◌≡◌, ◌+◌, ◌-◌, ◌<◌, ◌≤◌, ℕ, [], Some, None, false, true};
+ghost use Rattle.std.specs.Prelude.{length, option_map, slice_get, nat_eq, IfOk, IfErr, IfSome};
+ghost use Rattle.std.specs.Prelude.{IfNone, OnOk, OnErr, IsSome};
 ghost use Rattle.std.specs.Map.{lookup};
 ghost use Rattle.pt_types.specs.Limits.{most_entries, most_places};
 ghost use Rattle.pt_types.specs.Times.{deadline_nanos};
@@ -18,7 +20,9 @@ ghost use Rattle.pt_core.specs.Cores.{past};
 ghost use Rattle.pt_core.specs.Applying.{IsApplied, IsWritten};
 ghost use Rattle.pt_core.specs.Sealing.{IsSealed, seal_refusal};
 ghost use Rattle.pt_core.specs.Replies.{told_of};
-ghost use Rattle.pt_hub.specs.Desks.{Wrote, IsRefusedAs, kept, account_of, awaiting, after_taking, fresh, is_blocked, call_refusal, next_answer, opened_account, opened_accounts, renewed_all, IsOwedTheRest, IsTakenButOne};
+ghost use Rattle.pt_hub.specs.Desks.{Wrote, IsRefusedAs, kept, account_of, awaiting, after_taking};
+ghost use Rattle.pt_hub.specs.Desks.{fresh, is_blocked, call_refusal, next_answer, opened_account};
+ghost use Rattle.pt_hub.specs.Desks.{opened_accounts, renewed_all, IsOwedTheRest, IsTakenButOne};
 
 use crate::account::{Account, Accounts, erase, note_call, read, renew, renew_if, write};
 use indexmap::IndexMap;

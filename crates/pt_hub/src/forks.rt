@@ -4,7 +4,8 @@ ghost use Rattle.std.specs.Prelude.{◌≡◌, ◌≢◌, ◌≤◌};
 ghost use Rattle.pt_model.specs.Searches.{Each};
 ghost use Rattle.pt_told.specs.OwnEvents.{Compares, Finds, PartsAt};
 ghost use Rattle.pt_hub.specs.Desks.{kept};
-ghost use Rattle.pt_hub.specs.Closing.{claims_since, own_events, AnyAt, DiffersAt, Holds, IsAnswered, IsMistold, lesser};
+ghost use Rattle.pt_hub.specs.Closing.{claims_since, own_events, AnyAt, DiffersAt, Holds};
+ghost use Rattle.pt_hub.specs.Closing.{IsAnswered, IsMistold, lesser};
 
 use crate::claims::{claim, claim_count, claim_since, claimed_place};
 use crate::desk::Desk;

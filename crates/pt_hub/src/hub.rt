@@ -1,6 +1,8 @@
 //! The value that the lock keeps.
 
-ghost use Rattle.std.specs.Prelude.{◌≡◌, ◌+◌, ◌<◌, ◌≤◌, ◌^◌, ◌↔◌, ◌≢◌, ◌⊎◌, ◌∷◌, ◌++◌, ℕ, [], Some, None, false, true, length, is_some, option_map, nat_eq, IfOk, IfErr, IfSome, IfNone, OnOk, OnErr, IsSome, IsErr};
+ghost use Rattle.std.specs.Prelude.{◌≡◌, ◌+◌, ◌<◌, ◌≤◌, ◌^◌, ◌↔◌, ◌≢◌, ◌⊎◌, ◌∷◌, ◌++◌, ℕ, [], Some};
+ghost use Rattle.std.specs.Prelude.{None, false, true, length, is_some, option_map, nat_eq, IfOk};
+ghost use Rattle.std.specs.Prelude.{IfErr, IfSome, IfNone, OnOk, OnErr, IsSome, IsErr};
 ghost use Rattle.std.specs.Map.{lookup};
 ghost use Rattle.pt_types.specs.Limits.{most_entries};
 ghost use Rattle.pt_types.specs.Times.{deadline_nanos};
@@ -15,7 +17,9 @@ ghost use Rattle.pt_core.specs.Cores.{past};
 ghost use Rattle.pt_core.specs.Sealing.{seal_refusal};
 ghost use Rattle.pt_hub.specs.Desks.{IsRefusedAs, kept, call_refusal, one_if};
 ghost use Rattle.pt_hub.specs.Audiences.{audience_at};
-ghost use Rattle.pt_hub.specs.Hubs.{Joins, Sends, Ticks, Seals, Dies, Takes, takeable, next_place, outer_count, has_ended, Opens, IsNotOpened, EndsInput, Closes, Fits};
+ghost use Rattle.pt_hub.specs.Hubs.{Joins, Sends, Ticks, Seals, Dies, Takes, takeable, next_place};
+ghost use Rattle.pt_hub.specs.Hubs.{outer_count, has_ended, Opens, IsNotOpened, EndsInput, Closes};
+ghost use Rattle.pt_hub.specs.Hubs.{Fits};
 ghost use Rattle.pt_hub.specs.Passes.{events_found};
 ghost use Rattle.pt_hub.specs.Closing.{Holds, IsCloseFault};
 

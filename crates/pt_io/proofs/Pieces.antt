@@ -1,6 +1,7 @@
 -- A piece of a row of bytes, copied from place at on: what was given grows by it, and what is left
 -- loses it.
-use Rattle.std.proofs.Common.{◌≡◌, ℕ, ◌+◌, ◌≤◌, List, ◌++◌, take, drop, sym, ap, ◌∙◌, take-append-drop, drop-drop, take-add, take-take}
+use Rattle.std.proofs.Common.{◌≡◌, ℕ, ◌+◌, ◌≤◌, List, ◌++◌, take, drop, sym, ap, ◌∙◌}
+use Rattle.std.proofs.Common.{take-append-drop, drop-drop, take-add, take-take}
 
 pub given_more : (xs : List ℕ) (at n k : ℕ) (buf : List ℕ) → n ≤ k
     → take n buf ≡ take n (take k (drop at xs)) → take (at + n) xs ≡ take at xs ++ take n buf

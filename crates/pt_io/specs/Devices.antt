@@ -1,5 +1,6 @@
 -- Devices: what went through one, how often it was asked and failed, and whether it ended.
-use Rattle.std.specs.Prelude.{ℕ, ◌-◌, ◌==◌, ◌≤◌, Bool, true, false, ◌&&◌, List, map, length, take, drop, nat_lt, Result, Ok, Err}
+use Rattle.std.specs.Prelude.{ℕ, ◌-◌, ◌==◌, ◌≤◌, Bool, true, false, ◌&&◌, List, map, length, take}
+use Rattle.std.specs.Prelude.{drop, nat_lt, Result, Ok, Err}
 use Prim.{Unit}
 use Rattle.std.proofs.Common.{lit≤}
 use Rattle.std.proofs.lemmas.List.{take-append-drop}

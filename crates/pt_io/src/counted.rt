@@ -1,7 +1,8 @@
 ghost use Rattle.std.specs.Prelude.{◌≡◌, ◌+◌, ◌++◌, [], take, false, ◌||◌, length, MatchResult};
 ghost use Rattle.std.specs.Io.{ReadsAtMost, WritesAtMost};
 ghost use Rattle.std.specs.Io.KnownBytes.{Keeps, ReadConsumes, WriteAppends};
-ghost use Rattle.pt_io.specs.Devices.{all_but, all_but_begins, bytes_of, count_of, count_of_once, moves_none, rejections_in, tells_end};
+ghost use Rattle.pt_io.specs.Devices.{all_but, all_but_begins, bytes_of, count_of, count_of_once};
+ghost use Rattle.pt_io.specs.Devices.{moves_none, rejections_in, tells_end};
 
 use crate::sink::Sink;
 use crate::source::{Source, moves_none};

@@ -1,8 +1,11 @@
-ghost use Rattle.std.specs.Prelude.{◌≡◌, ◌↔◌, ◌+◌, ◌-◌, ◌<◌, ◌≤◌, ◌==◌, [], ◌++◌, false, ◌||◌, length, min, take, drop, IsErr, IfOk, IfErr, MatchResult, if◌then◌else◌};
+ghost use Rattle.std.specs.Prelude.{◌≡◌, ◌↔◌, ◌+◌, ◌-◌, ◌<◌, ◌≤◌, ◌==◌, [], ◌++◌, false, ◌||◌};
+ghost use Rattle.std.specs.Prelude.{length, min, take, drop, IsErr, IfOk, IfErr, MatchResult};
+ghost use Rattle.std.specs.Prelude.{if◌then◌else◌};
 ghost use Rattle.std.specs.IoError.{error_kind};
 ghost use Rattle.std.specs.declared.io.ErrorKind.TheVariants.{Other, OutOfMemory};
 ghost use Rattle.std.specs.Io.{ReadsAtMost, WritesAtMost};
-ghost use Rattle.pt_io.specs.Devices.{all_but, all_but_begins, count_of, count_of_once, rejections_in, tells_end};
+ghost use Rattle.pt_io.specs.Devices.{all_but, all_but_begins, count_of, count_of_once};
+ghost use Rattle.pt_io.specs.Devices.{rejections_in, tells_end};
 
 use crate::sink::Sink;
 use crate::source::{Source, moves_none};

@@ -1,9 +1,12 @@
 -- Counts in blocks: the mask of a block, and what blocks and the rest say of the whole.
-use Rattle.std.proofs.Common.{◌≡◌, ◌≢◌, ◌<◌, ◌≤◌, ◌+◌, ◌*◌, ◌-◌, ◌||◌, ◌∙◌, ℕ, zero, suc, Bool, true, false, not, nat_eq, nat_lt, cond, List, [], ◌∷◌, take, drop, get_or, map, refl, ap, sym, arith}
+use Rattle.std.proofs.Common.{◌≡◌, ◌≢◌, ◌<◌, ◌≤◌, ◌+◌, ◌*◌, ◌-◌, ◌||◌, ◌∙◌, ℕ, zero, suc, Bool}
+use Rattle.std.proofs.Common.{true, false, not, nat_eq, nat_lt, cond, List, [], ◌∷◌, take, drop}
+use Rattle.std.proofs.Common.{get_or, map, refl, ap, sym, arith}
 use Rattle.std.specs.List.{list_any}
 use Rattle.std.specs.Simd.{first_chunks}
 use Rattle.std.proofs.lemmas.Grind.{common_steps}
-use Rattle.std.proofs.lemmas.List.{take-append-drop, get_or-drop, get_or-take, get_or_past, drop-drop}
+use Rattle.std.proofs.lemmas.List.{take-append-drop, get_or-drop, get_or-take, get_or_past}
+use Rattle.std.proofs.lemmas.List.{drop-drop}
 use Rattle.std.proofs.lemmas.List.Folds.{list_any-append}
 use Rattle.std.proofs.Math.Bool.{or_assoc}
 use lib.Lanes.{mask_l}

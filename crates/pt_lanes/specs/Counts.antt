@@ -1,5 +1,6 @@
 -- Counts: what is asked of a slice of counts. The count of priority p is at index p - 1.
-use Rattle.std.specs.Prelude.{◌≡◌, ◌≢◌, ◌<◌, ◌≤◌, ◌==◌, ℕ, Bool, not, List, length, Option, slice_index, MatchOption}
+use Rattle.std.specs.Prelude.{◌≡◌, ◌≢◌, ◌<◌, ◌≤◌, ◌==◌, ℕ, Bool, not, List, length, Option}
+use Rattle.std.specs.Prelude.{slice_index, MatchOption}
 
 -- whether a count isn't zero
 abbrev pub is_set : ℕ → Bool

@@ -1,5 +1,7 @@
 -- ArgumentLemmas: what fields are read as, and what is read again from its fields.
-use Rattle.std.proofs.Common.{◌≡◌, ◌<◌, ◌≤◌, ◌∙◌, ◌&&◌, ◌==◌, ◌⊎◌, inl, inr, ℕ, Bool, true, false, cond, not, List, [], ◌∷◌, length, nat_le, nat_lt, refl, ap, sym, subst, arith, Option, None, Some, decimal, codes}
+use Rattle.std.proofs.Common.{◌≡◌, ◌<◌, ◌≤◌, ◌∙◌, ◌&&◌, ◌==◌, ◌⊎◌, inl, inr, ℕ, Bool, true, false}
+use Rattle.std.proofs.Common.{cond, not, List, [], ◌∷◌, length, nat_le, nat_lt, refl, ap, sym}
+use Rattle.std.proofs.Common.{subst, arith, Option, None, Some, decimal, codes}
 use Rattle.std.proofs.lemmas.Bool.{eqb-true}
 use Rattle.std.specs.List.{list_all}
 use Rattle.std.specs.Option.{option_map, option_and_then}
@@ -12,7 +14,9 @@ use Rattle.pt_types.specs.declared.time.Clock.{Clock}
 use Rattle.pt_types.specs.declared.time.Clock.TheVariants.{Real, Mono}
 use Rattle.pt_types.specs.declared.call.MutexKind.{MutexKind}
 use Rattle.pt_types.specs.declared.call.MutexKind.TheVariants.{Normal, Errorcheck, Recursive}
-use Rattle.pt_lines.specs.Arguments.{name_of, kind_of, robust_of, clock_named, alone, first_then, priority_of, moment_of, deadline_of, two_numbers, one_deadline, clock_and_deadline}
+use Rattle.pt_lines.specs.Arguments.{name_of, kind_of, robust_of, clock_named, alone, first_then}
+use Rattle.pt_lines.specs.Arguments.{priority_of, moment_of, deadline_of, two_numbers, one_deadline}
+use Rattle.pt_lines.specs.Arguments.{clock_and_deadline}
 use Rattle.pt_lines.specs.Grammar.{IsKindWord, robust_word, clock_name}
 use Rattle.pt_lines.specs.Numbers.{IsNumber, number_of}
 use Rattle.pt_lines.proofs.FieldLemmas.{is_no_space, is_word, is_short_word}

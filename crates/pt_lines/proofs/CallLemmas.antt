@@ -7,14 +7,23 @@ use Rattle.pt_types.specs.declared.call.Call.{Call}
 use Rattle.pt_types.specs.declared.call.Call.TheVariants as call
 use Rattle.pt_lines.specs.declared.call_line.CallLine.TheVariants as line
 use Rattle.pt_lines.specs.declared.verb.NamedVerb.{NamedVerb}
-use Rattle.pt_lines.specs.declared.verb.NamedVerb.TheVariants.{Lock, Trylock, Unlock, Consistent, MutexDestroy, RwlockInit, Rdlock, Tryrdlock, Wrlock, Trywrlock, Rwunlock, RwlockDestroy, CondInit, CondDestroy, Signal, Broadcast, Bwait, BarrierDestroy}
+use Rattle.pt_lines.specs.declared.verb.NamedVerb.TheVariants.{Lock, Trylock, Unlock, Consistent}
+use Rattle.pt_lines.specs.declared.verb.NamedVerb.TheVariants.{MutexDestroy, RwlockInit, Rdlock}
+use Rattle.pt_lines.specs.declared.verb.NamedVerb.TheVariants.{Tryrdlock, Wrlock, Trywrlock}
+use Rattle.pt_lines.specs.declared.verb.NamedVerb.TheVariants.{Rwunlock, RwlockDestroy, CondInit}
+use Rattle.pt_lines.specs.declared.verb.NamedVerb.TheVariants.{CondDestroy, Signal, Broadcast}
+use Rattle.pt_lines.specs.declared.verb.NamedVerb.TheVariants.{Bwait, BarrierDestroy}
 use Rattle.pt_lines.specs.declared.verb.TimedVerb.{TimedVerb}
 use Rattle.pt_lines.specs.declared.verb.TimedVerb.TheVariants.{Timedlock, Timedrdlock, Timedwrlock}
 use Rattle.pt_lines.specs.declared.verb.ClockedVerb.{ClockedVerb}
-use Rattle.pt_lines.specs.declared.verb.ClockedVerb.TheVariants.{Clocklock, Clockrdlock, Clockwrlock}
-use Rattle.pt_lines.specs.Verbs.{named_word, timed_word, clocked_word, moment_word, call_on, call_until, call_by_clock}
+use Rattle.pt_lines.specs.declared.verb.ClockedVerb.TheVariants.{Clocklock, Clockrdlock}
+use Rattle.pt_lines.specs.declared.verb.ClockedVerb.TheVariants.{Clockwrlock}
+use Rattle.pt_lines.specs.Verbs.{named_word, timed_word, clocked_word, moment_word, call_on}
+use Rattle.pt_lines.specs.Verbs.{call_until, call_by_clock}
 use Rattle.pt_lines.specs.Grammar.{OnName, OnNameUntil, OnNameByClock, OnMoment, Spells, SpellsCall}
-use Rattle.pt_lines.proofs.SpelledLemmas.{IsSpelled, by_name, by_deadline, by_new_mutex, by_new_barrier, by_wait, by_timedwait, by_clock, by_clockwait, by_moment}
+use Rattle.pt_lines.proofs.SpelledLemmas.{IsSpelled, by_name, by_deadline, by_new_mutex}
+use Rattle.pt_lines.proofs.SpelledLemmas.{by_new_barrier, by_wait, by_timedwait, by_clock}
+use Rattle.pt_lines.proofs.SpelledLemmas.{by_clockwait, by_moment}
 
 -- a word and a name spell the call of the word
 pub spells-call_on :

@@ -1,5 +1,7 @@
 -- ClientLemmas: a line's client, and what is after it.
-use Rattle.std.proofs.Common.{◌≡◌, ◌≢◌, ◌<◌, ◌+◌, ◌∙◌, ◌==◌, ◌&&◌, not, ℕ, zero, suc, Bool, true, false, cond, List, [], ◌∷◌, ◌++◌, length, take, drop, get_or, nat_le, refl, ap, sym, subst, arith, None, Some, add-one, codes}
+use Rattle.std.proofs.Common.{◌≡◌, ◌≢◌, ◌<◌, ◌+◌, ◌∙◌, ◌==◌, ◌&&◌, not, ℕ, zero, suc, Bool, true}
+use Rattle.std.proofs.Common.{false, cond, List, [], ◌∷◌, ◌++◌, length, take, drop, get_or, nat_le}
+use Rattle.std.proofs.Common.{refl, ap, sym, subst, arith, None, Some, add-one, codes}
 use Rattle.std.proofs.lemmas.Bool.{eq-eqb, eqb-true}
 use Rattle.std.specs.List.{list_all}
 use Rattle.std.specs.Str.{bytes_eq}

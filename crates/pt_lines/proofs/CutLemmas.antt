@@ -1,5 +1,8 @@
 -- CutLemmas: lines by the bytes that they begin with.
-use Rattle.std.proofs.Common.{◌≡◌, ◌≢◌, ◌<◌, ◌≤◌, ◌+◌, ◌∙◌, ◌==◌, ℕ, suc, Bool, true, false, cond, nat_le, List, [], ◌∷◌, ◌++◌, length, take, drop, get_or, refl, map, Option, None, Some, length-append, ap, sym, drop-cons, add-one, arith, append_assoc}
+use Rattle.std.proofs.Common.{◌≡◌, ◌≢◌, ◌<◌, ◌≤◌, ◌+◌, ◌∙◌, ◌==◌, ℕ, suc, Bool, true, false, cond}
+use Rattle.std.proofs.Common.{nat_le, List, [], ◌∷◌, ◌++◌, length, take, drop, get_or, refl, map}
+use Rattle.std.proofs.Common.{Option, None, Some, length-append, ap, sym, drop-cons, add-one, arith}
+use Rattle.std.proofs.Common.{append_assoc}
 use Rattle.std.proofs.lemmas.Grind.{common_steps}
 use Rattle.std.proofs.lemmas.List.{take-append-drop, append-nil, get_or-take}
 use Rattle.std.proofs.lemmas.Bool.{eq-eqb, eqb-true}
@@ -8,7 +11,8 @@ use Rattle.memchr.specs.Find.{IsFirstByte, is_byte}
 use Rattle.pt_lines.specs.declared.cutter.Cut.{Cut}
 use Rattle.pt_lines.specs.declared.cutter.Cut.TheVariants.{Line, Long}
 use Rattle.pt_lines.specs.Cuts.{cut_of}
-use Rattle.pt_lines.specs.Lines.{lines_after, lines, lines_past_newline, NoNewline, Held, IsBegun, to_come, last_of, joined, AllTexts, IsFront, past_line}
+use Rattle.pt_lines.specs.Lines.{lines_after, lines, lines_past_newline, NoNewline, Held, IsBegun}
+use Rattle.pt_lines.specs.Lines.{to_come, last_of, joined, AllTexts, IsFront, past_line}
 use Rattle.pt_lines.specs.declared.script_line.ScriptLine.{ScriptLine}
 use Rattle.pt_lines.specs.Script.{script_of, script_read, IsNextScriptLine}
 

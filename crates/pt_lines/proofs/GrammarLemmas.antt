@@ -1,5 +1,7 @@
 -- GrammarLemmas: a text is read as just the line that it spells.
-use Rattle.std.proofs.Common.{◌≡◌, ◌≤◌, ◌∙◌, ℕ, Bool, List, [], ◌∷◌, length, refl, ap, sym, subst, arith, Option, None, Some, Result, Ok, Err, IfOk, false, cond, nat_lt, decimal, length-append}
+use Rattle.std.proofs.Common.{◌≡◌, ◌≤◌, ◌∙◌, ℕ, Bool, List, [], ◌∷◌, length, refl, ap, sym, subst}
+use Rattle.std.proofs.Common.{arith, Option, None, Some, Result, Ok, Err, IfOk, false, cond, nat_lt}
+use Rattle.std.proofs.Common.{decimal, length-append}
 use Rattle.std.specs.Option.{option_and_then, ok_or}
 use Rattle.std.specs.Str.{bytes_eq}
 use Rattle.pt_types.specs.Times.{Timespec}
@@ -12,15 +14,23 @@ use Rattle.pt_lines.specs.declared.call_line.CallLine.{CallLine}
 use Rattle.pt_lines.specs.declared.call_line.CallLine.TheVariants as line
 use Rattle.pt_lines.specs.declared.verb.TheConstants.{VERBS}
 use Rattle.pt_lines.specs.declared.verb.Verb.{Verb}
-use Rattle.pt_lines.specs.declared.verb.Verb.TheVariants.{Hello, Moment, MutexInit, BarrierInit, Wait, Timedwait, Clockwait, Named, Timed, Clocked}
-use Rattle.pt_lines.specs.Arguments.{name_of, kind_of, robust_of, alone, first_then, priority_of, moment_of, name_and_deadline, one_deadline, two_numbers, clock_and_deadline, name_clock_and_deadline}
+use Rattle.pt_lines.specs.declared.verb.Verb.TheVariants.{Hello, Moment, MutexInit, BarrierInit}
+use Rattle.pt_lines.specs.declared.verb.Verb.TheVariants.{Wait, Timedwait, Clockwait, Named, Timed}
+use Rattle.pt_lines.specs.declared.verb.Verb.TheVariants.{Clocked}
+use Rattle.pt_lines.specs.Arguments.{name_of, kind_of, robust_of, alone, first_then, priority_of}
+use Rattle.pt_lines.specs.Arguments.{moment_of, name_and_deadline, one_deadline, two_numbers}
+use Rattle.pt_lines.specs.Arguments.{clock_and_deadline, name_clock_and_deadline}
 use Rattle.pt_lines.specs.Fields.{fields, spaced, behind_spaces}
 use Rattle.pt_lines.specs.Grammar.{Spells, robust_word, clock_name}
 use Rattle.pt_lines.specs.Numbers.{number_of}
 use Rattle.pt_lines.specs.Reading.{line_of, line_of_fields, line_read, call_read}
 use Rattle.pt_lines.specs.Verbs.{word_of, verb_of, call_on, call_until, call_by_clock}
-use Rattle.pt_lines.proofs.ArgumentLemmas.{bytes_are, alone-some, first_then-some, name_found, kind_found, robust_found, priority_found, moment_found, one_number_found, two_numbers_found, one_deadline_found, due_found}
-use Rattle.pt_lines.proofs.CallLemmas.{spells-call_on, spells-call_until, spells-call_by_clock, spells-moment, spelled_call, spelled_moment}
+use Rattle.pt_lines.proofs.ArgumentLemmas.{bytes_are, alone-some, first_then-some, name_found}
+use Rattle.pt_lines.proofs.ArgumentLemmas.{kind_found, robust_found, priority_found, moment_found}
+use Rattle.pt_lines.proofs.ArgumentLemmas.{one_number_found, two_numbers_found, one_deadline_found}
+use Rattle.pt_lines.proofs.ArgumentLemmas.{due_found}
+use Rattle.pt_lines.proofs.CallLemmas.{spells-call_on, spells-call_until, spells-call_by_clock}
+use Rattle.pt_lines.proofs.CallLemmas.{spells-moment, spelled_call, spelled_moment}
 use Rattle.pt_lines.proofs.FieldLemmas.{fields-spaced, spaced_fields}
 use Rattle.pt_lines.proofs.SpelledLemmas.{IsSpelled, by_hello, short_word}
 use Rattle.pt_lines.proofs.TestLemmas.{map_some, then_some, find-passes}

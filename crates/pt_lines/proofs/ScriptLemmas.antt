@@ -1,5 +1,7 @@
 -- ScriptLemmas: a line of a script is read as just what it spells.
-use Rattle.std.proofs.Common.{◌≡◌, ◌<◌, ◌≤◌, ◌∙◌, ℕ, Bool, true, false, cond, List, ◌∷◌, ◌++◌, length, nat_lt, refl, ap, sym, subst, arith, Option, None, Some, Result, Ok, Err, IfOk, IfErr, codes, length-append}
+use Rattle.std.proofs.Common.{◌≡◌, ◌<◌, ◌≤◌, ◌∙◌, ℕ, Bool, true, false, cond, List, ◌∷◌, ◌++◌}
+use Rattle.std.proofs.Common.{length, nat_lt, refl, ap, sym, subst, arith, Option, None, Some}
+use Rattle.std.proofs.Common.{Result, Ok, Err, IfOk, IfErr, codes, length-append}
 use Rattle.std.specs.Option.{ok_or}
 use Rattle.std.specs.Str.{bytes_eq}
 use Rattle.pt_types.specs.declared.outcome.Refusal.{Refusal}
@@ -14,9 +16,11 @@ use Rattle.pt_lines.specs.ClientNames.{IsClientName}
 use Rattle.pt_lines.specs.Clients.{who_text, who_named, before_space, behind_space}
 use Rattle.pt_lines.specs.Grammar.{Spells}
 use Rattle.pt_lines.specs.Reading.{call_read, line_read}
-use Rattle.pt_lines.specs.Script.{SpellsBody, SpellsScript, long_line, IsReadAs, body_of, body_from, body_read, body_behind, short_read}
+use Rattle.pt_lines.specs.Script.{SpellsBody, SpellsScript, long_line, IsReadAs, body_of, body_from}
+use Rattle.pt_lines.specs.Script.{body_read, body_behind, short_read}
 use Rattle.pt_lines.proofs.ArgumentLemmas.{bytes_are}
-use Rattle.pt_lines.proofs.ClientLemmas.{before-word, behind-word, both_sides, client_name_is_word, IsNamed, named_is, named_again}
+use Rattle.pt_lines.proofs.ClientLemmas.{before-word, behind-word, both_sides, client_name_is_word}
+use Rattle.pt_lines.proofs.ClientLemmas.{IsNamed, named_is, named_again}
 use Rattle.pt_lines.proofs.FieldLemmas.{is_word}
 use Rattle.pt_lines.proofs.GrammarLemmas.{spells-line_read, length-spelled, call_read-spelled}
 

@@ -1,5 +1,6 @@
 -- SpelledLemmas: the text of a line is the word of a verb and the fields that it is read from.
-use Rattle.std.proofs.Common.{◌≡◌, ◌≤◌, ◌+◌, ◌∙◌, ℕ, true, Bool, List, [], ◌∷◌, length, nat_le, ap, sym, arith, Some, decimal, length-append}
+use Rattle.std.proofs.Common.{◌≡◌, ◌≤◌, ◌+◌, ◌∙◌, ℕ, true, Bool, List, [], ◌∷◌, length, nat_le, ap}
+use Rattle.std.proofs.Common.{sym, arith, Some, decimal, length-append}
 use Rattle.std.specs.Option.{option_map, option_and_then}
 use Rattle.pt_types.specs.Times.{Timespec}
 use Rattle.pt_types.specs.declared.time.Clock.{Clock}
@@ -8,17 +9,27 @@ use Rattle.pt_types.specs.declared.call.Call.TheVariants as call
 use Rattle.pt_lines.specs.declared.call_line.CallLine.{CallLine}
 use Rattle.pt_lines.specs.declared.call_line.CallLine.TheVariants as line
 use Rattle.pt_lines.specs.declared.verb.Verb.{Verb}
-use Rattle.pt_lines.specs.declared.verb.Verb.TheVariants.{Hello, Moment, MutexInit, BarrierInit, Wait, Timedwait, Clockwait, Named, Timed, Clocked}
+use Rattle.pt_lines.specs.declared.verb.Verb.TheVariants.{Hello, Moment, MutexInit, BarrierInit}
+use Rattle.pt_lines.specs.declared.verb.Verb.TheVariants.{Wait, Timedwait, Clockwait, Named, Timed}
+use Rattle.pt_lines.specs.declared.verb.Verb.TheVariants.{Clocked}
 use Rattle.pt_lines.specs.declared.verb.NamedVerb.{NamedVerb}
 use Rattle.pt_lines.specs.declared.verb.TimedVerb.{TimedVerb}
 use Rattle.pt_lines.specs.declared.verb.ClockedVerb.{ClockedVerb}
-use Rattle.pt_lines.specs.Arguments.{name_of, kind_of, robust_of, clock_named, alone, first_then, priority_of, moment_of, name_and_deadline, one_deadline, clock_and_deadline, name_clock_and_deadline}
+use Rattle.pt_lines.specs.Arguments.{name_of, kind_of, robust_of, clock_named, alone, first_then}
+use Rattle.pt_lines.specs.Arguments.{priority_of, moment_of, name_and_deadline, one_deadline}
+use Rattle.pt_lines.specs.Arguments.{clock_and_deadline, name_clock_and_deadline}
 use Rattle.pt_lines.specs.Fields.{spaced, behind_spaces}
-use Rattle.pt_lines.specs.Grammar.{robust_word, clock_name, OnName, OnNameUntil, OnNameByClock, OnNewMutex, OnNewBarrier, OnWait, OnTimedwait, OnClockwait, OnHello, OnMoment}
+use Rattle.pt_lines.specs.Grammar.{robust_word, clock_name, OnName, OnNameUntil, OnNameByClock}
+use Rattle.pt_lines.specs.Grammar.{OnNewMutex, OnNewBarrier, OnWait, OnTimedwait, OnClockwait}
+use Rattle.pt_lines.specs.Grammar.{OnHello, OnMoment}
 use Rattle.pt_lines.specs.Numbers.{IsNumber, number_of}
 use Rattle.pt_lines.specs.Reading.{line_of}
-use Rattle.pt_lines.specs.Verbs.{named_word, timed_word, clocked_word, moment_word, word_of, call_on, call_until, call_by_clock}
-use Rattle.pt_lines.proofs.ArgumentLemmas.{first_then-again, name_again, name_is_word, kind_again, kind_is_word, robust_again, robust_is_word, clock_again, clock_is_word, length-clock_name, priority_again, moment_again, two_numbers_again, one_deadline_again}
+use Rattle.pt_lines.specs.Verbs.{named_word, timed_word, clocked_word, moment_word, word_of}
+use Rattle.pt_lines.specs.Verbs.{call_on, call_until, call_by_clock}
+use Rattle.pt_lines.proofs.ArgumentLemmas.{first_then-again, name_again, name_is_word, kind_again}
+use Rattle.pt_lines.proofs.ArgumentLemmas.{kind_is_word, robust_again, robust_is_word, clock_again}
+use Rattle.pt_lines.proofs.ArgumentLemmas.{clock_is_word, length-clock_name, priority_again}
+use Rattle.pt_lines.proofs.ArgumentLemmas.{moment_again, two_numbers_again, one_deadline_again}
 use Rattle.pt_lines.proofs.FieldLemmas.{is_word, is_short_word, AreWords}
 use Rattle.pt_lines.proofs.NumberLemmas.{number_of-decimal, decimal_is_word, length-decimal}
 use Rattle.pt_lines.proofs.TestLemmas.{and_parts}

@@ -1,5 +1,6 @@
 -- TestLemmas: tests, and options that are some.
-use Rattle.std.proofs.Common.{◌≡◌, ◌&&◌, Bool, true, false, cond, List, [], ◌∷◌, find, subst, refl, Option, None, Some}
+use Rattle.std.proofs.Common.{◌≡◌, ◌&&◌, Bool, true, false, cond, List, [], ◌∷◌, find, subst, refl}
+use Rattle.std.proofs.Common.{Option, None, Some}
 use Rattle.std.specs.Option.{option_map, option_and_then}
 
 pub some_inj : {X : Type 0} {x y : X} → Some x ≡ Some y → x ≡ y

@@ -1,17 +1,26 @@
 -- VerbLemmas: each verb is found by its word, and its word is short and has no space.
-use Rattle.std.proofs.Common.{◌≡◌, ◌==◌, ℕ, Bool, true, false, cond, List, [], ◌∷◌, Option, None, Some, find, length, refl, ap, sym}
+use Rattle.std.proofs.Common.{◌≡◌, ◌==◌, ℕ, Bool, true, false, cond, List, [], ◌∷◌, Option, None}
+use Rattle.std.proofs.Common.{Some, find, length, refl, ap, sym}
 use Rattle.std.proofs.lemmas.Bool.{eq-eqb}
 use Rattle.std.proofs.lemmas.Slice.Eq.{bytes_eq-Decides}
 use Rattle.std.specs.Option.{IfSome}
 use Rattle.std.specs.Str.{bytes_eq}
 use Rattle.std.specs.List.{filter}
 use Rattle.pt_types.specs.declared.time.Clock.TheVariants.{Real, Mono}
-use Rattle.pt_lines.specs.declared.verb.NamedVerb.TheVariants.{Lock, Trylock, Unlock, Consistent, MutexDestroy, RwlockInit, Rdlock, Tryrdlock, Wrlock, Trywrlock, Rwunlock, RwlockDestroy, CondInit, CondDestroy, Signal, Broadcast, Bwait, BarrierDestroy}
+use Rattle.pt_lines.specs.declared.verb.NamedVerb.TheVariants.{Lock, Trylock, Unlock, Consistent}
+use Rattle.pt_lines.specs.declared.verb.NamedVerb.TheVariants.{MutexDestroy, RwlockInit, Rdlock}
+use Rattle.pt_lines.specs.declared.verb.NamedVerb.TheVariants.{Tryrdlock, Wrlock, Trywrlock}
+use Rattle.pt_lines.specs.declared.verb.NamedVerb.TheVariants.{Rwunlock, RwlockDestroy, CondInit}
+use Rattle.pt_lines.specs.declared.verb.NamedVerb.TheVariants.{CondDestroy, Signal, Broadcast}
+use Rattle.pt_lines.specs.declared.verb.NamedVerb.TheVariants.{Bwait, BarrierDestroy}
 use Rattle.pt_lines.specs.declared.verb.TimedVerb.TheVariants.{Timedlock, Timedrdlock, Timedwrlock}
-use Rattle.pt_lines.specs.declared.verb.ClockedVerb.TheVariants.{Clocklock, Clockrdlock, Clockwrlock}
+use Rattle.pt_lines.specs.declared.verb.ClockedVerb.TheVariants.{Clocklock, Clockrdlock}
+use Rattle.pt_lines.specs.declared.verb.ClockedVerb.TheVariants.{Clockwrlock}
 use Rattle.pt_lines.specs.declared.verb.TheConstants.{VERBS}
 use Rattle.pt_lines.specs.declared.verb.Verb.{Verb}
-use Rattle.pt_lines.specs.declared.verb.Verb.TheVariants.{Hello, Moment, MutexInit, BarrierInit, Wait, Timedwait, Clockwait, Named, Timed, Clocked}
+use Rattle.pt_lines.specs.declared.verb.Verb.TheVariants.{Hello, Moment, MutexInit, BarrierInit}
+use Rattle.pt_lines.specs.declared.verb.Verb.TheVariants.{Wait, Timedwait, Clockwait, Named, Timed}
+use Rattle.pt_lines.specs.declared.verb.Verb.TheVariants.{Clocked}
 use Rattle.pt_lines.specs.Verbs.{word_of, verb_of}
 use Rattle.pt_lines.proofs.ArgumentLemmas.{bytes_are}
 use Rattle.pt_lines.proofs.FieldLemmas.{is_short_word}

@@ -1,5 +1,6 @@
 -- Grammar: which text spells which line. Words are parted by exactly one space.
-use Rattle.std.specs.Prelude.{◌≡◌, ℕ, ◌≤◌, ◌<◌, ◌⊎◌, Bool, true, false, List, [], ◌∷◌, decimal, codes}
+use Rattle.std.specs.Prelude.{◌≡◌, ℕ, ◌≤◌, ◌<◌, ◌⊎◌, Bool, true, false, List, [], ◌∷◌, decimal}
+use Rattle.std.specs.Prelude.{codes}
 use Rattle.pt_types.specs.Limits.{most_priority, second}
 use Rattle.pt_types.specs.Names.{IsName}
 use Rattle.pt_types.specs.Times.{Timespec, nanos}
@@ -8,7 +9,15 @@ use Rattle.pt_types.specs.declared.time.Clock.TheVariants.{Real, Mono}
 use Rattle.pt_types.specs.declared.call.MutexKind.{MutexKind}
 use Rattle.pt_types.specs.declared.call.MutexKind.TheVariants.{Normal, Errorcheck, Recursive}
 use Rattle.pt_types.specs.declared.call.Call.{Call}
-use Rattle.pt_types.specs.declared.call.Call.TheVariants.{MutexInit, Lock, Trylock, Timedlock, Clocklock, Unlock, Consistent, MutexDestroy, RwlockInit, Rdlock, Tryrdlock, Timedrdlock, Clockrdlock, Wrlock, Trywrlock, Timedwrlock, Clockwrlock, Rwunlock, RwlockDestroy, CondInit, CondDestroy, Wait, Timedwait, Clockwait, Signal, Broadcast, BarrierInit, Bwait, BarrierDestroy}
+use Rattle.pt_types.specs.declared.call.Call.TheVariants.{MutexInit, Lock, Trylock, Timedlock}
+use Rattle.pt_types.specs.declared.call.Call.TheVariants.{Clocklock, Unlock, Consistent}
+use Rattle.pt_types.specs.declared.call.Call.TheVariants.{MutexDestroy, RwlockInit, Rdlock}
+use Rattle.pt_types.specs.declared.call.Call.TheVariants.{Tryrdlock, Timedrdlock, Clockrdlock}
+use Rattle.pt_types.specs.declared.call.Call.TheVariants.{Wrlock, Trywrlock, Timedwrlock}
+use Rattle.pt_types.specs.declared.call.Call.TheVariants.{Clockwrlock, Rwunlock, RwlockDestroy}
+use Rattle.pt_types.specs.declared.call.Call.TheVariants.{CondInit, CondDestroy, Wait, Timedwait}
+use Rattle.pt_types.specs.declared.call.Call.TheVariants.{Clockwait, Signal, Broadcast, BarrierInit}
+use Rattle.pt_types.specs.declared.call.Call.TheVariants.{Bwait, BarrierDestroy}
 use Rattle.pt_lines.specs.declared.call_line.CallLine.{CallLine}
 use Rattle.pt_lines.specs.declared.call_line.CallLine.TheVariants.{Hello, Ask, Tick}
 use Rattle.pt_lines.specs.Fields.{spaced}

@@ -1,5 +1,6 @@
 -- Lines: the lines of a stream of bytes, and what a cutter still has to give of them.
-use Rattle.std.specs.Prelude.{◌≡◌, ◌≢◌, ℕ, ◌+◌, ◌<◌, ◌≤◌, ◌==◌, ◌++◌, Bool, true, List, [], ◌∷◌, length, take, drop, if◌then◌else◌, slice_index, map}
+use Rattle.std.specs.Prelude.{◌≡◌, ◌≢◌, ℕ, ◌+◌, ◌<◌, ◌≤◌, ◌==◌, ◌++◌, Bool, true, List, [], ◌∷◌}
+use Rattle.std.specs.Prelude.{length, take, drop, if◌then◌else◌, slice_index, map}
 use Rattle.pt_lines.specs.declared.cutter.Cut.{Cut}
 use Rattle.pt_lines.specs.Cuts.{cut_of}
 

@@ -1,5 +1,6 @@
 -- Reading: what a text is read as, if it is read.
-use Rattle.std.specs.Prelude.{◌≡◌, ℕ, List, [], ◌∷◌, Option, None, Result, Ok, Err, IfOk, IfErr, length, nat_lt, if◌then◌else◌}
+use Rattle.std.specs.Prelude.{◌≡◌, ℕ, List, [], ◌∷◌, Option, None, Result, Ok, Err, IfOk, IfErr}
+use Rattle.std.specs.Prelude.{length, nat_lt, if◌then◌else◌}
 use Rattle.std.specs.Option.{option_map, option_and_then, ok_or}
 use Rattle.pt_types.specs.declared.call.Call.TheVariants as call
 use Rattle.pt_types.specs.declared.outcome.Refusal.{Refusal}
@@ -9,12 +10,16 @@ use Rattle.pt_lines.specs.declared.call_line.CallLine.TheVariants as line
 use Rattle.pt_lines.specs.declared.cutter.Cut.{Cut}
 use Rattle.pt_lines.specs.declared.cutter.Cut.TheVariants as cut
 use Rattle.pt_lines.specs.declared.verb.Verb.{Verb}
-use Rattle.pt_lines.specs.declared.verb.Verb.TheVariants.{Hello, Moment, MutexInit, BarrierInit, Wait, Timedwait, Clockwait, Named, Timed, Clocked}
+use Rattle.pt_lines.specs.declared.verb.Verb.TheVariants.{Hello, Moment, MutexInit, BarrierInit}
+use Rattle.pt_lines.specs.declared.verb.Verb.TheVariants.{Wait, Timedwait, Clockwait, Named, Timed}
+use Rattle.pt_lines.specs.declared.verb.Verb.TheVariants.{Clocked}
 use Rattle.pt_lines.specs.Verbs.{verb_of, call_on, call_until, call_by_clock}
 use Rattle.pt_lines.specs.Fields.{fields}
 use Rattle.pt_lines.specs.Grammar.{Spells}
 use Rattle.pt_lines.specs.Numbers.{number_of}
-use Rattle.pt_lines.specs.Arguments.{name_of, kind_of, robust_of, alone, first_then, priority_of, moment_of, two_numbers, name_and_deadline, name_clock_and_deadline}
+use Rattle.pt_lines.specs.Arguments.{name_of, kind_of, robust_of, alone, first_then, priority_of}
+use Rattle.pt_lines.specs.Arguments.{moment_of, two_numbers, name_and_deadline}
+use Rattle.pt_lines.specs.Arguments.{name_clock_and_deadline}
 
 -- the line of a verb and the fields after it
 abbrev pub line_of : Verb → List (List ℕ) → Option CallLine

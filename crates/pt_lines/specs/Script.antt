@@ -1,5 +1,6 @@
 -- Script: which text spells which line of a script.
-use Rattle.std.specs.Prelude.{◌≡◌, ℕ, ◌++◌, List, ◌∷◌, Option, None, Some, Result, Ok, Err, IfOk, IfErr, length, nat_lt, codes, if◌then◌else◌}
+use Rattle.std.specs.Prelude.{◌≡◌, ℕ, ◌++◌, List, ◌∷◌, Option, None, Some, Result, Ok, Err, IfOk}
+use Rattle.std.specs.Prelude.{IfErr, length, nat_lt, codes, if◌then◌else◌}
 use Rattle.std.specs.Str.{bytes_eq}
 use Rattle.pt_types.specs.declared.outcome.Refusal.{Refusal}
 use Rattle.pt_types.specs.declared.outcome.Refusal.TheVariants as refusal

@@ -7,13 +7,21 @@ use Rattle.pt_types.specs.declared.time.Clock.TheVariants.{Real, Mono}
 use Rattle.pt_types.specs.declared.call.Call.{Call}
 use Rattle.pt_types.specs.declared.call.Call.TheVariants as call
 use Rattle.pt_lines.specs.declared.verb.NamedVerb.{NamedVerb}
-use Rattle.pt_lines.specs.declared.verb.NamedVerb.TheVariants.{Lock, Trylock, Unlock, Consistent, MutexDestroy, RwlockInit, Rdlock, Tryrdlock, Wrlock, Trywrlock, Rwunlock, RwlockDestroy, CondInit, CondDestroy, Signal, Broadcast, Bwait, BarrierDestroy}
+use Rattle.pt_lines.specs.declared.verb.NamedVerb.TheVariants.{Lock, Trylock, Unlock, Consistent}
+use Rattle.pt_lines.specs.declared.verb.NamedVerb.TheVariants.{MutexDestroy, RwlockInit, Rdlock}
+use Rattle.pt_lines.specs.declared.verb.NamedVerb.TheVariants.{Tryrdlock, Wrlock, Trywrlock}
+use Rattle.pt_lines.specs.declared.verb.NamedVerb.TheVariants.{Rwunlock, RwlockDestroy, CondInit}
+use Rattle.pt_lines.specs.declared.verb.NamedVerb.TheVariants.{CondDestroy, Signal, Broadcast}
+use Rattle.pt_lines.specs.declared.verb.NamedVerb.TheVariants.{Bwait, BarrierDestroy}
 use Rattle.pt_lines.specs.declared.verb.TimedVerb.{TimedVerb}
 use Rattle.pt_lines.specs.declared.verb.TimedVerb.TheVariants.{Timedlock, Timedrdlock, Timedwrlock}
 use Rattle.pt_lines.specs.declared.verb.ClockedVerb.{ClockedVerb}
-use Rattle.pt_lines.specs.declared.verb.ClockedVerb.TheVariants.{Clocklock, Clockrdlock, Clockwrlock}
+use Rattle.pt_lines.specs.declared.verb.ClockedVerb.TheVariants.{Clocklock, Clockrdlock}
+use Rattle.pt_lines.specs.declared.verb.ClockedVerb.TheVariants.{Clockwrlock}
 use Rattle.pt_lines.specs.declared.verb.Verb.{Verb}
-use Rattle.pt_lines.specs.declared.verb.Verb.TheVariants.{Hello, Moment, MutexInit, BarrierInit, Wait, Timedwait, Clockwait, Named, Timed, Clocked}
+use Rattle.pt_lines.specs.declared.verb.Verb.TheVariants.{Hello, Moment, MutexInit, BarrierInit}
+use Rattle.pt_lines.specs.declared.verb.Verb.TheVariants.{Wait, Timedwait, Clockwait, Named, Timed}
+use Rattle.pt_lines.specs.declared.verb.Verb.TheVariants.{Clocked}
 use Rattle.pt_lines.specs.declared.verb.TheConstants.{VERBS}
 
 -- the word of a call that one name follows  [XSH, the call's page, without `pthread_`; profile]

@@ -1,6 +1,9 @@
 ghost use Rattle.std.specs.Prelude.{◌≡◌, IfSome, Some};
 ghost use Rattle.std.specs.Option.{option_and_then, option_copied};
-ghost use Rattle.pt_lines.specs.Arguments.{name_of, kind_of, robust_of, clock_named, alone, first_then, priority_of, moment_of, two_numbers, one_deadline, name_and_deadline, clock_and_deadline, name_clock_and_deadline};
+ghost use Rattle.pt_lines.specs.Arguments.{name_of, kind_of, robust_of, clock_named, alone};
+ghost use Rattle.pt_lines.specs.Arguments.{first_then, priority_of, moment_of, two_numbers};
+ghost use Rattle.pt_lines.specs.Arguments.{one_deadline, name_and_deadline, clock_and_deadline};
+ghost use Rattle.pt_lines.specs.Arguments.{name_clock_and_deadline};
 ghost use Rattle.pt_lines.specs.Numbers.{number_of, IsNumber};
 
 use crate::fields::Fields;

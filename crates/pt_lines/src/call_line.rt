@@ -1,4 +1,5 @@
-ghost use Rattle.std.specs.Prelude.{◌≡◌, ◌≤◌, Ok, Some, IfOk, IfErr, IsOk, nat_lt, length, if◌then◌else◌};
+ghost use Rattle.std.specs.Prelude.{◌≡◌, ◌≤◌, Ok, Some, IfOk, IfErr, IsOk, nat_lt, length};
+ghost use Rattle.std.specs.Prelude.{if◌then◌else◌};
 ghost use Rattle.pt_lines.specs.declared.call_line.CallLine.{CallLine};
 ghost use Rattle.pt_lines.specs.Grammar.{Spells};
 ghost use Rattle.pt_lines.specs.Reading.{line_of, line_read, call_read};

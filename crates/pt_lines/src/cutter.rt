@@ -1,8 +1,11 @@
-ghost use Rattle.std.specs.Prelude.{◌≡◌, ◌≤◌, ◌<◌, ◌+◌, ◌++◌, [], ◌∷◌, ℕ, List, OnOk, OnErr, IfErr, OnSome, IfOk, IfSome, IfNone, true, false, length, option_to_list, if◌then◌else◌};
+ghost use Rattle.std.specs.Prelude.{◌≡◌, ◌≤◌, ◌<◌, ◌+◌, ◌++◌, [], ◌∷◌, ℕ, List, OnOk, OnErr, IfErr};
+ghost use Rattle.std.specs.Prelude.{OnSome, IfOk, IfSome, IfNone, true, false, length};
+ghost use Rattle.std.specs.Prelude.{option_to_list, if◌then◌else◌};
 ghost use Rattle.std.specs.Bool.{OnTrue, OnFalse};
 ghost use Rattle.std.specs.List.{flat_map};
 ghost use Rattle.pt_lines.specs.Cuts.{is_long};
-ghost use Rattle.pt_lines.specs.Lines.{lines, lines_past_newline, to_come, NoNewline, IsBegun, LinesOfTexts};
+ghost use Rattle.pt_lines.specs.Lines.{lines, lines_past_newline, to_come, NoNewline, IsBegun};
+ghost use Rattle.pt_lines.specs.Lines.{LinesOfTexts};
 
 use crate::script_line::{ScriptLine, read_script_line};
 use arrayvec::ArrayVec;

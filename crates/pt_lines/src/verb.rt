@@ -1,6 +1,7 @@
 ghost use Rattle.std.specs.Prelude.{◌≡◌, IfSome, Some};
 ghost use Rattle.pt_lines.specs.declared.verb.Verb.{Verb};
-ghost use Rattle.pt_lines.specs.Verbs.{named_word, timed_word, clocked_word, moment_word, word_of, verb_of, call_on, call_until, call_by_clock};
+ghost use Rattle.pt_lines.specs.Verbs.{named_word, timed_word, clocked_word, moment_word, word_of};
+ghost use Rattle.pt_lines.specs.Verbs.{verb_of, call_on, call_until, call_by_clock};
 
 use crate::verbs::find_verb;
 use pt_types::{Call, Clock, Deadline, Name};

@@ -1,5 +1,8 @@
 -- A call whose deadline is no time is answered at once, or is granted by the next entry.
-use Rattle.std.proofs.Common.{◌≡◌, ℕ, suc, ◌⊎◌, inl, inr, nat_lt, nat_le, Bool, true, false, cond, not, ◌&&◌, ◌||◌, ◌==◌, List, [], ◌∷◌, ◌++◌, length, Option, Some, None, is_none, is_some, refl, sym, ap, ◌∙◌, subst, arith, filter, append-nil}
+use Rattle.std.proofs.Common.{◌≡◌, ℕ, suc, ◌⊎◌, inl, inr, nat_lt, nat_le, Bool, true, false, cond}
+use Rattle.std.proofs.Common.{not, ◌&&◌, ◌||◌, ◌==◌, List, [], ◌∷◌, ◌++◌, length, Option, Some}
+use Rattle.std.proofs.Common.{None, is_none, is_some, refl, sym, ap, ◌∙◌, subst, arith, filter}
+use Rattle.std.proofs.Common.{append-nil}
 use Rattle.std.proofs.lemmas.Bool.{and_parts, and_from, false≢true}
 use Rattle.std.proofs.lemmas.List.Elements.{filter-append}
 use Rattle.std.specs.Option.{option_or}
@@ -19,22 +22,30 @@ use Rattle.pt_model.specs.Clients.{is_alive}
 use Rattle.pt_model.specs.Objects.{kind_of, mutex_kind, barrier_count}
 use Rattle.pt_model.specs.declared.waiting_call.WaitingCall.{WaitingCall}
 use Rattle.pt_model.specs.declared.waiting_call.Role.{Role}
-use Rattle.pt_model.specs.declared.waiting_call.Role.TheVariants.{ForMutex, ForRead, ForWrite, ForBarrier, ForCond}
+use Rattle.pt_model.specs.declared.waiting_call.Role.TheVariants.{ForMutex, ForRead, ForWrite}
+use Rattle.pt_model.specs.declared.waiting_call.Role.TheVariants.{ForBarrier, ForCond}
 use Rattle.pt_model.specs.WaitingCall.{is_arrival, is_write}
 use Rattle.pt_model.specs.Answers.{open_calls, open_place, at_barrier}
 use Rattle.pt_model.specs.Moves.{move_or, moved, is_moved, object_by, at_object, waiting_at}
 use Rattle.pt_model.specs.Mutexes.{count, owner, consistency, mutex_view}
 use Rattle.pt_model.specs.Rwlocks.{read_given_back, writes, reads, writer, reader, rwlock_view}
-use Rattle.pt_model.specs.Grants.{holds_back, is_blocked, is_complete, mutex_may, may_by, may, grant_outcome}
-use Rattle.pt_model.specs.Forced.{is_served_before, is_served, service_if, forced_yield, forced_expire, forced}
+use Rattle.pt_model.specs.Grants.{holds_back, is_blocked, is_complete, mutex_may, may_by, may}
+use Rattle.pt_model.specs.Grants.{grant_outcome}
+use Rattle.pt_model.specs.Forced.{is_served_before, is_served, service_if, forced_yield}
+use Rattle.pt_model.specs.Forced.{forced_expire, forced}
 use Rattle.pt_model.specs.Verdicts.{verdict}
 use Rattle.pt_model.specs.Steps.{Step, calls, Follows}
-use Rattle.pt_model.proofs.Lists.{In-filter, filter-in, In-append_left, In-append_right, In-append_cases, any-in, in-any}
-use Rattle.pt_model.proofs.Leasts.{least-in, least-none, none-least, first_below-same, first_below-more}
-use Rattle.pt_model.proofs.Effects.{Effect, Idle, Creates, Removes, Relocks, Frees, Mends, Returns, Wakes, Waits, effect}
+use Rattle.pt_model.proofs.Lists.{In-filter, filter-in, In-append_left, In-append_right}
+use Rattle.pt_model.proofs.Lists.{In-append_cases, any-in, in-any}
+use Rattle.pt_model.proofs.Leasts.{least-in, least-none, none-least, first_below-same}
+use Rattle.pt_model.proofs.Leasts.{first_below-more}
+use Rattle.pt_model.proofs.Effects.{Effect, Idle, Creates, Removes, Relocks, Frees, Mends, Returns}
+use Rattle.pt_model.proofs.Effects.{Wakes, Waits, effect}
 use Rattle.pt_model.proofs.Allowances.{allowed}
-use Rattle.pt_model.proofs.Changes.{left_by, kind_effect, cause_effect, gives_up, returns_it, consistency_effect, resolved}
-use Rattle.pt_model.proofs.Readings.{stood-call, kind-call, consistency-call, writes-call, reads-call}
+use Rattle.pt_model.proofs.Changes.{left_by, kind_effect, cause_effect, gives_up, returns_it}
+use Rattle.pt_model.proofs.Changes.{consistency_effect, resolved}
+use Rattle.pt_model.proofs.Readings.{stood-call, kind-call, consistency-call, writes-call}
+use Rattle.pt_model.proofs.Readings.{reads-call}
 use Rattle.pt_model.proofs.Sound.{Fresh-follows}
 use Rattle.pt_model.proofs.Unheld.{has_read, Unheld-follows}
 use Rattle.pt_model.proofs.Opens.{open-call}

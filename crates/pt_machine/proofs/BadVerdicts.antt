@@ -1,15 +1,22 @@
 -- Which calls are left waiting with a deadline that is no time: those for a lock that is free.
-use Rattle.std.proofs.Common.{◌≡◌, ℕ, inl, inr, nat_lt, nat_le, Bool, true, false, cond, not, ◌&&◌, ◌||◌, Option, Some, None, is_none, is_some, unwrap_or, refl, sym, ◌∙◌, subst}
+use Rattle.std.proofs.Common.{◌≡◌, ℕ, inl, inr, nat_lt, nat_le, Bool, true, false, cond, not, ◌&&◌}
+use Rattle.std.proofs.Common.{◌||◌, Option, Some, None, is_none, is_some, unwrap_or, refl, sym, ◌∙◌}
+use Rattle.std.proofs.Common.{subst}
 use Rattle.std.proofs.lemmas.Bool.{false≢true}
 use Rattle.pt_types.specs.declared.call.Call.{Call as Asked}
 use Rattle.pt_types.specs.declared.call.How.{How}
 use Rattle.pt_types.specs.declared.outcome.Outcome.{Outcome}
-use Rattle.pt_types.specs.declared.outcome.Outcome.TheVariants.{Done, Eperm, Einval, Ebusy, Eagain, Edeadlk}
+use Rattle.pt_types.specs.declared.outcome.Outcome.TheVariants.{Done, Eperm, Einval, Ebusy, Eagain}
+use Rattle.pt_types.specs.declared.outcome.Outcome.TheVariants.{Edeadlk}
 use Rattle.pt_types.specs.declared.outcome.Verdict.TheVariants.{Reply, Stands}
 use Rattle.pt_types.specs.Times.{Timespec, has_bad_deadline}
 use Rattle.pt_types.specs.declared.time.Clock.{Clock}
-use Rattle.pt_types.specs.Operations.{Operation, Makes, Ends, Acquires, Unlocks, Restores, Rwunlocks, Awaits, Signals, Broadcasts, Arrives, operation, is_try, deadline_of, clock_of}
-use Rattle.pt_types.specs.declared.operations.ObjectClass.TheVariants.{Mutex as MutexClass, Rwlock as RwlockClass, Cond as CondClass}
+use Rattle.pt_types.specs.Operations.{Operation, Makes, Ends, Acquires, Unlocks, Restores}
+use Rattle.pt_types.specs.Operations.{Rwunlocks, Awaits, Signals, Broadcasts, Arrives, operation}
+use Rattle.pt_types.specs.Operations.{is_try, deadline_of, clock_of}
+use Rattle.pt_types.specs.declared.operations.ObjectClass.TheVariants.{Mutex as MutexClass}
+use Rattle.pt_types.specs.declared.operations.ObjectClass.TheVariants.{Rwlock as RwlockClass}
+use Rattle.pt_types.specs.declared.operations.ObjectClass.TheVariants.{Cond as CondClass}
 use Rattle.pt_types.specs.declared.operations.LockKind.TheVariants.{MutexLock, ReadLock, WriteLock}
 use Rattle.pt_types.specs.Limits.{most_locks, most_reads}
 use Rattle.pt_types.specs.MutexTable.{owns, is_recursive, is_errorcheck, is_lost, may_lock}
@@ -25,13 +32,15 @@ use Rattle.pt_model.specs.Clients.{client}
 use Rattle.pt_model.specs.Objects.{find}
 use Rattle.pt_model.specs.declared.waiting_call.WaitingCall.{WaitingCall}
 use Rattle.pt_model.specs.declared.waiting_call.Role.{Role}
-use Rattle.pt_model.specs.declared.waiting_call.Role.TheVariants.{ForMutex, ForRead, ForWrite, ForBarrier, ForCond}
+use Rattle.pt_model.specs.declared.waiting_call.Role.TheVariants.{ForMutex, ForRead, ForWrite}
+use Rattle.pt_model.specs.declared.waiting_call.Role.TheVariants.{ForBarrier, ForCond}
 use Rattle.pt_model.specs.WaitingCall.{stood_by_operation, stood_by, is_arrival}
 use Rattle.pt_model.specs.Moves.{waiting_at}
 use Rattle.pt_model.specs.Mutexes.{owner, consistency, mutex_view}
 use Rattle.pt_model.specs.Rwlocks.{writes, reads, writer, rwlock_view}
 use Rattle.pt_model.specs.Grants.{is_blocked, may}
-use Rattle.pt_model.specs.Verdicts.{on, bound_by, lock_kind_verdict, awaits_verdict, operation_verdict, verdict}
+use Rattle.pt_model.specs.Verdicts.{on, bound_by, lock_kind_verdict, awaits_verdict}
+use Rattle.pt_model.specs.Verdicts.{operation_verdict, verdict}
 use Rattle.pt_model.specs.Steps.{Follows}
 use Rattle.pt_model.proofs.Leasts.{first_below-passes}
 use Rattle.pt_model.proofs.Changes.{awaited}

@@ -1,5 +1,6 @@
 -- BarrierArrivals: the waiters of a barrier's queue are those of the calls that wait at it.
-use Rattle.std.proofs.Common.{◌≡◌, ℕ, ◌==◌, Bool, true, cond, ◌&&◌, List, refl, sym, ap, ◌∙◌, subst, arith, eq-eqb}
+use Rattle.std.proofs.Common.{◌≡◌, ℕ, ◌==◌, Bool, true, cond, ◌&&◌, List, refl, sym, ap, ◌∙◌, subst}
+use Rattle.std.proofs.Common.{arith, eq-eqb}
 use Rattle.std.proofs.lemmas.Bool.Decides.{nat_tests}
 use Rattle.pt_waitq.specs.declared.waiter.Waiter.{Waiter}
 use Rattle.pt_waitq.specs.Queues.{queues_of}

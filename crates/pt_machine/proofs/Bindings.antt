@@ -1,5 +1,6 @@
 -- Bindings: a condition's mutex is that of the first wait of its queue.
-use Rattle.std.proofs.Common.{◌≡◌, ℕ, ◌==◌, true, List, Option, Some, None, filter, refl, sym, ap, ◌∙◌}
+use Rattle.std.proofs.Common.{◌≡◌, ℕ, ◌==◌, true, List, Option, Some, None, filter, refl, sym, ap}
+use Rattle.std.proofs.Common.{◌∙◌}
 use Rattle.pt_types.specs.declared.call.ObjectKind.TheVariants as kind
 use Rattle.pt_types.specs.declared.operations.ObjectClass.TheVariants.{Cond as CondClass}
 use Rattle.pt_model.specs.Searches.{In, least}

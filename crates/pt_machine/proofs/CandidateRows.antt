@@ -1,11 +1,13 @@
 -- CandidateRows: the candidate of an object, by the rows of objects and of clients.
-use Rattle.std.proofs.Common.{◌≡◌, ℕ, Bool, true, false, cond, not, ◌&&◌, ◌||◌, ◌==◌, nat_lt, List, Option, Some, None, is_some, is_none, refl, sym, ap, ◌∙◌, arith}
+use Rattle.std.proofs.Common.{◌≡◌, ℕ, Bool, true, false, cond, not, ◌&&◌, ◌||◌, ◌==◌, nat_lt, List}
+use Rattle.std.proofs.Common.{Option, Some, None, is_some, is_none, refl, sym, ap, ◌∙◌, arith}
 use Rattle.std.proofs.lemmas.Bool.Decides.{nat_tests}
 use Rattle.pt_types.specs.MutexTable.{is_lost, is_recursive, may_lock}
 use Rattle.pt_types.specs.declared.views.MutexView.{MutexView}
 use Rattle.pt_types.specs.RwlockTable.{may_read}
 use Rattle.pt_mutex.specs.MutexState.{MutexState}
-use Rattle.pt_rwlock.specs.RwlockState.{RwlockState, is_read as is_read_by, nobody_holds, reads_of, seen_by}
+use Rattle.pt_rwlock.specs.RwlockState.{RwlockState, is_read as is_read_by, nobody_holds, reads_of}
+use Rattle.pt_rwlock.specs.RwlockState.{seen_by}
 use Rattle.pt_table.specs.declared.clients.ClientRow.{ClientRow}
 use Rattle.pt_table.specs.ClientRows.{client_value}
 use Rattle.pt_table.specs.declared.objects.ObjectRow.{ObjectRow}
@@ -16,13 +18,16 @@ use Rattle.pt_model.specs.Objects.{kind_of, mutex_kind}
 use Rattle.pt_model.specs.declared.waiting_call.WaitingCall.{WaitingCall}
 use Rattle.pt_model.specs.declared.waiting_call.Move.{Move}
 use Rattle.pt_model.specs.declared.waiting_call.Role.{Role}
-use Rattle.pt_model.specs.declared.waiting_call.Role.TheVariants.{ForMutex, ForRead, ForWrite, ForBarrier, ForCond}
+use Rattle.pt_model.specs.declared.waiting_call.Role.TheVariants.{ForMutex, ForRead, ForWrite}
+use Rattle.pt_model.specs.declared.waiting_call.Role.TheVariants.{ForBarrier, ForCond}
 use Rattle.pt_model.specs.WaitingCall.{is_wait, is_write}
 use Rattle.pt_model.specs.Moves.{moved, object_by, at_object}
 use Rattle.pt_model.specs.Mutexes.{owner, consistency, mutex_view}
 use Rattle.pt_model.specs.Rwlocks.{reads, writer, reader}
 use Rattle.pt_model.specs.Steps.{Follows}
-use Rattle.pt_touched.specs.Candidates.{comes_back, entering, first_at, if_passes, is_read, is_write_if, mutex_candidate, open_call_if, reads_again_at, rwlock_candidate}
+use Rattle.pt_touched.specs.Candidates.{comes_back, entering, first_at, if_passes, is_read}
+use Rattle.pt_touched.specs.Candidates.{is_write_if, mutex_candidate, open_call_if, reads_again_at}
+use Rattle.pt_touched.specs.Candidates.{rwlock_candidate}
 use Rattle.pt_touched.specs.Touched.{open_call_of}
 use Rattle.pt_records.specs.declared.clients.Caller.{Caller}
 use Rattle.pt_records.specs.declared.clients.Open.{Open}

@@ -1,5 +1,6 @@
 -- The deadlines that are set, and which open call is overdue first.
-use Rattle.std.proofs.Common.{◌≡◌, ℕ, ◌≤◌, Bool, true, false, not, List, Option, Some, None, is_some, unwrap_or, refl, sym, ap, ◌∙◌, arith, filter}
+use Rattle.std.proofs.Common.{◌≡◌, ℕ, ◌≤◌, Bool, true, false, not, List, Option, Some, None}
+use Rattle.std.proofs.Common.{is_some, unwrap_or, refl, sym, ap, ◌∙◌, arith, filter}
 use Rattle.std.proofs.lemmas.Bool.Decides.{nat_tests}
 use Rattle.std.proofs.lemmas.Bool.{false≢true, and_parts, and_from}
 use Rattle.std.specs.Prelude.{option_map}
@@ -19,7 +20,8 @@ use Rattle.pt_model.specs.WaitingCall.{at_place}
 use Rattle.pt_model.specs.Answers.{open_calls}
 use Rattle.pt_model.specs.Moves.{is_moved}
 use Rattle.pt_model.specs.Grants.{grant_outcome}
-use Rattle.pt_model.specs.Forced.{forced_service, forced_yield, forced_expire, yield_if, expire_if, is_orphan, is_overdue, expires_before}
+use Rattle.pt_model.specs.Forced.{forced_service, forced_yield, forced_expire, yield_if, expire_if}
+use Rattle.pt_model.specs.Forced.{is_orphan, is_overdue, expires_before}
 use Rattle.pt_model.specs.Queries.{has_deadline, deadline_if, least_deadline}
 use Rattle.pt_model.specs.Steps.{Follows}
 use Rattle.pt_model.proofs.Lists.{In-filter, filter-in, false_by}

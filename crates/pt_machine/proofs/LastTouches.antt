@@ -1,12 +1,14 @@
 -- LastTouches: what is touched, and whose call came last, as entries are pushed.
-use Rattle.std.proofs.Common.{◌≡◌, ℕ, Bool, true, false, cond, List, Option, Some, None, refl, sym, ap, ◌∙◌, subst}
+use Rattle.std.proofs.Common.{◌≡◌, ℕ, Bool, true, false, cond, List, Option, Some, None, refl, sym}
+use Rattle.std.proofs.Common.{ap, ◌∙◌, subst}
 use Rattle.std.specs.Prelude.{unwrap_or}
 use Rattle.pt_types.specs.declared.call.Call.{Call as Asked}
 use Rattle.pt_types.specs.declared.operations.ObjectClass.TheVariants.{Mutex as MutexClass}
 use Rattle.pt_types.specs.Operations.{Awaits, operation}
 use Rattle.pt_types.specs.Times.{Timespec}
 use Rattle.pt_model.specs.declared.entry.Entry.{Entry}
-use Rattle.pt_model.specs.declared.entry.Entry.TheVariants.{Join, Call, Death, Moment, Grant, Trip, Yield, Expire}
+use Rattle.pt_model.specs.declared.entry.Entry.TheVariants.{Join, Call, Death, Moment, Grant, Trip}
+use Rattle.pt_model.specs.declared.entry.Entry.TheVariants.{Yield, Expire}
 use Rattle.pt_model.specs.Histories.{History, Begin, ◌▷◌, is_forced}
 use Rattle.pt_model.specs.declared.waiting_call.WaitingCall.{WaitingCall}
 use Rattle.pt_model.specs.WaitingCall.{is_arrival, meant}
@@ -21,7 +23,8 @@ use Rattle.pt_touched.specs.Candidates.{entering, entering_by}
 use Rattle.pt_touched.specs.Touched.{touched, touched_after, touched_by}
 use Rattle.pt_touched.proofs.Candidates.{begins_untouched}
 use Rattle.pt_state.specs.declared.forced.Forced.{Forced}
-use Rattle.pt_state.specs.declared.forced.Forced.TheVariants.{Serve, Yield as Yields, Expire as Expires}
+use Rattle.pt_state.specs.declared.forced.Forced.TheVariants.{Serve, Yield as Yields}
+use Rattle.pt_state.specs.declared.forced.Forced.TheVariants.{Expire as Expires}
 use Rattle.pt_state.specs.declared.state.State.{State}
 use Rattle.pt_state.specs.Adds.{Adds, Stays, past}
 use Rattle.pt_state.specs.Serving.{called, entry_of}

@@ -1,20 +1,25 @@
 -- NeedLimits: no more objects exist than may, and no more entries are reserved than all may need.
-use Rattle.std.proofs.Common.{◌≡◌, ℕ, suc, ◌*◌, ◌<◌, ◌≤◌, nat_le, Bool, true, false, cond, List, [], ◌∷◌, filter, length, Option, Some, None, refl, sym, ap, arith}
+use Rattle.std.proofs.Common.{◌≡◌, ℕ, suc, ◌*◌, ◌<◌, ◌≤◌, nat_le, Bool, true, false, cond, List, []}
+use Rattle.std.proofs.Common.{◌∷◌, filter, length, Option, Some, None, refl, sym, ap, arith}
 use Rattle.std.proofs.lemmas.Bool.Decides.{nat_tests}
 use Rattle.pt_types.specs.declared.call.Call.{Call as Asked}
 use Rattle.pt_types.specs.declared.outcome.Outcome.{Outcome}
-use Rattle.pt_types.specs.declared.outcome.Outcome.TheVariants.{Done, Serial, Eperm, Einval, Ebusy, Eagain, Edeadlk, Etimedout, Eownerdead, Enotrecoverable}
+use Rattle.pt_types.specs.declared.outcome.Outcome.TheVariants.{Done, Serial, Eperm, Einval, Ebusy}
+use Rattle.pt_types.specs.declared.outcome.Outcome.TheVariants.{Eagain, Edeadlk, Etimedout}
+use Rattle.pt_types.specs.declared.outcome.Outcome.TheVariants.{Eownerdead, Enotrecoverable}
 use Rattle.pt_types.specs.declared.outcome.Verdict.TheVariants.{Reply}
 use Rattle.pt_types.specs.Limits.{most_objects}
 use Rattle.pt_types.specs.ObjectTable.{is_bad_kind}
-use Rattle.pt_types.specs.Operations.{Operation, Makes, Ends, Acquires, Unlocks, Restores, Rwunlocks, Awaits, Signals, Broadcasts, Arrives, operation}
+use Rattle.pt_types.specs.Operations.{Operation, Makes, Ends, Acquires, Unlocks, Restores}
+use Rattle.pt_types.specs.Operations.{Rwunlocks, Awaits, Signals, Broadcasts, Arrives, operation}
 use Rattle.pt_types.specs.Tables.{reply}
 use Rattle.pt_model.specs.declared.entry.Entry.{Entry}
 use Rattle.pt_model.specs.declared.entry.Entry.TheVariants.{Call}
 use Rattle.pt_model.specs.Histories.{History, ◌▷◌}
 use Rattle.pt_model.specs.Objects.{objects, objects_by, objects_by_operation}
 use Rattle.pt_model.specs.Verdicts.{operation_verdict, verdict}
-use Rattle.pt_model.specs.Steps.{Step, joins, calls, dies, ticks, grants, trips, yields, expires, Follows}
+use Rattle.pt_model.specs.Steps.{Step, joins, calls, dies, ticks, grants, trips, yields, expires}
+use Rattle.pt_model.specs.Steps.{Follows}
 use Rattle.pt_model.specs.declared.waiting_call.WaitingCall.{WaitingCall}
 use Rattle.pt_model.specs.Answers.{open_calls}
 use Rattle.pt_model.specs.Moves.{is_moved}

@@ -1,5 +1,6 @@
 -- What a client's row has of its open call is the call that takes its place.
-use Rattle.std.proofs.Common.{◌≡◌, ℕ, ◌==◌, true, false, cond, List, Option, Some, None, option_map, refl, sym, ap, ◌∙◌, subst}
+use Rattle.std.proofs.Common.{◌≡◌, ℕ, ◌==◌, true, false, cond, List, Option, Some, None, option_map}
+use Rattle.std.proofs.Common.{refl, sym, ap, ◌∙◌, subst}
 use Rattle.pt_table.specs.declared.clients.ClientRow.{ClientRow}
 use Rattle.pt_table.specs.ClientRows.{client_value}
 use Rattle.pt_waitq.specs.declared.waiter.Waiter.{Waiter}
@@ -45,11 +46,11 @@ row-there h rows f a c none w i e =
 -- what its row has of it is its object, and its waiter with the client's priority
 pub takes :
     (h : History) (rows : List (ClientRow Caller)) → Follows h → AreCallers h rows
-    → (c object p : ℕ) (v : Waiter) (o : Open)
-    → open_in (client_value rows c) ≡ Some o → client h c ≡ Some p → object ≡ object_of o
-    → v ≡ record (waiter_by o.moved o.call) { prio = p }
+    → (c object : ℕ) (v : Waiter) (r : Caller) (o : Open)
+    → client_value rows c ≡ Some r → r.«open» ≡ Some o → object ≡ object_of o
+    → v ≡ record (waiter_by o.moved o.call) { prio = r.priority }
     → Takes h c object v
-takes h rows f a c object p v o row level at is =
+takes h rows f a c object v r o kept has at is =
     record {
       seat = λ w i e.
           at
@@ -58,14 +59,20 @@ takes h rows f a c object p v o row level at is =
           ∙ ap (λ (m : Option Move). object_by w.role m w.object) (move w i e));
       same = λ w i e.
           is
-          ∙ (ap (λ (u : WaitingCall). with_priority p o.moved u)
+          ∙ (ap (λ (u : WaitingCall). with_priority r.priority o.moved u)
           (call w i e)
-          ∙ (ap (λ (m : Option Move). with_priority p m w) (move w i e)
+          ∙ (ap (λ (m : Option Move). with_priority r.priority m w) (move w i e)
           ∙ ap (λ (k : ℕ). with_priority k (moved h w.place) w) (priority w i e)));
     }
   where
     with_priority : ℕ → Option Move → WaitingCall → Waiter
     with_priority k m w = record (waiter_by m w) { prio = k }
+
+    row : open_in (client_value rows c) ≡ Some o
+    row = ap open_in kept ∙ has
+
+    level : client h c ≡ Some r.priority
+    level = sym (a.look.living c) ∙ ap (option_map (λ (x : Caller). x.priority)) kept
 
     call : (w : WaitingCall) → In w (open_calls h) → w.client ≡ c → o.call ≡ w
     call w i e =
@@ -80,9 +87,9 @@ takes h rows f a c object p v o row level at is =
         let has : move_in (client_value rows c) ≡ o.moved = rw row refl in
         sym has ∙ a.look.moves c w (first-call h f c w i e)
 
-    priority : (w : WaitingCall) → In w (open_calls h) → w.client ≡ c → p ≡ w.priority
+    priority : (w : WaitingCall) → In w (open_calls h) → w.client ≡ c → r.priority ≡ w.priority
     priority w i e =
-        let here : ◌≡◌ {A = Option ℕ} (Some p) (Some w.priority) =
+        let here : ◌≡◌ {A = Option ℕ} (Some r.priority) (Some w.priority) =
         sym level ∙ (ap (client h) (sym e) ∙ open_priority h f w i) in
         cc
 

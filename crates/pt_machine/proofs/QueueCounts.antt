@@ -1,5 +1,7 @@
 -- QueueCounts: as many stand in a queue as open calls stand at its object.
-use Rattle.std.proofs.Common.{◌≡◌, ℕ, suc, ◌<◌, ◌≤◌, ◌==◌, Bool, true, false, cond, ◌&&◌, ◌||◌, List, [], ◌∷◌, Option, Some, None, option_map, length, filter, refl, sym, ap, ◌∙◌, arith, eq-eqb}
+use Rattle.std.proofs.Common.{◌≡◌, ℕ, suc, ◌<◌, ◌≤◌, ◌==◌, Bool, true, false, cond, ◌&&◌, ◌||◌}
+use Rattle.std.proofs.Common.{List, [], ◌∷◌, Option, Some, None, option_map, length, filter, refl}
+use Rattle.std.proofs.Common.{sym, ap, ◌∙◌, arith, eq-eqb}
 use Rattle.std.proofs.lemmas.Bool.{false≢true}
 use Rattle.std.specs.List.{list_any, cons_option}
 use Rattle.pt_types.specs.declared.call.ObjectKind.TheVariants as kind
@@ -22,7 +24,8 @@ use Rattle.pt_model.specs.declared.waiting_call.WaitingCall.{WaitingCall}
 use Rattle.pt_model.specs.WaitingCall.{is_arrival}
 use Rattle.pt_model.specs.Answers.{open_calls, at_barrier}
 use Rattle.pt_model.specs.Moves.{at_object}
-use Rattle.pt_model.specs.Steps.{Step, joins, calls, dies, ticks, grants, trips, yields, expires, Follows}
+use Rattle.pt_model.specs.Steps.{Step, joins, calls, dies, ticks, grants, trips, yields, expires}
+use Rattle.pt_model.specs.Steps.{Follows}
 use Rattle.pt_model.proofs.Lists.{Each-from_in, Each-filter, filter-agree_on, false_by}
 use Rattle.pt_model.proofs.Counting.{total}
 use Rattle.pt_model.proofs.Sound.{Fresh-follows, alive_below}

@@ -1,5 +1,6 @@
 -- QueueFirsts: the first of a queue is the first of the calls that wait there.
-use Rattle.std.proofs.Common.{◌≡◌, ℕ, ◌==◌, Bool, true, false, List, Option, Some, None, option_map, IfSome, filter, refl, sym, ap, ◌∙◌, subst, arith, eq-eqb}
+use Rattle.std.proofs.Common.{◌≡◌, ℕ, ◌==◌, Bool, true, false, List, Option, Some, None, option_map}
+use Rattle.std.proofs.Common.{IfSome, filter, refl, sym, ap, ◌∙◌, subst, arith, eq-eqb}
 use Rattle.std.proofs.lemmas.Bool.Decides.{nat_tests}
 use Rattle.pt_types.specs.KeyOrder.{goes_before}
 use Rattle.pt_table.specs.declared.clients.ClientRow.{ClientRow}

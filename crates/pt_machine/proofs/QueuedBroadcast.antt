@@ -1,5 +1,7 @@
 -- The queues while a broadcast moves the waits at its condition, one by one in key order.
-use Rattle.std.proofs.Common.{◌≡◌, ℕ, suc, ◌<◌, Bool, true, false, cond, not, ◌&&◌, ◌||◌, ◌==◌, nat_lt, List, [], ◌∷◌, length, Option, Some, None, is_some, refl, sym, ap, ◌∙◌, subst, arith, eq-eqb, inl, inr}
+use Rattle.std.proofs.Common.{◌≡◌, ℕ, suc, ◌<◌, Bool, true, false, cond, not, ◌&&◌, ◌||◌, ◌==◌}
+use Rattle.std.proofs.Common.{nat_lt, List, [], ◌∷◌, length, Option, Some, None, is_some, refl, sym}
+use Rattle.std.proofs.Common.{ap, ◌∙◌, subst, arith, eq-eqb, inl, inr}
 use Rattle.std.proofs.lemmas.Bool.Decides.{nat_tests}
 use Rattle.std.proofs.lemmas.Bool.{false≢true, and_parts}
 use Rattle.std.proofs.lemmas.List.Filters.{length-filter_both}
@@ -7,7 +9,8 @@ use Rattle.std.specs.List.{AllByRecursion as Each}
 use Rattle.pt_types.specs.Times.{pair_before}
 use Rattle.pt_types.specs.KeyOrder.{rank}
 use Rattle.pt_waitq.specs.declared.waiter.Waiter.{Waiter}
-use Rattle.pt_waitq.specs.Queues.{queues_of, In, arrival, comes_before, is_like, insert_in_order, head_of, stands_in, without}
+use Rattle.pt_waitq.specs.Queues.{queues_of, In, arrival, comes_before, is_like, insert_in_order}
+use Rattle.pt_waitq.specs.Queues.{head_of, stands_in, without}
 use Rattle.pt_waitq.specs.Members.{Members}
 use Rattle.pt_waitq.specs.ListLemmas.{In-filter, any-in, any-out, any-without}
 use Rattle.pt_waitq.proofs.MemberLemmas.{members-agree, members-move, head-first, head-in}

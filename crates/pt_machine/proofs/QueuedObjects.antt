@@ -1,5 +1,6 @@
 -- Pushes that make an object or end one: what the queues are before them and after them.
-use Rattle.std.proofs.Common.{◌≡◌, ℕ, ◌+◌, ◌==◌, Bool, true, false, not, ◌&&◌, ◌||◌, List, [], length, Some, sym, ap, ◌∙◌}
+use Rattle.std.proofs.Common.{◌≡◌, ℕ, ◌+◌, ◌==◌, Bool, true, false, not, ◌&&◌, ◌||◌, List, []}
+use Rattle.std.proofs.Common.{length, Some, sym, ap, ◌∙◌}
 use Rattle.pt_types.specs.declared.call.Call.{Call as Asked}
 use Rattle.pt_types.specs.declared.call.ObjectKind.{ObjectKind}
 use Rattle.pt_types.specs.declared.outcome.Outcome.TheVariants.{Done}
@@ -13,7 +14,8 @@ use Rattle.pt_state.specs.declared.state.State.{State}
 use Rattle.pt_state.specs.Adds.{past, IsReadyFor, Adds, Stays}
 use Rattle.pt_machine.specs.Queued.{IsQueued}
 use Rattle.pt_machine.proofs.QueuedSame.{queued-kept, queued-adds, queued-stays}
-use Rattle.pt_machine.proofs.QueuedCalls.{queued-made, queued-ended, end-unawaited, unmade-next, made-found, unawaited-empty, unmade-empty, made-back}
+use Rattle.pt_machine.proofs.QueuedCalls.{queued-made, queued-ended, end-unawaited, unmade-next}
+use Rattle.pt_machine.proofs.QueuedCalls.{made-found, unawaited-empty, unmade-empty, made-back}
 use Rattle.pt_history.proofs.Places.{place_of_next}
 
 module _ {A : Type 0} (s : State A) (c : ℕ) (call : Asked)

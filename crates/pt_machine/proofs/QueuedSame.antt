@@ -1,5 +1,6 @@
 -- Queues that are right still: nothing that they are read off has changed.
-use Rattle.std.proofs.Common.{◌≡◌, ℕ, Bool, List, Option, is_some, Result, Ok, Err, OnOk, OnErr, sym, ap, ◌∙◌, subst}
+use Rattle.std.proofs.Common.{◌≡◌, ℕ, Bool, List, Option, is_some, Result, Ok, Err, OnOk, OnErr}
+use Rattle.std.proofs.Common.{sym, ap, ◌∙◌, subst}
 use Rattle.pt_waitq.specs.declared.waiter.Waiter.{Waiter}
 use Rattle.pt_waitq.specs.Queues.{queues_of, IsInKeyOrder}
 use Rattle.pt_waitq.specs.Members.{Members}

@@ -1,5 +1,7 @@
 -- What a signal and a passed deadline move, and the queues after them.
-use Rattle.std.proofs.Common.{◌≡◌, ℕ, Bool, true, false, cond, not, ◌||◌, ◌==◌, List, Option, Some, None, is_some, option_map, filter, append-nil, refl, sym, ap, ◌∙◌, subst, arith}
+use Rattle.std.proofs.Common.{◌≡◌, ℕ, Bool, true, false, cond, not, ◌||◌, ◌==◌, List, Option, Some}
+use Rattle.std.proofs.Common.{None, is_some, option_map, filter, append-nil, refl, sym, ap, ◌∙◌}
+use Rattle.std.proofs.Common.{subst, arith}
 use Rattle.std.proofs.lemmas.Bool.Decides.{nat_tests}
 use Rattle.pt_types.specs.declared.call.Call.{Call as Asked}
 use Rattle.pt_types.specs.declared.outcome.Outcome.{Outcome}
@@ -18,7 +20,8 @@ use Rattle.pt_model.specs.Objects.{kind_of, find}
 use Rattle.pt_model.specs.declared.waiting_call.WaitingCall.{WaitingCall}
 use Rattle.pt_model.specs.WaitingCall.{is_wait}
 use Rattle.pt_model.specs.Answers.{open_calls}
-use Rattle.pt_model.specs.Moves.{precedes_by, precedes, cond_waits, cause_by_expiry, move_or, moved, at_object}
+use Rattle.pt_model.specs.Moves.{precedes_by, precedes, cond_waits, cause_by_expiry, move_or, moved}
+use Rattle.pt_model.specs.Moves.{at_object}
 use Rattle.pt_model.specs.Steps.{Step, Follows}
 use Rattle.pt_model.proofs.Lists.{In-filter, filter-all}
 use Rattle.pt_model.proofs.Leasts.{least-in}

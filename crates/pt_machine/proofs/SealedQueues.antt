@@ -1,5 +1,6 @@
 -- The queues and the deadlines are those of the seal too, where nothing must follow.
-use Rattle.std.proofs.Common.{◌≡◌, ℕ, Bool, false, not, ◌&&◌, List, None, refl, sym, ap, ◌∙◌, is_some, filter}
+use Rattle.std.proofs.Common.{◌≡◌, ℕ, Bool, false, not, ◌&&◌, List, None, refl, sym, ap, ◌∙◌}
+use Rattle.std.proofs.Common.{is_some, filter}
 use Rattle.pt_waitq.specs.declared.waiter.Waiter.{Waiter}
 use Rattle.pt_types.specs.declared.time.Clock.{Clock}
 use Rattle.pt_types.specs.Times.{has_bad_deadline}

@@ -1,5 +1,7 @@
 -- How the deadlines that are set change as a call is left waiting, and as a barrier trips.
-use Rattle.std.proofs.Common.{◌≡◌, ℕ, inl, inr, ◌⊎◌, Bool, true, false, cond, not, ◌&&◌, ◌==◌, List, ◌++◌, Option, Some, None, is_some, refl, sym, ap, ◌∙◌, subst, arith, filter}
+use Rattle.std.proofs.Common.{◌≡◌, ℕ, inl, inr, ◌⊎◌, Bool, true, false, cond, not, ◌&&◌, ◌==◌, List}
+use Rattle.std.proofs.Common.{◌++◌, Option, Some, None, is_some, refl, sym, ap, ◌∙◌, subst, arith}
+use Rattle.std.proofs.Common.{filter}
 use Rattle.std.proofs.lemmas.Bool.Decides.{nat_tests}
 use Rattle.std.proofs.lemmas.Bool.{false≢true, and_parts}
 use Rattle.std.proofs.lemmas.List.Elements.{filter-append}
@@ -9,7 +11,9 @@ use Rattle.pt_types.specs.declared.call.Call.{Call as Asked}
 use Rattle.pt_types.specs.declared.outcome.Outcome.{Outcome}
 use Rattle.pt_types.specs.Times.{Timespec, deadline_nanos, has_bad_deadline}
 use Rattle.pt_types.specs.declared.time.Clock.{Clock}
-use Rattle.pt_types.specs.Operations.{Operation, Makes, Ends, Acquires, Unlocks, Restores, Rwunlocks, Awaits, Signals, Broadcasts, Arrives, operation, clock_of}
+use Rattle.pt_types.specs.Operations.{Operation, Makes, Ends, Acquires, Unlocks, Restores}
+use Rattle.pt_types.specs.Operations.{Rwunlocks, Awaits, Signals, Broadcasts, Arrives, operation}
+use Rattle.pt_types.specs.Operations.{clock_of}
 use Rattle.pt_types.specs.declared.operations.LockKind.{LockKind}
 use Rattle.pt_types.specs.declared.operations.LockKind.TheVariants.{MutexLock, ReadLock, WriteLock}
 use Rattle.pt_types.specs.Tables.{reply}
@@ -19,11 +23,13 @@ use Rattle.pt_model.specs.declared.entry.Entry.TheVariants.{Call, Trip}
 use Rattle.pt_model.specs.Searches.{In}
 use Rattle.pt_model.specs.Histories.{History, ◌▷◌, place}
 use Rattle.pt_model.specs.declared.waiting_call.WaitingCall.{WaitingCall}
-use Rattle.pt_model.specs.WaitingCall.{stood_by_operation, stood_by, role_needed, at_place, is_arrival}
+use Rattle.pt_model.specs.WaitingCall.{stood_by_operation, stood_by, role_needed, at_place}
+use Rattle.pt_model.specs.WaitingCall.{is_arrival}
 use Rattle.pt_model.specs.Answers.{open_calls}
 use Rattle.pt_model.specs.Moves.{moved, is_moved}
 use Rattle.pt_model.specs.Verdicts.{verdict}
-use Rattle.pt_model.specs.Steps.{Step, joins, calls, dies, ticks, grants, trips, yields, expires, Follows}
+use Rattle.pt_model.specs.Steps.{Step, joins, calls, dies, ticks, grants, trips, yields, expires}
+use Rattle.pt_model.specs.Steps.{Follows}
 use Rattle.pt_model.proofs.Lists.{In-append_right, any-in, any-false}
 use Rattle.pt_model.proofs.Effects.{effect, Allowed}
 use Rattle.pt_model.proofs.Allowances.{allowed}
@@ -31,12 +37,14 @@ use Rattle.pt_model.proofs.Changes.{left_by}
 use Rattle.pt_model.proofs.Readings.{stood-call}
 use Rattle.pt_model.proofs.Sound.{Fresh-follows}
 use Rattle.pt_model.proofs.Found.{one_open}
-use Rattle.pt_model.proofs.Opens.{open-sealed, stands_at_barrier, left, was_open, open-call, open-trip}
+use Rattle.pt_model.proofs.Opens.{open-sealed, stands_at_barrier, left, was_open, open-call}
+use Rattle.pt_model.proofs.Opens.{open-trip}
 use Rattle.pt_model.proofs.Stands.{stands-operation}
 use Rattle.pt_state.proofs.StepLemmas.{called}
 use Rattle.pt_machine.specs.Timed.{asked, timed, is_set, setting, setting_if, set_at, good_of}
 use Rattle.pt_machine.proofs.NoBadDeadlines.{stood_timed, left_timed}
-use Rattle.pt_machine.proofs.TimedSteps.{at-none, at-same, at-before, set-open, still-set, set-stays, set-goes}
+use Rattle.pt_machine.proofs.TimedSteps.{at-none, at-same, at-before, set-open, still-set}
+use Rattle.pt_machine.proofs.TimedSteps.{set-stays, set-goes}
 
 -- what an operation leaves at a barrier has no deadline
 operation_arrival : (h : History) (c : ℕ) (z : Clock) (d : Operation) (w : WaitingCall)

@@ -1,5 +1,7 @@
 -- The deadlines that are set beside a state, as entries are pushed.
-use Rattle.std.proofs.Common.{◌+◌, ◌≡◌, ℕ, Bool, true, false, cond, ◌==◌, List, Option, Some, None, Result, Ok, Err, OnOk, OnErr, length, refl, sym, ap, ◌∙◌, subst, arith}
+use Rattle.std.proofs.Common.{◌+◌, ◌≡◌, ℕ, Bool, true, false, cond, ◌==◌, List, Option, Some, None}
+use Rattle.std.proofs.Common.{Result, Ok, Err, OnOk, OnErr, length, refl, sym, ap, ◌∙◌, subst}
+use Rattle.std.proofs.Common.{arith}
 use Rattle.std.proofs.lemmas.Bool.Decides.{nat_tests}
 use Rattle.std.specs.Prelude.{option_map}
 use Rattle.pt_types.specs.declared.call.Call.{Call as Asked}
@@ -24,7 +26,8 @@ use Rattle.pt_state.specs.Serving.{called}
 use Rattle.pt_state.proofs.ServingFinds.{are-open}
 use Rattle.pt_machine.specs.Timed.{asked, set_at, AreTimed, good_of}
 use Rattle.pt_machine.proofs.QueuedSame.{past-adds, past-stays}
-use Rattle.pt_machine.proofs.TimedSteps.{set-new, set-yield, set-grant, set-expire, set-death-free, set-death}
+use Rattle.pt_machine.proofs.TimedSteps.{set-new, set-yield, set-grant, set-expire, set-death-free}
+use Rattle.pt_machine.proofs.TimedSteps.{set-death}
 use Rattle.pt_machine.proofs.TimedCalls.{set-arrival, set-trip, set-left}
 use Rattle.pt_history.proofs.Places.{place_of_next}
 

@@ -1,5 +1,7 @@
 -- How the deadlines that are set change with one entry.
-use Rattle.std.proofs.Common.{◌≡◌, ℕ, ◌<◌, inl, inr, Bool, true, false, cond, not, ◌&&◌, ◌||◌, ◌==◌, List, [], ◌∷◌, ◌++◌, Option, Some, None, is_some, refl, sym, ap, ◌∙◌, arith, filter}
+use Rattle.std.proofs.Common.{◌≡◌, ℕ, ◌<◌, inl, inr, Bool, true, false, cond, not, ◌&&◌, ◌||◌, ◌==◌}
+use Rattle.std.proofs.Common.{List, [], ◌∷◌, ◌++◌, Option, Some, None, is_some, refl, sym, ap, ◌∙◌}
+use Rattle.std.proofs.Common.{arith, filter}
 use Rattle.std.proofs.lemmas.Bool.Decides.{nat_tests}
 use Rattle.std.proofs.lemmas.Bool.{false≢true}
 use Rattle.std.specs.Prelude.{option_map}
@@ -7,7 +9,8 @@ use Rattle.pt_types.specs.declared.outcome.Outcome.{Outcome}
 use Rattle.pt_types.specs.Times.{has_bad_deadline}
 use Rattle.pt_types.specs.declared.time.Clock.{Clock}
 use Rattle.pt_model.specs.declared.entry.Entry.{Entry}
-use Rattle.pt_model.specs.declared.entry.Entry.TheVariants.{Join, Death, Moment, Grant, Yield, Expire}
+use Rattle.pt_model.specs.declared.entry.Entry.TheVariants.{Join, Death, Moment, Grant, Yield}
+use Rattle.pt_model.specs.declared.entry.Entry.TheVariants.{Expire}
 use Rattle.pt_model.specs.Searches.{In}
 use Rattle.pt_model.specs.Histories.{History, ◌▷◌, place}
 use Rattle.pt_model.specs.declared.waiting_call.WaitingCall.{WaitingCall}
@@ -19,7 +22,8 @@ use Rattle.pt_model.proofs.Lists.{In-filter, filter-in, filter-all, filter-filte
 use Rattle.pt_model.proofs.Sound.{Fresh-follows, below_open}
 use Rattle.pt_model.proofs.Found.{one_open}
 use Rattle.pt_model.proofs.OneEach.{none_of_client, one_each}
-use Rattle.pt_model.proofs.Opens.{open-join, open-moment, open-yield, open-death, open-grant, open-expire}
+use Rattle.pt_model.proofs.Opens.{open-join, open-moment, open-yield, open-death, open-grant}
+use Rattle.pt_model.proofs.Opens.{open-expire}
 use Rattle.pt_model.proofs.Moves.{moved-expire}
 use Rattle.pt_records.specs.Callers.{call_of}
 use Rattle.pt_state.proofs.CallerFinds.{call_of-in, call_of-place}

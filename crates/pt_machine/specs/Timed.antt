@@ -1,9 +1,11 @@
 -- Timed: the deadlines that are set, as they are read off a history.
-use Rattle.std.specs.Prelude.{◌/◌, ◌%◌, option_map, ℕ, ◌≡◌, ◌==◌, Bool, true, false, not, ◌&&◌, List, Option, Some, None, if◌then◌else◌}
+use Rattle.std.specs.Prelude.{◌/◌, ◌%◌, option_map, ℕ, ◌≡◌, ◌==◌, Bool, true, false, not, ◌&&◌}
+use Rattle.std.specs.Prelude.{List, Option, Some, None, if◌then◌else◌}
 use Rattle.std.specs.List.{filter}
 use Rattle.pt_types.specs.declared.time.Clock.{Clock}
 use Rattle.pt_types.specs.Times.{Timespec, has_bad_deadline}
-use Rattle.pt_types.specs.Operations.{Operation, Acquires, Awaits, Broadcasts, Signals, operation, deadline_of}
+use Rattle.pt_types.specs.Operations.{Operation, Acquires, Awaits, Broadcasts, Signals, operation}
+use Rattle.pt_types.specs.Operations.{deadline_of}
 use Rattle.pt_timers.specs.Deadlines.{deadline_at}
 use Rattle.pt_types.specs.Limits.{second}
 use Rattle.pt_model.specs.declared.entry.Entry.{Entry}

@@ -56,6 +56,14 @@ impl<Q: WaitList, A: Allocator + Copy> Body<Q, A> {
         self.state.outcome(place)
     }
 
+    /// The answer to the call at a place, which is looked for from the end.  [XSH, the call's page]
+    pub fn recent_outcome(&self, place: u64) -> Option<Outcome>
+        requires { AreTables self.now }
+        ensures { result ≡ said (past self.now) place }
+    {
+        self.state.recent_outcome(place)
+    }
+
     /// The answer to a living client's latest call, with the place of the call.
     pub fn answer_of(&self, c: ClientId) -> Option<(u64, Outcome)>
         requires { AreTables self.now }

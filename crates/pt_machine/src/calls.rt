@@ -1,7 +1,8 @@
 //! Calls: the verdict of each, and how those that are answered at once and those that wait come in.
 
 ghost use Rattle.std.specs.Prelude.{IfErr, IsOk, None, OnErr, OnOk, Some, ◌≡◌, false, true};
-ghost use Rattle.pt_types.specs.Operations.{Acquires, Awaits, Broadcasts, Ends, Makes, Restores, Rwunlocks, Signals, Unlocks, operation};
+ghost use Rattle.pt_types.specs.Operations.{Acquires, Awaits, Broadcasts, Ends, Makes, Restores};
+ghost use Rattle.pt_types.specs.Operations.{Rwunlocks, Signals, Unlocks, operation};
 ghost use Rattle.pt_types.specs.declared.operations.LockKind.TheVariants.{ReadLock, WriteLock};
 ghost use Rattle.pt_model.specs.declared.entry.Entry.TheVariants as entry;
 ghost use Rattle.pt_state.specs.Adds.{Adds, IsReadyFor, Stays, past};

@@ -3,9 +3,11 @@
 ghost use Rattle.pt_model.specs.declared.entry.Entry.TheVariants as entry_is;
 ghost use Rattle.pt_state.specs.Adds.{Adds, IsReadyFor, Stays, past};
 ghost use Rattle.pt_machine.specs.Queued.{IsQueued};
-ghost use Rattle.std.specs.Prelude.{IfErr, IfSome, IsOk, None, OnErr, OnOk, Some, ℕ, ◌&&◌, ◌==◌, ◌≡◌, ◌≤◌, false, filter, if◌then◌else◌, option_map, true};
+ghost use Rattle.std.specs.Prelude.{IfErr, IfSome, IsOk, None, OnErr, OnOk, Some, ℕ, ◌&&◌, ◌==◌};
+ghost use Rattle.std.specs.Prelude.{◌≡◌, ◌≤◌, false, filter, if◌then◌else◌, option_map, true};
 ghost use Rattle.pt_types.specs.Operations.{operation};
-ghost use Rattle.pt_machine.specs.Timed.{AreTimed, asked, can_move_waits as can_move_waits_in, good_of, was_moved_at};
+ghost use Rattle.pt_machine.specs.Timed.{AreTimed, asked, can_move_waits as can_move_waits_in};
+ghost use Rattle.pt_machine.specs.Timed.{good_of, was_moved_at};
 ghost use Rattle.std.specs.List.{list_any};
 ghost use Rattle.pt_timers.specs.Deadlines.{deadline_at};
 ghost use Rattle.pt_records.specs.Callers.{open_in, opens_of};

@@ -3,8 +3,10 @@
 ghost use Rattle.std.specs.Prelude.{IfSome, ◌≡◌, false, filter, option_map};
 ghost use Rattle.pt_model.specs.Searches.{In, first_below, least};
 ghost use Rattle.pt_model.specs.Histories.{place};
-ghost use Rattle.pt_model.specs.WaitingCall.{is_arrival as is_arrival_role, is_wait as is_wait_role};
-ghost use Rattle.pt_model.specs.Forced.{forced as forced_in, is_orphan, is_served as is_served_in, is_served_before as is_served_before_in, service};
+ghost use Rattle.pt_model.specs.WaitingCall.{is_arrival as is_arrival_role};
+ghost use Rattle.pt_model.specs.WaitingCall.{is_wait as is_wait_role};
+ghost use Rattle.pt_model.specs.Forced.{forced as forced_in, is_orphan, is_served as is_served_in};
+ghost use Rattle.pt_model.specs.Forced.{is_served_before as is_served_before_in, service};
 ghost use Rattle.pt_state.specs.Adds.{Adds, IsReadyFor, past};
 ghost use Rattle.pt_records.specs.Callers.{opens_of};
 ghost use Rattle.pt_state.specs.Serving.{IsFor, called, entry_of};

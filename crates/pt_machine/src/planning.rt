@@ -2,17 +2,20 @@
 
 ghost use Rattle.std.specs.Prelude.{None, Some, nat_lt, ◌≡◌, ◌≤◌};
 ghost use Rattle.pt_types.specs.Operations.{Awaits, operation};
-ghost use Rattle.pt_types.specs.declared.operations.ObjectClass.TheVariants.{Cond as CondClass, Mutex as MutexClass};
+ghost use Rattle.pt_types.specs.declared.operations.ObjectClass.TheVariants.{Cond as CondClass};
+ghost use Rattle.pt_types.specs.declared.operations.ObjectClass.TheVariants.{Mutex as MutexClass};
 ghost use Rattle.pt_model.specs.declared.entry.Entry.TheVariants as entry_is;
 ghost use Rattle.pt_model.specs.Objects.{find};
 ghost use Rattle.pt_model.specs.Room.{entry_for};
 ghost use Rattle.pt_model.specs.Steps.{Step};
 ghost use Rattle.pt_model.specs.WaitingCall.{meant};
 ghost use Rattle.pt_state.specs.Adds.{past};
-ghost use Rattle.pt_state.specs.Needed.{added_by, added_by_operation, last_lock, last_lock_if, used_by, used_by_operation, used_to_wait, waiting_if};
+ghost use Rattle.pt_state.specs.Needed.{added_by, added_by_operation, last_lock, last_lock_if};
+ghost use Rattle.pt_state.specs.Needed.{used_by, used_by_operation, used_to_wait, waiting_if};
 ghost use Rattle.pt_state.specs.Reads.{AreTables};
 ghost use Rattle.pt_records.specs.Counts.{one_if};
-ghost use Rattle.pt_touched.specs.Touched.{bound_if, goal_of_operation, touched_by, touched_by_operation};
+ghost use Rattle.pt_touched.specs.Touched.{bound_if, goal_of_operation, touched_by};
+ghost use Rattle.pt_touched.specs.Touched.{touched_by_operation};
 ghost use Rattle.pt_machine.specs.Planned.{IsPlanned, entry_with};
 
 use crate::body::Body;

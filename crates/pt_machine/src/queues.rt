@@ -57,9 +57,9 @@ pub(crate) fn take_place<Q: WaitList, A: Allocator + Copy>(
     ensures admitted { (d : ℕ) → (Q.seen queues.new).admitted d ≡ (Q.seen queues.old).admitted d }
     ensures made { (o : ℕ) → (Q.seen queues.new).made o ≡ (Q.seen queues.old).made o }
 {
-    if let Some(open) = state.open_of(c) {
-        if let Some(prio) = state.priority(c) {
-            queues.insert(at_object(&open), waiter_of(&open, prio));
+    if let Some(caller) = state.clients.at(c.0) {
+        if let Some(open) = &caller.open {
+            queues.insert(at_object(open), waiter_of(open, caller.priority));
         }
     }
 }

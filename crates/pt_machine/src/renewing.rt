@@ -1,6 +1,7 @@
 //! A body that is sealed to make room for an entry.
 
-ghost use Rattle.std.specs.Prelude.{IfErr, IfOk, None, OnErr, OnOk, false, length, map, nat_le, nat_lt, ◌&&◌, ◌+◌, ◌<◌, ◌≡◌, ◌≤◌};
+ghost use Rattle.std.specs.Prelude.{IfErr, IfOk, None, OnErr, OnOk, false, length, map, nat_le};
+ghost use Rattle.std.specs.Prelude.{nat_lt, ◌&&◌, ◌+◌, ◌<◌, ◌≡◌, ◌≤◌};
 ghost use Rattle.pt_types.specs.Limits.{most_places};
 ghost use Rattle.pt_model.specs.Answers.{told};
 ghost use Rattle.pt_model.specs.Forced.{forced};
@@ -12,13 +13,13 @@ ghost use Rattle.pt_history.specs.Stored.{past_of};
 ghost use Rattle.pt_records.specs.Logs.{log, logged};
 ghost use Rattle.pt_state.specs.Adds.{Stays, past};
 ghost use Rattle.pt_state.specs.Reads.{AreTables};
-ghost use Rattle.pt_seal.specs.Sealed.{SealsWithRoom};
+ghost use Rattle.pt_seal.specs.Sealed.{SealsWithRoom, StaysOrGrows};
 ghost use Rattle.pt_machine.specs.LastTouched.{IsTouched};
 ghost use Rattle.pt_machine.specs.Renewed.{AddsSealed};
 
 use crate::body::Body;
 use pt_model::Event;
-use pt_seal::{Unsealed, seal_with_room, unseal};
+use pt_seal::{Unsealed, seal_with_room, take_memory, unseal};
 use pt_types::{ClientId, ObjectId, Refusal};
 use pt_waitq::WaitList;
 use std::alloc::{Allocator, Global};
@@ -93,9 +94,10 @@ impl<Q: WaitList, A: Allocator + Copy> Body<Q, A> {
         self.entering = before.entering;
     }
 
-    /// Seals the history with room for so many entries, and pushes the entry of an event. ENOMEM
-    /// if a growth is refused: then nothing is sealed or pushed.
-    pub fn push_outer_sealed(&mut self, event: &Event, room: u64) -> Result<(), Refusal>
+    /// Seals the history with room for so many entries, and pushes the entry of an event. What was
+    /// put aside is returned, for its memory. ENOMEM if a growth is refused: then nothing is sealed
+    /// or pushed.
+    pub fn push_outer_sealed(&mut self, event: &Event, room: u64) -> Result<Unsealed<A>, Refusal>
         requires read { AreTables self.old }
         requires settled { forced (past self.old) ≡ None }
         requires places { place (past self.old) ≤ most_places }
@@ -112,11 +114,18 @@ impl<Q: WaitList, A: Allocator + Copy> Body<Q, A> {
         let before = self.seal_with_room(room)?;
         let plan = self.plan(event);
         match self.push_outer(event, plan) {
-            Ok(()) => Ok(()),
+            Ok(()) => Ok(before.unsealed),
             Err(refusal) => {
                 self.unseal(before);
                 Err(refusal)
             }
         }
+    }
+    /// Moves entries and answers into the memory of those that a seal put aside.
+    pub fn take_memory(&mut self, unsealed: Unsealed<A>)
+        requires { AreTables self.old }
+        ensures { StaysOrGrows self.old self.new }
+    {
+        take_memory(&mut self.state, unsealed);
     }
 }

@@ -1,7 +1,10 @@
 //! Room: what an event needs, and which events are refused.
 
-ghost use Rattle.std.specs.Prelude.{Err, IfErr, IsOk, None, OnErr, OnOk, ◌+◌, ◌<◌, ◌↔◌, ◌≡◌, ◌≢◌, ◌≤◌, length, vec_capacity, vec_len};
-ghost use Rattle.pt_model.specs.Room.{entry_for, is_over as is_over_in, need as need_in, refusal as refusal_in, refusal_within as refusal_within_in, reserved_for};
+ghost use Rattle.std.specs.Prelude.{Err, IfErr, IsOk, None, OnErr, OnOk, ◌+◌, ◌<◌, ◌↔◌, ◌≡◌, ◌≢◌};
+ghost use Rattle.std.specs.Prelude.{◌≤◌, length, vec_capacity, vec_len};
+ghost use Rattle.pt_model.specs.Room.{entry_for, is_over as is_over_in, need as need_in};
+ghost use Rattle.pt_model.specs.Room.{refusal as refusal_in, refusal_within as refusal_within_in};
+ghost use Rattle.pt_model.specs.Room.{reserved_for};
 ghost use Rattle.pt_state.specs.Adds.{past};
 ghost use Rattle.pt_state.specs.Reads.{AreTables};
 ghost use Rattle.pt_model.specs.Histories.{◌▷◌};

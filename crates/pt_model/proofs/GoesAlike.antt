@@ -1,45 +1,58 @@
 -- What agrees goes on alike: whatever comes next, it agrees again and is answered alike.
-use Rattle.std.proofs.Common.{◌≡◌, ℕ, suc, ◌⊎◌, inl, inr, ◌==◌, Bool, true, false, cond, not, ◌&&◌, ◌||◌, List, [], ◌∷◌, ◌++◌, Option, Some, None, refl, sym, ap, ◌∙◌, subst, arith, filter}
+use Rattle.std.proofs.Common.{◌≡◌, ℕ, suc, ◌⊎◌, inl, inr, ◌==◌, Bool, true, false, cond, not, ◌&&◌}
+use Rattle.std.proofs.Common.{◌||◌, List, [], ◌∷◌, ◌++◌, Option, Some, None, refl, sym, ap, ◌∙◌}
+use Rattle.std.proofs.Common.{subst, arith, filter}
 use Rattle.std.proofs.lemmas.Bool.Decides.{nat_tests}
 use Rattle.pt_types.specs.declared.call.Call.{Call as Asked}
 use Rattle.pt_types.specs.declared.outcome.Outcome.{Outcome}
 use Rattle.pt_types.specs.declared.operations.ObjectClass.{ObjectClass}
-use Rattle.pt_types.specs.declared.operations.ObjectClass.TheVariants.{Mutex as MutexClass, Rwlock as RwlockClass, Cond as CondClass}
+use Rattle.pt_types.specs.declared.operations.ObjectClass.TheVariants.{Mutex as MutexClass}
+use Rattle.pt_types.specs.declared.operations.ObjectClass.TheVariants.{Rwlock as RwlockClass}
+use Rattle.pt_types.specs.declared.operations.ObjectClass.TheVariants.{Cond as CondClass}
 use Rattle.pt_types.specs.MutexTable.{is_number, is_acquired, after_yield}
 use Rattle.pt_types.specs.Tables.{reply}
 use Rattle.pt_model.specs.declared.entry.Cause.TheVariants.{Signalled, Broadcasted}
 use Rattle.pt_model.specs.declared.entry.Entry.{Entry}
-use Rattle.pt_model.specs.declared.entry.Entry.TheVariants.{Join, Call, Death, Moment, Grant, Trip, Yield, Expire}
+use Rattle.pt_model.specs.declared.entry.Entry.TheVariants.{Join, Call, Death, Moment, Grant, Trip}
+use Rattle.pt_model.specs.declared.entry.Entry.TheVariants.{Yield, Expire}
 use Rattle.pt_model.specs.Searches.{In, least, listed}
 use Rattle.pt_model.specs.declared.waiting_call.WaitingCall.{WaitingCall}
 use Rattle.pt_model.specs.Histories.{History, ◌▷◌, place}
 use Rattle.pt_model.specs.Clients.{client_by, is_alive, living_by, clock_by}
 use Rattle.pt_model.specs.Objects.{is_class, object_named, named_by, kind_of, objects_by}
 use Rattle.pt_model.specs.WaitingCall.{is_wait_if, is_wait, mutex_of}
-use Rattle.pt_model.specs.Answers.{client_if, at_barrier, told_by_trip, told_by_expiry, told, open_calls, open_place}
-use Rattle.pt_model.specs.Moves.{woken, waits_at, cond_waits, first_waiting, precedes_by, cause_by_expiry, move_or, moved}
+use Rattle.pt_model.specs.Answers.{client_if, at_barrier, told_by_trip, told_by_expiry, told}
+use Rattle.pt_model.specs.Answers.{open_calls, open_place}
+use Rattle.pt_model.specs.Moves.{woken, waits_at, cond_waits, first_waiting, precedes_by}
+use Rattle.pt_model.specs.Moves.{cause_by_expiry, move_or, moved}
 use Rattle.pt_model.specs.Mutexes.{count, consistency_by_operation, consistency}
 use Rattle.pt_model.specs.Rwlocks.{reads_there, writes_there, read_given_back, writes, reads}
 use Rattle.pt_model.specs.Grants.{grant_outcome}
 use Rattle.pt_model.specs.Forced.{forced}
 use Rattle.pt_model.specs.Verdicts.{verdict}
-use Rattle.pt_model.specs.Steps.{Step, joins, calls, dies, ticks, grants, trips, yields, expires, Follows}
+use Rattle.pt_model.specs.Steps.{Step, joins, calls, dies, ticks, grants, trips, yields, expires}
+use Rattle.pt_model.specs.Steps.{Follows}
 use Rattle.pt_model.specs.SealLaws.{Agree, AgreesOn}
 use Rattle.pt_model.proofs.Lists.{In-filter}
-use Rattle.pt_model.proofs.Effects.{Effect, Idle, Creates, Removes, Relocks, Frees, Mends, Returns, Wakes, Waits, effect, Allowed}
+use Rattle.pt_model.proofs.Effects.{Effect, Idle, Creates, Removes, Relocks, Frees, Mends, Returns}
+use Rattle.pt_model.proofs.Effects.{Wakes, Waits, effect, Allowed}
 use Rattle.pt_model.proofs.Allowances.{allowed}
-use Rattle.pt_model.proofs.Changes.{left_by, kind_effect, cause_effect, gives_up, mends, returns_it, consistency_effect, Resolved, resolved}
+use Rattle.pt_model.proofs.Changes.{left_by, kind_effect, cause_effect, gives_up, mends, returns_it}
+use Rattle.pt_model.proofs.Changes.{consistency_effect, Resolved, resolved}
 use Rattle.pt_model.proofs.Readings.{kind-call, consistency-call, writes-call, reads-call}
 use Rattle.pt_model.proofs.Found.{found_open, newest_call}
 use Rattle.pt_model.proofs.Sound.{Fresh-follows}
 use Rattle.pt_model.proofs.Moves.{moved-call, moved-expire}
-use Rattle.pt_model.proofs.Opens.{stands_at_barrier, open-join, open-moment, open-yield, open-call, open-death, open-grant, open-expire, open-trip, left, was_open}
+use Rattle.pt_model.proofs.Opens.{stands_at_barrier, open-join, open-moment, open-yield, open-call}
+use Rattle.pt_model.proofs.Opens.{open-death, open-grant, open-expire, open-trip, left, was_open}
 use Rattle.pt_model.proofs.Counts.{Balanced-follows, counted, count-call, count-grant, count-yield}
 use Rattle.pt_model.proofs.Apart.{unmade}
 use Rattle.pt_model.proofs.Rwlocks.{writes-grant, reads-grant}
 use Rattle.pt_model.proofs.Unmade.{unmade-all}
-use Rattle.pt_model.proofs.Agreeing.{least-alike, find-alike, open-alike, calls-alike, forced-alike, alive-alike}
-use Rattle.pt_model.proofs.Alike.{verdict-alike, entry-alike, refusal-alike, need-alike, effect-alike}
+use Rattle.pt_model.proofs.Agreeing.{least-alike, find-alike, open-alike, calls-alike, forced-alike}
+use Rattle.pt_model.proofs.Agreeing.{alive-alike}
+use Rattle.pt_model.proofs.Alike.{verdict-alike, entry-alike, refusal-alike, need-alike}
+use Rattle.pt_model.proofs.Alike.{effect-alike}
 
 -- an object of this class is there, or is the next to be made
 abbrev pub IsNear : History → ObjectClass → ℕ → Type 0

@@ -1,5 +1,7 @@
 -- What is reserved for open calls, after a call.
-use Rattle.std.proofs.Common.{◌≡◌, ℕ, suc, ◌+◌, ◌*◌, ◌==◌, Bool, true, false, cond, inl, inr, List, [], ◌∷◌, ◌++◌, length, Option, Some, None, is_some, is_none, refl, ap, arith}
+use Rattle.std.proofs.Common.{◌≡◌, ℕ, suc, ◌+◌, ◌*◌, ◌==◌, Bool, true, false, cond, inl, inr, List}
+use Rattle.std.proofs.Common.{[], ◌∷◌, ◌++◌, length, Option, Some, None, is_some, is_none, refl, ap}
+use Rattle.std.proofs.Common.{arith}
 use Rattle.std.proofs.lemmas.Bool.Decides.{nat_tests}
 use Rattle.std.proofs.lemmas.Bool.{and_parts}
 use Rattle.pt_model.specs.declared.entry.Cause.{Cause}
@@ -10,13 +12,15 @@ use Rattle.pt_model.specs.declared.waiting_call.WaitingCall.{WaitingCall}
 use Rattle.pt_model.specs.declared.waiting_call.Move.{Move}
 use Rattle.pt_model.specs.WaitingCall.{is_wait}
 use Rattle.pt_model.specs.Answers.{open_calls}
-use Rattle.pt_model.specs.Moves.{precedes_by, waits_at, cond_waits, first_waiting, woken, move_or, moved}
+use Rattle.pt_model.specs.Moves.{precedes_by, waits_at, cond_waits, first_waiting, woken, move_or}
+use Rattle.pt_model.specs.Moves.{moved}
 use Rattle.pt_model.specs.Room.{reserved_for}
 use Rattle.pt_model.specs.Steps.{Follows}
 use Rattle.pt_model.proofs.Lists.{In-filter}
 use Rattle.pt_model.proofs.Leasts.{least-in}
 use Rattle.pt_model.proofs.Counting.{total}
-use Rattle.pt_model.proofs.Effects.{Effect, Idle, Creates, Removes, Relocks, Frees, Mends, Returns, Wakes, Waits, Allowed}
+use Rattle.pt_model.proofs.Effects.{Effect, Idle, Creates, Removes, Relocks, Frees, Mends, Returns}
+use Rattle.pt_model.proofs.Effects.{Wakes, Waits, Allowed}
 use Rattle.pt_model.proofs.Changes.{left_by, cause_effect}
 use Rattle.pt_model.proofs.Sound.{Fresh-follows}
 use Rattle.pt_model.proofs.Room.{reserved_in}

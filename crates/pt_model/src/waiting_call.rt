@@ -1,7 +1,10 @@
 //! Waiting calls: what each is for, when it was moved, and which goes before another.
 
 ghost use Rattle.std.specs.Prelude.{◌≡◌};
-ghost use Rattle.pt_model.specs.WaitingCall.{role_needed as role_meant, is_arrival as is_arrival_role, is_wait as is_wait_role, is_write as is_write_role, mutex_of as mutex_meant};
+ghost use Rattle.pt_model.specs.WaitingCall.{role_needed as role_meant};
+ghost use Rattle.pt_model.specs.WaitingCall.{is_arrival as is_arrival_role};
+ghost use Rattle.pt_model.specs.WaitingCall.{is_wait as is_wait_role, is_write as is_write_role};
+ghost use Rattle.pt_model.specs.WaitingCall.{mutex_of as mutex_meant};
 ghost use Rattle.pt_model.specs.Moves.{key_by};
 ghost use Rattle.pt_model.specs.Grants.{is_expired as is_expired_by};
 ghost use Rattle.pt_model.specs.Verdicts.{mutex_awaited as mutex_awaited_by};

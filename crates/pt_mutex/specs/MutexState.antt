@@ -1,7 +1,9 @@
 -- MutexState: a mutex with the waits that are bound to it, and each change of it.
-use Rattle.std.specs.Prelude.{ℕ, Bool, ◌+◌, ◌-◌, ◌&&◌, ◌||◌, nat_lt, Some, None, is_none, is_some, if◌then◌else◌}
+use Rattle.std.specs.Prelude.{ℕ, Bool, ◌+◌, ◌-◌, ◌&&◌, ◌||◌, nat_lt, Some, None, is_none, is_some}
+use Rattle.std.specs.Prelude.{if◌then◌else◌}
 use Rattle.pt_types.specs.Limits.{most_locks}
-use Rattle.pt_types.specs.MutexTable.{owns, is_recursive, after_release, after_yield, after_consistent}
+use Rattle.pt_types.specs.MutexTable.{owns, is_recursive, after_release, after_yield}
+use Rattle.pt_types.specs.MutexTable.{after_consistent}
 use Rattle.pt_types.specs.declared.views.MutexView.{MutexView}
 use Rattle.pt_types.specs.declared.call.MutexKind.{MutexKind}
 use Rattle.pt_types.specs.declared.outcome.Consistency.{Consistency}

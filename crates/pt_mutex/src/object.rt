@@ -48,7 +48,8 @@ impl Model for MutexObj {
 }
 
 impl MutexObj {
-    ghost use Rattle.pt_mutex.specs.MutexState.{made, can_acquire, acquired, released, yielded, restored, freed, is_busy};
+    ghost use Rattle.pt_mutex.specs.MutexState.{made, can_acquire, acquired, released, yielded};
+    ghost use Rattle.pt_mutex.specs.MutexState.{restored, freed, is_busy};
 
     /// A mutex that nobody holds and that is consistent.  [XSH pthread_mutex_init]
     pub fn new(kind: MutexKind, robust: bool) -> MutexObj

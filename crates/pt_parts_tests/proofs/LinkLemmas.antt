@@ -1,5 +1,6 @@
 -- LinkLemmas: rows that are added can be put into a chain.
-use Rattle.std.proofs.Common.{◌≡◌, ◌∙◌, ◌||◌, ◌+◌, ℕ, Bool, true, false, cond, nat_eq, List, Option, Some, None, is_some, refl, ap, arith, true≢false}
+use Rattle.std.proofs.Common.{◌≡◌, ◌∙◌, ◌||◌, ◌+◌, ℕ, Bool, true, false, cond, nat_eq, List, Option}
+use Rattle.std.proofs.Common.{Some, None, is_some, refl, ap, arith, true≢false}
 use Rattle.std.specs.Option.{option_map}
 use Rattle.pt_table.specs.declared.objects.ObjectRow.{ObjectRow}
 use Rattle.pt_table.specs.ObjectRows.{object_at, link_of, and_object, is_taken, out_of_chains}

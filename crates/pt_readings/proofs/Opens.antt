@@ -1,5 +1,7 @@
 -- Opens: the open calls in order of their places, and what a Trip says to each.
-use Rattle.std.proofs.Common.{◌≡◌, ℕ, suc, ◌+◌, ◌-◌, ◌<◌, ◌≤◌, Bool, true, false, ◌&&◌, ◌||◌, cond, ltb, List, [], ◌∷◌, ◌++◌, length, Option, Some, None, is_some, is_none, refl, ap, ◌∙◌, arith, filter, inl, inr}
+use Rattle.std.proofs.Common.{◌≡◌, ℕ, suc, ◌+◌, ◌-◌, ◌<◌, ◌≤◌, Bool, true, false, ◌&&◌, ◌||◌, cond}
+use Rattle.std.proofs.Common.{ltb, List, [], ◌∷◌, ◌++◌, length, Option, Some, None, is_some}
+use Rattle.std.proofs.Common.{is_none, refl, ap, ◌∙◌, arith, filter, inl, inr}
 use Rattle.std.specs.List.{list_any, list_all}
 use Rattle.std.proofs.lemmas.Bool.{eq-eqb, ne_eqb, lt-ltb, le-ltb, cases_order}
 use Rattle.pt_types.specs.declared.outcome.Outcome.{Outcome}
@@ -11,10 +13,14 @@ use Rattle.pt_model.specs.declared.waiting_call.WaitingCall.{WaitingCall}
 use Rattle.std.specs.Prelude.{◌==◌, not}
 use Rattle.pt_model.specs.Clients.{is_alive}
 use Rattle.pt_model.specs.WaitingCall.{stood, at_place, is_arrival}
-use Rattle.pt_model.specs.Answers.{outcome, open_calls, is_open_by, told_by_trip, outcome_in, trip_outcome, at_barrier, place_of}
+use Rattle.pt_model.specs.Answers.{outcome, open_calls, is_open_by, told_by_trip, outcome_in}
+use Rattle.pt_model.specs.Answers.{trip_outcome, at_barrier, place_of}
 use Rattle.pt_model.specs.Found.{passes, keep}
 use Rattle.pt_readings.specs.Found.{is_alive_at, place_or}
-use Rattle.pt_model.proofs.Ascending.{Ascends, Ascends-filter, Ascends-weaker, Each-filter, Each-weaker, from, from_all, from_more, from-before, at_place-filter, at_place-before, at_place-place, any-filter, any-at, any-nowhere}
+use Rattle.pt_model.proofs.Ascending.{Ascends, Ascends-filter, Ascends-weaker, Each-filter}
+use Rattle.pt_model.proofs.Ascending.{Each-weaker, from, from_all, from_more, from-before}
+use Rattle.pt_model.proofs.Ascending.{at_place-filter, at_place-before, at_place-place, any-filter}
+use Rattle.pt_model.proofs.Ascending.{any-at, any-nowhere}
 use Rattle.pt_model.proofs.OpenOrder.{stood-ascends}
 use Rattle.pt_readings.proofs.Stood.{stood-below}
 use Rattle.pt_readings.proofs.Past.{place_all}

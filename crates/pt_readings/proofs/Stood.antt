@@ -1,17 +1,21 @@
 -- Stood: the calls left waiting are in order of their places, and each entry leaves one at most.
-use Rattle.std.proofs.Common.{◌≡◌, ℕ, suc, ◌<◌, ◌≤◌, List, [], ◌∷◌, ◌++◌, length, get_or, take, drop, Option, Some, None, refl, sym, ap, ◌∙◌, arith, subst}
+use Rattle.std.proofs.Common.{◌≡◌, ℕ, suc, ◌<◌, ◌≤◌, List, [], ◌∷◌, ◌++◌, length, get_or, take}
+use Rattle.std.proofs.Common.{drop, Option, Some, None, refl, sym, ap, ◌∙◌, arith, subst}
 use Rattle.std.proofs.lemmas.Bool.{eq-eqb}
 use Rattle.pt_types.specs.declared.time.Clock.{Clock}
-use Rattle.pt_types.specs.Operations.{Operation, Acquires, Awaits, Arrives, Makes, Ends, Unlocks, Restores, Rwunlocks, Signals, Broadcasts, operation, clock_of}
+use Rattle.pt_types.specs.Operations.{Operation, Acquires, Awaits, Arrives, Makes, Ends, Unlocks}
+use Rattle.pt_types.specs.Operations.{Restores, Rwunlocks, Signals, Broadcasts, operation, clock_of}
 use Rattle.pt_model.specs.declared.entry.Entry.{Entry}
-use Rattle.pt_model.specs.declared.entry.Entry.TheVariants.{Join, Call, Death, Moment, Grant, Trip, Yield, Expire}
+use Rattle.pt_model.specs.declared.entry.Entry.TheVariants.{Join, Call, Death, Moment, Grant, Trip}
+use Rattle.pt_model.specs.declared.entry.Entry.TheVariants.{Yield, Expire}
 use Rattle.pt_model.specs.Starts.{nothing}
 use Rattle.pt_model.specs.Histories.{History, Begin, ◌▷◌, place, onto, history}
 use Rattle.pt_model.specs.Searches.{Each, listed}
 use Rattle.pt_model.specs.declared.waiting_call.WaitingCall.{WaitingCall}
 use Rattle.pt_model.specs.WaitingCall.{stood, stood_by, stood_by_operation, at_place}
 use Rattle.pt_model.proofs.Rising.{Rising, stood-below as below, stood-rising}
-use Rattle.pt_model.proofs.Ascending.{Ascends, Ascends-push, Each-weaker, at_place-append, at_place-append_right, at_place-below, at_place-before}
+use Rattle.pt_model.proofs.Ascending.{Ascends, Ascends-push, Each-weaker, at_place-append}
+use Rattle.pt_model.proofs.Ascending.{at_place-append_right, at_place-below, at_place-before}
 use Rattle.pt_readings.proofs.Past.{place_all, place_below, onto-append}
 use Rattle.std.proofs.lemmas.List.{append-nil}
 use Rattle.std.proofs.Math.Seq.{split_at}

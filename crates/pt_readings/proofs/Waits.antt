@@ -1,5 +1,6 @@
 -- Waits: which waits a signal or a broadcast moves.
-use Rattle.std.proofs.Common.{◌≡◌, ℕ, Bool, true, false, ◌&&◌, ◌||◌, not, cond, eqb, List, [], ◌∷◌, Option, Some, None, is_none, refl, sym, ap, ◌∙◌}
+use Rattle.std.proofs.Common.{◌≡◌, ℕ, Bool, true, false, ◌&&◌, ◌||◌, not, cond, eqb, List, [], ◌∷◌}
+use Rattle.std.proofs.Common.{Option, Some, None, is_none, refl, sym, ap, ◌∙◌}
 use Rattle.std.specs.List.{list_any}
 use Rattle.pt_types.specs.declared.operations.ObjectClass.TheVariants.{Cond as CondClass}
 use Rattle.pt_model.specs.Histories.{History}
@@ -11,7 +12,8 @@ use Rattle.pt_model.specs.Answers.{open_calls}
 use Rattle.pt_model.specs.Moves.{has_place, waits_at, cond_waits, first_waiting, precedes_by}
 use Rattle.pt_model.specs.Found.{passes}
 use Rattle.pt_readings.specs.Found.{unmoved}
-use Rattle.pt_model.proofs.Ascending.{Ascends, Ascends-filter, at_place-filter, at_place-place, any-filter}
+use Rattle.pt_model.proofs.Ascending.{Ascends, Ascends-filter, at_place-filter, at_place-place}
+use Rattle.pt_model.proofs.Ascending.{any-filter}
 use Rattle.pt_model.proofs.OpenOrder.{open-ascends}
 use Rattle.pt_readings.proofs.Opens.{passes-keep}
 use Rattle.pt_readings.proofs.Orders.{least-is, precedes-order}

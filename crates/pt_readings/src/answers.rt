@@ -2,7 +2,9 @@ ghost use Rattle.std.specs.Prelude.{◌≡◌, ◌<◌, ◌&&◌, ◌==◌, nat_
 ghost use Rattle.std.specs.List.{list_any};
 ghost use Rattle.pt_model.specs.Histories.{history};
 ghost use Rattle.pt_model.specs.WaitingCall.{at_place, stood, is_arrival as is_arrival_role};
-ghost use Rattle.pt_model.specs.Answers.{outcome as said, open_calls as opens, open_place as open_place_in, is_open_by, at_barrier as waiting, told_by_trip, told, outcome_in};
+ghost use Rattle.pt_model.specs.Answers.{outcome as said, open_calls as opens};
+ghost use Rattle.pt_model.specs.Answers.{open_place as open_place_in, is_open_by};
+ghost use Rattle.pt_model.specs.Answers.{at_barrier as waiting, told_by_trip, told, outcome_in};
 ghost use Rattle.pt_model.specs.Found.{passes};
 ghost use Rattle.pt_readings.specs.Found.{place_or, is_alive_at};
 

@@ -1,7 +1,10 @@
 ghost use Rattle.std.specs.Prelude.{◌≡◌, ◌≤◌, ◌<◌, ◌-◌, ◌^◌, length};
 ghost use Rattle.pt_model.specs.Histories.{history};
 ghost use Rattle.pt_types.specs.Operations.{same_clock};
-ghost use Rattle.pt_model.specs.Clients.{client as client_in, client_by as client_after, is_alive as is_alive_in, living as living_in, living_by as living_after, clock as clock_in, is_due as is_due_at};
+ghost use Rattle.pt_model.specs.Clients.{client as client_in, client_by as client_after};
+ghost use Rattle.pt_model.specs.Clients.{is_alive as is_alive_in, living as living_in};
+ghost use Rattle.pt_model.specs.Clients.{living_by as living_after, clock as clock_in};
+ghost use Rattle.pt_model.specs.Clients.{is_due as is_due_at};
 
 use pt_model::Entry;
 use pt_types::{ClientId, Clock, Priority};

@@ -5,7 +5,11 @@ ghost use Rattle.pt_model.specs.Histories.{history};
 ghost use Rattle.pt_model.specs.Objects.{means as means_in};
 ghost use Rattle.pt_model.specs.WaitingCall.{at_place, is_wait as is_wait_role};
 ghost use Rattle.pt_model.specs.Answers.{open_calls};
-ghost use Rattle.pt_model.specs.Moves.{moved as moved_in, precedes_by, waits_at, cond_waits, first_waiting, has_place, cause_by as cause, move_or as move_after, is_moved as is_moved_in, at_object as at_object_in, precedes as precedes_in, is_least as is_least_in};
+ghost use Rattle.pt_model.specs.Moves.{moved as moved_in, precedes_by, waits_at, cond_waits};
+ghost use Rattle.pt_model.specs.Moves.{first_waiting, has_place, cause_by as cause};
+ghost use Rattle.pt_model.specs.Moves.{move_or as move_after, is_moved as is_moved_in};
+ghost use Rattle.pt_model.specs.Moves.{at_object as at_object_in, precedes as precedes_in};
+ghost use Rattle.pt_model.specs.Moves.{is_least as is_least_in};
 ghost use Rattle.pt_model.specs.Found.{passes};
 ghost use Rattle.pt_readings.specs.Found.{unmoved};
 

@@ -2,7 +2,14 @@ ghost use Rattle.std.specs.Prelude.{◌≡◌, ◌≤◌, ◌<◌, ◌-◌, ◌^
 ghost use Rattle.pt_types.specs.Operations.{operation};
 ghost use Rattle.pt_model.specs.Histories.{history};
 ghost use Rattle.pt_model.specs.WaitingCall.{at_place, stood};
-ghost use Rattle.pt_model.specs.Mutexes.{relocks as relocks_in, unlocks as unlocks_in, unlocks_to_wait as unlocks_to_wait_in, restores as restores_in, is_for as is_for_it, gained as gained_in, gained_by as gained_after, lost as lost_in, lost_by as lost_after, count as count_in, owner as owner_in, consistency as consistency_in, consistency_by as consistency_after, mutex_view as view_in};
+ghost use Rattle.pt_model.specs.Mutexes.{relocks as relocks_in, unlocks as unlocks_in};
+ghost use Rattle.pt_model.specs.Mutexes.{unlocks_to_wait as unlocks_to_wait_in};
+ghost use Rattle.pt_model.specs.Mutexes.{restores as restores_in, is_for as is_for_it};
+ghost use Rattle.pt_model.specs.Mutexes.{gained as gained_in, gained_by as gained_after};
+ghost use Rattle.pt_model.specs.Mutexes.{lost as lost_in, lost_by as lost_after, count as count_in};
+ghost use Rattle.pt_model.specs.Mutexes.{owner as owner_in, consistency as consistency_in};
+ghost use Rattle.pt_model.specs.Mutexes.{consistency_by as consistency_after};
+ghost use Rattle.pt_model.specs.Mutexes.{mutex_view as view_in};
 
 use crate::objects::{is_robust, kind_of, means, mutex_kind};
 use crate::waiting::waiting_call_at;

@@ -1,7 +1,12 @@
 ghost use Rattle.std.specs.Prelude.{◌≡◌, ◌≤◌, ◌<◌, ◌-◌, ◌^◌, length, option_map};
 ghost use Rattle.pt_types.specs.Names.{same_name};
 ghost use Rattle.pt_model.specs.Histories.{history};
-ghost use Rattle.pt_model.specs.Objects.{object_named as object_with, named_by as named_after, find as find_in, means as means_in, kind_of as kind_in, kind_by as kind_after, objects as objects_in, objects_by as objects_after, mutex_kind as kind_as_mutex, is_robust as is_robust_kind, barrier_count as count_of_barrier, number_of as number_if};
+ghost use Rattle.pt_model.specs.Objects.{object_named as object_with, named_by as named_after};
+ghost use Rattle.pt_model.specs.Objects.{find as find_in, means as means_in, kind_of as kind_in};
+ghost use Rattle.pt_model.specs.Objects.{kind_by as kind_after, objects as objects_in};
+ghost use Rattle.pt_model.specs.Objects.{objects_by as objects_after, mutex_kind as kind_as_mutex};
+ghost use Rattle.pt_model.specs.Objects.{is_robust as is_robust_kind};
+ghost use Rattle.pt_model.specs.Objects.{barrier_count as count_of_barrier, number_of as number_if};
 ghost use Rattle.pt_readings.specs.Shown.{shown_object};
 
 use pt_model::Entry;

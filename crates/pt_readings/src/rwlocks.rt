@@ -4,7 +4,12 @@ ghost use Rattle.pt_model.specs.Clients.{is_alive as lives};
 ghost use Rattle.pt_types.specs.Operations.{operation};
 ghost use Rattle.pt_model.specs.Histories.{history};
 ghost use Rattle.pt_model.specs.WaitingCall.{at_place, stood};
-ghost use Rattle.pt_model.specs.Rwlocks.{rwunlocks as rwunlocks_in, is_for_read as is_reader, is_for_write as is_writer, writes as writes_in, writes_by as writes_after, reads as reads_in, reads_by as reads_after, writer as writer_in, reader as reader_in, rwlock_view as view, is_held_alive as is_held_alive_in};
+ghost use Rattle.pt_model.specs.Rwlocks.{rwunlocks as rwunlocks_in, is_for_read as is_reader};
+ghost use Rattle.pt_model.specs.Rwlocks.{is_for_write as is_writer, writes as writes_in};
+ghost use Rattle.pt_model.specs.Rwlocks.{writes_by as writes_after, reads as reads_in};
+ghost use Rattle.pt_model.specs.Rwlocks.{reads_by as reads_after, writer as writer_in};
+ghost use Rattle.pt_model.specs.Rwlocks.{reader as reader_in, rwlock_view as view};
+ghost use Rattle.pt_model.specs.Rwlocks.{is_held_alive as is_held_alive_in};
 
 use crate::clients::is_alive;
 use crate::objects::means;

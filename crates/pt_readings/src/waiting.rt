@@ -1,7 +1,8 @@
 ghost use Rattle.std.specs.Prelude.{◌≡◌};
 ghost use Rattle.pt_model.specs.Histories.{history};
 ghost use Rattle.pt_model.specs.Searches.{listed};
-ghost use Rattle.pt_model.specs.WaitingCall.{meant as meant_in, entered as entered_in, stood_by as stood_after, stood, at_place, is_wait_if};
+ghost use Rattle.pt_model.specs.WaitingCall.{meant as meant_in, entered as entered_in};
+ghost use Rattle.pt_model.specs.WaitingCall.{stood_by as stood_after, stood, at_place, is_wait_if};
 
 use crate::clients::client;
 use crate::objects::find;

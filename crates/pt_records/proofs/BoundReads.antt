@@ -1,5 +1,7 @@
 -- Read-write locks: nobody has more than 255 read locks, and whoever is granted one can have it.
-use Rattle.std.proofs.Common.{◌≡◌, ℕ, suc, ◌<◌, ◌≤◌, ◌⊎◌, inl, inr, Bool, true, false, cond, not, ◌&&◌, ◌||◌, ◌==◌, nat_lt, nat_le, List, Option, Some, None, is_some, is_none, unwrap_or, refl, sym, ap, ◌∙◌, subst, arith}
+use Rattle.std.proofs.Common.{◌≡◌, ℕ, suc, ◌<◌, ◌≤◌, ◌⊎◌, inl, inr, Bool, true, false, cond, not}
+use Rattle.std.proofs.Common.{◌&&◌, ◌||◌, ◌==◌, nat_lt, nat_le, List, Option, Some, None, is_some}
+use Rattle.std.proofs.Common.{is_none, unwrap_or, refl, sym, ap, ◌∙◌, subst, arith}
 use Rattle.std.proofs.lemmas.Bool.Decides.{nat_tests}
 use Rattle.std.proofs.lemmas.Bool.{and_parts, and_from, ltb-true, lt-ltb}
 use Rattle.pt_types.specs.declared.call.Call.{Call as Asked}
@@ -9,14 +11,18 @@ use Rattle.pt_types.specs.declared.outcome.Outcome.TheVariants.{Einval, Ebusy, E
 use Rattle.pt_types.specs.declared.outcome.Verdict.TheVariants.{Reply, Stands}
 use Rattle.pt_types.specs.Times.{has_bad_deadline}
 use Rattle.pt_types.specs.declared.time.Clock.{Clock}
-use Rattle.pt_types.specs.Operations.{Operation, Makes, Ends, Acquires, Unlocks, Restores, Rwunlocks, Awaits, Signals, Broadcasts, Arrives, operation, clock_of, is_try, deadline_of}
-use Rattle.pt_types.specs.declared.operations.ObjectClass.TheVariants.{Mutex as MutexClass, Rwlock as RwlockClass}
+use Rattle.pt_types.specs.Operations.{Operation, Makes, Ends, Acquires, Unlocks, Restores}
+use Rattle.pt_types.specs.Operations.{Rwunlocks, Awaits, Signals, Broadcasts, Arrives, operation}
+use Rattle.pt_types.specs.Operations.{clock_of, is_try, deadline_of}
+use Rattle.pt_types.specs.declared.operations.ObjectClass.TheVariants.{Mutex as MutexClass}
+use Rattle.pt_types.specs.declared.operations.ObjectClass.TheVariants.{Rwlock as RwlockClass}
 use Rattle.pt_types.specs.declared.operations.LockKind.TheVariants.{MutexLock, ReadLock, WriteLock}
 use Rattle.pt_types.specs.Limits.{most_reads}
 use Rattle.pt_types.specs.MutexTable.{is_number}
 use Rattle.pt_types.specs.RwlockTable.{is_free, relock_outcome}
 use Rattle.pt_types.specs.Tables.{reply}
-use Rattle.pt_rwlock.specs.RwlockState.{RwlockState, row_of, reads_of, is_read, nobody_holds, seen_by, has_room, can_acquire_read}
+use Rattle.pt_rwlock.specs.RwlockState.{RwlockState, row_of, reads_of, is_read, nobody_holds}
+use Rattle.pt_rwlock.specs.RwlockState.{seen_by, has_room, can_acquire_read}
 use Rattle.pt_rwlock.proofs.RowLemmas.{read_by_somebody}
 use Rattle.pt_model.specs.declared.entry.Entry.{Entry}
 use Rattle.pt_model.specs.declared.entry.Entry.TheVariants.{Call, Grant}
@@ -26,14 +32,17 @@ use Rattle.pt_model.specs.Clients.{client}
 use Rattle.pt_model.specs.Objects.{find}
 use Rattle.pt_model.specs.declared.waiting_call.WaitingCall.{WaitingCall}
 use Rattle.pt_model.specs.declared.waiting_call.Role.{Role}
-use Rattle.pt_model.specs.declared.waiting_call.Role.TheVariants.{ForMutex, ForRead, ForWrite, ForBarrier, ForCond}
+use Rattle.pt_model.specs.declared.waiting_call.Role.TheVariants.{ForMutex, ForRead, ForWrite}
+use Rattle.pt_model.specs.declared.waiting_call.Role.TheVariants.{ForBarrier, ForCond}
 use Rattle.pt_model.specs.WaitingCall.{stood_by_operation, stood_by, meant}
 use Rattle.pt_model.specs.Answers.{open_calls}
 use Rattle.pt_model.specs.Moves.{is_least}
-use Rattle.pt_model.specs.Rwlocks.{reads_there, read_given_back, writes, reads, writer, reader, rwlock_view}
+use Rattle.pt_model.specs.Rwlocks.{reads_there, read_given_back, writes, reads, writer, reader}
+use Rattle.pt_model.specs.Rwlocks.{rwlock_view}
 use Rattle.pt_model.specs.Grants.{is_blocked, is_grantable_as, is_grantable, grant_outcome}
 use Rattle.pt_model.specs.Verdicts.{on, lock_kind_verdict, operation_verdict, verdict}
-use Rattle.pt_model.specs.Steps.{Step, joins, calls, dies, ticks, grants, trips, yields, expires, Follows}
+use Rattle.pt_model.specs.Steps.{Step, joins, calls, dies, ticks, grants, trips, yields, expires}
+use Rattle.pt_model.specs.Steps.{Follows}
 use Rattle.pt_records.specs.Objects.{IsRwlock}
 use Rattle.pt_model.specs.Seals.{is_rwlock}
 use Rattle.pt_model.proofs.Induction.{by_steps}

@@ -1,14 +1,19 @@
 -- Rows of clients after one is written, added or taken out.
-use Rattle.std.proofs.Common.{◌≡◌, ℕ, Bool, true, false, cond, ◌==◌, ◌||◌, nat_eq, List, [], ◌∷◌, Option, Some, None, is_some, option_map, refl, sym, ap, subst, ◌∙◌, arith, inl, inr}
+use Rattle.std.proofs.Common.{◌≡◌, ℕ, Bool, true, false, cond, ◌==◌, ◌||◌, nat_eq, List, [], ◌∷◌}
+use Rattle.std.proofs.Common.{Option, Some, None, is_some, option_map, refl, sym, ap, subst, ◌∙◌}
+use Rattle.std.proofs.Common.{arith, inl, inr}
 use Rattle.std.specs.List.{list_any}
 use Rattle.std.proofs.lemmas.Bool.Decides.{nat_tests}
 use Rattle.std.proofs.lemmas.Bool.{cases_eq, eq-eqb, ne_eqb}
 use Rattle.pt_table.specs.declared.clients.ClientRow.{ClientRow}
-use Rattle.pt_table.specs.ClientRows.{client_at, client_value, has_client, with_client, and_client, without_client}
+use Rattle.pt_table.specs.ClientRows.{client_at, client_value, has_client, with_client, and_client}
+use Rattle.pt_table.specs.ClientRows.{without_client}
 use Rattle.pt_records.specs.declared.clients.Caller.{Caller}
 use Rattle.pt_records.specs.Callers.{Once}
 use Rattle.pt_records.specs.Writes.{AddsCaller, ChangesCaller, RemovesCaller, WritesCaller}
-use Rattle.pt_records.proofs.RowLemmas.{Apart, Apart-map, Apart-added, Apart-without, length-map, length-added, length-without, one_changed, one-kept, value-changed, value-added, value-without, value-there}
+use Rattle.pt_records.proofs.RowLemmas.{Apart, Apart-map, Apart-added, Apart-without, length-map}
+use Rattle.pt_records.proofs.RowLemmas.{length-added, length-without, one_changed, one-kept}
+use Rattle.pt_records.proofs.RowLemmas.{value-changed, value-added, value-without, value-there}
 
 abbrev pub number_in : ClientRow Caller → ℕ
 number_in row = row.number

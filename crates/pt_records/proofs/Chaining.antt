@@ -1,5 +1,7 @@
 -- Robust mutexes stay chained, by their owners and as orphans, as rows change.
-use Rattle.std.proofs.Common.{◌≡◌, ◌∙◌, ℕ, Bool, true, false, ◌==◌, cond, nat_eq, List, [], ◌∷◌, Option, Some, None, is_none, is_some, option_map, refl, sym, ap, subst, true≢false, inl, inr, arith, ◌⊎◌}
+use Rattle.std.proofs.Common.{◌≡◌, ◌∙◌, ℕ, Bool, true, false, ◌==◌, cond, nat_eq, List, [], ◌∷◌}
+use Rattle.std.proofs.Common.{Option, Some, None, is_none, is_some, option_map, refl, sym, ap}
+use Rattle.std.proofs.Common.{subst, true≢false, inl, inr, arith, ◌⊎◌}
 use Rattle.std.specs.Option.{option_and_then}
 use Rattle.std.proofs.lemmas.Bool.Decides.{eqb_tells, nat_tests}
 use Rattle.pt_types.specs.declared.call.ObjectKind.{ObjectKind}
@@ -13,8 +15,10 @@ use Rattle.pt_table.proofs.ChainCallers.{rising-kept}
 use Rattle.pt_model.specs.Found.{passes}
 use Rattle.pt_records.specs.declared.clients.Caller.{Caller}
 use Rattle.pt_records.specs.declared.objects.Object.{Object}
-use Rattle.pt_records.specs.Chained.{is_gone, robust_owner, robust_owner_at, KeepsChains, HasOwned, AreChained}
-use Rattle.pt_records.specs.Writes.{WritesCaller, AddsCaller, RewritesCallers, WritesObject, AddsObject, RemovesObject, new_object}
+use Rattle.pt_records.specs.Chained.{is_gone, robust_owner, robust_owner_at, KeepsChains, HasOwned}
+use Rattle.pt_records.specs.Chained.{AreChained}
+use Rattle.pt_records.specs.Writes.{WritesCaller, AddsCaller, RewritesCallers, WritesObject}
+use Rattle.pt_records.specs.Writes.{AddsObject, RemovesObject, new_object}
 use Rattle.pt_records.proofs.ChainsKept.{chain-stays}
 
 -- what passes a test is there

@@ -1,11 +1,14 @@
 -- Chains of objects, as a row is written, added or taken out.
-use Rattle.std.proofs.Common.{◌≡◌, ◌∙◌, ℕ, Bool, true, false, cond, nat_eq, List, Option, Some, None, refl, sym, ap, true≢false, inl, inr, arith}
+use Rattle.std.proofs.Common.{◌≡◌, ◌∙◌, ℕ, Bool, true, false, cond, nat_eq, List, Option, Some}
+use Rattle.std.proofs.Common.{None, refl, sym, ap, true≢false, inl, inr, arith}
 use Rattle.std.specs.Option.{option_map}
 use Rattle.std.proofs.lemmas.Bool.Decides.{eqb_tells, nat_tests}
 use Rattle.pt_table.specs.declared.objects.ObjectRow.{ObjectRow}
-use Rattle.pt_table.specs.ObjectRows.{object_at, link_of, with_object, and_object, without_object, out_of_chains}
+use Rattle.pt_table.specs.ObjectRows.{object_at, link_of, with_object, and_object, without_object}
+use Rattle.pt_table.specs.ObjectRows.{out_of_chains}
 use Rattle.pt_table.specs.Linked.{is_linked, linked_by, IsChain}
-use Rattle.pt_table.proofs.ChainCallers.{chain-kept, chain-linked, link-valued, link-added, link-removed}
+use Rattle.pt_table.proofs.ChainCallers.{chain-kept, chain-linked, link-valued, link-added}
+use Rattle.pt_table.proofs.ChainCallers.{link-removed}
 use Rattle.pt_records.specs.declared.objects.Object.{Object}
 use Rattle.pt_records.specs.Chained.{KeepsChains}
 use Rattle.pt_records.proofs.RowLemmas.{row-without}

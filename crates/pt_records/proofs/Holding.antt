@@ -1,5 +1,8 @@
 -- A mutex that is locked, given back or taken from a dead owner, with the chain that it is in.
-use Rattle.std.proofs.Common.{◌≡◌, ◌∙◌, ℕ, Bool, true, false, ◌==◌, ◌&&◌, ◌||◌, ◌-◌, not, cond, nat_eq, nat_lt, List, [], ◌∷◌, Option, Some, None, is_none, is_some, option_map, refl, sym, ap, subst, true≢false, inl, inr, ◌⊎◌, IsSome, IsTrue, arith}
+use Rattle.std.proofs.Common.{◌≡◌, ◌∙◌, ℕ, Bool, true, false, ◌==◌, ◌&&◌, ◌||◌, ◌-◌, not, cond}
+use Rattle.std.proofs.Common.{nat_eq, nat_lt, List, [], ◌∷◌, Option, Some, None, is_none, is_some}
+use Rattle.std.proofs.Common.{option_map, refl, sym, ap, subst, true≢false, inl, inr, ◌⊎◌, IsSome}
+use Rattle.std.proofs.Common.{IsTrue, arith}
 use Rattle.std.specs.Option.{option_and_then}
 use Rattle.std.proofs.lemmas.Bool.Decides.{eqb_tells, nat_tests}
 use Rattle.pt_types.specs.MutexTable.{owns, is_number, is_recursive, after_release}
@@ -15,7 +18,9 @@ use Rattle.pt_model.specs.Found.{passes}
 use Rattle.pt_records.specs.declared.clients.Caller.{Caller}
 use Rattle.pt_records.specs.declared.objects.Object.{Object}
 use Rattle.pt_records.specs.declared.objects.Object.TheVariants.{Mutex, Rwlock, Cond, Barrier}
-use Rattle.pt_records.specs.Chained.{is_gone, is_robust_free, is_locked_once, robust_owner, robust_owner_at, KeepsChains, HasOwned, AreChained, EntersChain, LeavesChain, unowned}
+use Rattle.pt_records.specs.Chained.{is_gone, is_robust_free, is_locked_once, robust_owner}
+use Rattle.pt_records.specs.Chained.{robust_owner_at, KeepsChains, HasOwned, AreChained}
+use Rattle.pt_records.specs.Chained.{EntersChain, LeavesChain, unowned}
 use Rattle.pt_records.specs.Callers.{Once}
 use Rattle.pt_records.specs.LocksInRows.{mutex_in}
 use Rattle.pt_records.specs.Moved.{Moves, IsMoved}

@@ -5,7 +5,10 @@ use Rattle.pt_types.specs.declared.call.ObjectKind.{ObjectKind}
 use Rattle.pt_types.specs.declared.call.ObjectKind.TheVariants as kind
 use Rattle.pt_types.specs.Operations.{class_of, same_class}
 use Rattle.pt_types.specs.declared.operations.ObjectClass.{ObjectClass}
-use Rattle.pt_types.specs.declared.operations.ObjectClass.TheVariants.{Mutex as MutexClass, Rwlock as RwlockClass, Cond as CondClass, Barrier as BarrierClass}
+use Rattle.pt_types.specs.declared.operations.ObjectClass.TheVariants.{Mutex as MutexClass}
+use Rattle.pt_types.specs.declared.operations.ObjectClass.TheVariants.{Rwlock as RwlockClass}
+use Rattle.pt_types.specs.declared.operations.ObjectClass.TheVariants.{Cond as CondClass}
+use Rattle.pt_types.specs.declared.operations.ObjectClass.TheVariants.{Barrier as BarrierClass}
 use Rattle.pt_rwlock.specs.RwlockState.{RwlockState, seen_by}
 use Rattle.pt_model.specs.Histories.{History}
 use Rattle.pt_model.specs.Objects.{is_class, kind_of, find}

@@ -1,5 +1,8 @@
 -- The log of answers: its order, its end from a place on, and what a search of it finds.
-use Rattle.std.proofs.Common.{◌≡◌, ◌≢◌, ◌⊎◌, ℕ, zero, suc, ◌+◌, ◌-◌, ◌<◌, ◌≤◌, Bool, true, false, cond, eqb, List, [], ◌∷◌, ◌++◌, Option, Some, None, is_some, length, take, drop, refl, sym, ap, ◌∙◌, arith, inl, inr, append_assoc, append-nil}
+use Rattle.std.proofs.Common.{◌≡◌, ◌≢◌, ◌⊎◌, ℕ, zero, suc, ◌+◌, ◌-◌, ◌<◌, ◌≤◌, Bool, true, false}
+use Rattle.std.proofs.Common.{cond, eqb, List, [], ◌∷◌, ◌++◌, Option, Some, None, is_some, length}
+use Rattle.std.proofs.Common.{take, drop, refl, sym, ap, ◌∙◌, arith, inl, inr, append_assoc}
+use Rattle.std.proofs.Common.{append-nil}
 use Rattle.std.specs.Prelude.{◌==◌, ◌&&◌, nat_le}
 use Rattle.std.specs.Option.{option_or}
 use Rattle.std.proofs.lemmas.Bool.{eq-eqb, ne_eqb, cases_eq, cases_lt, le-leb, lt-leb}
@@ -7,7 +10,8 @@ use Rattle.std.proofs.lemmas.List.{map-append, take-append-drop, length-take, le
 use Rattle.std.proofs.lemmas.List.Elements.{filter-append}
 use Rattle.std.proofs.Math.ListN.{drop_of_length-le}
 use Rattle.pt_model.specs.declared.entry.Entry.{Entry}
-use Rattle.pt_model.specs.declared.entry.Entry.TheVariants.{Join, Call, Death, Moment, Grant, Trip, Yield, Expire}
+use Rattle.pt_model.specs.declared.entry.Entry.TheVariants.{Join, Call, Death, Moment, Grant, Trip}
+use Rattle.pt_model.specs.declared.entry.Entry.TheVariants.{Yield, Expire}
 use Rattle.pt_model.specs.Searches.{Each}
 use Rattle.pt_types.specs.declared.outcome.Outcome.{Outcome}
 use Rattle.pt_model.specs.Starts.{Start}
@@ -15,7 +19,8 @@ use Rattle.pt_model.specs.Histories.{History, Begin, ◌▷◌, place, onto, beh
 use Rattle.pt_model.specs.Records.{Told}
 use Rattle.pt_model.specs.declared.waiting_call.WaitingCall.{WaitingCall}
 use Rattle.pt_model.specs.WaitingCall.{stood, at_place, is_arrival, is_wait_if}
-use Rattle.pt_model.specs.Answers.{told, told_by_trip, told_by_expiry, at_barrier, open_calls, outcome_in, outcome, replies_from}
+use Rattle.pt_model.specs.Answers.{told, told_by_trip, told_by_expiry, at_barrier, open_calls}
+use Rattle.pt_model.specs.Answers.{outcome_in, outcome, replies_from}
 use Rattle.pt_model.specs.Queries.{answers_behind}
 use Rattle.pt_model.specs.Steps.{Follows}
 use Rattle.pt_model.proofs.Histories.{onto-append, place-behind}
@@ -24,7 +29,8 @@ use Rattle.pt_model.proofs.Sound.{Fresh-follows}
 use Rattle.pt_model.proofs.Once.{answers-unanswered}
 use Rattle.pt_model.proofs.Ascending.{Ascends, Ascends-filter}
 use Rattle.pt_model.proofs.OpenOrder.{open-ascends}
-use Rattle.pt_records.specs.Logs.{told_at, log, outcome_before, answers_in, since, Rises, last_to, said_by, outcome_in_log, first_to, first_said}
+use Rattle.pt_records.specs.Logs.{told_at, log, outcome_before, answers_in, since, Rises, last_to}
+use Rattle.pt_records.specs.Logs.{said_by, outcome_in_log, first_to, first_said}
 
 -- given before place n
 abbrev pub Before : ℕ → List (ℕ × Told) → Type 0

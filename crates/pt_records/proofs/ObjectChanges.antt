@@ -1,17 +1,23 @@
 -- Rows of objects after one is written, added or taken out.
-use Rattle.std.proofs.Common.{◌≡◌, ℕ, ◌||◌, Bool, true, false, cond, nat_eq, List, Option, Some, None, is_some, option_map, Result, Ok, Err, OnErr, refl, sym, ap, ◌∙◌}
+use Rattle.std.proofs.Common.{◌≡◌, ℕ, ◌||◌, Bool, true, false, cond, nat_eq, List, Option, Some}
+use Rattle.std.proofs.Common.{None, is_some, option_map, Result, Ok, Err, OnErr, refl, sym, ap, ◌∙◌}
 use Rattle.pt_mutex.specs.MutexState.{MutexState}
 use Rattle.pt_rwlock.specs.RwlockState.{RwlockState}
 use Rattle.pt_table.specs.declared.objects.ObjectRow.{ObjectRow}
-use Rattle.pt_table.specs.ObjectRows.{object_named, object_value, has_object, with_object, and_object, without_object, is_taken, out_of_chains}
+use Rattle.pt_table.specs.ObjectRows.{object_named, object_value, has_object, with_object}
+use Rattle.pt_table.specs.ObjectRows.{and_object, without_object, is_taken, out_of_chains}
 use Rattle.pt_records.specs.declared.objects.Object.{Object}
 use Rattle.pt_records.specs.declared.objects.Object.TheVariants.{Mutex, Rwlock}
 use Rattle.pt_records.specs.Objects.{Rising}
 use Rattle.pt_records.specs.Writes.{WritesObject, AddsObject, RemovesObject}
-use Rattle.pt_records.proofs.RowLemmas.{length-map, length-added, length-without, one_changed, one-kept, value-changed, value-added, value-without, value-there}
-use Rattle.pt_records.proofs.ObjectWrites.{number_in, value_in, rising-apart, rising-new, rising-map, rising-added, rising-without}
+use Rattle.pt_records.proofs.RowLemmas.{length-map, length-added, length-without, one_changed}
+use Rattle.pt_records.proofs.RowLemmas.{one-kept, value-changed, value-added, value-without}
+use Rattle.pt_records.proofs.RowLemmas.{value-there}
+use Rattle.pt_records.proofs.ObjectWrites.{number_in, value_in, rising-apart, rising-new}
+use Rattle.pt_records.proofs.ObjectWrites.{rising-map, rising-added, rising-without}
 use Rattle.pt_records.proofs.ChainsKept.{keeps-added, keeps-removed}
-use Rattle.pt_records.proofs.ObjectNames.{number-map, names-map, number-added, names-added, number-without, names-without}
+use Rattle.pt_records.proofs.ObjectNames.{number-map, names-map, number-added, names-added}
+use Rattle.pt_records.proofs.ObjectNames.{number-without, names-without}
 
 module _ {A : Type 0} where
   -- a value that is put in a row

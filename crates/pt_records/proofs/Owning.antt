@@ -1,5 +1,7 @@
 -- A robust mutex comes into the chain of its owner, or goes out of it.
-use Rattle.std.proofs.Common.{◌≡◌, ◌∙◌, ℕ, Bool, true, false, ◌==◌, cond, nat_eq, List, ◌∷◌, Option, Some, None, is_none, is_some, refl, sym, ap, subst, true≢false, inl, inr, arith}
+use Rattle.std.proofs.Common.{◌≡◌, ◌∙◌, ℕ, Bool, true, false, ◌==◌, cond, nat_eq, List, ◌∷◌, Option}
+use Rattle.std.proofs.Common.{Some, None, is_none, is_some, refl, sym, ap, subst, true≢false, inl}
+use Rattle.std.proofs.Common.{inr, arith}
 use Rattle.std.specs.Option.{option_and_then}
 use Rattle.std.proofs.lemmas.Bool.Decides.{eqb_tells, nat_tests}
 use Rattle.pt_table.specs.declared.clients.ClientRow.{ClientRow}
@@ -10,7 +12,8 @@ use Rattle.pt_table.proofs.ChainCallers.{rising-kept, rising-left}
 use Rattle.pt_model.specs.Found.{passes}
 use Rattle.pt_records.specs.declared.clients.Caller.{Caller}
 use Rattle.pt_records.specs.declared.objects.Object.{Object}
-use Rattle.pt_records.specs.Chained.{is_gone, robust_owner_at, HasOwned, AreChained, EntersChain, LeavesChain}
+use Rattle.pt_records.specs.Chained.{is_gone, robust_owner_at, HasOwned, AreChained, EntersChain}
+use Rattle.pt_records.specs.Chained.{LeavesChain}
 use Rattle.pt_records.specs.Writes.{WritesCaller}
 use Rattle.pt_records.proofs.CallerWrites.{writes-by}
 use Rattle.pt_records.proofs.Chaining.{passed}

@@ -1,5 +1,7 @@
 -- What a Trip answers, and the rows that its answers close.
-use Rattle.std.proofs.Common.{◌≡◌, ℕ, zero, suc, ◌<◌, ◌≤◌, Bool, true, false, cond, ◌==◌, List, [], ◌∷◌, ◌++◌, Option, Some, None, map, length, drop, take, ◌-◌, length-drop, refl, sym, ap, ◌∙◌, subst, arith, inl, inr}
+use Rattle.std.proofs.Common.{◌≡◌, ℕ, zero, suc, ◌<◌, ◌≤◌, Bool, true, false, cond, ◌==◌, List, []}
+use Rattle.std.proofs.Common.{◌∷◌, ◌++◌, Option, Some, None, map, length, drop, take, ◌-◌}
+use Rattle.std.proofs.Common.{length-drop, refl, sym, ap, ◌∙◌, subst, arith, inl, inr}
 use Rattle.std.specs.Prelude.{option_map, slice_index_or, slice_set}
 use Rattle.pt_types.specs.declared.outcome.Outcome.{Outcome}
 use Rattle.pt_types.specs.declared.outcome.Outcome.TheVariants.{Done, Serial}
@@ -24,7 +26,8 @@ use Rattle.pt_model.proofs.OneEach.{one_each}
 use Rattle.pt_records.specs.declared.answers.Answered.{Answered}
 use Rattle.pt_records.specs.declared.clients.Caller.{Caller}
 use Rattle.pt_records.specs.declared.clients.Open.{Open}
-use Rattle.pt_records.specs.Arrivals.{AreArrivals, ClosesBy, WaitsAs, closed_by, closed_by_all, passed_at, passed_to, with_serial}
+use Rattle.pt_records.specs.Arrivals.{AreArrivals, ClosesBy, WaitsAs, closed_by, closed_by_all}
+use Rattle.pt_records.specs.Arrivals.{passed_at, passed_to, with_serial}
 use Rattle.pt_records.specs.Callers.{AreCallers, Once, call_in, call_of, closed}
 use Rattle.pt_records.specs.Logs.{last_to, logged, outcome_in_log, said_by, told_at}
 use Rattle.pt_records.specs.Writes.{ChangesCaller, RewritesCallers, arrived_at, closed_at}
@@ -32,23 +35,11 @@ use Rattle.pt_records.proofs.ArrivalLemmas.{arrivals-ascend, arrivals-lone, arri
 use Rattle.pt_records.proofs.CallerWrites.{changes-some}
 use Rattle.pt_records.proofs.LogLemmas.{last_to-append}
 use Rattle.pt_records.proofs.OpenRows.{call_of-in, call_of-open}
-use Rattle.pt_records.proofs.TripOrder.{Climbs, lone-length, place_of, sorted-same}
+use Rattle.pt_records.proofs.TripOrder.{Climbs, in-map, lone-length, map-in, place_of, sorted-same}
 
 passed-climbs : (k n : ℕ) (ws : List WaitingCall) → Ascends n ws → Climbs n (map (passed_at k) ws)
 passed-climbs k n [] a = tt
 passed-climbs k n (w ∷ ws) a = (a.0, passed-climbs k (suc w.place) ws a.1)
-
-module _ {X : Type 0} (f : X → Answered) where
-  map-in : (xs : List X) (x : X) → In x xs → In (f x) (map f xs)
-  map-in [] x i = absurd i
-  map-in (y ∷ ys) x (inl e) = inl (ap f e)
-  map-in (y ∷ ys) x (inr i) = inr (map-in ys x i)
-
-  in-map : (xs : List X) (a : Answered) → In a (map f xs) → (x : X) × (In x xs × (a ≡ f x))
-  in-map [] a i = absurd i
-  in-map (y ∷ ys) a (inl e) = (y, (inl refl, e))
-  in-map (y ∷ ys) a (inr i) =
-      let found = in-map ys a i in (found.0, (inr found.1.0, found.1.1))
 
 -- a call has the answer of its waiter
 passed-same : (k : ℕ) (w : WaitingCall) (v : Waiter) → WaitsAs w v → passed_to k v ≡ passed_at k w

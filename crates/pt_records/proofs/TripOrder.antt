@@ -1,5 +1,7 @@
 -- Answers that were put in order of the places of their calls.
-use Rattle.std.proofs.Common.{◌≡◌, ℕ, zero, suc, ◌+◌, ◌≤◌, ◌==◌, Bool, true, false, cond, not, List, [], ◌∷◌, filter, length, refl, sym, ap, ◌∙◌, subst, arith, inl, inr}
+use Rattle.std.proofs.Common.{◌≡◌, ℕ, zero, suc, ◌+◌, ◌≤◌, ◌==◌, Bool, true, false, cond, not, List}
+use Rattle.std.proofs.Common.{[], ◌∷◌, filter, length, map, refl, sym, ap, ◌∙◌, subst, arith}
+use Rattle.std.proofs.Common.{inl, inr}
 use Rattle.std.specs.List.{All, sum_by}
 use Rattle.std.specs.List.Sorted.{IsPermutation, IsNonDecreasingBy}
 use Rattle.std.proofs.lemmas.Bool.{cases_order, eq-eqb, false≢true}
@@ -199,3 +201,16 @@ sorted-same xs ys zs p r lone c there back =
     (rises-climbs 0 ys r (λ n. omega (arith, lone n, moved-count n xs ys p)) (λ a i. omega arith))
     c (λ a i. there a (moved-in xs ys p a i))
     (λ a i. moved-in ys xs (IsPermutation-sym xs ys p) a (back a i))
+
+-- an element of a list, and its image
+module _ {X : Type 0} (f : X → Answered) where
+  pub map-in : (xs : List X) (x : X) → In x xs → In (f x) (map f xs)
+  map-in [] x i = absurd i
+  map-in (y ∷ ys) x (inl e) = inl (ap f e)
+  map-in (y ∷ ys) x (inr i) = inr (map-in ys x i)
+
+  pub in-map : (xs : List X) (a : Answered) → In a (map f xs) → (x : X) × (In x xs × (a ≡ f x))
+  in-map [] a i = absurd i
+  in-map (y ∷ ys) a (inl e) = (y, (inl refl, e))
+  in-map (y ∷ ys) a (inr i) =
+      let found = in-map ys a i in (found.0, (inr found.1.0, found.1.1))

@@ -1,5 +1,6 @@
 -- Callers: the rows of living clients, as they are read off a history.
-use Rattle.std.specs.Prelude.{ℕ, ◌≡◌, ◌==◌, Bool, false, List, [], ◌∷◌, Option, Some, None, length, option_map, if◌then◌else◌}
+use Rattle.std.specs.Prelude.{ℕ, ◌≡◌, ◌==◌, Bool, false, List, [], ◌∷◌, Option, Some, None, length}
+use Rattle.std.specs.Prelude.{option_map, if◌then◌else◌}
 use Rattle.pt_types.specs.declared.outcome.Outcome.{Outcome}
 use Rattle.std.specs.Option.{option_and_then}
 use Rattle.std.specs.List.{list_any, filter_map}

@@ -1,6 +1,7 @@
 //! The answers so far, and those from a place on.
 
-ghost use Rattle.std.specs.Prelude.{[], ◌==◌, ◌++◌, ◌+◌, ◌<◌, ◌∷◌, ◌≡◌, ◌≤◌, drop, find, length, map, option_map, vec_capacity, vec_len};
+ghost use Rattle.std.specs.Prelude.{[], ◌==◌, ◌++◌, ◌+◌, ◌<◌, ◌∷◌, ◌≡◌, ◌≤◌, drop, find, length};
+ghost use Rattle.std.specs.Prelude.{map, option_map, vec_capacity, vec_len};
 ghost use Rattle.pt_records.specs.Logs.{Rises, first_said, logged, since};
 
 use pt_types::{ClientId, Outcome};
@@ -68,6 +69,16 @@ pub fn outcome_since(answers: &[Answered], place: u64) -> Option<Outcome>
     ensures { result ≡ first_said (since place (map logged answers.now)) place }
 {
     let from = halved_since(answers, place);
+    first_outcome(&answers[from..], place)
+}
+
+/// What the answers since a place say to the call at that place. They are looked for from the end,
+/// so this is for a call of late.
+pub fn recent_outcome(answers: &[Answered], place: u64) -> Option<Outcome>
+    requires { Rises 0 (map logged answers.now) }
+    ensures { result ≡ first_said (since place (map logged answers.now)) place }
+{
+    let from = answered_since(answers, place);
     first_outcome(&answers[from..], place)
 }
 

@@ -1,31 +1,28 @@
 //! Rows of clients that wait at a condition variable.
 
-ghost use Rattle.std.specs.Prelude.{None, Some, ◌<◌, ◌≡◌, false, option_map, true};
-ghost use Rattle.pt_records.specs.Callers.{Once, has_open, moved_at, open_in, open_moved_at, opens_of};
+ghost use Rattle.std.specs.Prelude.{None, Some, ◌<◌, ◌≡◌, false, true};
+ghost use Rattle.pt_records.specs.Callers.{Once, has_open, moved_at, open_in, opens_of};
 ghost use Rattle.pt_table.specs.ClientRows.{client_value, has_client, nth_value};
-ghost use Rattle.pt_records.specs.Writes.{RewritesCallers, WritesCaller, rewritten_nth, still_waits_at, woken_at};
+ghost use Rattle.pt_records.specs.Writes.{RewritesCallers, WritesCaller, rewritten_nth};
+ghost use Rattle.pt_records.specs.Writes.{still_waits_at, woken_at};
 ghost use Rattle.pt_model.specs.Found.{passes};
 ghost use Rattle.pt_records.specs.OpenRows.{returns_to as returns_to_it};
 ghost use Rattle.std.specs.List.{list_any};
 
 use crate::calls::{is_moved, open_at};
-use crate::clients::{Caller, Open};
+use crate::clients::Caller;
 use pt_model::Cause;
 use pt_model::waiting_call::{Move, Role, is_wait};
 use pt_table::Clients;
 use pt_types::ObjectId;
 use std::alloc::Allocator;
 
-// The open call, if there is one, as the entry at this place moves it.
-pub(crate) fn moved(open: Option<Open>, at: u64, cause: Cause) -> Option<Open>
-    ensures { result ≡ option_map (open_moved_at at cause) «open» }
+// The client's open call, if it has one, is moved by the entry at this place.
+fn move_open(caller: &mut Caller, at: u64, cause: Cause)
+    ensures { caller.new ≡ moved_at at cause caller.old }
 {
-    match open {
-        Some(open) => Some(Open {
-            call: open.call,
-            moved: Some(Move { at, cause }),
-        }),
-        None => None,
+    if let Some(open) = &mut caller.open {
+        open.moved = Some(Move { at, cause });
     }
 }
 
@@ -36,7 +33,7 @@ pub fn wake<A: Allocator + Copy>(clients: &mut Clients<Caller, A>, c: u64, at: u
         → WritesCaller clients.old clients.new c (moved_at at cause v) }
 {
     if let Some(row) = clients.at_mut(c) {
-        row.open = moved(row.open, at, cause);
+        move_open(row, at, cause);
     }
 }
 
@@ -67,8 +64,8 @@ fn wake_nth<A: Allocator + Copy>(
     if !is_waiting(caller, q) {
         return;
     }
-    if let Some(row) = clients.at_mut(c) {
-        row.open = moved(row.open, at, cause);
+    if let Some(row) = clients.at_mut_near(index, c) {
+        move_open(row, at, cause);
     }
 }
 

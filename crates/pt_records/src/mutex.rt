@@ -1,9 +1,12 @@
 //! Rows of mutexes: what one says of a call, and how it changes.
 
-ghost use Rattle.std.specs.Prelude.{IsSome, IsTrue, List, None, Option, Some, ◌+◌, ◌<◌, ◌≡◌, true, ℕ};
+ghost use Rattle.std.specs.Prelude.{IsSome, IsTrue, List, None, Option, Some, ◌+◌, ◌<◌, ◌≡◌, true};
+ghost use Rattle.std.specs.Prelude.{ℕ};
 ghost use Rattle.pt_records.specs.Counts.{is_last_lock, is_robust_held};
-ghost use Rattle.pt_types.specs.MutexTable.{lock_verdict as lock_table, may_lock as may_lock_it, owns};
-ghost use Rattle.pt_mutex.specs.MutexState.{MutexState, acquired, can_acquire, released, restored, yielded};
+ghost use Rattle.pt_types.specs.MutexTable.{lock_verdict as lock_table, may_lock as may_lock_it};
+ghost use Rattle.pt_types.specs.MutexTable.{owns};
+ghost use Rattle.pt_mutex.specs.MutexState.{MutexState, acquired, can_acquire, released, restored};
+ghost use Rattle.pt_mutex.specs.MutexState.{yielded};
 ghost use Rattle.pt_table.specs.ObjectRows.{object_value};
 ghost use Rattle.pt_records.specs.LocksInRows.{mutex_in};
 ghost use Rattle.pt_records.specs.declared.objects.Object.TheVariants.{Mutex};

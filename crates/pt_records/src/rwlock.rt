@@ -1,8 +1,11 @@
 //! Rows of read-write locks: what one says of a call, and how it changes.
 
-ghost use Rattle.std.specs.Prelude.{IfErr, IsOk, IsSome, IsTrue, OnErr, OnOk, Some, ◌+◌, ◌-◌, ◌<◌, ◌≡◌, false};
+ghost use Rattle.std.specs.Prelude.{IfErr, IsOk, IsSome, IsTrue, OnErr, OnOk, Some, ◌+◌, ◌-◌, ◌<◌};
+ghost use Rattle.std.specs.Prelude.{◌≡◌, false};
 ghost use Rattle.pt_types.specs.RwlockTable.{holds, may_read as may_read_it};
-ghost use Rattle.pt_rwlock.specs.RwlockState.{ChangesRow, RwlockState, can_acquire_read, nobody_holds, reads_of, released as released_lock, row_of, seen_by, with_reads, with_row};
+ghost use Rattle.pt_rwlock.specs.RwlockState.{ChangesRow, RwlockState, can_acquire_read};
+ghost use Rattle.pt_rwlock.specs.RwlockState.{nobody_holds, reads_of, released as released_lock};
+ghost use Rattle.pt_rwlock.specs.RwlockState.{row_of, seen_by, with_reads, with_row};
 ghost use Rattle.pt_table.specs.ObjectRows.{object_value};
 ghost use Rattle.pt_records.specs.LocksInRows.{rwlock_in};
 ghost use Rattle.pt_records.specs.declared.objects.Object.TheVariants.{Rwlock};

@@ -1,5 +1,7 @@
 -- Ends: what is answered of the open calls when they are looked at one by one, from their end.
-use Rattle.std.proofs.Common.{◌≡◌, ℕ, suc, inl, inr, ◌+◌, ◌-◌, ◌<◌, Bool, true, false, cond, List, [], ◌∷◌, ◌++◌, Option, Some, None, refl, sym, ap, ◌∙◌, filter, length, length-append, take, get_or, arith}
+use Rattle.std.proofs.Common.{◌≡◌, ℕ, suc, inl, inr, ◌+◌, ◌-◌, ◌<◌, Bool, true, false, cond, List}
+use Rattle.std.proofs.Common.{[], ◌∷◌, ◌++◌, Option, Some, None, refl, sym, ap, ◌∙◌, filter, length}
+use Rattle.std.proofs.Common.{length-append, take, get_or, arith}
 use Rattle.pt_model.specs.declared.entry.Entry.{Entry}
 use Rattle.std.proofs.lemmas.List.Elements.{filter-append}
 use Rattle.std.proofs.lemmas.Bool.{cases_order}
@@ -10,7 +12,8 @@ use Rattle.pt_model.specs.WaitingCall.{at_place, stood, stood_by}
 use Rattle.pt_model.specs.Answers.{open_calls, outcome, is_open_by}
 use Rattle.pt_model.specs.Verdicts.{bound_by}
 use Rattle.pt_model.specs.Found.{passes, keep}
-use Rattle.pt_model.proofs.Ascending.{from, upto, upto_more, upto-before, upto_all, at_place-append_right, at_place-below, Each-weaker}
+use Rattle.pt_model.proofs.Ascending.{from, upto, upto_more, upto-before, upto_all}
+use Rattle.pt_model.proofs.Ascending.{at_place-append_right, at_place-below, Each-weaker}
 use Rattle.pt_readings.proofs.Past.{place_all, history_more}
 use Rattle.pt_readings.proofs.Stood.{at_place-here, newest, newest-other, stood-below}
 use Rattle.pt_model.proofs.OpenOrder.{open-ascends}

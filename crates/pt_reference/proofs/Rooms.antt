@@ -1,5 +1,7 @@
 -- Rooms: sums over the open calls, and counts of numbers, one more at a time.
-use Rattle.std.proofs.Common.{◌≡◌, ℕ, suc, ◌+◌, ◌<◌, Bool, true, false, List, ◌++◌, Option, Some, None, refl, sym, ap, ◌∙◌, arith, map, sum, length, add-one, take, take_all, get_or}
+use Rattle.std.proofs.Common.{◌≡◌, ℕ, suc, ◌+◌, ◌<◌, Bool, true, false, List, ◌++◌, Option, Some}
+use Rattle.std.proofs.Common.{None, refl, sym, ap, ◌∙◌, arith, map, sum, length, add-one, take}
+use Rattle.std.proofs.Common.{take_all, get_or}
 use Rattle.std.proofs.lemmas.List.Sums.{sum-map, sum_by-append}
 use Rattle.std.specs.List.{sum_by}
 use Rattle.pt_model.specs.declared.entry.Entry.{Entry}

@@ -1,17 +1,21 @@
 -- Tellings: the answers that an entry gives are in order of their places, and each is the outcome.
-use Rattle.std.proofs.Common.{◌≡◌, ℕ, suc, ◌+◌, ◌<◌, ◌≤◌, Bool, true, false, cond, eqb, ltb, List, [], ◌∷◌, ◌++◌, Option, Some, None, refl, sym, ap, ◌∙◌, arith, filter, inl, inr}
+use Rattle.std.proofs.Common.{◌≡◌, ℕ, suc, ◌+◌, ◌<◌, ◌≤◌, Bool, true, false, cond, eqb, ltb, List}
+use Rattle.std.proofs.Common.{[], ◌∷◌, ◌++◌, Option, Some, None, refl, sym, ap, ◌∙◌, arith, filter}
+use Rattle.std.proofs.Common.{inl, inr}
 use Rattle.std.specs.Prelude.{◌&&◌, ◌==◌}
 use Rattle.std.proofs.lemmas.Bool.{eq-eqb, ne_eqb, cases_eq, cases_order, lt-ltb, le-ltb}
 use Rattle.pt_types.specs.declared.outcome.Outcome.{Outcome}
 use Rattle.pt_types.specs.declared.outcome.Outcome.TheVariants.{Etimedout}
 use Rattle.pt_model.specs.declared.entry.Entry.{Entry}
-use Rattle.pt_model.specs.declared.entry.Entry.TheVariants.{Join, Call, Death, Moment, Grant, Trip, Yield, Expire}
+use Rattle.pt_model.specs.declared.entry.Entry.TheVariants.{Join, Call, Death, Moment, Grant, Trip}
+use Rattle.pt_model.specs.declared.entry.Entry.TheVariants.{Yield, Expire}
 use Rattle.pt_model.specs.Histories.{History, place}
 use Rattle.pt_model.specs.Searches.{listed}
 use Rattle.pt_model.specs.Records.{Told}
 use Rattle.pt_model.specs.declared.waiting_call.WaitingCall.{WaitingCall}
 use Rattle.pt_model.specs.WaitingCall.{stood, at_place, is_arrival, is_wait_if}
-use Rattle.pt_model.specs.Answers.{told, told_by_trip, told_by_expiry, at_barrier, trip_outcome, outcome_in, open_calls, client_if, is_open_by, outcome}
+use Rattle.pt_model.specs.Answers.{told, told_by_trip, told_by_expiry, at_barrier, trip_outcome}
+use Rattle.pt_model.specs.Answers.{outcome_in, open_calls, client_if, is_open_by, outcome}
 use Rattle.pt_model.specs.Queries.{told_if}
 use Rattle.pt_model.specs.Found.{keep}
 use Rattle.pt_model.proofs.Ascending.{Ascends, Ascends-filter, at_place-filter}

@@ -7,7 +7,8 @@ ghost use Rattle.pt_model.specs.WaitingCall.{at_place, stood};
 ghost use Rattle.pt_model.specs.Answers.{is_open_by, open_calls, outcome as outcome_in};
 ghost use Rattle.pt_model.specs.Moves.{moved as moved_in};
 ghost use Rattle.pt_model.specs.Mutexes.{count as count_in, owner as owner_in};
-ghost use Rattle.pt_model.specs.Room.{reserved_for, is_robust_owned as is_robust_owned_in, need as need_in};
+ghost use Rattle.pt_model.specs.Room.{reserved_for, is_robust_owned as is_robust_owned_in};
+ghost use Rattle.pt_model.specs.Room.{need as need_in};
 ghost use Rattle.pt_reference.specs.Best.{reserved_of};
 
 use pt_model::Entry;

@@ -3,7 +3,13 @@ ghost use Rattle.pt_model.specs.Histories.{history};
 ghost use Rattle.pt_model.specs.Searches.{least};
 ghost use Rattle.pt_model.specs.WaitingCall.{at_place};
 ghost use Rattle.pt_model.specs.Answers.{open_calls};
-ghost use Rattle.pt_model.specs.Forced.{is_served_before as is_served_before_in, is_served as is_served_in, service as service_in, forced_service as forced_service_in, is_orphan as is_orphan_in, forced_yield as forced_yield_in, is_overdue as is_overdue_in, expires_before as expires_before_it, forced_expire as forced_expire_in, forced as forced_in};
+ghost use Rattle.pt_model.specs.Forced.{is_served_before as is_served_before_in};
+ghost use Rattle.pt_model.specs.Forced.{is_served as is_served_in, service as service_in};
+ghost use Rattle.pt_model.specs.Forced.{forced_service as forced_service_in};
+ghost use Rattle.pt_model.specs.Forced.{is_orphan as is_orphan_in, forced_yield as forced_yield_in};
+ghost use Rattle.pt_model.specs.Forced.{is_overdue as is_overdue_in};
+ghost use Rattle.pt_model.specs.Forced.{expires_before as expires_before_it};
+ghost use Rattle.pt_model.specs.Forced.{forced_expire as forced_expire_in, forced as forced_in};
 ghost use Rattle.pt_model.specs.Found.{keep};
 ghost use Rattle.pt_reference.specs.Best.{best_of};
 

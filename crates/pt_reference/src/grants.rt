@@ -5,7 +5,11 @@ ghost use Rattle.pt_model.specs.WaitingCall.{at_place};
 ghost use Rattle.pt_model.specs.Answers.{open_calls, at_barrier};
 ghost use Rattle.pt_model.specs.Moves.{at_object as at_object_in, is_least as is_least_in};
 ghost use Rattle.pt_model.specs.Mutexes.{mutex_view as mutex_view_in};
-ghost use Rattle.pt_model.specs.Grants.{holds_back as holds_back_at, is_blocked as is_blocked_in, is_grantable as is_grantable_in, is_complete as is_complete_in, mutex_outcome as mutex_outcome_in, grant_outcome as grant_outcome_in};
+ghost use Rattle.pt_model.specs.Grants.{holds_back as holds_back_at, is_blocked as is_blocked_in};
+ghost use Rattle.pt_model.specs.Grants.{is_grantable as is_grantable_in};
+ghost use Rattle.pt_model.specs.Grants.{is_complete as is_complete_in};
+ghost use Rattle.pt_model.specs.Grants.{mutex_outcome as mutex_outcome_in};
+ghost use Rattle.pt_model.specs.Grants.{grant_outcome as grant_outcome_in};
 ghost use Rattle.pt_model.specs.Found.{passes};
 
 use pt_model::Entry;

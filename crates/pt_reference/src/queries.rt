@@ -4,7 +4,11 @@ ghost use Rattle.pt_model.specs.Searches.{least};
 ghost use Rattle.pt_model.specs.WaitingCall.{at_place, stood};
 ghost use Rattle.pt_model.specs.Answers.{client_if, open_calls, told as told_in};
 ghost use Rattle.pt_model.specs.Forced.{expires_before as expires_before_it};
-ghost use Rattle.pt_model.specs.Queries.{caller as caller_in, caller_by as caller_after, latest as latest_in, latest_by as latest_after, told_if as told_meant, answer_of as answer_of_in, has_deadline as has_deadline_in, least_deadline as least_deadline_in};
+ghost use Rattle.pt_model.specs.Queries.{caller as caller_in, caller_by as caller_after};
+ghost use Rattle.pt_model.specs.Queries.{latest as latest_in, latest_by as latest_after};
+ghost use Rattle.pt_model.specs.Queries.{told_if as told_meant, answer_of as answer_of_in};
+ghost use Rattle.pt_model.specs.Queries.{has_deadline as has_deadline_in};
+ghost use Rattle.pt_model.specs.Queries.{least_deadline as least_deadline_in};
 ghost use Rattle.pt_model.specs.Found.{keep};
 ghost use Rattle.pt_reference.specs.Telling.{client_told, shown_told, told_to};
 

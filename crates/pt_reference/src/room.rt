@@ -1,6 +1,9 @@
 ghost use Rattle.std.specs.Prelude.{◌≡◌, ◌≤◌, ◌*◌, length};
 ghost use Rattle.pt_model.specs.Histories.{history, ◌▷◌};
-ghost use Rattle.pt_model.specs.Room.{need as need_in, entry_for as entry_for_in, refusal_of_stranger as refusal_of_stranger_in, refusal as refusal_in, is_over as is_over_in, refusal_within as refusal_within_in};
+ghost use Rattle.pt_model.specs.Room.{need as need_in, entry_for as entry_for_in};
+ghost use Rattle.pt_model.specs.Room.{refusal_of_stranger as refusal_of_stranger_in};
+ghost use Rattle.pt_model.specs.Room.{refusal as refusal_in, is_over as is_over_in};
+ghost use Rattle.pt_model.specs.Room.{refusal_within as refusal_within_in};
 
 use crate::after;
 use crate::verdicts::verdict;

@@ -8,7 +8,11 @@ ghost use Rattle.pt_types.specs.Operations.{Ends, Acquires, Unlocks, Restores, R
 ghost use Rattle.pt_model.specs.Clients.{client as client_in};
 ghost use Rattle.pt_model.specs.Objects.{find as find_in};
 ghost use Rattle.pt_reference.specs.Best.{awaited_or};
-ghost use Rattle.pt_model.specs.Verdicts.{on, bound_by, is_awaited as is_awaited_in, will_return as will_return_in, is_busy as is_busy_in, lock_kind_verdict as lock_kind_verdict_in, operation_verdict as said_of, verdict as verdict_in, is_alive_if as is_alive_if_in};
+ghost use Rattle.pt_model.specs.Verdicts.{on, bound_by, is_awaited as is_awaited_in};
+ghost use Rattle.pt_model.specs.Verdicts.{will_return as will_return_in, is_busy as is_busy_in};
+ghost use Rattle.pt_model.specs.Verdicts.{lock_kind_verdict as lock_kind_verdict_in};
+ghost use Rattle.pt_model.specs.Verdicts.{operation_verdict as said_of, verdict as verdict_in};
+ghost use Rattle.pt_model.specs.Verdicts.{is_alive_if as is_alive_if_in};
 ghost use Rattle.pt_model.specs.Found.{keep, passes};
 
 use crate::grants::is_blocked;

@@ -1,5 +1,7 @@
 -- ReaderLemmas: how many rows have read locks, as a row is added or changed.
-use Rattle.std.proofs.Common.{ℕ, suc, Bool, ◌≡◌, ◌≢◌, ◌+◌, ◌-◌, inl, inr, ◌<◌, ◌≤◌, ◌||◌, true, false, cond, nat_lt, List, [], ◌∷◌, Option, Some, None, is_some, length, refl, sym, ap, ◌∙◌, arith}
+use Rattle.std.proofs.Common.{ℕ, suc, Bool, ◌≡◌, ◌≢◌, ◌+◌, ◌-◌, inl, inr, ◌<◌, ◌≤◌, ◌||◌, true}
+use Rattle.std.proofs.Common.{false, cond, nat_lt, List, [], ◌∷◌, Option, Some, None, is_some}
+use Rattle.std.proofs.Common.{length, refl, sym, ap, ◌∙◌, arith}
 use Rattle.std.specs.Prelude.{Result, Ok, Err, OnOk, OnErr}
 use Rattle.std.specs.List.{list_any}
 use Rattle.std.specs.Map.{lookup, set_value, values_of}

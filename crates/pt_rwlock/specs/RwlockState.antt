@@ -1,5 +1,7 @@
 -- RwlockState: a read-write lock with its rows of read locks and its waiting writers.
-use Rattle.std.specs.Prelude.{ℕ, ◌≡◌, ◌<◌, ◌≤◌, length, Bool, true, false, not, ◌&&◌, ◌-◌, ◌+◌, ◌==◌, ◌↔◌, nat_lt, IsTrue, List, [], ◌∷◌, Option, Some, None, is_some, is_none, unwrap_or, if◌then◌else◌, replicate, slice_index, slice_set}
+use Rattle.std.specs.Prelude.{ℕ, ◌≡◌, ◌<◌, ◌≤◌, length, Bool, true, false, not, ◌&&◌, ◌-◌, ◌+◌}
+use Rattle.std.specs.Prelude.{◌==◌, ◌↔◌, nat_lt, IsTrue, List, [], ◌∷◌, Option, Some, None, is_some}
+use Rattle.std.specs.Prelude.{is_none, unwrap_or, if◌then◌else◌, replicate, slice_index, slice_set}
 use Rattle.std.specs.List.{list_any}
 use Rattle.std.specs.Ordering.{nat_cmp}
 use Rattle.std.specs.Map.{lookup, set_value, keys_of}

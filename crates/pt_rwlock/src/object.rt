@@ -1,10 +1,13 @@
-ghost use Rattle.std.specs.Prelude.{◌≡◌, ◌==◌, ◌<◌, length, ◌+◌, ◌-◌, Bool, IsTrue, IsSome, IsOk, IfErr, IfSome, IfNone, OnOk, OnErr, Some, is_some, false, if◌then◌else◌, ℕ};
+ghost use Rattle.std.specs.Prelude.{◌≡◌, ◌==◌, ◌<◌, length, ◌+◌, ◌-◌, Bool, IsTrue, IsSome, IsOk};
+ghost use Rattle.std.specs.Prelude.{IfErr, IfSome, IfNone, OnOk, OnErr, Some, is_some, false};
+ghost use Rattle.std.specs.Prelude.{if◌then◌else◌, ℕ};
 ghost use Rattle.std.specs.Map.{lookup, set_value};
 ghost use Rattle.std.specs.Ordering.{nat_cmp};
 ghost use Rattle.std.specs.BTreeMap.{is_at};
 ghost use Rattle.pt_types.specs.Limits.{most_priority};
 ghost use Rattle.pt_types.specs.MutexTable.{is_number};
-ghost use Rattle.pt_types.specs.RwlockTable.{read_verdict, write_verdict, rwunlock_verdict, holds, is_free};
+ghost use Rattle.pt_types.specs.RwlockTable.{read_verdict, write_verdict, rwunlock_verdict, holds};
+ghost use Rattle.pt_types.specs.RwlockTable.{is_free};
 
 use pt_lanes::any_from;
 use pt_types::{ClientId, How, MOST_PRIORITY, MOST_READS, Outcome, Priority, Refusal, Verdict};
@@ -98,7 +101,11 @@ impl<A: Allocator + Copy> Model for RwObj<A> {
 }
 
 impl<A: Allocator + Copy> RwObj<A> {
-    ghost use Rattle.pt_rwlock.specs.RwlockState.{made, row_of, reads_of, is_read, nobody_holds, seen_by, SaysBlocked, writers_at, with_writers, ChangesCount, with_row, with_reads, can_acquire_read, ChangesRow, released, may_have, held};
+    ghost use Rattle.pt_rwlock.specs.RwlockState.{made, row_of, reads_of, is_read, nobody_holds};
+    ghost use Rattle.pt_rwlock.specs.RwlockState.{seen_by, SaysBlocked, writers_at, with_writers};
+    ghost use Rattle.pt_rwlock.specs.RwlockState.{ChangesCount, with_row, with_reads};
+    ghost use Rattle.pt_rwlock.specs.RwlockState.{can_acquire_read, ChangesRow, released, may_have};
+    ghost use Rattle.pt_rwlock.specs.RwlockState.{held};
 
     /// A lock that nobody holds.  [XSH pthread_rwlock_init]
     pub fn new(alloc: A) -> RwObj<A>

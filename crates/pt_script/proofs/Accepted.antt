@@ -1,5 +1,7 @@
 -- What is answered of an event: it is refused, or accepted.
-use Rattle.std.proofs.Common.{◌≡◌, ℕ, suc, ◌-◌, ◌<◌, Bool, true, false, cond, List, [], ◌∷◌, ◌++◌, length, take, drop, Option, Some, None, nat_eq, refl, sym, ap, subst, ◌∙◌, append_assoc, arith}
+use Rattle.std.proofs.Common.{◌≡◌, ℕ, suc, ◌-◌, ◌<◌, Bool, true, false, cond, List, [], ◌∷◌, ◌++◌}
+use Rattle.std.proofs.Common.{length, take, drop, Option, Some, None, nat_eq, refl, sym, ap, subst}
+use Rattle.std.proofs.Common.{◌∙◌, append_assoc, arith}
 use Rattle.std.proofs.Math.Seq.{take-append_seam, drop-append_seam}
 use Rattle.std.specs.Option.{option_or, MatchOption}
 use Rattle.std.proofs.lemmas.Bool.Decides.{Decides-eqb}
@@ -23,10 +25,12 @@ use Rattle.pt_core.specs.Applying.{IsApplied, IsRefusal, IsWantOfMemory, IsWritt
 use Rattle.pt_script.specs.declared.line_id.LineId.{LineId}
 use Rattle.pt_script.specs.declared.engine.Mark.{Mark}
 use Rattle.pt_script.specs.declared.engine.Mark.TheVariants as mark
-use Rattle.pt_script.specs.Scripts.{Script, line_at, told_text, refusal_text, greeting, clients_with, calls_with, same_who, lines_of_who}
+use Rattle.pt_script.specs.Scripts.{Script, line_at, told_text, refusal_text, greeting}
+use Rattle.pt_script.specs.Scripts.{clients_with, calls_with, same_who, lines_of_who}
 use Rattle.pt_script.specs.Says.{SaysOf, refuses, lacks, accepts}
 use Rattle.pt_script.specs.Names.{Known}
-use Rattle.pt_script.specs.Engines.{Adds, IsFresh, mark_of, clients_marked, calls_marked, greeting_marked}
+use Rattle.pt_script.specs.Engines.{Adds, IsFresh, mark_of, clients_marked, calls_marked}
+use Rattle.pt_script.specs.Engines.{greeting_marked}
 use Rattle.pt_script.proofs.Counted.{lookup_push, count_by_push}
 use Rattle.pt_script.proofs.Opened.{limit_opened, place_opened}
 

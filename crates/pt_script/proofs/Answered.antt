@@ -1,5 +1,6 @@
 -- What holds of each answer that an entry gives.
-use Rattle.std.proofs.Common.{ℕ, ◌==◌, Bool, true, false, ◌&&◌, List, [], ◌∷◌, Option, Some, None, sym, subst}
+use Rattle.std.proofs.Common.{ℕ, ◌==◌, Bool, true, false, ◌&&◌, List, [], ◌∷◌, Option, Some, None}
+use Rattle.std.proofs.Common.{sym, subst}
 use Rattle.pt_types.specs.declared.call.Call.{Call as Asked}
 use Rattle.pt_types.specs.declared.outcome.Outcome.{Outcome}
 use Rattle.pt_types.specs.Tables.{reply}
@@ -10,7 +11,8 @@ use Rattle.pt_model.specs.Histories.{History, place}
 use Rattle.pt_model.specs.Records.{Told}
 use Rattle.pt_model.specs.declared.waiting_call.WaitingCall.{WaitingCall}
 use Rattle.pt_model.specs.WaitingCall.{at_place, stood, is_arrival, is_wait_if}
-use Rattle.pt_model.specs.Answers.{at_barrier, client_if, told, told_by_trip, told_by_expiry, told_by, open_calls}
+use Rattle.pt_model.specs.Answers.{at_barrier, client_if, told, told_by_trip, told_by_expiry}
+use Rattle.pt_model.specs.Answers.{told_by, open_calls}
 use Rattle.pt_model.specs.Verdicts.{verdict}
 use Rattle.pt_model.specs.Steps.{Step, calls, grants, trips, expires, Follows}
 use Rattle.pt_model.proofs.Found.{found_open}

@@ -1,5 +1,6 @@
 -- Who made the call of each answer.
-use Rattle.std.proofs.Common.{◌≡◌, ℕ, ◌<◌, ◌==◌, ◌⊎◌, inl, inr, Bool, true, false, cond, List, [], ◌∷◌, Option, Some, None, refl, sym, ap, ◌∙◌, subst, arith}
+use Rattle.std.proofs.Common.{◌≡◌, ℕ, ◌<◌, ◌==◌, ◌⊎◌, inl, inr, Bool, true, false, cond, List, []}
+use Rattle.std.proofs.Common.{◌∷◌, Option, Some, None, refl, sym, ap, ◌∙◌, subst, arith}
 use Rattle.std.proofs.lemmas.Bool.Decides.{nat_tests}
 use Rattle.pt_types.specs.declared.call.Call.{Call as Asked}
 use Rattle.pt_types.specs.declared.outcome.Outcome.{Outcome}
@@ -18,7 +19,8 @@ use Rattle.pt_model.specs.Steps.{Step, calls, Follows}
 use Rattle.pt_model.specs.Seals.{seal}
 use Rattle.pt_model.proofs.Allowances.{allowed}
 use Rattle.pt_model.proofs.Changes.{left_by}
-use Rattle.pt_model.proofs.Effects.{Effect, Idle, Creates, Removes, Relocks, Frees, Mends, Returns, Wakes, Waits, effect, Allowed}
+use Rattle.pt_model.proofs.Effects.{Effect, Idle, Creates, Removes, Relocks, Frees, Mends, Returns}
+use Rattle.pt_model.proofs.Effects.{Wakes, Waits, effect, Allowed}
 use Rattle.pt_model.proofs.Found.{found, newest_call, stood_open}
 use Rattle.pt_model.proofs.Histories.{follows-part}
 use Rattle.pt_model.proofs.Induction.{by_steps, start-seal}

@@ -1,5 +1,7 @@
 -- The line that made a call is noted at its place, and is the line of the call's client.
-use Rattle.std.proofs.Common.{◌≡◌, ℕ, ◌<◌, ◌==◌, Bool, true, false, cond, List, [], ◌∷◌, ◌++◌, length, drop, Option, Some, None, Result, Ok, Err, nat_eq, refl, sym, ap, ◌∙◌, subst, arith}
+use Rattle.std.proofs.Common.{◌≡◌, ℕ, ◌<◌, ◌==◌, Bool, true, false, cond, List, [], ◌∷◌, ◌++◌}
+use Rattle.std.proofs.Common.{length, drop, Option, Some, None, Result, Ok, Err, nat_eq, refl, sym}
+use Rattle.std.proofs.Common.{ap, ◌∙◌, subst, arith}
 use Rattle.std.proofs.lemmas.Bool.Decides.{nat_tests}
 use Rattle.std.proofs.Math.Seq.{drop-append_seam}
 use Rattle.std.specs.List.{cons_option}
@@ -29,14 +31,18 @@ use Rattle.pt_told.proofs.EventTallies.{place-more}
 use Rattle.pt_core.specs.Cores.{Kept, past}
 use Rattle.pt_core.specs.Applying.{Writes, opened}
 use Rattle.pt_script.specs.declared.line_id.LineId.{LineId}
-use Rattle.pt_script.specs.Scripts.{Script, begun, core_of, line_id, calls_with, clients_with, event_for, event_of_body, event_of_line, join_for, line_at, number_named, number_of, of_client}
-use Rattle.pt_script.specs.Says.{SaysAll, SaysOf, SaysTo, IsAccepted, counted, opened_for, refuses, lacks, accepts}
+use Rattle.pt_script.specs.Scripts.{Script, begun, core_of, line_id, calls_with, clients_with}
+use Rattle.pt_script.specs.Scripts.{event_for, event_of_body, event_of_line, join_for, line_at}
+use Rattle.pt_script.specs.Scripts.{number_named, number_of, of_client}
+use Rattle.pt_script.specs.Says.{SaysAll, SaysOf, SaysTo, IsAccepted, counted, opened_for, refuses}
+use Rattle.pt_script.specs.Says.{lacks, accepts}
 use Rattle.pt_script.specs.Engines.{IsFresh, IsLegal, mark_of}
 use Rattle.pt_script.specs.Laws.{AnswersHaveLines, HasLine}
 use Rattle.pt_script.proofs.Accepted.{calls_as, fresh_noted}
 use Rattle.pt_script.proofs.Callers.{IsOwn, caller_sealed, replies_own}
 use Rattle.pt_script.proofs.Counted.{lookup_push}
-use Rattle.pt_script.proofs.Opened.{goes_on, legal_follow, legal_next, legal_sealed, longer, opened_by, place_opened, same_start}
+use Rattle.pt_script.proofs.Opened.{goes_on, legal_follow, legal_next, legal_sealed, longer}
+use Rattle.pt_script.proofs.Opened.{opened_by, place_opened, same_start}
 
 -- the line of the call at a place is noted, and is this client's
 abbrev pub IsNoted : List (ℕ × LineId) → List (List ℕ × ℕ) → ℕ → ℕ → Type 0

@@ -1,5 +1,7 @@
 -- There is one text for all lines, and each of its beginnings begins it.
-use Rattle.std.proofs.Common.{◌≡◌, ℕ, zero, suc, Bool, true, false, not, ◌&&◌, List, [], ◌∷◌, ◌++◌, length, take, drop, Option, Some, None, MatchOption, Result, Ok, Err, refl, sym, ap, ◌∙◌, subst, append_assoc, arith}
+use Rattle.std.proofs.Common.{◌≡◌, ℕ, zero, suc, Bool, true, false, not, ◌&&◌, List, [], ◌∷◌, ◌++◌}
+use Rattle.std.proofs.Common.{length, take, drop, Option, Some, None, MatchOption, Result, Ok, Err}
+use Rattle.std.proofs.Common.{refl, sym, ap, ◌∙◌, subst, append_assoc, arith}
 use Rattle.std.proofs.Math.Seq.{drop-append_seam}
 use Rattle.std.proofs.lemmas.Bool.{and_parts}
 use Rattle.std.proofs.lemmas.List.{take-append-drop}
@@ -22,12 +24,16 @@ use Rattle.pt_model.proofs.Steps.{step-event}
 use Rattle.pt_core.specs.Cores.{Kept, past}
 use Rattle.pt_core.specs.Applying.{Writes, is_death}
 use Rattle.pt_script.specs.declared.line_id.LineId.{LineId}
-use Rattle.pt_script.specs.Scripts.{Script, begun, core_of, line_id, calls_with, clients_with, event_of_line, greeting, refusal_text, told_text}
-use Rattle.pt_script.specs.Says.{SaysAll, SaysOf, SaysTo, IsRefused, IsAccepted, counted, opened_for, refusal_of_event, refuses, lacks, accepts}
+use Rattle.pt_script.specs.Scripts.{Script, begun, core_of, line_id, calls_with, clients_with}
+use Rattle.pt_script.specs.Scripts.{event_of_line, greeting, refusal_text, told_text}
+use Rattle.pt_script.specs.Says.{SaysAll, SaysOf, SaysTo, IsRefused, IsAccepted, counted}
+use Rattle.pt_script.specs.Says.{opened_for, refusal_of_event, refuses, lacks, accepts}
 use Rattle.pt_script.specs.Ends.{lines_of}
 use Rattle.pt_script.specs.Engines.{IsLegal}
-use Rattle.pt_script.specs.Laws.{BeginningsOfAll, EachText, OneText, SaysAllMet, SaysMet, SaysToMet, accepted, refused, unmet}
-use Rattle.pt_script.proofs.Opened.{legal_follow, legal_next, legal_opened, legal_settle, limit_opened, same_start}
+use Rattle.pt_script.specs.Laws.{BeginningsOfAll, EachText, OneText, SaysAllMet, SaysMet, SaysToMet}
+use Rattle.pt_script.specs.Laws.{accepted, refused, unmet}
+use Rattle.pt_script.proofs.Opened.{legal_follow, legal_next, legal_opened, legal_settle}
+use Rattle.pt_script.proofs.Opened.{limit_opened, same_start}
 use Rattle.pt_script.proofs.Runs.{says_join}
 use Rattle.pt_script.proofs.Settled.{settles}
 use Rattle.pt_script.proofs.Unrefused.{not_refused, unrefused_opened}

@@ -1,5 +1,6 @@
 -- The core to which an event's entries are added: what holds of a core, and of its seal.
-use Rattle.std.proofs.Common.{◌≡◌, Bool, true, false, cond, [], ◌∷◌, ◌++◌, None, refl, sym, ap, ◌∙◌, subst}
+use Rattle.std.proofs.Common.{◌≡◌, Bool, true, false, cond, [], ◌∷◌, ◌++◌, None, refl, sym, ap, ◌∙◌}
+use Rattle.std.proofs.Common.{subst}
 use Rattle.pt_model.specs.declared.entry.Event.{Event}
 use Rattle.pt_model.specs.Starts.{Start}
 use Rattle.pt_model.specs.Histories.{Begin, ◌▷◌, onto, behind, place}

@@ -1,12 +1,14 @@
 -- Rows of names, after one that was written.
-use Rattle.std.proofs.Common.{◌≡◌, ℕ, suc, ◌<◌, Bool, true, false, cond, List, [], ◌∷◌, ◌++◌, Option, Some, None, IsSome, refl, sym, ap, ◌∙◌, arith, rules}
+use Rattle.std.proofs.Common.{◌≡◌, ℕ, suc, ◌<◌, Bool, true, false, cond, List, [], ◌∷◌, ◌++◌}
+use Rattle.std.proofs.Common.{Option, Some, None, IsSome, refl, sym, ap, ◌∙◌, arith, rules}
 use Rattle.std.specs.Option.{option_or}
 use Rattle.std.proofs.lemmas.Bool.Decides.{same_from_decides, Decides-like}
 use Rattle.std.specs.Str.{bytes_eq}
 use Rattle.std.proofs.lemmas.Slice.Eq.{bytes_eq-Decides}
 use Rattle.pt_script.specs.declared.names.Row.{Row}
 use Rattle.pt_script.specs.Scripts.{number_named}
-use Rattle.pt_script.specs.Names.{Known, Counted, lines_in, client_in, row_of, IsRowRaised, IsRowGiven, IsGiven, AreCounted}
+use Rattle.pt_script.specs.Names.{Known, Counted, lines_in, client_in, row_of, IsRowRaised}
+use Rattle.pt_script.specs.Names.{IsRowGiven, IsGiven, AreCounted}
 use Rattle.pt_script.proofs.Counted.{ap_cond, lookup_push}
 
 -- the name's row is this one, and each other row is as it was

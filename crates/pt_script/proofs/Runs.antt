@@ -1,5 +1,6 @@
 -- Lines one after the other: what is said of them, and how many they are.
-use Rattle.std.proofs.Common.{◌≡◌, ℕ, ◌+◌, List, [], ◌∷◌, ◌++◌, length, map, Result, Ok, Err, refl, sym, ap, subst, ◌∙◌, append_assoc, append-nil, length-append, arith}
+use Rattle.std.proofs.Common.{◌≡◌, ℕ, ◌+◌, List, [], ◌∷◌, ◌++◌, length, map, Result, Ok, Err, refl}
+use Rattle.std.proofs.Common.{sym, ap, subst, ◌∙◌, append_assoc, append-nil, length-append, arith}
 use Rattle.std.specs.Result.{IsErrAnd, IfOk, IfErr}
 use Rattle.std.proofs.lemmas.List.{map-append}
 use Rattle.std.proofs.Math.ListN.{length-map}

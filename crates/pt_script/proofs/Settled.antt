@@ -1,11 +1,13 @@
 -- A history goes on by forced entries until nothing is forced.
-use Rattle.std.proofs.Common.{◌≡◌, ℕ, zero, suc, ◌<◌, ◌≤◌, true, List, [], ◌∷◌, Option, Some, None, MatchOption, refl, sym, ◌∙◌, subst, arith}
+use Rattle.std.proofs.Common.{◌≡◌, ℕ, zero, suc, ◌<◌, ◌≤◌, true, List, [], ◌∷◌, Option, Some, None}
+use Rattle.std.proofs.Common.{MatchOption, refl, sym, ◌∙◌, subst, arith}
 use Rattle.pt_model.specs.declared.entry.Entry.{Entry}
 use Rattle.pt_model.specs.Histories.{History, ◌▷◌, is_forced}
 use Rattle.pt_model.specs.Forced.{forced}
 use Rattle.pt_model.specs.Legal.{Takes, LegalFrom}
 use Rattle.pt_model.specs.Room.{need}
-use Rattle.pt_model.specs.Steps.{Step, joins, calls, dies, ticks, grants, trips, yields, expires, Follows}
+use Rattle.pt_model.specs.Steps.{Step, joins, calls, dies, ticks, grants, trips, yields, expires}
+use Rattle.pt_model.specs.Steps.{Follows}
 use Rattle.pt_model.proofs.Room.{room-step}
 use Rattle.pt_model.proofs.Steps.{step-forced}
 

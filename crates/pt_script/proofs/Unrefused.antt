@@ -1,5 +1,6 @@
 -- An event that is not refused where a seal makes room is not refused once it is made.
-use Rattle.std.proofs.Common.{◌≡◌, ℕ, ◌+◌, ◌≤◌, true, false, cond, nat_lt, Option, Some, None, refl, sym, ap, ◌∙◌, subst, arith}
+use Rattle.std.proofs.Common.{◌≡◌, ℕ, ◌+◌, ◌≤◌, true, false, cond, nat_lt, Option, Some, None, refl}
+use Rattle.std.proofs.Common.{sym, ap, ◌∙◌, subst, arith}
 use Rattle.std.proofs.lemmas.Bool.Decides.{nat_tests}
 use Rattle.std.specs.Option.{option_or}
 use Rattle.pt_types.specs.declared.outcome.Refusal.{Refusal}
@@ -8,7 +9,8 @@ use Rattle.pt_model.specs.declared.entry.Entry.{Entry}
 use Rattle.pt_model.specs.declared.entry.Event.{Event}
 use Rattle.pt_model.specs.Histories.{History, Begin, ◌▷◌}
 use Rattle.pt_model.specs.Forced.{forced}
-use Rattle.pt_model.specs.Room.{need, entry_for, is_full, is_over, needs_seal, refusal, refusal_with_seals, refusal_within}
+use Rattle.pt_model.specs.Room.{need, entry_for, is_full, is_over, needs_seal, refusal}
+use Rattle.pt_model.specs.Room.{refusal_with_seals, refusal_within}
 use Rattle.pt_model.specs.Seals.{seal}
 use Rattle.pt_model.specs.SealLaws.{GoesAlike}
 use Rattle.pt_model.specs.Steps.{Step}

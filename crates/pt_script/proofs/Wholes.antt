@@ -1,5 +1,7 @@
 -- A whole script, as its pieces come.
-use Rattle.std.proofs.Common.{◌≡◌, ℕ, suc, ◌+◌, ◌<◌, ◌≤◌, ◌==◌, Bool, true, false, ◌||◌, ◌&&◌, nat_lt, cond, List, [], ◌∷◌, ◌++◌, length, map, take, refl, sym, ap, subst, ◌∙◌, append_assoc, append-nil, length-append, arith}
+use Rattle.std.proofs.Common.{◌≡◌, ℕ, suc, ◌+◌, ◌<◌, ◌≤◌, ◌==◌, Bool, true, false, ◌||◌, ◌&&◌}
+use Rattle.std.proofs.Common.{nat_lt, cond, List, [], ◌∷◌, ◌++◌, length, map, take, refl, sym, ap}
+use Rattle.std.proofs.Common.{subst, ◌∙◌, append_assoc, append-nil, length-append, arith}
 use Rattle.std.proofs.lemmas.List.{map-append}
 use Rattle.std.proofs.Math.ListN.{length-map}
 use Rattle.std.proofs.Math.Seq.{take-append_seam}
@@ -15,7 +17,8 @@ use Rattle.pt_script.specs.Scripts.{Script, begun}
 use Rattle.pt_script.specs.Says.{SaysAll}
 use Rattle.pt_script.specs.declared.fault.ScriptFault.{ScriptFault}
 use Rattle.pt_script.specs.declared.fault.ScriptFault.TheVariants.{Read, Write, Memory}
-use Rattle.pt_script.specs.Ends.{AnswersWhole, BeginsScriptText, Course, IsBehind, IsFaultOf, IsScriptText, IsWantOfMemory, lines_of}
+use Rattle.pt_script.specs.Ends.{AnswersWhole, BeginsScriptText, Course, IsBehind, IsFaultOf}
+use Rattle.pt_script.specs.Ends.{IsScriptText, IsWantOfMemory, lines_of}
 use Rattle.pt_script.specs.Engines.{Answers, IsCutOff, IsEnd, IsStopped}
 use Rattle.pt_script.specs.Texts.{Writing}
 use Rattle.pt_script.proofs.Runs.{says_join, says_all_seen}

@@ -1,5 +1,6 @@
 -- Ends: what a whole script has read and written.
-use Rattle.std.specs.Prelude.{◌≡◌, ℕ, ◌-◌, ◌≤◌, ◌<◌, ◌⊎◌, ◌++◌, List, length, take, map, Bool, false}
+use Rattle.std.specs.Prelude.{◌≡◌, ℕ, ◌-◌, ◌≤◌, ◌<◌, ◌⊎◌, ◌++◌, List, length, take, map, Bool}
+use Rattle.std.specs.Prelude.{false}
 use mathlib.Core.List.{IsPrefix}
 use Rattle.pt_lines.specs.declared.script_line.ScriptLine.{ScriptLine}
 use Rattle.pt_lines.specs.declared.cutter.Cut.{Cut}

@@ -1,5 +1,6 @@
 -- Laws: whose the answers are, and that there is one text for all lines.
-use Rattle.std.specs.Prelude.{◌≡◌, ℕ, zero, suc, ◌↔◌, ◌++◌, Bool, true, false, not, ◌&&◌, List, [], ◌∷◌, Some, Result, Ok, Err}
+use Rattle.std.specs.Prelude.{◌≡◌, ℕ, zero, suc, ◌↔◌, ◌++◌, Bool, true, false, not, ◌&&◌, List, []}
+use Rattle.std.specs.Prelude.{◌∷◌, Some, Result, Ok, Err}
 use mathlib.Core.List.{IsPrefix}
 use Rattle.pt_types.specs.declared.outcome.Refusal.{Refusal}
 use Rattle.pt_lines.specs.declared.script_line.ScriptLine.{ScriptLine}
@@ -9,7 +10,8 @@ use Rattle.pt_model.specs.Records.{Told}
 use Rattle.pt_model.specs.Answers.{replies_behind}
 use Rattle.pt_core.specs.Applying.{is_death}
 use Rattle.pt_script.specs.declared.line_id.LineId.{LineId}
-use Rattle.pt_script.specs.Scripts.{Script, begun, line_id, event_of_line, line_at, number_of, refusal_text}
+use Rattle.pt_script.specs.Scripts.{Script, begun, line_id, event_of_line, line_at, number_of}
+use Rattle.pt_script.specs.Scripts.{refusal_text}
 use Rattle.pt_script.specs.Says.{SaysAll, IsRefused, IsUnmet, IsAccepted, counted}
 use Rattle.pt_script.specs.Ends.{BeginsScriptText, lines_of}
 

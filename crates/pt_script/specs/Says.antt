@@ -1,5 +1,6 @@
 -- Says: what is written for each line of a script, and for all of them.
-use Rattle.std.specs.Prelude.{◌≡◌, ℕ, ◌++◌, false, List, [], ◌∷◌, Option, Some, None, Result, Ok, Err}
+use Rattle.std.specs.Prelude.{◌≡◌, ℕ, ◌++◌, false, List, [], ◌∷◌, Option, Some, None, Result, Ok}
+use Rattle.std.specs.Prelude.{Err}
 use Rattle.pt_types.specs.Limits.{most_entries}
 use Rattle.pt_types.specs.declared.outcome.Refusal.{Refusal}
 use Rattle.pt_types.specs.declared.outcome.Refusal.TheVariants.{Enomem}
@@ -13,7 +14,8 @@ use Rattle.pt_model.specs.Room.{refusal_with_seals}
 use Rattle.pt_core.specs.Cores.{Kept, past}
 use Rattle.pt_core.specs.Applying.{Writes, is_death, opened}
 use Rattle.pt_script.specs.declared.line_id.LineId.{LineId}
-use Rattle.pt_script.specs.Scripts.{Script, core_of, line_id, event_of_line, told_text, refusal_text, clients_with, calls_with, greeting}
+use Rattle.pt_script.specs.Scripts.{Script, core_of, line_id, event_of_line, told_text}
+use Rattle.pt_script.specs.Scripts.{refusal_text, clients_with, calls_with, greeting}
 
 -- the core to which an accepted event's entries are added: its history is sealed before, if the
 -- event needs that room  [profile]

@@ -3,7 +3,8 @@ ghost use Rattle.pt_model.specs.Queries.{answers_behind};
 ghost use Rattle.pt_core.specs.Cores.{shown};
 ghost use Rattle.indexmap.specs.IndexMap.{spare};
 ghost use Rattle.pt_script.specs.Scripts.{lines_of_who, number_of};
-ghost use Rattle.pt_script.specs.Engines.{mark_of, clients_marked, calls_marked, greeting_marked, latest_text, IsAsked};
+ghost use Rattle.pt_script.specs.Engines.{mark_of, clients_marked, calls_marked, greeting_marked};
+ghost use Rattle.pt_script.specs.Engines.{latest_text, IsAsked};
 
 use crate::fault::ScriptFault;
 use crate::line_id::LineId;
@@ -138,7 +139,8 @@ impl<A: Allocator + Copy> Engine<A> {
     ghost use Rattle.pt_model.specs.Clients.{is_alive};
     ghost use Rattle.pt_lines.specs.Lines.{to_come, IsBegun};
     ghost use Rattle.pt_core.specs.Cores.{past};
-    ghost use Rattle.pt_script.specs.Scripts.{begun, core_of, number_named, join_for, event_for, event_of_body};
+    ghost use Rattle.pt_script.specs.Scripts.{begun, core_of, number_named, join_for, event_for};
+    ghost use Rattle.pt_script.specs.Scripts.{event_of_body};
     ghost use Rattle.pt_script.specs.Says.{Says, SaysOf};
     ghost use Rattle.pt_script.specs.Engines.{Adds, Answers, IsAnswered, client_for, known_by};
 

@@ -1,4 +1,5 @@
-ghost use Rattle.std.specs.Prelude.{◌≡◌, ◌<◌, ◌++◌, ◌^◌, ◌∷◌, [], suc, length, Some, None, IsSome, OnOk, OnErr, IfOk, IfErr};
+ghost use Rattle.std.specs.Prelude.{◌≡◌, ◌<◌, ◌++◌, ◌^◌, ◌∷◌, [], suc, length, Some, None, IsSome};
+ghost use Rattle.std.specs.Prelude.{OnOk, OnErr, IfOk, IfErr};
 ghost use Rattle.pt_script.specs.Names.{lines_in, row_of, IsRowRaised, IsRowGiven};
 
 use crate::fault::ScriptFault;
@@ -149,7 +150,8 @@ impl<A: Allocator + Copy> Counts<A> {
 }
 
 impl<A: Allocator + Copy> Names<A> {
-    ghost use Rattle.pt_script.specs.Scripts.{lines_of_who, number_named, number_of, clients_joined};
+    ghost use Rattle.pt_script.specs.Scripts.{lines_of_who, number_named, number_of};
+    ghost use Rattle.pt_script.specs.Scripts.{clients_joined};
 
     /// No client, and no line. It takes no memory.
     pub fn new(alloc: A) -> Names<A>

@@ -1,4 +1,5 @@
-ghost use Rattle.std.specs.Prelude.{◌≡◌, ◌<◌, ◌≤◌, ◌+◌, ◌-◌, ◌++◌, length, map, take, vec_len, vec_capacity, IsOk, OnOk, OnErr, IfOk, IfErr, Some};
+ghost use Rattle.std.specs.Prelude.{◌≡◌, ◌<◌, ◌≤◌, ◌+◌, ◌-◌, ◌++◌, length, map, take, vec_len};
+ghost use Rattle.std.specs.Prelude.{vec_capacity, IsOk, OnOk, OnErr, IfOk, IfErr, Some};
 ghost use Rattle.pt_lines.specs.Replies.{reply_line};
 ghost use Rattle.pt_core.specs.Replies.{told_of};
 ghost use Rattle.pt_script.specs.Engines.{latest_text};

@@ -21,7 +21,8 @@ use Rattle.pt_state.specs.Clocks.{AreClocks}
 use Rattle.pt_seal.specs.Copies.{call_start, client_start, object_start, readers_in}
 use Rattle.pt_seal.proofs.SealedClients.{sealed-client, sealed-latest, sealed-outcome}
 use Rattle.pt_seal.proofs.SealedCalls.{sealed-call, sealed-move}
-use Rattle.pt_seal.proofs.SealedObjects.{sealed-named, sealed-kind, sealed-count, sealed-consistency, sealed-writes}
+use Rattle.pt_seal.proofs.SealedObjects.{sealed-named, sealed-kind, sealed-count}
+use Rattle.pt_seal.proofs.SealedObjects.{sealed-consistency, sealed-writes}
 use Rattle.pt_seal.proofs.SealedReaders.{sealed-reads}
 
 -- Starts of which the same is read are the same

@@ -6,7 +6,8 @@ use Rattle.pt_table.specs.declared.objects.ObjectRow.{ObjectRow}
 use Rattle.pt_table.specs.ObjectRows.{object_value}
 use Rattle.pt_types.specs.Operations.{class_of, same_class}
 use Rattle.pt_types.specs.declared.operations.ObjectClass.{ObjectClass}
-use Rattle.pt_types.specs.declared.operations.ObjectClass.TheVariants.{Mutex as MutexClass, Rwlock as RwlockClass}
+use Rattle.pt_types.specs.declared.operations.ObjectClass.TheVariants.{Mutex as MutexClass}
+use Rattle.pt_types.specs.declared.operations.ObjectClass.TheVariants.{Rwlock as RwlockClass}
 use Rattle.pt_model.specs.Histories.{History, Begin}
 use Rattle.pt_model.specs.Objects.{kind_of, is_class}
 use Rattle.pt_model.specs.Answers.{open_calls}
@@ -15,7 +16,8 @@ use Rattle.pt_model.specs.Seals.{seal}
 use Rattle.pt_model.specs.Steps.{Follows}
 use Rattle.pt_model.specs.SealLaws.{Agree}
 use Rattle.pt_model.proofs.Seats.{move-sealed}
-use Rattle.pt_model.proofs.Agreeing.{seal_agrees, calls-sealed, mutex-alike, writer-alike, open-alike}
+use Rattle.pt_model.proofs.Agreeing.{seal_agrees, calls-sealed, mutex-alike, writer-alike}
+use Rattle.pt_model.proofs.Agreeing.{open-alike}
 use Rattle.pt_records.specs.declared.clients.Caller.{Caller}
 use Rattle.pt_records.specs.declared.objects.Object.{Object}
 use Rattle.pt_records.specs.declared.objects.Object.TheVariants.{Mutex, Rwlock}

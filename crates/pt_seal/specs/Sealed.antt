@@ -21,6 +21,13 @@ pub record Seals {A : Type 0} (old new : State A) : Type 0 where
   pub answers : vec_len new.answers ≡ 0
   pub held : vec_capacity new.answers ≡ vec_capacity old.answers
 
+-- nothing changed, but that there may be more memory for answers
+pub record StaysOrGrows {A : Type 0} (old new : State A) : Type 0 where
+  pub stored : new.stored ≡ old.stored
+  pub read : AreTables new
+  pub told : vec_len new.answers ≡ vec_len old.answers
+  pub held : vec_capacity old.answers ≤ vec_capacity new.answers
+
 -- the entries and the answers were put aside, and the history begins with the seal of what it was,
 -- with room and memory for so many entries and answers
 pub record SealsWithRoom {A : Type 0} (old new : State A) (n : ℕ) : Type 0 where

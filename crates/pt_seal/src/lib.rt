@@ -12,6 +12,6 @@ mod renewing;
 mod sealing;
 mod start;
 
-pub use renewing::{Unsealed, seal_with_room, unseal};
+pub use renewing::{Unsealed, seal_with_room, take_memory, unseal};
 pub use sealing::seal;
 pub use start::start_of;

@@ -10,7 +10,7 @@ ghost use Rattle.pt_history.specs.Stored.{past_of};
 ghost use Rattle.pt_records.specs.Logs.{log, logged};
 ghost use Rattle.pt_state.specs.Adds.{past};
 ghost use Rattle.pt_state.specs.Reads.{AreTables};
-ghost use Rattle.pt_seal.specs.Sealed.{SealsWithRoom};
+ghost use Rattle.pt_seal.specs.Sealed.{SealsWithRoom, StaysOrGrows};
 
 use crate::start::start_of;
 use pt_history::History;
@@ -92,4 +92,14 @@ pub fn unseal<A: Allocator + Copy>(state: &mut State<A>, unsealed: Unsealed<A>)
 {
     state.stored = unsealed.stored;
     state.answers = unsealed.answers;
+}
+
+/// Moves entries and answers into the memory of those that were put aside, and that are needed no
+/// more. So a seal gives no memory back that the history would soon ask for again.
+pub fn take_memory<A: Allocator + Copy>(state: &mut State<A>, unsealed: Unsealed<A>)
+    requires { AreTables state.old }
+    ensures { StaysOrGrows state.old state.new }
+{
+    state.stored.take_memory(unsealed.stored);
+    pt_history::take_memory(&mut state.answers, unsealed.answers);
 }

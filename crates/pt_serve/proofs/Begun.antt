@@ -1,6 +1,7 @@
 -- Texts that a writer took a front of.
 use Rattle.std.specs.Prelude.{Result, Ok, Err, OnErr}
-use Rattle.std.proofs.Common.{◌≡◌, ℕ, ◌≤◌, List, [], ◌∷◌, ◌++◌, length, take, drop, append-nil, append_assoc, sym, ap, refl, ◌∙◌}
+use Rattle.std.proofs.Common.{◌≡◌, ℕ, ◌≤◌, List, [], ◌∷◌, ◌++◌, length, take, drop, append-nil}
+use Rattle.std.proofs.Common.{append_assoc, sym, ap, refl, ◌∙◌}
 use Rattle.std.proofs.lemmas.List.{take-append-drop, take-append-le, drop-append-le}
 use Rattle.std.proofs.Math.Seq.{take-append_seam, drop-append_seam}
 use Rattle.pt_session.specs.Outputs.{IsCutShort}

@@ -1,5 +1,6 @@
 -- Clocks: when a server hands in what a clock shows.
-use Rattle.std.specs.Prelude.{ℕ, ◌≡◌, ◌⊎◌, ◌++◌, Bool, false, nat_le, List, [], ◌∷◌, Option, Some, None}
+use Rattle.std.specs.Prelude.{ℕ, ◌≡◌, ◌⊎◌, ◌++◌, Bool, false, nat_le, List, [], ◌∷◌, Option, Some}
+use Rattle.std.specs.Prelude.{None}
 use Rattle.pt_types.specs.declared.time.Clock.{Clock}
 use Rattle.pt_hub.specs.declared.pass.Tick.{Tick}
 

@@ -1,9 +1,11 @@
 -- Faults: how the program that serves ends by a fault, and what it reports.
 use Rattle.std.specs.Prelude.{ℕ, ◌++◌, List, [], ◌∷◌, codes, decimal}
 use Rattle.pt_hub.specs.declared.closing.CloseFault.{CloseFault}
-use Rattle.pt_hub.specs.declared.closing.CloseFault.TheVariants.{Missing, Forked, Memory as CloseMemory}
+use Rattle.pt_hub.specs.declared.closing.CloseFault.TheVariants.{Missing, Forked}
+use Rattle.pt_hub.specs.declared.closing.CloseFault.TheVariants.{Memory as CloseMemory}
 use Rattle.pt_serve.specs.declared.fault.ServeFault.{ServeFault}
-use Rattle.pt_serve.specs.declared.fault.ServeFault.TheVariants.{Bind, Accept, Thread, Write, Close, Memory}
+use Rattle.pt_serve.specs.declared.fault.ServeFault.TheVariants.{Bind, Accept, Thread, Write, Close}
+use Rattle.pt_serve.specs.declared.fault.ServeFault.TheVariants.{Memory}
 
 -- the exit status of a fault: 3 for one of a device, 4 if the history does not close, 5 for lack of
 -- memory  [profile]

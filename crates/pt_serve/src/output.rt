@@ -1,6 +1,7 @@
 //! What a server writes.
 
-ghost use Rattle.std.specs.Prelude.{◌≡◌, ◌<◌, ◌≤◌, ◌+◌, ◌-◌, ◌++◌, length, take, true, false, IsTrue, OnOk, OnErr, IfErr};
+ghost use Rattle.std.specs.Prelude.{◌≡◌, ◌<◌, ◌≤◌, ◌+◌, ◌-◌, ◌++◌, length, take, true, false};
+ghost use Rattle.std.specs.Prelude.{IsTrue, OnOk, OnErr, IfErr};
 ghost use Rattle.pt_session.specs.Outputs.{IsBroken, IsCutShort};
 ghost use Rattle.pt_serve.specs.Served.{closed_line, ready_line};
 ghost use Rattle.pt_serve.specs.Faults.{close_words, report_of, status_of, words_of};

@@ -1,5 +1,6 @@
 -- DealingLemmas: the client and the clock after one line more.
-use Rattle.std.proofs.Common.{◌≡◌, ℕ, Bool, true, false, List, [], ◌∷◌, ◌++◌, Option, Some, None, Result, Ok, Err, refl, sym, ap, ◌∙◌, subst, append_assoc, append-nil}
+use Rattle.std.proofs.Common.{◌≡◌, ℕ, Bool, true, false, List, [], ◌∷◌, ◌++◌, Option, Some, None}
+use Rattle.std.proofs.Common.{Result, Ok, Err, refl, sym, ap, ◌∙◌, subst, append_assoc, append-nil}
 use Rattle.std.specs.List.{flat_map}
 use Rattle.std.proofs.lemmas.Grind.{flat_map-append}
 use Rattle.pt_lines.specs.declared.call_line.CallLine.TheVariants.{Hello, Ask, Tick}
@@ -7,7 +8,10 @@ use Rattle.pt_lines.specs.declared.reply.Word.{Word}
 use Rattle.pt_lines.specs.declared.reply.Word.TheVariants.{Outcome, Refusal}
 use Rattle.pt_hub.specs.Passes.{PassView, ClockView}
 use Rattle.pt_session.specs.Readings.{Reading}
-use Rattle.pt_session.specs.Transcripts.{Exchange, Dealings, AreDealings, AreAnsweredBehind, IsPassOf, IsWordFor, all_answered, are_some, asked_by, asked_in, calls_of, has_joined, hello_by, hellos_in, moment_by, moments_in}
+use Rattle.pt_session.specs.Transcripts.{Exchange, Dealings, AreDealings, AreAnsweredBehind}
+use Rattle.pt_session.specs.Transcripts.{IsPassOf, IsWordFor, all_answered, are_some, asked_by}
+use Rattle.pt_session.specs.Transcripts.{asked_in, calls_of, has_joined, hello_by, hellos_in}
+use Rattle.pt_session.specs.Transcripts.{moment_by, moments_in}
 use Rattle.pt_session.specs.Steps.{Deals}
 
 -- an exchange of which there is none

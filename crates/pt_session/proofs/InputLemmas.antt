@@ -1,5 +1,7 @@
 -- InputLemmas: what is pushed of an input, piece by piece and line by line.
-use Rattle.std.proofs.Common.{◌≡◌, ℕ, ◌+◌, ◌<◌, ◌≤◌, Bool, true, false, List, [], ◌∷◌, ◌++◌, length, length-append, map, refl, sym, ap, ◌∙◌, subst, append_assoc, append-nil, ◌||◌, nat_lt, arith}
+use Rattle.std.proofs.Common.{◌≡◌, ℕ, ◌+◌, ◌<◌, ◌≤◌, Bool, true, false, List, [], ◌∷◌, ◌++◌, length}
+use Rattle.std.proofs.Common.{length-append, map, refl, sym, ap, ◌∙◌, subst, append_assoc}
+use Rattle.std.proofs.Common.{append-nil, ◌||◌, nat_lt, arith}
 use Rattle.std.specs.Prelude.{if◌then◌else◌}
 use mathlib.Core.List.{IsPrefix}
 use Rattle.pt_lines.specs.declared.cutter.Cut.{Cut}
@@ -7,8 +9,10 @@ use Rattle.pt_io.specs.Devices.{moves_none}
 use Rattle.pt_lines.specs.Lines.{Held, IsBegun, lines, lines_past_newline, to_come}
 use Rattle.pt_session.specs.declared.kinds.ClockMode.{ClockMode}
 use Rattle.pt_session.specs.declared.kinds.EndCause.{EndCause}
-use Rattle.pt_session.specs.declared.kinds.EndCause.TheVariants.{InputEnded, InputFailed, RingFull, WriteFailed, GateShut, Memory}
-use Rattle.pt_session.specs.Readings.{Reading, Intake, EndsBy, IsBehind, reading_of, readings, readings_of}
+use Rattle.pt_session.specs.declared.kinds.EndCause.TheVariants.{InputEnded, InputFailed, RingFull}
+use Rattle.pt_session.specs.declared.kinds.EndCause.TheVariants.{WriteFailed, GateShut, Memory}
+use Rattle.pt_session.specs.Readings.{Reading, Intake, EndsBy, IsBehind, reading_of, readings}
+use Rattle.pt_session.specs.Readings.{readings_of}
 use Rattle.pt_session.specs.Steps.{StopsPushing}
 
 fed_more : (held : Held) (piece more : List ℕ)

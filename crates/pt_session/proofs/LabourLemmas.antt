@@ -1,5 +1,7 @@
 -- LabourLemmas: what was submitted and written when a working side ends.
-use Rattle.std.proofs.Common.{◌≡◌, ℕ, suc, ◌+◌, Bool, true, false, List, [], ◌∷◌, ◌++◌, length, map, take, Option, Some, None, refl, sym, ap, ◌∙◌, subst, append_assoc, append-nil, length-append, arith}
+use Rattle.std.proofs.Common.{◌≡◌, ℕ, suc, ◌+◌, Bool, true, false, List, [], ◌∷◌, ◌++◌, length, map}
+use Rattle.std.proofs.Common.{take, Option, Some, None, refl, sym, ap, ◌∙◌, subst, append_assoc}
+use Rattle.std.proofs.Common.{append-nil, length-append, arith}
 use Rattle.std.specs.Prelude.{if◌then◌else◌}
 use Rattle.std.proofs.lemmas.List.{map-append}
 use Rattle.std.proofs.Math.ListN.{length-map}
@@ -7,10 +9,12 @@ use Rattle.std.proofs.Math.Seq.{take-append_seam}
 use mathlib.Core.List.{IsPrefix}
 use Rattle.pt_lines.specs.declared.reply.Word.{Word}
 use Rattle.pt_session.specs.Readings.{Reading}
-use Rattle.pt_session.specs.Transcripts.{Exchange, all_answered, answer_line, lines_of, text_from, text_of}
+use Rattle.pt_session.specs.Transcripts.{Exchange, all_answered, answer_line, lines_of, text_from}
+use Rattle.pt_session.specs.Transcripts.{text_of}
 use Rattle.pt_session.specs.Outputs.{Labour, Output, IsLabour, IsTextBegun, StopsBy, Works, labour}
 use Rattle.pt_session.specs.declared.kinds.EndCause.{EndCause}
-use Rattle.pt_session.specs.declared.kinds.EndCause.TheVariants.{InputEnded, InputFailed, RingFull, WriteFailed, GateShut, Memory}
+use Rattle.pt_session.specs.declared.kinds.EndCause.TheVariants.{InputEnded, InputFailed, RingFull}
+use Rattle.pt_session.specs.declared.kinds.EndCause.TheVariants.{WriteFailed, GateShut, Memory}
 use Rattle.pt_session.specs.Steps.{StopsWriting}
 
 -- one answer more, to line j

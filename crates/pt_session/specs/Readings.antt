@@ -1,5 +1,6 @@
 -- Readings: what is read of the lines of a connection, and how its reading ends.
-use Rattle.std.specs.Prelude.{ℕ, ◌≡◌, ◌⊎◌, ◌+◌, ◌<◌, ◌^◌, ◌++◌, Bool, true, false, List, [], length, map, Result, Ok, Err}
+use Rattle.std.specs.Prelude.{ℕ, ◌≡◌, ◌⊎◌, ◌+◌, ◌<◌, ◌^◌, ◌++◌, Bool, true, false, List, [], length}
+use Rattle.std.specs.Prelude.{map, Result, Ok, Err}
 use Rattle.pt_types.specs.declared.outcome.Refusal.{Refusal}
 use Rattle.pt_types.specs.declared.outcome.Refusal.TheVariants.{Syntax}
 use Rattle.pt_lines.specs.declared.call_line.CallLine.{CallLine}
@@ -10,7 +11,8 @@ use Rattle.pt_lines.specs.Reading.{call_of}
 use Rattle.pt_session.specs.declared.kinds.ClockMode.{ClockMode}
 use Rattle.pt_session.specs.declared.kinds.ClockMode.TheVariants.{Lines, System}
 use Rattle.pt_session.specs.declared.kinds.EndCause.{EndCause}
-use Rattle.pt_session.specs.declared.kinds.EndCause.TheVariants.{InputEnded, InputFailed, RingFull, WriteFailed, GateShut, Memory}
+use Rattle.pt_session.specs.declared.kinds.EndCause.TheVariants.{InputEnded, InputFailed, RingFull}
+use Rattle.pt_session.specs.declared.kinds.EndCause.TheVariants.{WriteFailed, GateShut, Memory}
 
 -- what was read of a line: what it says, or why it is not accepted
 abbrev pub Reading : Type 0

@@ -1,5 +1,6 @@
 -- Steps: what one line makes of a client and of a clock, and one piece of the input of the ring.
-use Rattle.std.specs.Prelude.{ℕ, ◌≡◌, ◌<◌, ◌++◌, List, [], ◌∷◌, length, map, Option, Some, None, Result, Ok, Err}
+use Rattle.std.specs.Prelude.{ℕ, ◌≡◌, ◌<◌, ◌++◌, List, [], ◌∷◌, length, map, Option, Some, None}
+use Rattle.std.specs.Prelude.{Result, Ok, Err}
 use mathlib.Core.List.{IsPrefix}
 use Rattle.pt_types.specs.declared.call.Call.{Call}
 use Rattle.pt_types.specs.declared.time.Clock.{Clock}
@@ -13,7 +14,8 @@ use Rattle.pt_hub.specs.declared.pass.Tick.{Tick as Reported}
 use Rattle.pt_hub.specs.Passes.{PassView, ClockView}
 use Rattle.pt_session.specs.declared.kinds.ClockMode.{ClockMode}
 use Rattle.pt_session.specs.declared.kinds.EndCause.{EndCause}
-use Rattle.pt_session.specs.declared.kinds.EndCause.TheVariants.{InputEnded, InputFailed, RingFull, WriteFailed, GateShut, Memory}
+use Rattle.pt_session.specs.declared.kinds.EndCause.TheVariants.{InputEnded, InputFailed, RingFull}
+use Rattle.pt_session.specs.declared.kinds.EndCause.TheVariants.{WriteFailed, GateShut, Memory}
 use Rattle.pt_session.specs.Readings.{Reading, readings_of}
 use Rattle.pt_session.specs.Transcripts.{IsOfEvent, calls_of}
 use Rattle.pt_session.specs.Outputs.{Output, BreaksOff, IsWritten}

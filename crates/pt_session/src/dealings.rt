@@ -44,7 +44,8 @@ pub(crate) struct Remains<L: Ledger> {
 
 impl<L: Ledger> Dealings<L> {
     ghost use Rattle.std.specs.Prelude.{◌≡◌, ◌++◌, ◌∷◌, [], true};
-    ghost use Rattle.pt_session.specs.Transcripts.{IsLeftOf, IsTranscript, all_answered, moments_in};
+    ghost use Rattle.pt_session.specs.Transcripts.{IsLeftOf, IsTranscript, all_answered};
+    ghost use Rattle.pt_session.specs.Transcripts.{moments_in};
 
     /// No line yet.
     pub fn new(clock: ClockPass<L>) -> Dealings<L>

@@ -1,6 +1,7 @@
 //! Writing an answer.
 
-ghost use Rattle.std.specs.Prelude.{◌≡◌, ◌<◌, ◌≤◌, ◌+◌, ◌-◌, ◌++◌, [], length, take, None, Some, true, false, IsTrue, IfSome, IfNone};
+ghost use Rattle.std.specs.Prelude.{◌≡◌, ◌<◌, ◌≤◌, ◌+◌, ◌-◌, ◌++◌, [], length, take, None, Some};
+ghost use Rattle.std.specs.Prelude.{true, false, IsTrue, IfSome, IfNone};
 ghost use Rattle.pt_lines.specs.Replies.{reply_line};
 ghost use Rattle.pt_session.specs.Outputs.{BreaksOff, IsBroken, IsCutShort, IsWritten, output};
 ghost use Rattle.pt_session.specs.Steps.{StopsWriting};

@@ -1,10 +1,12 @@
 //! The reading side: bytes in, readings into the ring.
 
-ghost use Rattle.std.specs.Prelude.{◌≡◌, ◌≤◌, ◌<◌, ◌+◌, ◌^◌, ◌++◌, ◌∷◌, [], ℕ, List, length, true, false, IsTrue, IfSome, IfNone};
+ghost use Rattle.std.specs.Prelude.{◌≡◌, ◌≤◌, ◌<◌, ◌+◌, ◌^◌, ◌++◌, ◌∷◌, [], ℕ, List, length, true};
+ghost use Rattle.std.specs.Prelude.{false, IsTrue, IfSome, IfNone};
 ghost use mathlib.Core.List.{IsPrefix};
 ghost use Rattle.rtrb.specs.Ring.{sent, SameProducer};
 ghost use Rattle.pt_lines.specs.Lines.{to_come, IsBegun};
-ghost use Rattle.pt_session.specs.Readings.{EndsBy, IsBehind, IsUnread, input, intake, reading_of, readings_of};
+ghost use Rattle.pt_session.specs.Readings.{EndsBy, IsBehind, IsUnread, input, intake, reading_of};
+ghost use Rattle.pt_session.specs.Readings.{readings_of};
 ghost use Rattle.pt_session.specs.Steps.{StopsPushing};
 
 use crate::ends::ReadEnd;
@@ -65,7 +67,8 @@ fn reading_of(mode: ClockMode, cut: &Cut) -> Reading
 }
 
 impl Pusher {
-    ghost use Rattle.std.specs.Prelude.{◌≡◌, ◌<◌, ◌^◌, ◌++◌, ◌∷◌, [], ℕ, List, length, false, IsTrue, IfSome, IfNone};
+    ghost use Rattle.std.specs.Prelude.{◌≡◌, ◌<◌, ◌^◌, ◌++◌, ◌∷◌, [], ℕ, List, length, false};
+    ghost use Rattle.std.specs.Prelude.{IsTrue, IfSome, IfNone};
     ghost use Rattle.rtrb.specs.Ring.{sent, SameProducer};
 
     // Waits until the ring has room, for a while; not if the working side waits for the answer to a

@@ -1,13 +1,15 @@
 //! What a client and a clock do under the lock.
 
-ghost use Rattle.std.specs.Prelude.{◌≡◌, ◌∷◌, ◌++◌, [], None, true, option_map, IfOk, IfErr, OnOk, OnErr, IfSome, IfNone};
+ghost use Rattle.std.specs.Prelude.{◌≡◌, ◌∷◌, ◌++◌, [], None, true, option_map, IfOk, IfErr, OnOk};
+ghost use Rattle.std.specs.Prelude.{OnErr, IfSome, IfNone};
 ghost use Rattle.pt_types.specs.Times.{deadline_nanos};
 ghost use Rattle.pt_model.specs.declared.entry.Event.TheVariants as event;
 ghost use Rattle.pt_model.specs.Queries.{least_deadline as least_deadline_in};
 ghost use Rattle.pt_model.specs.Room.{refusal_with_seals};
 ghost use Rattle.pt_core.specs.Cores.{past};
 ghost use Rattle.pt_hub.specs.Desks.{kept, IsRefusedAs, call_refusal};
-ghost use Rattle.pt_hub.specs.Hubs.{Joins, Leaves, Sends, Takes, Ticks, answered, has_ended, takeable};
+ghost use Rattle.pt_hub.specs.Hubs.{Joins, Leaves, Sends, Takes, Ticks, answered, has_ended};
+ghost use Rattle.pt_hub.specs.Hubs.{takeable};
 ghost use Rattle.pt_shared.specs.Asking.{Asks, asked_receipts};
 ghost use Rattle.pt_shared.specs.Stays.{Found, Made};
 

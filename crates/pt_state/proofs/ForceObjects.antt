@@ -1,12 +1,15 @@
 -- The rows of objects after a forced entry, and what the writes of its object ask.
-use Rattle.std.proofs.Common.{◌≡◌, ℕ, ◌+◌, true, false, List, Option, Some, None, IsSome, option_map, refl, sym, ap, ◌∙◌}
+use Rattle.std.proofs.Common.{◌≡◌, ℕ, ◌+◌, true, false, List, Option, Some, None, IsSome}
+use Rattle.std.proofs.Common.{option_map, refl, sym, ap, ◌∙◌}
 use Rattle.std.proofs.lemmas.Bool.{and_parts}
-use Rattle.pt_types.specs.declared.operations.ObjectClass.TheVariants.{Mutex as MutexClass, Rwlock as RwlockClass}
+use Rattle.pt_types.specs.declared.operations.ObjectClass.TheVariants.{Mutex as MutexClass}
+use Rattle.pt_types.specs.declared.operations.ObjectClass.TheVariants.{Rwlock as RwlockClass}
 use Rattle.pt_types.specs.MutexTable.{is_acquired}
 use Rattle.pt_types.specs.declared.call.ObjectKind.{ObjectKind}
 use Rattle.pt_types.specs.declared.call.ObjectKind.TheVariants as kind
 use Rattle.pt_mutex.specs.MutexState.{MutexState, can_acquire, acquired, yielded}
-use Rattle.pt_rwlock.specs.RwlockState.{RwlockState, reads_of, with_reads, can_acquire_read, nobody_holds, ChangesRow}
+use Rattle.pt_rwlock.specs.RwlockState.{RwlockState, reads_of, with_reads, can_acquire_read}
+use Rattle.pt_rwlock.specs.RwlockState.{nobody_holds, ChangesRow}
 use Rattle.pt_table.specs.declared.objects.ObjectRow.{ObjectRow}
 use Rattle.pt_table.specs.ObjectRows.{object_value}
 use Rattle.pt_model.specs.declared.entry.Entry.{Entry}
@@ -17,14 +20,16 @@ use Rattle.pt_model.specs.Objects.{is_class, kind_of, is_robust}
 use Rattle.pt_model.specs.declared.waiting_call.WaitingCall.{WaitingCall}
 use Rattle.pt_model.specs.declared.waiting_call.Move.{Move}
 use Rattle.pt_model.specs.declared.waiting_call.Role.{Role}
-use Rattle.pt_model.specs.declared.waiting_call.Role.TheVariants.{ForMutex, ForRead, ForWrite, ForBarrier, ForCond}
+use Rattle.pt_model.specs.declared.waiting_call.Role.TheVariants.{ForMutex, ForRead, ForWrite}
+use Rattle.pt_model.specs.declared.waiting_call.Role.TheVariants.{ForBarrier, ForCond}
 use Rattle.pt_model.specs.Answers.{open_calls}
 use Rattle.pt_model.specs.WaitingCall.{mutex_of}
 use Rattle.pt_model.specs.Moves.{moved}
 use Rattle.pt_model.specs.Grants.{grant_outcome}
 use Rattle.pt_model.specs.Forced.{is_dead_if, is_orphan}
 use Rattle.pt_model.specs.Mutexes.{owner}
-use Rattle.pt_model.specs.Steps.{Step, joins, calls, dies, ticks, grants, trips, yields, expires, Follows}
+use Rattle.pt_model.specs.Steps.{Step, joins, calls, dies, ticks, grants, trips, yields, expires}
+use Rattle.pt_model.specs.Steps.{Follows}
 use Rattle.pt_model.proofs.Seats.{exists_as, HousedBy, housed}
 use Rattle.pt_records.specs.declared.objects.Object.{Object}
 use Rattle.pt_records.specs.declared.objects.Object.TheVariants.{Mutex, Rwlock, Cond, Barrier}
@@ -35,7 +40,9 @@ use Rattle.pt_state.proofs.BoundCounts.{grant-can}
 use Rattle.pt_records.proofs.BoundReads.{read-acquire, write-acquire}
 use Rattle.pt_state.proofs.TableLemmas.{object_rows-kept, object_rows-written}
 use Rattle.pt_state.proofs.ObjectEntries.{object_rows-expire, object_rows-yield}
-use Rattle.pt_state.proofs.ObjectGrants.{after_grant, granted-may, object_rows-grant-mutex, object_rows-grant-lost, object_rows-grant-read, object_rows-grant-write}
+use Rattle.pt_state.proofs.ObjectGrants.{after_grant, granted-may, object_rows-grant-mutex}
+use Rattle.pt_state.proofs.ObjectGrants.{object_rows-grant-lost, object_rows-grant-read}
+use Rattle.pt_state.proofs.ObjectGrants.{object_rows-grant-write}
 
 -- a mutex that is taken from its owner is a robust one with a dead owner
 pub yielded-orphan : (h : History) (m : ℕ) → Step h (Yield m) → is_orphan h m ≡ true

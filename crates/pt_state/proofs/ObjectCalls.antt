@@ -1,5 +1,6 @@
 -- ObjectCalls: what is stored of all objects, after a call that changes none of them but a count.
-use Rattle.std.proofs.Common.{◌≡◌, ℕ, Bool, true, false, cond, ◌⊎◌, inl, inr, ◌==◌, ◌∷◌, [], Option, Some, is_some, refl, sym, ap, ◌∙◌, subst, arith}
+use Rattle.std.proofs.Common.{◌≡◌, ℕ, Bool, true, false, cond, ◌⊎◌, inl, inr, ◌==◌, ◌∷◌, [], Option}
+use Rattle.std.proofs.Common.{Some, is_some, refl, sym, ap, ◌∙◌, subst, arith}
 use Rattle.std.proofs.lemmas.Bool.Decides.{nat_tests}
 use Rattle.std.specs.Prelude.{unwrap_or}
 use Rattle.pt_types.specs.declared.call.Call.{Call as Asked}
@@ -10,23 +11,27 @@ use Rattle.pt_model.specs.Histories.{History, ◌▷◌, place}
 use Rattle.pt_model.specs.Objects.{kind_of}
 use Rattle.pt_model.specs.declared.waiting_call.WaitingCall.{WaitingCall}
 use Rattle.pt_model.specs.declared.waiting_call.Role.{Role}
-use Rattle.pt_model.specs.declared.waiting_call.Role.TheVariants.{ForMutex, ForRead, ForWrite, ForBarrier, ForCond}
+use Rattle.pt_model.specs.declared.waiting_call.Role.TheVariants.{ForMutex, ForRead, ForWrite}
+use Rattle.pt_model.specs.declared.waiting_call.Role.TheVariants.{ForBarrier, ForCond}
 use Rattle.pt_model.specs.Searches.{In}
 use Rattle.pt_model.specs.Answers.{open_calls}
 use Rattle.pt_model.specs.Mutexes.{consistency}
 use Rattle.pt_model.specs.Rwlocks.{writes, reads}
 use Rattle.pt_model.specs.Verdicts.{verdict}
 use Rattle.pt_model.specs.Steps.{Step, Follows}
-use Rattle.pt_model.proofs.Effects.{Effect, Idle, Creates, Removes, Relocks, Frees, Mends, Returns, Wakes, Waits, effect, Allowed}
+use Rattle.pt_model.proofs.Effects.{Effect, Idle, Creates, Removes, Relocks, Frees, Mends, Returns}
+use Rattle.pt_model.proofs.Effects.{Wakes, Waits, effect, Allowed}
 use Rattle.pt_model.proofs.Allowances.{allowed}
-use Rattle.pt_model.proofs.Changes.{left_by, kind_effect, takes_more, awaited, gives_up, mends, returns_it, resolved}
+use Rattle.pt_model.proofs.Changes.{left_by, kind_effect, takes_more, awaited, gives_up, mends}
+use Rattle.pt_model.proofs.Changes.{returns_it, resolved}
 use Rattle.pt_model.proofs.Readings.{kind-call, consistency-call, writes-call, reads-call}
 use Rattle.pt_model.proofs.Opens.{was_open}
 use Rattle.pt_model.proofs.Counts.{Balanced-follows, count-call}
 use Rattle.pt_records.specs.declared.objects.Object.{Object}
 use Rattle.pt_records.specs.declared.objects.Object.TheVariants.{Rwlock}
 use Rattle.pt_records.specs.Objects.{ObjectsLook}
-use Rattle.pt_state.proofs.OneObject.{HasRows, OldReaders, Quiet, object_rows-still, object_rows-quiet, object_rows-one, rwlock-changed}
+use Rattle.pt_state.proofs.OneObject.{HasRows, OldReaders, Quiet, object_rows-still}
+use Rattle.pt_state.proofs.OneObject.{object_rows-quiet, object_rows-one, rwlock-changed}
 use Rattle.pt_state.proofs.ObjectEntries.{quiet-parts, old-readers}
 
 -- the effect of a client's call with its own answer

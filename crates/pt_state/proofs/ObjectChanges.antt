@@ -1,5 +1,6 @@
 -- ObjectChanges: what is stored of all objects, after a call that changes one of them.
-use Rattle.std.proofs.Common.{◌≡◌, ℕ, suc, ◌+◌, ◌-◌, ◌<◌, Bool, true, false, cond, ◌==◌, nat_lt, inl, inr, List, Option, Some, None, refl, sym, ap, ◌∙◌, subst, arith}
+use Rattle.std.proofs.Common.{◌≡◌, ℕ, suc, ◌+◌, ◌-◌, ◌<◌, Bool, true, false, cond, ◌==◌, nat_lt}
+use Rattle.std.proofs.Common.{inl, inr, List, Option, Some, None, refl, sym, ap, ◌∙◌, subst, arith}
 use Rattle.std.proofs.lemmas.Bool.Decides.{nat_tests}
 use Rattle.std.proofs.lemmas.Bool.{ltb-true}
 use Rattle.pt_types.specs.declared.call.Call.{Call as Asked}
@@ -20,9 +21,11 @@ use Rattle.pt_model.specs.Verdicts.{verdict}
 use Rattle.pt_model.specs.Steps.{Step, Follows}
 use Rattle.pt_model.proofs.Effects.{Effect, Removes, Relocks, Frees, Mends, Waits, owning}
 use Rattle.pt_model.proofs.Allowances.{allowed}
-use Rattle.pt_model.proofs.Changes.{left_by, kind_effect, takes_more, awaited, gives_up, mends, resolved}
+use Rattle.pt_model.proofs.Changes.{left_by, kind_effect, takes_more, awaited, gives_up, mends}
+use Rattle.pt_model.proofs.Changes.{resolved}
 use Rattle.pt_model.proofs.Readings.{kind-call, consistency-call}
-use Rattle.pt_model.proofs.Counts.{Balanced-follows, owning-owner, owning-has, gives_up-owns, not_both, count-call}
+use Rattle.pt_model.proofs.Counts.{Balanced-follows, owning-owner, owning-has, gives_up-owns}
+use Rattle.pt_model.proofs.Counts.{not_both, count-call}
 use Rattle.pt_model.proofs.Owners.{takes_owns}
 use Rattle.pt_model.proofs.Holders.{owner-call}
 use Rattle.pt_records.specs.declared.objects.Object.{Object}

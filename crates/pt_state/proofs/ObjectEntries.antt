@@ -1,11 +1,13 @@
 -- ObjectEntries: what is stored of all objects, after each entry but calls and grants.
-use Rattle.std.proofs.Common.{◌≡◌, ℕ, suc, true, cond, ◌⊎◌, inl, inr, ◌==◌, nat_lt, Option, Some, None, refl, ap, ◌∙◌, arith}
+use Rattle.std.proofs.Common.{◌≡◌, ℕ, suc, true, cond, ◌⊎◌, inl, inr, ◌==◌, nat_lt, Option, Some}
+use Rattle.std.proofs.Common.{None, refl, ap, ◌∙◌, arith}
 use Rattle.std.proofs.lemmas.Bool.Decides.{nat_tests}
 use Rattle.pt_types.specs.MutexTable.{after_yield}
 use Rattle.pt_mutex.specs.MutexState.{MutexState, yielded}
 use Rattle.pt_types.specs.declared.time.Clock.{Clock}
 use Rattle.pt_model.specs.declared.entry.Entry.{Entry}
-use Rattle.pt_model.specs.declared.entry.Entry.TheVariants.{Join, Death, Moment, Trip, Yield, Expire}
+use Rattle.pt_model.specs.declared.entry.Entry.TheVariants.{Join, Death, Moment, Trip, Yield}
+use Rattle.pt_model.specs.declared.entry.Entry.TheVariants.{Expire}
 use Rattle.pt_model.specs.Histories.{History, ◌▷◌, place}
 use Rattle.pt_model.specs.Objects.{kind_of}
 use Rattle.pt_model.specs.declared.waiting_call.WaitingCall.{WaitingCall}
@@ -23,7 +25,8 @@ use Rattle.pt_model.proofs.Holders.{owner-same, owner-yield}
 use Rattle.pt_records.specs.declared.objects.Object.{Object}
 use Rattle.pt_records.specs.declared.objects.Object.TheVariants.{Mutex}
 use Rattle.pt_records.specs.Objects.{ObjectsLook}
-use Rattle.pt_state.proofs.OneObject.{OldReaders, Quiet, view-same, object_rows-quiet, object_rows-one, mutex-changed}
+use Rattle.pt_state.proofs.OneObject.{OldReaders, Quiet, view-same, object_rows-quiet}
+use Rattle.pt_state.proofs.OneObject.{object_rows-one, mutex-changed}
 
 -- an entry that changes no client's write lock leaves it to its writer
 pub writer-same : (h : History) (e : Entry) (r : ℕ) → Follows h

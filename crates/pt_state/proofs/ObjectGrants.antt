@@ -1,5 +1,6 @@
 -- ObjectGrants: what is stored of all objects, after a Grant.
-use Rattle.std.proofs.Common.{◌≡◌, ℕ, suc, ◌+◌, Bool, true, false, cond, ◌&&◌, ◌==◌, nat_lt, Option, Some, None, is_none, refl, sym, ap, ◌∙◌, arith}
+use Rattle.std.proofs.Common.{◌≡◌, ℕ, suc, ◌+◌, Bool, true, false, cond, ◌&&◌, ◌==◌, nat_lt, Option}
+use Rattle.std.proofs.Common.{Some, None, is_none, refl, sym, ap, ◌∙◌, arith}
 use Rattle.std.proofs.lemmas.Bool.Decides.{nat_tests}
 use Rattle.pt_types.specs.MutexTable.{is_number, is_acquired}
 use Rattle.pt_mutex.specs.MutexState.{MutexState, acquired}
@@ -9,7 +10,8 @@ use Rattle.pt_model.specs.Histories.{History, ◌▷◌}
 use Rattle.pt_model.specs.Objects.{kind_of}
 use Rattle.pt_model.specs.declared.waiting_call.WaitingCall.{WaitingCall}
 use Rattle.pt_model.specs.declared.waiting_call.Role.{Role}
-use Rattle.pt_model.specs.declared.waiting_call.Role.TheVariants.{ForMutex, ForRead, ForWrite, ForBarrier, ForCond}
+use Rattle.pt_model.specs.declared.waiting_call.Role.TheVariants.{ForMutex, ForRead, ForWrite}
+use Rattle.pt_model.specs.declared.waiting_call.Role.TheVariants.{ForBarrier, ForCond}
 use Rattle.pt_model.specs.Searches.{In}
 use Rattle.pt_model.specs.WaitingCall.{mutex_of}
 use Rattle.pt_model.specs.Answers.{open_calls}
@@ -27,7 +29,8 @@ use Rattle.pt_model.proofs.Rwlocks.{writes-grant, reads-grant, writes-writer}
 use Rattle.pt_records.specs.declared.objects.Object.{Object}
 use Rattle.pt_records.specs.declared.objects.Object.TheVariants.{Mutex, Rwlock}
 use Rattle.pt_records.specs.Objects.{IsRwlock, ObjectsLook}
-use Rattle.pt_state.proofs.OneObject.{OldReaders, Quiet, object_rows-quiet, object_rows-one, mutex-changed, rwlock-changed}
+use Rattle.pt_state.proofs.OneObject.{OldReaders, Quiet, object_rows-quiet, object_rows-one}
+use Rattle.pt_state.proofs.OneObject.{mutex-changed, rwlock-changed}
 use Rattle.pt_state.proofs.ObjectEntries.{writer-same, quiet-parts, old-readers}
 use Rattle.pt_state.proofs.ObjectCalls.{reads-changed, rows-changed}
 use Rattle.pt_state.proofs.ObjectChanges.{view-parts}

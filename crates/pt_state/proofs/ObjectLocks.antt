@@ -1,5 +1,6 @@
 -- ObjectLocks: what is stored of all objects, after a call that makes one or gives back a lock.
-use Rattle.std.proofs.Common.{◌≡◌, ℕ, suc, ◌-◌, ◌<◌, Bool, true, false, cond, ◌==◌, List, Option, Some, None, refl, sym, ap, ◌∙◌, subst, arith}
+use Rattle.std.proofs.Common.{◌≡◌, ℕ, suc, ◌-◌, ◌<◌, Bool, true, false, cond, ◌==◌, List, Option}
+use Rattle.std.proofs.Common.{Some, None, refl, sym, ap, ◌∙◌, subst, arith}
 use Rattle.std.proofs.lemmas.Bool.Decides.{nat_tests}
 use Rattle.pt_types.specs.declared.call.Call.{Call as Asked}
 use Rattle.pt_types.specs.declared.call.MutexKind.{MutexKind}
@@ -9,7 +10,8 @@ use Rattle.pt_types.specs.declared.outcome.Consistency.TheVariants.{Consistent}
 use Rattle.pt_types.specs.Tables.{reply}
 use Rattle.pt_types.specs.MutexTable.{is_number}
 use Rattle.pt_mutex.specs.MutexState.{MutexState, made as made_mutex}
-use Rattle.pt_rwlock.specs.RwlockState.{RwlockState, reads_of, released, ChangesRow, made as made_rwlock}
+use Rattle.pt_rwlock.specs.RwlockState.{RwlockState, reads_of, released, ChangesRow}
+use Rattle.pt_rwlock.specs.RwlockState.{made as made_rwlock}
 use Rattle.pt_model.specs.declared.entry.Entry.TheVariants.{Call}
 use Rattle.pt_model.specs.Histories.{History, place}
 use Rattle.pt_model.specs.Objects.{kind_of}
@@ -34,7 +36,8 @@ use Rattle.pt_model.proofs.Holders.{owner-call}
 use Rattle.pt_records.specs.declared.objects.Object.{Object}
 use Rattle.pt_records.specs.declared.objects.Object.TheVariants.{Mutex, Rwlock, Cond, Barrier}
 use Rattle.pt_records.specs.Objects.{IsRwlock, IsNew, ObjectsLook}
-use Rattle.pt_state.proofs.OneObject.{number-is, OldReaders, IsKept, kept-mutex, kept-rwlock, rwlock-changed}
+use Rattle.pt_state.proofs.OneObject.{number-is, OldReaders, IsKept, kept-mutex, kept-rwlock}
+use Rattle.pt_state.proofs.OneObject.{rwlock-changed}
 use Rattle.pt_state.proofs.ObjectEntries.{writer-same}
 use Rattle.pt_state.proofs.ObjectUnmade.{unmade-all, writer-unmade, lock-below}
 use Rattle.pt_state.proofs.ObjectCalls.{does, behind, call-readers, reads-changed, rows-changed}

@@ -1,5 +1,6 @@
 -- ObjectUnmade: what is read off of objects that aren't made yet.
-use Rattle.std.proofs.Common.{◌≡◌, ℕ, ◌<◌, ◌≤◌, Bool, true, false, cond, ◌&&◌, ◌==◌, Option, Some, None, refl, sym, ap, ◌∙◌, arith}
+use Rattle.std.proofs.Common.{◌≡◌, ℕ, ◌<◌, ◌≤◌, Bool, true, false, cond, ◌&&◌, ◌==◌, Option, Some}
+use Rattle.std.proofs.Common.{None, refl, sym, ap, ◌∙◌, arith}
 use Rattle.std.proofs.lemmas.Bool.Decides.{nat_tests}
 use Rattle.std.proofs.lemmas.Bool.{and_parts, false≢true}
 use Rattle.pt_types.specs.declared.outcome.Consistency.TheVariants.{Consistent}
@@ -10,20 +11,24 @@ use Rattle.pt_model.specs.Histories.{History, ◌▷◌, place}
 use Rattle.pt_model.specs.Objects.{kind_of, is_robust}
 use Rattle.pt_model.specs.declared.waiting_call.Move.{Move}
 use Rattle.pt_model.specs.declared.waiting_call.Role.{Role}
-use Rattle.pt_model.specs.declared.waiting_call.Role.TheVariants.{ForMutex, ForRead, ForWrite, ForBarrier, ForCond}
+use Rattle.pt_model.specs.declared.waiting_call.Role.TheVariants.{ForMutex, ForRead, ForWrite}
+use Rattle.pt_model.specs.declared.waiting_call.Role.TheVariants.{ForBarrier, ForCond}
 use Rattle.pt_model.specs.Moves.{moved}
 use Rattle.pt_model.specs.Mutexes.{owner, consistency}
-use Rattle.pt_model.specs.Rwlocks.{reads_there, writes_there, read_given_back, writes, reads, writer}
+use Rattle.pt_model.specs.Rwlocks.{reads_there, writes_there, read_given_back, writes, reads}
+use Rattle.pt_model.specs.Rwlocks.{writer}
 use Rattle.pt_model.specs.Forced.{is_dead_if}
 use Rattle.pt_model.specs.Grants.{grant_outcome}
 use Rattle.pt_model.specs.Verdicts.{verdict}
-use Rattle.pt_model.specs.Steps.{Step, joins, calls, dies, ticks, grants, trips, yields, expires, Follows}
+use Rattle.pt_model.specs.Steps.{Step, joins, calls, dies, ticks, grants, trips, yields, expires}
+use Rattle.pt_model.specs.Steps.{Follows}
 use Rattle.pt_types.specs.declared.outcome.Consistency.{Consistency}
 use Rattle.pt_model.specs.Seals.{is_mutex, is_rwlock}
 use Rattle.pt_model.proofs.Induction.{by_steps, kept_false, kept_zero}
 use Rattle.pt_model.proofs.Lists.{false_by}
 use Rattle.pt_model.proofs.Leasts.{first_below-nowhere}
-use Rattle.pt_model.proofs.Effects.{Effect, Idle, Creates, Removes, Relocks, Frees, Mends, Returns, Wakes, Waits, effect, owning, Allowed}
+use Rattle.pt_model.proofs.Effects.{Effect, Idle, Creates, Removes, Relocks, Frees, Mends, Returns}
+use Rattle.pt_model.proofs.Effects.{Wakes, Waits, effect, owning, Allowed}
 use Rattle.pt_model.proofs.Allowances.{allowed}
 use Rattle.pt_model.proofs.Changes.{gives_up, mends, returns_it, resolved}
 use Rattle.pt_model.proofs.Readings.{consistency-call, writes-call, reads-call}

@@ -1,5 +1,6 @@
 -- The objects after a call that is left waiting.
-use Rattle.std.proofs.Common.{◌≡◌, ℕ, ◌==◌, true, List, Option, Some, None, is_some, refl, sym, ap, ◌∙◌, subst, arith}
+use Rattle.std.proofs.Common.{◌≡◌, ℕ, ◌==◌, true, List, Option, Some, None, is_some, refl, sym, ap}
+use Rattle.std.proofs.Common.{◌∙◌, subst, arith}
 use Rattle.std.proofs.lemmas.Bool.Decides.{nat_tests}
 use Rattle.pt_types.specs.declared.call.Call.{Call as Asked}
 use Rattle.pt_types.specs.declared.outcome.Outcome.{Outcome}
@@ -12,7 +13,8 @@ use Rattle.pt_rwlock.specs.RwlockState.{RwlockState, row_of, reads_of, with_row,
 use Rattle.pt_model.specs.declared.entry.Entry.TheVariants.{Call}
 use Rattle.pt_model.specs.Histories.{History, ◌▷◌, place}
 use Rattle.pt_model.specs.declared.waiting_call.Role.{Role}
-use Rattle.pt_model.specs.declared.waiting_call.Role.TheVariants.{ForMutex, ForRead, ForWrite, ForBarrier, ForCond}
+use Rattle.pt_model.specs.declared.waiting_call.Role.TheVariants.{ForMutex, ForRead, ForWrite}
+use Rattle.pt_model.specs.declared.waiting_call.Role.TheVariants.{ForBarrier, ForCond}
 use Rattle.pt_model.specs.Verdicts.{verdict}
 use Rattle.pt_model.proofs.Effects.{Seated}
 use Rattle.pt_records.specs.Chained.{KeepsChains}
@@ -28,7 +30,8 @@ use Rattle.pt_state.specs.Left.{only_stands, IsLeft}
 use Rattle.pt_records.proofs.Chaining.{chained-written}
 use Rattle.pt_state.proofs.JudgeLemmas.{found-mutex, found-rwlock}
 use Rattle.pt_state.proofs.TableLemmas.{object_rows-kept, object_rows-written}
-use Rattle.pt_state.proofs.ObjectCalls.{is_plain, is_idle, object_rows-idle, object_rows-read, object_rows-row}
+use Rattle.pt_state.proofs.ObjectCalls.{is_plain, is_idle, object_rows-idle, object_rows-read}
+use Rattle.pt_state.proofs.ObjectCalls.{object_rows-row}
 use Rattle.pt_state.proofs.ObjectChanges.{object_rows-awaits}
 use Rattle.pt_state.proofs.OneObject.{object_rows-one, kept-at, IsKept}
 use Rattle.pt_state.proofs.StandLemmas.{unanswered, step-told, does-waits, seated}

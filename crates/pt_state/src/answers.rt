@@ -12,7 +12,7 @@ ghost use Rattle.pt_state.specs.Adds.{past};
 
 use crate::state::State;
 use pt_records::Open;
-use pt_records::answers::{Answered, answered_since, outcome_since, tell};
+use pt_records::answers::{Answered, answered_since, outcome_since, recent_outcome, tell};
 use pt_records::calls::close;
 use pt_types::{ClientId, Outcome};
 use std::alloc::Allocator;
@@ -46,6 +46,17 @@ impl<A: Allocator + Copy> State<A> {
         ensures { result ≡ said (past self.now) place }
     {
         match outcome_since(self.answers.as_slice(), place) {
+            Some(outcome) => Some(outcome),
+            None => self.stored.start().answer_at(place),
+        }
+    }
+
+    /// The answer to the call at a place, which is looked for from the end.  [XSH, the call's page]
+    pub fn recent_outcome(&self, place: u64) -> Option<Outcome>
+        requires { AreTables self.now }
+        ensures { result ≡ said (past self.now) place }
+    {
+        match recent_outcome(self.answers.as_slice(), place) {
             Some(outcome) => Some(outcome),
             None => self.stored.start().answer_at(place),
         }

@@ -4,7 +4,9 @@ ghost use Rattle.std.specs.Prelude.{IfSome, Some, ◌&&◌, ◌||◌, ◌≡◌,
 ghost use Rattle.std.specs.List.{list_any};
 ghost use Rattle.pt_model.specs.Histories.{place};
 ghost use Rattle.pt_model.specs.Answers.{open_calls};
-ghost use Rattle.pt_model.specs.Verdicts.{is_alive_if as is_alive_if_in, on, operation_verdict as said_of, will_return as will_return_in};
+ghost use Rattle.pt_model.specs.Verdicts.{is_alive_if as is_alive_if_in, on};
+ghost use Rattle.pt_model.specs.Verdicts.{operation_verdict as said_of};
+ghost use Rattle.pt_model.specs.Verdicts.{will_return as will_return_in};
 ghost use Rattle.pt_state.specs.Reads.{AreTables};
 ghost use Rattle.pt_types.specs.declared.outcome.Outcome.TheVariants as told;
 ghost use Rattle.pt_types.specs.Operations.{Acquires, Restores, Unlocks, class_of, operation};

@@ -2,7 +2,8 @@
 
 ghost use Rattle.std.specs.Prelude.{IfErr, IfSome, None, OnErr, OnOk, Some, ◌<◌, ◌≡◌, option_map};
 ghost use Rattle.pt_model.specs.Objects.{find as find_in, kind_of, objects};
-ghost use Rattle.pt_model.specs.Rwlocks.{is_held_alive as is_held_alive_in, rwlock_view as rwlock_seen};
+ghost use Rattle.pt_model.specs.Rwlocks.{is_held_alive as is_held_alive_in};
+ghost use Rattle.pt_model.specs.Rwlocks.{rwlock_view as rwlock_seen};
 ghost use Rattle.pt_state.specs.Reads.{AreTables};
 ghost use Rattle.pt_types.specs.declared.outcome.Outcome.TheVariants as told;
 ghost use Rattle.pt_types.specs.Operations.{Acquires, Rwunlocks, operation};

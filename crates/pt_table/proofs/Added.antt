@@ -1,5 +1,6 @@
 -- Adding a row: a new row in a vacant slot is the last one that is listed.
-use Rattle.std.proofs.Common.{◌≡◌, ◌≢◌, ◌<◌, ◌∙◌, ℕ, cond, nat_eq, List, [], ◌∷◌, ◌++◌, length, ap, sym, arith, Option, None, Some, inl, inr, length-append}
+use Rattle.std.proofs.Common.{◌≡◌, ◌≢◌, ◌<◌, ◌∙◌, ℕ, cond, nat_eq, List, [], ◌∷◌, ◌++◌, length, ap}
+use Rattle.std.proofs.Common.{sym, arith, Option, None, Some, inl, inr, length-append}
 use Rattle.std.specs.List.{cons_option}
 use Rattle.std.specs.Option.{option_map}
 use Rattle.std.specs.Map.{lookup}
@@ -7,7 +8,8 @@ use Rattle.std.proofs.lemmas.Bool.{eq-eqb}
 use Rattle.std.proofs.lemmas.Bool.Decides.{eqb_tells}
 use Rattle.pt_table.specs.Rows.{row_at}
 use Rattle.pt_table.specs.Slots.{row_in_slot, number_in, rows_listed, Listed, IsNumbered}
-use Rattle.pt_table.proofs.Lookups.{some_inj, none_some, lookup-append_some, lookup-append_none, Distinct-append}
+use Rattle.pt_table.proofs.Lookups.{some_inj, none_some, lookup-append_some, lookup-append_none}
+use Rattle.pt_table.proofs.Lookups.{Distinct-append}
 use Rattle.pt_table.proofs.Listed.{first_row, number_free, count_listed}
 
 module _ {R : Type 0} {number : R → ℕ} {slots : List (Option R)} {numbers : List (ℕ × ℕ)}

@@ -1,12 +1,15 @@
 -- For callers: chains and rows, as rows are linked, and as they are written, added or taken out.
-use Rattle.std.proofs.Common.{◌≡◌, ◌∙◌, ℕ, Bool, true, false, cond, not, nat_eq, List, [], ◌∷◌, Option, Some, None, is_some, refl, sym, ap, subst, arith, true≢false}
+use Rattle.std.proofs.Common.{◌≡◌, ◌∙◌, ℕ, Bool, true, false, cond, not, nat_eq, List, [], ◌∷◌}
+use Rattle.std.proofs.Common.{Option, Some, None, is_some, refl, sym, ap, subst, arith, true≢false}
 use Rattle.std.specs.Option.{option_map, option_and_then}
 use Rattle.std.proofs.lemmas.Bool.{eqb-true}
 use Rattle.std.proofs.lemmas.Bool.Decides.{nat_tests}
 use Rattle.pt_table.specs.declared.link.Link.{Link}
 use Rattle.pt_table.specs.declared.objects.ObjectRow.{ObjectRow}
-use Rattle.pt_table.specs.ObjectRows.{object_at, object_value, link_of, has_object, with_object, and_object, without_object, out_of_chains}
-use Rattle.pt_table.specs.Linked.{is_linked, next_number, number_before, linked_by, unlinked, but_number, IsChain, IsOneOf, IsRising}
+use Rattle.pt_table.specs.ObjectRows.{object_at, object_value, link_of, has_object, with_object}
+use Rattle.pt_table.specs.ObjectRows.{and_object, without_object, out_of_chains}
+use Rattle.pt_table.specs.Linked.{is_linked, next_number, number_before, linked_by, unlinked}
+use Rattle.pt_table.specs.Linked.{but_number, IsChain, IsOneOf, IsRising}
 use Rattle.pt_table.proofs.Members.{rising-but}
 use Rattle.pt_table.proofs.Chained.{same-list, all-linked, Leads-agree}
 

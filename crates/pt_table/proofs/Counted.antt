@@ -1,9 +1,12 @@
 -- How long a chain is: at most as long as there are rows.
-use Rattle.std.proofs.Common.{◌≡◌, ◌≤◌, ◌+◌, ◌∙◌, ℕ, Bool, true, false, cond, not, nat_eq, List, [], ◌∷◌, length, Option, Some, None, is_some, refl, sym, ap, subst, inl, inr, arith, true≢false}
+use Rattle.std.proofs.Common.{◌≡◌, ◌≤◌, ◌+◌, ◌∙◌, ℕ, Bool, true, false, cond, not, nat_eq, List, []}
+use Rattle.std.proofs.Common.{◌∷◌, length, Option, Some, None, is_some, refl, sym, ap, subst, inl}
+use Rattle.std.proofs.Common.{inr, arith, true≢false}
 use Rattle.std.proofs.lemmas.Bool.{eqb-true}
 use Rattle.pt_table.specs.declared.objects.ObjectRow.{ObjectRow}
 use Rattle.pt_table.specs.ObjectRows.{object_at, has_object}
-use Rattle.pt_table.specs.Linked.{IsOneOf, but_number, Leads, IsChain, is_linked, next_number, number_before}
+use Rattle.pt_table.specs.Linked.{IsOneOf, but_number, Leads, IsChain, is_linked, next_number}
+use Rattle.pt_table.specs.Linked.{number_before}
 use Rattle.pt_table.proofs.Lookups.{turned}
 use Rattle.pt_table.proofs.Links.{linked-there}
 use Rattle.pt_table.proofs.Chained.{all-linked, but-none, but-there}

@@ -1,11 +1,14 @@
 -- Drained: a chain whose rows are taken out one by one, from its head on.
-use Rattle.std.proofs.Common.{◌≡◌, ◌∙◌, ◌<◌, ◌≤◌, ◌+◌, ◌&&◌, ℕ, suc, Bool, true, false, not, nat_eq, List, [], ◌∷◌, ◌++◌, length, take, Option, Some, None, refl, sym, ap, subst, inl, inr, arith}
+use Rattle.std.proofs.Common.{◌≡◌, ◌∙◌, ◌<◌, ◌≤◌, ◌+◌, ◌&&◌, ℕ, suc, Bool, true, false, not, nat_eq}
+use Rattle.std.proofs.Common.{List, [], ◌∷◌, ◌++◌, length, take, Option, Some, None, refl, sym, ap}
+use Rattle.std.proofs.Common.{subst, inl, inr, arith}
 use Rattle.std.proofs.Math.ListN.{set}
 use Rattle.std.proofs.Math.Seq.{take-suc-set}
 use Rattle.std.proofs.lemmas.List.{append-nil, append_assoc, length-append}
 use Rattle.std.proofs.lemmas.Bool.{eq-eqb}
 use Rattle.pt_table.specs.declared.objects.ObjectRow.{ObjectRow}
-use Rattle.pt_table.specs.Linked.{is_linked, next_number, number_before, but_number, unlinked, AreApart, IsChain, IsOneOf, KeepsOthers}
+use Rattle.pt_table.specs.Linked.{is_linked, next_number, number_before, but_number, unlinked}
+use Rattle.pt_table.specs.Linked.{AreApart, IsChain, IsOneOf, KeepsOthers}
 use Rattle.pt_table.proofs.Lookups.{some_inj, none_some}
 use Rattle.pt_table.proofs.Chained.{differs, but-first, same-list}
 use Rattle.pt_table.proofs.Members.{in-left, in-right, in-either}

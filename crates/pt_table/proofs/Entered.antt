@@ -1,7 +1,9 @@
 -- A number put first in a chain: what leads to what before, and then.
-use Rattle.std.proofs.Common.{◌≡◌, ◌∙◌, ℕ, Bool, true, false, cond, nat_eq, List, ◌∷◌, Option, Some, None, refl, sym, ap, subst}
+use Rattle.std.proofs.Common.{◌≡◌, ◌∙◌, ℕ, Bool, true, false, cond, nat_eq, List, ◌∷◌, Option, Some}
+use Rattle.std.proofs.Common.{None, refl, sym, ap, subst}
 use Rattle.pt_table.specs.Linked.{IsOneOf, AreApart, is_number, Leads}
-use Rattle.pt_table.proofs.Chained.{differs, same, other, own, head-listed, all-linked, not-listed, Agrees, Leads-agree, Leads-under}
+use Rattle.pt_table.proofs.Chained.{differs, same, other, own, head-listed, all-linked, not-listed}
+use Rattle.pt_table.proofs.Chained.{Agrees, Leads-agree, Leads-under}
 
 -- the head of a chain is linked, whichever row is linked beside it
 pub head-linked : (nx bf : ℕ → Option ℕ) (lk : ℕ → Bool) (number : ℕ) (h : Option ℕ)

@@ -1,10 +1,12 @@
 -- Gathered: a chain that is made of rising numbers, the last one first.
-use Rattle.std.proofs.Common.{◌≡◌, ◌∙◌, ◌||◌, ℕ, true, false, nat_eq, List, [], ◌∷◌, ◌++◌, Option, Some, None, refl, sym, ap, subst, inl, inr, arith, true≢false}
+use Rattle.std.proofs.Common.{◌≡◌, ◌∙◌, ◌||◌, ℕ, true, false, nat_eq, List, [], ◌∷◌, ◌++◌, Option}
+use Rattle.std.proofs.Common.{Some, None, refl, sym, ap, subst, inl, inr, arith, true≢false}
 use Rattle.std.proofs.lemmas.List.{append-nil, append_assoc}
 use Rattle.std.proofs.lemmas.Bool.Decides.{nat_tests}
 use Rattle.pt_table.specs.declared.objects.ObjectRow.{ObjectRow}
 use Rattle.pt_table.specs.ObjectRows.{has_object}
-use Rattle.pt_table.specs.Linked.{is_linked, next_number, number_before, unlinked, IsChain, IsOneOf, IsRising, KeepsOthers}
+use Rattle.pt_table.specs.Linked.{is_linked, next_number, number_before, unlinked, IsChain, IsOneOf}
+use Rattle.pt_table.specs.Linked.{IsRising, KeepsOthers}
 use Rattle.pt_table.proofs.Chained.{differs, all-linked}
 use Rattle.pt_table.proofs.ChainCallers.{same-has}
 use Rattle.pt_table.proofs.Members.{in-left, in-right, less-than-last}

@@ -1,12 +1,15 @@
 -- The rows that are listed: a look-up by number goes through the listed slots.
-use Rattle.std.proofs.Common.{◌≡◌, ◌<◌, ◌+◌, ◌∙◌, ℕ, zero, suc, Bool, true, false, cond, nat_eq, List, [], ◌∷◌, length, refl, ap, sym, subst, arith, Option, None, Some, add-one, is_some, IsSome}
+use Rattle.std.proofs.Common.{◌≡◌, ◌<◌, ◌+◌, ◌∙◌, ℕ, zero, suc, Bool, true, false, cond, nat_eq}
+use Rattle.std.proofs.Common.{List, [], ◌∷◌, length, refl, ap, sym, subst, arith, Option, None}
+use Rattle.std.proofs.Common.{Some, add-one, is_some, IsSome}
 use Rattle.std.specs.Prelude.{slice_get}
 use Rattle.std.specs.List.{cons_option}
 use Rattle.std.specs.Option.{option_map, option_and_then}
 use Rattle.std.specs.Map.{lookup}
 use Rattle.std.proofs.lemmas.Bool.{eqb-true}
 use Rattle.pt_table.specs.Rows.{row_at}
-use Rattle.pt_table.specs.Slots.{row_in_slot, row_in_any, number_in, rows_listed, Listed, IsNumbered}
+use Rattle.pt_table.specs.Slots.{row_in_slot, row_in_any, number_in, rows_listed, Listed}
+use Rattle.pt_table.specs.Slots.{IsNumbered}
 use Rattle.pt_table.proofs.Lookups.{some_inj, none_some}
 
 -- a slot with a number has a row

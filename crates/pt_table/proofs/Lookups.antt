@@ -1,5 +1,8 @@
 -- Look-ups in lists of entries, and what an added or a removed entry changes in them.
-use Rattle.std.proofs.Common.{◌≡◌, ◌≤◌, ◌∙◌, ℕ, Bool, true, false, cond, nat_eq, List, [], ◌∷◌, ◌++◌, length, refl, ap, sym, arith, Option, None, Some, true≢false, is_some, inl, inr}
+use Rattle.std.proofs.Common.{◌≡◌, ◌≤◌, ◌∙◌, ℕ, zero, suc, Bool, true, false, cond, nat_eq, List}
+use Rattle.std.proofs.Common.{[], ◌∷◌, ◌++◌, length, refl, ap, sym, arith, Option, None, Some}
+use Rattle.std.proofs.Common.{true≢false, is_some, inl, inr}
+use Rattle.std.specs.Prelude.{slice_get}
 use Rattle.std.specs.Map.{lookup, remove_entry}
 use Rattle.std.proofs.lemmas.Bool.{eqb-true, eq-eqb}
 use Rattle.std.proofs.lemmas.Bool.Decides.{eqb_tells}
@@ -21,6 +24,21 @@ turned m n h =
       | inl s ↦ absurd (true≢false (sym (eq-eqb m n (sym s.1)) ∙ h))
       | inr a ↦ a.0
     ]
+
+-- a number that is listed at an index is found
+pub lookup-nth : (es : List (ℕ × ℕ)) (i n s : ℕ) → slice_get es i ≡ Some (n, s)
+    → is_some (lookup (nat_eq n) es) ≡ true
+lookup-nth [] i n s at = cc
+lookup-nth (e ∷ es) zero n s at =
+    let same : e ≡ (n, s) = some_inj at in
+    let own : nat_eq n e.0 ≡ true = eq-eqb n e.0 (sym (ap (λ (x : ℕ × ℕ). x.0) same)) in
+    rw own refl
+lookup-nth (e ∷ es) (suc i) n s at = by (nat_eq n e.0) (lookup-nth es i n s at)
+  where
+    by : (b : Bool) → is_some (lookup (nat_eq n) es) ≡ true
+        → is_some (cond b (Some e.1) (lookup (nat_eq n) es)) ≡ true
+    by true there = refl
+    by false there = there
 
 module _ {K : Type 0} (test : K → Bool) where
   pub lookup_none-parts : (e : K × ℕ) (es : List (K × ℕ)) → lookup test (e ∷ es) ≡ None

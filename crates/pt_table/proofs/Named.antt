@@ -1,5 +1,7 @@
 -- The names of the listed rows: a look-up by name goes through the slots of the names.
-use Rattle.std.proofs.Common.{◌≡◌, ◌≢◌, ◌∙◌, ℕ, Bool, true, false, cond, nat_eq, List, [], ◌∷◌, ◌++◌, refl, ap, sym, Option, None, Some, true≢false, inl, inr, ◌||◌, is_some}
+use Rattle.std.proofs.Common.{◌≡◌, ◌≢◌, ◌∙◌, ℕ, Bool, true, false, cond, nat_eq, List, [], ◌∷◌}
+use Rattle.std.proofs.Common.{◌++◌, refl, ap, sym, Option, None, Some, true≢false, inl, inr, ◌||◌}
+use Rattle.std.proofs.Common.{is_some}
 use Rattle.std.proofs.Math.ListN.{set}
 use Rattle.std.specs.List.{cons_option}
 use Rattle.std.specs.Option.{option_map, option_and_then}
@@ -11,7 +13,8 @@ use Rattle.pt_table.specs.declared.objects.ObjectRow.{ObjectRow}
 use Rattle.pt_table.specs.ObjectRows.{object_at, object_named, has_object, is_taken}
 use Rattle.pt_table.specs.Slots.{row_in_slot, rows_listed, Listed, IsNumbered}
 use Rattle.pt_table.specs.NameSlots.{name_in, IsNamed}
-use Rattle.pt_table.proofs.Lookups.{some_inj, none_some, none_of, lookup-append_some, lookup-append_none}
+use Rattle.pt_table.proofs.Lookups.{some_inj, none_some, none_of, lookup-append_some}
+use Rattle.pt_table.proofs.Lookups.{lookup-append_none}
 use Rattle.pt_table.proofs.Listed.{first_row}
 use Rattle.pt_table.proofs.Written.{same_in}
 use Rattle.pt_table.proofs.Removed.{kept, other_slot}

@@ -1,9 +1,11 @@
 -- Where a number is listed, and what is left once it is added or taken out.
-use Rattle.std.proofs.Common.{◌≡◌, ◌∙◌, ℕ, Bool, true, false, cond, nat_eq, List, [], ◌∷◌, ◌++◌, refl, ap, sym, Option, None, Some}
+use Rattle.std.proofs.Common.{◌≡◌, ◌∙◌, ℕ, Bool, true, false, cond, nat_eq, List, [], ◌∷◌, ◌++◌}
+use Rattle.std.proofs.Common.{refl, ap, sym, Option, None, Some}
 use Rattle.std.specs.Map.{lookup, remove_entry}
 use Rattle.std.proofs.lemmas.Bool.{eqb-true}
 use Rattle.pt_table.specs.Slots.{Distinct, AreNumbers}
-use Rattle.pt_table.proofs.Lookups.{turned, lookup-append_some, lookup-append_none, lookup-remove_other, Distinct-append, Distinct-remove}
+use Rattle.pt_table.proofs.Lookups.{turned, lookup-append_some, lookup-append_none}
+use Rattle.pt_table.proofs.Lookups.{lookup-remove_other, Distinct-append, Distinct-remove}
 
 taken_out : (n : ℕ) (es : List (ℕ × ℕ)) → Distinct es
     → lookup (nat_eq n) (remove_entry (nat_eq n) es) ≡ None

@@ -1,5 +1,7 @@
 -- Taking a row out: its slot is empty, and its number is no longer listed.
-use Rattle.std.proofs.Common.{◌≡◌, ◌≢◌, ◌∙◌, ℕ, Bool, true, false, cond, nat_eq, List, [], ◌∷◌, refl, ap, sym, arith, Option, None, Some, true≢false, inl, inr, not, get_or-set_same, get_or-set_other}
+use Rattle.std.proofs.Common.{◌≡◌, ◌≢◌, ◌∙◌, ℕ, Bool, true, false, cond, nat_eq, List, [], ◌∷◌}
+use Rattle.std.proofs.Common.{refl, ap, sym, arith, Option, None, Some, true≢false, inl, inr, not}
+use Rattle.std.proofs.Common.{get_or-set_same, get_or-set_other}
 use Rattle.std.proofs.Math.ListN.{set}
 use Rattle.std.specs.List.{cons_option}
 use Rattle.std.specs.Option.{option_map}
@@ -8,7 +10,8 @@ use Rattle.std.proofs.lemmas.Bool.{eqb-true, eq-eqb}
 use Rattle.std.proofs.lemmas.Bool.Decides.{eqb_tells}
 use Rattle.pt_table.specs.Rows.{row_at, without}
 use Rattle.pt_table.specs.Slots.{row_in_slot, number_in, rows_listed, Distinct, Listed, IsNumbered}
-use Rattle.pt_table.proofs.Lookups.{some_inj, none_some, lookup_none-parts, lookup-remove_other, Distinct-remove, length-remove}
+use Rattle.pt_table.proofs.Lookups.{some_inj, none_some, lookup_none-parts, lookup-remove_other}
+use Rattle.pt_table.proofs.Lookups.{Distinct-remove, length-remove}
 use Rattle.pt_table.proofs.Listed.{first_row, slot_within, number_there, row_there, row_absent}
 
 module _ {R : Type 0} {number : R → ℕ} {slots : List (Option R)} {numbers : List (ℕ × ℕ)}

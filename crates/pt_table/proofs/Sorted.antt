@@ -1,11 +1,13 @@
 -- Sorted: a chain whose numbers are taken apart, sorted, and linked again.
-use Rattle.std.proofs.Common.{◌≡◌, ◌∙◌, ◌<◌, ◌≤◌, ◌-◌, ℕ, suc, List, [], ◌∷◌, ◌++◌, length, take, Option, None, refl, sym, ap, subst, inl, inr, arith}
+use Rattle.std.proofs.Common.{◌≡◌, ◌∙◌, ◌<◌, ◌≤◌, ◌-◌, ℕ, suc, List, [], ◌∷◌, ◌++◌, length, take}
+use Rattle.std.proofs.Common.{Option, None, refl, sym, ap, subst, inl, inr, arith}
 use Rattle.std.specs.Prelude.{slice_index_or, IsPermutation}
 use Rattle.std.specs.List.Sorted.{IsNonDecreasing}
 use Rattle.std.proofs.Math.Seq.{take-suc}
 use Rattle.std.proofs.lemmas.List.Sorted.{IsPermutation-sym}
 use Rattle.pt_table.specs.declared.objects.ObjectRow.{ObjectRow}
-use Rattle.pt_table.specs.Linked.{is_linked, next_number, number_before, IsChain, IsOneOf, IsRising, IsSortedTo}
+use Rattle.pt_table.specs.Linked.{is_linked, next_number, number_before, IsChain, IsOneOf, IsRising}
+use Rattle.pt_table.specs.Linked.{IsSortedTo}
 use Rattle.pt_table.proofs.Chained.{all-linked, same-list}
 use Rattle.pt_table.proofs.Counted.{once-chain, chain-fits}
 use Rattle.pt_table.proofs.Members.{in-or-out, members, sorted-rises}

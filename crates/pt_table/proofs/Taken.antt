@@ -1,8 +1,11 @@
 -- A number taken out of a chain: what leads to what before, and then.
-use Rattle.std.proofs.Common.{◌≡◌, ◌∙◌, ℕ, Bool, false, cond, nat_eq, List, [], ◌∷◌, Option, Some, None, sym, ap, subst, inl, inr}
+use Rattle.std.proofs.Common.{◌≡◌, ◌∙◌, ℕ, Bool, false, cond, nat_eq, List, [], ◌∷◌, Option, Some}
+use Rattle.std.proofs.Common.{None, sym, ap, subst, inl, inr}
 use Rattle.pt_table.specs.Linked.{IsOneOf, AreApart, but_number, is_number, Leads}
 use Rattle.pt_table.proofs.Lookups.{some_inj, none_some}
-use Rattle.pt_table.proofs.Chained.{differs, other, own, but-other, but-first, but-there, head-listed, next-listed, before-listed, Agrees, Leads-agree, Leads-under}
+use Rattle.pt_table.proofs.Chained.{differs, other, own, but-other, but-first, but-there}
+use Rattle.pt_table.proofs.Chained.{head-listed, next-listed, before-listed, Agrees, Leads-agree}
+use Rattle.pt_table.proofs.Chained.{Leads-under}
 
 module _ (nx bf : ℕ → Option ℕ) (lk : ℕ → Bool) (nx' bf' : ℕ → Option ℕ) (lk' : ℕ → Bool)
     (number : ℕ)

@@ -1,5 +1,6 @@
 -- Walked: a chain that is followed some steps from its head.
-use Rattle.std.proofs.Common.{◌≡◌, ◌+◌, ◌≤◌, ◌∙◌, ℕ, List, [], ◌∷◌, length, Option, Some, None, sym, subst, arith}
+use Rattle.std.proofs.Common.{◌≡◌, ◌+◌, ◌≤◌, ◌∙◌, ℕ, List, [], ◌∷◌, length, Option, Some, None, sym}
+use Rattle.std.proofs.Common.{subst, arith}
 use Rattle.pt_table.specs.declared.objects.ObjectRow.{ObjectRow}
 use Rattle.pt_table.specs.Linked.{is_linked, next_number, number_before, IsChain, Leads}
 use Rattle.pt_table.proofs.Lookups.{some_inj, none_some}

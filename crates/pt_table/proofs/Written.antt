@@ -1,5 +1,7 @@
 -- Changing a row in its slot, where the row keeps its number.
-use Rattle.std.proofs.Common.{◌≡◌, ◌≢◌, ◌∙◌, ℕ, true, false, nat_eq, List, [], ◌∷◌, refl, ap, sym, Option, None, Some, ◌⊎◌, inl, inr, get_or-set_same, get_or-set_other, if◌then◌else◌}
+use Rattle.std.proofs.Common.{◌≡◌, ◌≢◌, ◌∙◌, ℕ, true, false, nat_eq, List, [], ◌∷◌, refl, ap, sym}
+use Rattle.std.proofs.Common.{Option, None, Some, ◌⊎◌, inl, inr, get_or-set_same, get_or-set_other}
+use Rattle.std.proofs.Common.{if◌then◌else◌}
 use Rattle.std.proofs.Math.ListN.{set}
 use Rattle.std.specs.List.{cons_option}
 use Rattle.std.specs.Option.{option_map}

@@ -1,8 +1,11 @@
 //! Chains of objects, linked in both directions, whose links are in the rows.
 
-ghost use Rattle.std.specs.Prelude.{◌≡◌, ◌||◌, ◌&&◌, ◌∷◌, ℕ, List, Some, None, true, false, not, nat_eq, if◌then◌else◌};
+ghost use Rattle.std.specs.Prelude.{◌≡◌, ◌||◌, ◌&&◌, ◌∷◌, ℕ, List, Some, None, true, false, not};
+ghost use Rattle.std.specs.Prelude.{nat_eq, if◌then◌else◌};
 ghost use Rattle.pt_table.specs.ObjectRows.{has_object};
-ghost use Rattle.pt_table.specs.Linked.{next_number, number_before, is_linked, is_number, but_number, unlinked, HasChain, IsChain, IsInChain, IsLinkedIf, KeepsOthers};
+ghost use Rattle.pt_table.specs.Linked.{next_number, number_before, is_linked, is_number};
+ghost use Rattle.pt_table.specs.Linked.{but_number, unlinked, HasChain, IsChain, IsInChain};
+ghost use Rattle.pt_table.specs.Linked.{IsLinkedIf, KeepsOthers};
 
 use crate::link::Link;
 use crate::objects::Objects;

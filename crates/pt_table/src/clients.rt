@@ -1,8 +1,10 @@
-ghost use Rattle.std.specs.Prelude.{◌≡◌, ◌↔◌, ◌≤◌, [], Some, IsSome, IfErr, OnOk, OnErr, IsTrue, is_some, length, nat_eq, slice_get};
+ghost use Rattle.std.specs.Prelude.{◌≡◌, ◌↔◌, ◌≤◌, [], Some, IsSome, IfErr, OnOk, OnErr, IsTrue};
+ghost use Rattle.std.specs.Prelude.{is_some, length, nat_eq, slice_get};
 ghost use Rattle.std.specs.Option.{option_map, option_copied, option_copied_mut};
 ghost use Rattle.std.specs.Borrow.{sem};
 ghost use Rattle.pt_types.specs.Limits.{most_clients};
-ghost use Rattle.pt_table.specs.ClientRows.{client_at, client_value, has_client, nth_number, nth_value, and_client, without_client, IsFullFor};
+ghost use Rattle.pt_table.specs.ClientRows.{client_at, client_value, has_client, nth_number};
+ghost use Rattle.pt_table.specs.ClientRows.{nth_value, and_client, without_client, IsFullFor};
 ghost use Rattle.pt_table.specs.Faults.{IsFault};
 ghost use Rattle.pt_table.specs.Slots.{row_in_slot, HasRow, IsNumbered};
 ghost use Rattle.std.specs.Map.{lookup};
@@ -138,6 +140,16 @@ impl<T, A: Allocator + Copy> Clients<T, A> {
         self.numbers.get(number)
     }
 
+    // The slot of a client's row, if there is such a client. It is looked for at this index first.
+    fn slot_by_index(&self, index: usize, number: u64) -> Option<usize>
+        ensures { is_some result ≡ has_client self.now number }
+    {
+        match self.numbers.get_index(index) {
+            Some((listed, slot)) if listed == number => Some(slot),
+            _ => self.slot_if(number),
+        }
+    }
+
     // The value of a client, whose row is looked for in this slot first.
     fn value_mut(&mut self, slot: usize, number: u64) -> &mut T
         requires { IsSome (client_at self.old number) }
@@ -156,6 +168,18 @@ impl<T, A: Allocator + Copy> Clients<T, A> {
         ensures value { option_copied_mut result ≡ client_value self.old number }
     {
         match self.slot_if(number) {
+            Some(slot) => Some(self.value_mut(slot, number)),
+            None => None,
+        }
+    }
+
+    /// The value of the client with this number, to be changed. The client is looked for at this
+    /// index first, and need not be there.
+    pub fn at_mut_near(&mut self, index: usize, number: u64) -> Option<&mut T>
+        ensures* lends { sem 𝓛 (lends_if_at T.row A.row A.Allocator self.entry number result) }
+        ensures value { option_copied_mut result ≡ client_value self.old number }
+    {
+        match self.slot_by_index(index, number) {
             Some(slot) => Some(self.value_mut(slot, number)),
             None => None,
         }

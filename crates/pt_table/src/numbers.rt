@@ -1,6 +1,8 @@
 //! The numbers of the rows, and the slot of each row.
 
-ghost use Rattle.std.specs.Prelude.{◌≡◌, ◌<◌, ◌==◌, ◌+◌, ◌&&◌, ◌++◌, [], ◌∷◌, is_some, None, IsSome, IfNone, IfSome, Some, OnOk, OnSome, length, vec_len, nat_eq, slice_get};
+ghost use Rattle.std.specs.Prelude.{◌≡◌, ◌<◌, ◌==◌, ◌+◌, ◌&&◌, ◌++◌, [], ◌∷◌, is_some, None};
+ghost use Rattle.std.specs.Prelude.{IsSome, IfNone, IfSome, Some, OnOk, OnSome, length, vec_len};
+ghost use Rattle.std.specs.Prelude.{nat_eq, slice_get};
 ghost use Rattle.std.specs.Option.{option_and_then};
 ghost use Rattle.std.specs.Map.{lookup};
 ghost use Rattle.pt_table.specs.Slots.{left_of, with_slot, without_number, Distinct, IsLeftAt};

@@ -1,4 +1,5 @@
-ghost use Rattle.std.specs.Prelude.{◌≡◌, ◌↔◌, ◌≤◌, ◌<◌, ◌++◌, [], ◌∷◌, Some, None, IsSome, IfSome, IfErr, OnOk, OnErr, IsTrue, is_some, nat_eq, length, slice_get};
+ghost use Rattle.std.specs.Prelude.{◌≡◌, ◌↔◌, ◌≤◌, ◌<◌, ◌++◌, [], ◌∷◌, Some, None, IsSome, IfSome};
+ghost use Rattle.std.specs.Prelude.{IfErr, OnOk, OnErr, IsTrue, is_some, nat_eq, length, slice_get};
 ghost use Rattle.std.specs.Option.{option_map, option_copied, option_copied_mut};
 ghost use Rattle.std.specs.Borrow.{sem};
 ghost use Rattle.std.specs.Map.{lookup};
@@ -7,7 +8,9 @@ ghost use Rattle.indexmap.specs.IndexMap.{spare};
 ghost use Rattle.pt_types.specs.Limits.{most_objects};
 ghost use Rattle.pt_types.specs.Names.{same_name};
 ghost use Rattle.pt_table.specs.Faults.{IsFault};
-ghost use Rattle.pt_table.specs.ObjectRows.{object_at, object_value, link_of, has_object, number_of, is_taken, nth_number, nth_value, and_object, with_link, without_object, IsFullFor};
+ghost use Rattle.pt_table.specs.ObjectRows.{object_at, object_value, link_of, has_object};
+ghost use Rattle.pt_table.specs.ObjectRows.{number_of, is_taken, nth_number, nth_value, and_object};
+ghost use Rattle.pt_table.specs.ObjectRows.{with_link, without_object, IsFullFor};
 ghost use Rattle.pt_table.specs.Slots.{row_in_slot, HasRow, IsNumbered, SameBut};
 ghost use Rattle.pt_table.specs.NameSlots.{IsForgotten};
 

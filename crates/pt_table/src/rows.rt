@@ -1,9 +1,11 @@
 // Rows in a slab, and where each number's row lies there.
-ghost use Rattle.std.specs.Prelude.{◌≡◌, ◌<◌, ◌++◌, [], ◌∷◌, Some, None, IsSome, IfSome, IfNone, OnOk, OnSome, nat_eq};
+ghost use Rattle.std.specs.Prelude.{◌≡◌, ◌<◌, ◌++◌, [], ◌∷◌, Some, None, IsSome, IfSome, IfNone};
+ghost use Rattle.std.specs.Prelude.{OnOk, OnSome, nat_eq};
 ghost use Rattle.std.specs.Option.{option_copied};
 ghost use Rattle.std.specs.Map.{lookup};
 ghost use Rattle.slab.specs.Slab.{HasRoomFor};
-ghost use Rattle.pt_table.specs.Slots.{row_in_slot, row_in_any, nth_listed, without_number, HasRow, HasRowIfListed, SameBut, Leaves};
+ghost use Rattle.pt_table.specs.Slots.{row_in_slot, row_in_any, nth_listed, without_number, HasRow};
+ghost use Rattle.pt_table.specs.Slots.{HasRowIfListed, SameBut, Leaves};
 
 use crate::numbers::Numbers;
 use slab::Slab;

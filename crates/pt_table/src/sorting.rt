@@ -1,10 +1,12 @@
 //! Putting a chain in rising order. It takes no memory.
 
 ghost use Rattle.std.specs.Bool.{OnTrue};
-ghost use Rattle.std.specs.Prelude.{◌≡◌, ◌≤◌, ℕ, List, Option, true, false, length, take, IsPermutation};
+ghost use Rattle.std.specs.Prelude.{◌≡◌, ◌≤◌, ℕ, List, Option, true, false, length, take};
+ghost use Rattle.std.specs.Prelude.{IsPermutation};
 ghost use Rattle.std.specs.List.Sorted.{IsNonDecreasing};
 ghost use Rattle.pt_table.specs.ObjectRows.{has_object};
-ghost use Rattle.pt_table.specs.Linked.{is_linked, unlinked, HasChain, IsAtMost, IsChain, IsOneOf, IsRising, IsSortedTo, KeepsOthers};
+ghost use Rattle.pt_table.specs.Linked.{is_linked, unlinked, HasChain, IsAtMost, IsChain, IsOneOf};
+ghost use Rattle.pt_table.specs.Linked.{IsRising, IsSortedTo, KeepsOthers};
 
 use crate::objects::Objects;
 use pt_types::MOST_OBJECTS;

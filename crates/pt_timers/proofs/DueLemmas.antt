@@ -1,11 +1,13 @@
 -- The sooner of the deadlines that are due by the one clock and by the other.
-use Rattle.std.proofs.Common.{◌≡◌, ℕ, Bool, true, false, cond, List, Option, Some, None, refl, arith}
+use Rattle.std.proofs.Common.{◌≡◌, ℕ, Bool, true, false, cond, List, Option, Some, None, refl}
+use Rattle.std.proofs.Common.{arith}
 use Rattle.std.proofs.lemmas.Bool.Decides.{nat_tests}
 use Rattle.pt_types.specs.declared.time.Clock.{Clock}
 use Rattle.pt_types.specs.declared.time.Clock.TheVariants.{Real, Mono}
 use Rattle.pt_types.specs.Times.{pair_before}
 use Rattle.pt_timers.specs.declared.key.TimerKey.{TimerKey}
-use Rattle.pt_timers.specs.Deadlines.{deadline_at, moments, is_reached, pair_of, sooner_of, IsFirstDue, IsLeastDue}
+use Rattle.pt_timers.specs.Deadlines.{deadline_at, moments, is_reached, pair_of, sooner_of}
+use Rattle.pt_timers.specs.Deadlines.{IsFirstDue, IsLeastDue}
 
 -- the order by deadline, then place
 before-asymmetric : (a b : ℕ × ℕ) → pair_before a b ≡ true → pair_before b a ≡ false

@@ -1,5 +1,6 @@
 -- The first deadline in the order of a clock.
-use Rattle.std.proofs.Common.{rules, ◌≡◌, ℕ, ◌<◌, ◌≤◌, true, false, List, [], ◌∷◌, Option, Some, None, length, refl, sym, ap, ◌∙◌, subst, arith}
+use Rattle.std.proofs.Common.{rules, ◌≡◌, ℕ, ◌<◌, ◌≤◌, true, false, List, [], ◌∷◌, Option, Some}
+use Rattle.std.proofs.Common.{None, length, refl, sym, ap, ◌∙◌, subst, arith}
 use Rattle.std.proofs.lemmas.Bool.{false≢true}
 use Rattle.std.proofs.lemmas.Bool.Decides.{nat_tests}
 use Rattle.std.specs.Prelude.{IsSome}
@@ -9,7 +10,8 @@ use Rattle.std.specs.BTreeMap.{BTreeMap, is_at, btree_map_len, IsLowerBound}
 use Rattle.pt_types.specs.declared.time.Clock.{Clock}
 use Rattle.pt_types.specs.Times.{Timespec, pair_before}
 use Rattle.pt_timers.specs.declared.key.TimerKey.{TimerKey}
-use Rattle.pt_timers.specs.Deadlines.{deadline_at, pair_of, key_cmp, in_order, AreTimers, IsFirstDue, IsLeast}
+use Rattle.pt_timers.specs.Deadlines.{deadline_at, pair_of, key_cmp, in_order, AreTimers}
+use Rattle.pt_timers.specs.Deadlines.{IsFirstDue, IsLeast}
 
 -- what isn't above a key isn't before it
 not-before : (a b : TimerKey) → is_gt (key_cmp a b) ≡ false

@@ -32,7 +32,8 @@ impl<A: Allocator + Copy> Model for Timers<A> {
 impl<A: Allocator + Copy> Timers<A> {
     ghost use Rattle.std.specs.Prelude.{ℕ, false, OnOk, OnErr, IfErr, if◌then◌else◌, Some, None};
     ghost use Rattle.pt_types.specs.Times.{deadline_nanos, is_bad_deadline};
-    ghost use Rattle.pt_timers.specs.Deadlines.{deadline_at, moments, IsFirstDue, IsLeastDue, IsLeast};
+    ghost use Rattle.pt_timers.specs.Deadlines.{deadline_at, moments, IsFirstDue, IsLeastDue};
+    ghost use Rattle.pt_timers.specs.Deadlines.{IsLeast};
 
     /// No deadline. It takes no memory.
     pub fn new(alloc: A) -> Self

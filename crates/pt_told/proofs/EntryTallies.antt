@@ -1,11 +1,15 @@
 -- What each entry adds to a client's answers and takes from its open call.
-use Rattle.std.proofs.Common.{◌≡◌, ℕ, ◌+◌, ◌==◌, Bool, true, false, not, cond, ◌||◌, List, [], ◌∷◌, ◌++◌, length, length-append, append_assoc, Option, Some, None, is_some, refl, sym, ap, ◌∙◌, arith, filter}
+use Rattle.std.proofs.Common.{◌≡◌, ℕ, ◌+◌, ◌==◌, Bool, true, false, not, cond, ◌||◌, List, [], ◌∷◌}
+use Rattle.std.proofs.Common.{◌++◌, length, length-append, append_assoc, Option, Some, None}
+use Rattle.std.proofs.Common.{is_some, refl, sym, ap, ◌∙◌, arith, filter}
 use Rattle.std.proofs.lemmas.Bool.Decides.{nat_tests}
 use Rattle.std.proofs.lemmas.List.Elements.{filter-append}
 use Rattle.pt_types.specs.declared.call.Call.{Call as Asked}
 use Rattle.pt_types.specs.declared.outcome.Outcome.{Outcome}
 use Rattle.pt_types.specs.declared.outcome.Outcome.TheVariants.{Etimedout}
-use Rattle.pt_types.specs.Operations.{Operation, Makes, Ends, Acquires, Unlocks, Restores, Rwunlocks, Awaits, Signals, Broadcasts, Arrives, operation, clock_of}
+use Rattle.pt_types.specs.Operations.{Operation, Makes, Ends, Acquires, Unlocks, Restores}
+use Rattle.pt_types.specs.Operations.{Rwunlocks, Awaits, Signals, Broadcasts, Arrives, operation}
+use Rattle.pt_types.specs.Operations.{clock_of}
 use Rattle.pt_types.specs.declared.time.Clock.{Clock}
 use Rattle.pt_types.specs.Tables.{reply}
 use Rattle.pt_model.specs.declared.entry.Entry.{Entry}
@@ -16,20 +20,24 @@ use Rattle.pt_model.specs.declared.waiting_call.WaitingCall.{WaitingCall}
 use Rattle.pt_model.specs.Histories.{History, ◌▷◌, place, onto}
 use Rattle.pt_model.specs.Clients.{client, is_alive}
 use Rattle.pt_model.specs.WaitingCall.{stood_by, stood_by_operation, is_wait}
-use Rattle.pt_model.specs.Answers.{at_barrier, told_by_expiry, open_calls, told, replies_from, replies_to}
+use Rattle.pt_model.specs.Answers.{at_barrier, told_by_expiry, open_calls, told, replies_from}
+use Rattle.pt_model.specs.Answers.{replies_to}
 use Rattle.pt_model.specs.Verdicts.{verdict, operation_verdict}
 use Rattle.pt_model.specs.Grants.{grant_outcome}
-use Rattle.pt_model.specs.Steps.{Step, joins, calls, dies, ticks, grants, trips, yields, expires, Follows}
+use Rattle.pt_model.specs.Steps.{Step, joins, calls, dies, ticks, grants, trips, yields, expires}
+use Rattle.pt_model.specs.Steps.{Follows}
 use Rattle.pt_model.proofs.Lists.{filter-all}
 use Rattle.pt_model.proofs.Allowances.{allowed}
 use Rattle.pt_model.proofs.Readings.{stood-call}
 use Rattle.pt_model.proofs.Sound.{Fresh-follows}
 use Rattle.pt_model.proofs.Found.{found_open}
-use Rattle.pt_model.proofs.Opens.{stands_at_barrier, open-join, open-moment, open-yield, open-call, open-death, open-grant, open-expire, open-trip}
+use Rattle.pt_model.proofs.Opens.{stands_at_barrier, open-join, open-moment, open-yield, open-call}
+use Rattle.pt_model.proofs.Opens.{open-death, open-grant, open-expire, open-trip}
 use Rattle.pt_model.proofs.Stands.{stands-operation}
 use Rattle.pt_model.proofs.Apart.{Apart, open_apart}
 use Rattle.pt_told.specs.Tallies.{heard, open_count, asks}
-use Rattle.pt_told.proofs.CallCounts.{calls_of, calls_of-append, calls_of-kept, calls_of-split, calls_of-out, heard-trip, calls_of-open}
+use Rattle.pt_told.proofs.CallCounts.{calls_of, calls_of-append, calls_of-kept, calls_of-split}
+use Rattle.pt_told.proofs.CallCounts.{calls_of-out, heard-trip, calls_of-open}
 
 -- what an operation leaves waiting is the client's, and is one call if it has no answer
 left_waiting : (h : History) (d : ℕ) (k : Clock) (x : Operation) (c : ℕ)

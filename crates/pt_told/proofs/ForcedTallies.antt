@@ -1,7 +1,8 @@
 -- What forced entries leave as it is.
 use Rattle.std.proofs.Common.{◌≡◌, ℕ, ◌+◌, true, List, [], ◌∷◌, refl, ◌∙◌, arith}
 use Rattle.pt_model.specs.declared.entry.Entry.{Entry}
-use Rattle.pt_model.specs.declared.entry.Entry.TheVariants.{Join, Call, Death, Moment, Grant, Trip, Yield, Expire}
+use Rattle.pt_model.specs.declared.entry.Entry.TheVariants.{Join, Call, Death, Moment, Grant, Trip}
+use Rattle.pt_model.specs.declared.entry.Entry.TheVariants.{Yield, Expire}
 use Rattle.pt_model.specs.Histories.{History, ◌▷◌, onto, outer}
 use Rattle.pt_model.specs.Clients.{client, is_alive}
 use Rattle.pt_model.specs.Queries.{latest}

@@ -1,5 +1,7 @@
 -- A living client's latest call is open, or is answered.
-use Rattle.std.proofs.Common.{◌≡◌, ℕ, ◌==◌, Bool, true, false, cond, ◌&&◌, ◌⊎◌, inl, inr, List, [], ◌∷◌, Option, Some, None, is_some, is_none, refl, sym, ap, ◌∙◌, subst, arith}
+use Rattle.std.proofs.Common.{◌≡◌, ℕ, ◌==◌, Bool, true, false, cond, ◌&&◌, ◌⊎◌, inl, inr, List, []}
+use Rattle.std.proofs.Common.{◌∷◌, Option, Some, None, is_some, is_none, refl, sym, ap, ◌∙◌, subst}
+use Rattle.std.proofs.Common.{arith}
 use Rattle.std.proofs.lemmas.Bool.Decides.{nat_tests}
 use Rattle.std.proofs.lemmas.Bool.{false≢true, and_from}
 use Rattle.std.specs.Option.{option_or}
@@ -7,18 +9,21 @@ use Rattle.pt_types.specs.declared.outcome.Outcome.{Outcome}
 use Rattle.pt_types.specs.Tables.{reply}
 use Rattle.pt_types.specs.MutexTable.{is_number}
 use Rattle.pt_model.specs.declared.entry.Entry.{Entry}
-use Rattle.pt_model.specs.declared.entry.Entry.TheVariants.{Join, Call, Death, Moment, Grant, Trip, Yield, Expire}
+use Rattle.pt_model.specs.declared.entry.Entry.TheVariants.{Join, Call, Death, Moment, Grant, Trip}
+use Rattle.pt_model.specs.declared.entry.Entry.TheVariants.{Yield, Expire}
 use Rattle.pt_model.specs.Searches.{In}
 use Rattle.pt_model.specs.declared.waiting_call.WaitingCall.{WaitingCall}
 use Rattle.pt_model.specs.Histories.{History, Begin, ◌▷◌, place}
 use Rattle.pt_model.specs.Clients.{is_alive}
 use Rattle.pt_model.specs.WaitingCall.{stood, stood_by}
-use Rattle.pt_model.specs.Answers.{outcome_in, is_open_by, outcome, open_calls, open_place, place_of, told}
+use Rattle.pt_model.specs.Answers.{outcome_in, is_open_by, outcome, open_calls, open_place}
+use Rattle.pt_model.specs.Answers.{place_of, told}
 use Rattle.pt_model.specs.Queries.{latest, told_if, answer_of}
 use Rattle.pt_model.specs.Seals.{is_latest, seal}
 use Rattle.pt_model.specs.Grants.{grant_outcome}
 use Rattle.pt_model.specs.Verdicts.{verdict}
-use Rattle.pt_model.specs.Steps.{Step, joins, calls, dies, ticks, grants, trips, yields, expires, Follows}
+use Rattle.pt_model.specs.Steps.{Step, joins, calls, dies, ticks, grants, trips, yields, expires}
+use Rattle.pt_model.specs.Steps.{Follows}
 use Rattle.pt_model.proofs.Induction.{by_steps}
 use Rattle.pt_model.proofs.Lists.{filter-in, In-append_left}
 use Rattle.pt_model.proofs.Leasts.{first_below-some}
@@ -29,7 +34,8 @@ use Rattle.pt_model.proofs.Opens.{open-sealed, left, was_open}
 use Rattle.pt_model.proofs.Once.{open_unanswered}
 use Rattle.pt_model.proofs.OneEach.{none_of_client}
 use Rattle.pt_model.proofs.Partition.{Stood, Kept, kept_call}
-use Rattle.pt_model.proofs.Effects.{Effect, Idle, Creates, Removes, Relocks, Frees, Mends, Returns, Wakes, Waits, effect, Allowed}
+use Rattle.pt_model.proofs.Effects.{Effect, Idle, Creates, Removes, Relocks, Frees, Mends, Returns}
+use Rattle.pt_model.proofs.Effects.{Wakes, Waits, effect, Allowed}
 use Rattle.pt_model.proofs.Allowances.{allowed}
 use Rattle.pt_model.proofs.Changes.{left_by}
 use Rattle.pt_told.specs.Tallies.{open_count}

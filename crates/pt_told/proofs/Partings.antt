@@ -1,5 +1,6 @@
 -- Where two accounts of what a client did part.
-use Rattle.std.proofs.Common.{◌≡◌, ◌≢◌, ℕ, inl, inr, List, [], ◌∷◌, Some, refl, sym, ◌∙◌, subst, arith}
+use Rattle.std.proofs.Common.{◌≡◌, ◌≢◌, ℕ, inl, inr, List, [], ◌∷◌, Some, refl, sym, ◌∙◌, subst}
+use Rattle.std.proofs.Common.{arith}
 use Rattle.pt_model.specs.declared.entry.Event.{Event}
 use Rattle.pt_told.specs.OwnEvents.{PartsAt, Finds}
 

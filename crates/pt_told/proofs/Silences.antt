@@ -1,5 +1,7 @@
 -- A client has no entries of its own before it joins, and none after it died.
-use Rattle.std.proofs.Common.{◌≡◌, ◌≢◌, ℕ, suc, ◌+◌, ◌≤◌, ◌<◌, ◌==◌, ◌⊎◌, inl, inr, Bool, true, false, cond, List, [], ◌∷◌, ◌++◌, length, Option, Some, None, is_some, refl, sym, ap, ◌∙◌, arith}
+use Rattle.std.proofs.Common.{◌≡◌, ◌≢◌, ℕ, suc, ◌+◌, ◌≤◌, ◌<◌, ◌==◌, ◌⊎◌, inl, inr, Bool, true}
+use Rattle.std.proofs.Common.{false, cond, List, [], ◌∷◌, ◌++◌, length, Option, Some, None, is_some}
+use Rattle.std.proofs.Common.{refl, sym, ap, ◌∙◌, arith}
 use Rattle.std.proofs.lemmas.Bool.Decides.{nat_tests}
 use Rattle.std.proofs.lemmas.Bool.{false≢true}
 use Rattle.pt_model.specs.declared.entry.Entry.{Entry}
@@ -7,7 +9,8 @@ use Rattle.pt_model.specs.declared.entry.Entry.TheVariants.{Death}
 use Rattle.pt_model.specs.declared.entry.Event.{Event}
 use Rattle.pt_model.specs.Histories.{History, ◌▷◌, place, onto}
 use Rattle.pt_model.specs.Clients.{client, is_alive}
-use Rattle.pt_model.specs.Steps.{Step, joins, calls, dies, ticks, grants, trips, yields, expires, Follows}
+use Rattle.pt_model.specs.Steps.{Step, joins, calls, dies, ticks, grants, trips, yields, expires}
+use Rattle.pt_model.specs.Steps.{Follows}
 use Rattle.pt_model.proofs.Histories.{follows-part}
 use Rattle.pt_model.proofs.Sound.{Fresh-follows, alive_below}
 use Rattle.pt_told.specs.OwnEvents.{own_event, placed, own_from}

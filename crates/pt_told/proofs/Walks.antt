@@ -1,18 +1,24 @@
 -- A walk through a client's own entries, each beside the next of what it says that it did.
-use Rattle.std.proofs.Common.{◌≡◌, ◌≢◌, ℕ, zero, suc, ◌==◌, ◌+◌, ◌-◌, ◌≤◌, ◌<◌, min, max, inl, inr, Bool, true, false, cond, nat_le, List, [], ◌∷◌, ◌++◌, length, take, drop, append_assoc, slice_get, Option, Some, None, IfSome, refl, sym, ap, ◌∙◌, subst, arith, filter}
+use Rattle.std.proofs.Common.{◌≡◌, ◌≢◌, ℕ, zero, suc, ◌==◌, ◌+◌, ◌-◌, ◌≤◌, ◌<◌, min, max, inl, inr}
+use Rattle.std.proofs.Common.{Bool, true, false, cond, nat_le, List, [], ◌∷◌, ◌++◌, length, take}
+use Rattle.std.proofs.Common.{drop, append_assoc, slice_get, Option, Some, None, IfSome, refl, sym}
+use Rattle.std.proofs.Common.{ap, ◌∙◌, subst, arith, filter}
 use Rattle.std.proofs.lemmas.Bool.Decides.{nat_tests}
 use Rattle.std.proofs.lemmas.List.{take-append-drop, length-take, drop_all}
 use Rattle.pt_model.specs.declared.entry.Entry.{Entry}
-use Rattle.pt_model.specs.declared.entry.Entry.TheVariants.{Join, Call, Death, Moment, Grant, Trip, Yield, Expire}
+use Rattle.pt_model.specs.declared.entry.Entry.TheVariants.{Join, Call, Death, Moment, Grant, Trip}
+use Rattle.pt_model.specs.declared.entry.Entry.TheVariants.{Yield, Expire}
 use Rattle.pt_model.specs.declared.entry.Event.{Event}
 use Rattle.pt_model.specs.declared.entry.Event.TheVariants as event
 use Rattle.pt_model.specs.Starts.{Start}
 use Rattle.pt_model.specs.Histories.{History, Begin, ◌▷◌, place, onto, behind}
 use Rattle.pt_model.specs.Steps.{Follows}
 use Rattle.pt_model.proofs.Histories.{onto-append, place-onto, place-behind, follows-part}
-use Rattle.pt_told.specs.OwnEvents.{own_event, placed, own_from, own_since, own_if, own_at, placed_since, place_if, PartsAt, Finds, Compares}
+use Rattle.pt_told.specs.OwnEvents.{own_event, placed, own_from, own_since, own_if, own_at}
+use Rattle.pt_told.specs.OwnEvents.{placed_since, place_if, PartsAt, Finds, Compares}
 use Rattle.pt_told.proofs.Silences.{silent-before, silent-after}
-use Rattle.pt_told.proofs.Partings.{parts-found, parts-never, Reduces, reduces-not, reduces-one, reduces-as}
+use Rattle.pt_told.proofs.Partings.{parts-found, parts-never, Reduces, reduces-not, reduces-one}
+use Rattle.pt_told.proofs.Partings.{reduces-as}
 
 -- the entries from the i-th on, and those from the next one on
 own-drop : (c p : ℕ) (es : List Entry) (i : ℕ)

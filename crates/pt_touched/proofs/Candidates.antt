@@ -1,10 +1,12 @@
 -- The call that is served at an object is its candidate.
-use Rattle.std.proofs.Common.{◌≡◌, ℕ, Bool, true, false, cond, ◌&&◌, ◌||◌, ◌==◌, nat_lt, length, Option, Some, None, is_some, is_none, refl, sym, ap, ◌∙◌, arith}
+use Rattle.std.proofs.Common.{◌≡◌, ℕ, Bool, true, false, cond, ◌&&◌, ◌||◌, ◌==◌, nat_lt, length}
+use Rattle.std.proofs.Common.{Option, Some, None, is_some, is_none, refl, sym, ap, ◌∙◌, arith}
 use Rattle.std.proofs.lemmas.Bool.Decides.{nat_tests}
 use Rattle.std.proofs.lemmas.Bool.{and_parts, and_from, false≢true}
 use Rattle.pt_types.specs.declared.call.ObjectKind.{ObjectKind}
 use Rattle.pt_types.specs.declared.call.ObjectKind.TheVariants.{Mutex, Rwlock, Cond, Barrier}
-use Rattle.pt_types.specs.declared.operations.ObjectClass.TheVariants.{Mutex as MutexClass, Rwlock as RwlockClass}
+use Rattle.pt_types.specs.declared.operations.ObjectClass.TheVariants.{Mutex as MutexClass}
+use Rattle.pt_types.specs.declared.operations.ObjectClass.TheVariants.{Rwlock as RwlockClass}
 use Rattle.pt_types.specs.MutexTable.{is_number, is_lost, is_recursive, may_lock, may_relock}
 use Rattle.pt_model.specs.Searches.{In}
 use Rattle.pt_model.specs.Histories.{History, Begin}
@@ -12,10 +14,12 @@ use Rattle.pt_model.specs.Objects.{is_class, kind_of, mutex_kind, barrier_count}
 use Rattle.pt_model.specs.declared.waiting_call.WaitingCall.{WaitingCall}
 use Rattle.pt_model.specs.declared.waiting_call.Move.{Move}
 use Rattle.pt_model.specs.declared.waiting_call.Role.{Role}
-use Rattle.pt_model.specs.declared.waiting_call.Role.TheVariants.{ForMutex, ForRead, ForWrite, ForBarrier, ForCond}
+use Rattle.pt_model.specs.declared.waiting_call.Role.TheVariants.{ForMutex, ForRead, ForWrite}
+use Rattle.pt_model.specs.declared.waiting_call.Role.TheVariants.{ForBarrier, ForCond}
 use Rattle.pt_model.specs.WaitingCall.{is_wait, is_write}
 use Rattle.pt_model.specs.Answers.{open_calls, at_barrier}
-use Rattle.pt_model.specs.Moves.{moved, is_moved, object_by, at_object, precedes, waiting_at, is_least}
+use Rattle.pt_model.specs.Moves.{moved, is_moved, object_by, at_object, precedes, waiting_at}
+use Rattle.pt_model.specs.Moves.{is_least}
 use Rattle.pt_model.specs.Mutexes.{owner, consistency, mutex_view}
 use Rattle.pt_model.specs.Rwlocks.{reads, writer, reader}
 use Rattle.pt_model.specs.Grants.{is_grantable_as, is_complete}
@@ -25,12 +29,17 @@ use Rattle.pt_model.specs.Steps.{Follows}
 use Rattle.pt_model.proofs.Leasts.{least-in}
 use Rattle.pt_model.proofs.Seats.{exists_as, seat, housed}
 use Rattle.pt_model.proofs.Services.{or_true, or_left_true}
-use Rattle.pt_touched.specs.Candidates.{open_call_if, candidate_by, candidate_if, comes_back, entering, first_at, if_passes, is_read, is_write_if, reads_again_at, served_at}
+use Rattle.pt_touched.specs.Candidates.{open_call_if, candidate_by, candidate_if, comes_back}
+use Rattle.pt_touched.specs.Candidates.{entering, first_at, if_passes, is_read, is_write_if}
+use Rattle.pt_touched.specs.Candidates.{reads_again_at, served_at}
 use Rattle.pt_touched.specs.TouchLaws.{BeginsUntouched, Candidates, RestsUntouched, ServesTouched}
 use Rattle.pt_touched.specs.Touched.{next_served, object_if, touched}
 use Rattle.pt_touched.proofs.JustCome.{all_come, holder_served, none_again, read_role}
-use Rattle.pt_touched.proofs.ServedFirsts.{at_role, barrier-full, barrier-short, cond-none, first_decides, mutex-first, mutex-owned, none_serves, only_serves, sits, there}
-use Rattle.pt_touched.proofs.ServedLocks.{lock-free, lock-held, lock-reader, lock-written, writes_role}
+use Rattle.pt_touched.proofs.ServedFirsts.{at_role, barrier-full, barrier-short, cond-none}
+use Rattle.pt_touched.proofs.ServedFirsts.{first_decides, mutex-first, mutex-owned, none_serves}
+use Rattle.pt_touched.proofs.ServedFirsts.{only_serves, sits, there}
+use Rattle.pt_touched.proofs.ServedLocks.{lock-free, lock-held, lock-reader, lock-written}
+use Rattle.pt_touched.proofs.ServedLocks.{writes_role}
 use Rattle.pt_touched.proofs.TouchedServices.{next_none, served-none, served-touched}
 use Rattle.pt_touched.proofs.ClientCalls.{open_call-found, open_call-is}
 

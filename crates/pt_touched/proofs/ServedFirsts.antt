@@ -1,9 +1,13 @@
 -- Which call is served at a mutex, a condition or a barrier, by the first that waits there.
-use Rattle.std.proofs.Common.{◌≡◌, ℕ, Bool, true, false, not, ◌&&◌, ◌||◌, ◌==◌, length, Option, Some, None, is_some, is_none, refl, sym, ap, ◌∙◌, subst, arith, filter}
+use Rattle.std.proofs.Common.{◌≡◌, ℕ, Bool, true, false, not, ◌&&◌, ◌||◌, ◌==◌, length, Option}
+use Rattle.std.proofs.Common.{Some, None, is_some, is_none, refl, sym, ap, ◌∙◌, subst, arith}
+use Rattle.std.proofs.Common.{filter}
 use Rattle.std.proofs.lemmas.Bool.Decides.{nat_tests}
 use Rattle.std.proofs.lemmas.Bool.{and_parts, and_from, false≢true}
 use Rattle.pt_types.specs.declared.operations.ObjectClass.{ObjectClass}
-use Rattle.pt_types.specs.declared.operations.ObjectClass.TheVariants.{Mutex as MutexClass, Cond as CondClass, Barrier as BarrierClass}
+use Rattle.pt_types.specs.declared.operations.ObjectClass.TheVariants.{Mutex as MutexClass}
+use Rattle.pt_types.specs.declared.operations.ObjectClass.TheVariants.{Cond as CondClass}
+use Rattle.pt_types.specs.declared.operations.ObjectClass.TheVariants.{Barrier as BarrierClass}
 use Rattle.pt_types.specs.MutexTable.{is_number, is_lost, is_recursive, may_lock, may_relock}
 use Rattle.pt_model.specs.Searches.{In, least}
 use Rattle.pt_model.specs.Histories.{History}
@@ -11,10 +15,12 @@ use Rattle.pt_model.specs.Objects.{kind_of, mutex_kind, barrier_count}
 use Rattle.pt_model.specs.declared.waiting_call.WaitingCall.{WaitingCall}
 use Rattle.pt_model.specs.declared.waiting_call.Move.{Move}
 use Rattle.pt_model.specs.declared.waiting_call.Role.{Role}
-use Rattle.pt_model.specs.declared.waiting_call.Role.TheVariants.{ForMutex, ForRead, ForWrite, ForBarrier, ForCond}
+use Rattle.pt_model.specs.declared.waiting_call.Role.TheVariants.{ForMutex, ForRead, ForWrite}
+use Rattle.pt_model.specs.declared.waiting_call.Role.TheVariants.{ForBarrier, ForCond}
 use Rattle.pt_model.specs.WaitingCall.{is_arrival, is_wait}
 use Rattle.pt_model.specs.Answers.{open_calls, at_barrier}
-use Rattle.pt_model.specs.Moves.{moved, is_moved, object_by, at_object, precedes, waiting_at, is_least}
+use Rattle.pt_model.specs.Moves.{moved, is_moved, object_by, at_object, precedes, waiting_at}
+use Rattle.pt_model.specs.Moves.{is_least}
 use Rattle.pt_model.specs.Mutexes.{owner, consistency, mutex_view}
 use Rattle.pt_model.specs.Grants.{is_grantable_as, is_complete}
 use Rattle.pt_model.specs.Forced.{is_served}

@@ -1,5 +1,7 @@
 -- Which call is served at a read-write lock, by the first that waits there.
-use Rattle.std.proofs.Common.{◌≡◌, ℕ, Bool, true, false, not, ◌&&◌, ◌||◌, ◌==◌, nat_lt, nat_le, length, ◌⊎◌, inl, inr, Option, Some, None, is_some, is_none, refl, sym, ap, ◌∙◌, subst, arith}
+use Rattle.std.proofs.Common.{◌≡◌, ℕ, Bool, true, false, not, ◌&&◌, ◌||◌, ◌==◌, nat_lt, nat_le}
+use Rattle.std.proofs.Common.{length, ◌⊎◌, inl, inr, Option, Some, None, is_some, is_none, refl}
+use Rattle.std.proofs.Common.{sym, ap, ◌∙◌, subst, arith}
 use Rattle.std.proofs.lemmas.Bool.Decides.{nat_tests}
 use Rattle.std.proofs.lemmas.Bool.{and_parts, and_from, false≢true}
 use Rattle.pt_types.specs.KeyOrder.{rank}
@@ -11,7 +13,8 @@ use Rattle.pt_model.specs.Objects.{kind_of, barrier_count}
 use Rattle.pt_model.specs.declared.waiting_call.WaitingCall.{WaitingCall}
 use Rattle.pt_model.specs.declared.waiting_call.Move.{Move}
 use Rattle.pt_model.specs.declared.waiting_call.Role.{Role}
-use Rattle.pt_model.specs.declared.waiting_call.Role.TheVariants.{ForMutex, ForRead, ForWrite, ForBarrier, ForCond}
+use Rattle.pt_model.specs.declared.waiting_call.Role.TheVariants.{ForMutex, ForRead, ForWrite}
+use Rattle.pt_model.specs.declared.waiting_call.Role.TheVariants.{ForBarrier, ForCond}
 use Rattle.pt_model.specs.WaitingCall.{is_arrival, is_write}
 use Rattle.pt_model.specs.Answers.{open_calls, at_barrier}
 use Rattle.pt_model.specs.Moves.{moved, at_object, precedes, key, waiting_at, is_least}
@@ -25,7 +28,8 @@ use Rattle.pt_model.proofs.Orders.{precedes-order, least-first}
 use Rattle.pt_model.proofs.Services.{or_left_true}
 use Rattle.pt_model.proofs.Seats.{exists_as, seat}
 use Rattle.pt_touched.specs.Candidates.{first_at, served_at}
-use Rattle.pt_touched.proofs.ServedFirsts.{at_role, first_decides, first_least, none_serves, sits, there}
+use Rattle.pt_touched.proofs.ServedFirsts.{at_role, first_decides, first_least, none_serves, sits}
+use Rattle.pt_touched.proofs.ServedFirsts.{there}
 
 module _ (h : History) (f : Follows h) (o : ℕ) where
   -- a call that is served at a lock is a reader's or a writer's, and it can have the lock

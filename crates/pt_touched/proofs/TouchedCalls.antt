@@ -1,16 +1,25 @@
 -- What a call touches: one that may be served after it, and waits elsewhere, could be before.
-use Rattle.std.proofs.Common.{◌≡◌, ℕ, Bool, true, false, cond, ◌&&◌, ◌==◌, ◌⊎◌, inl, inr, List, [], ◌∷◌, ◌++◌, Option, Some, None, refl, sym, ap, ◌∙◌, subst, arith, append-nil}
+use Rattle.std.proofs.Common.{◌≡◌, ℕ, Bool, true, false, cond, ◌&&◌, ◌==◌, ◌⊎◌, inl, inr, List, []}
+use Rattle.std.proofs.Common.{◌∷◌, ◌++◌, Option, Some, None, refl, sym, ap, ◌∙◌, subst, arith}
+use Rattle.std.proofs.Common.{append-nil}
 use Rattle.std.proofs.lemmas.Bool.Decides.{nat_tests}
 use Rattle.std.proofs.lemmas.Bool.{false≢true}
 use Rattle.std.proofs.lemmas.List.Elements.{filter-append}
 use Rattle.pt_types.specs.declared.call.Call.{Call as Asked}
 use Rattle.pt_types.specs.declared.time.Clock.{Clock}
 use Rattle.pt_types.specs.declared.outcome.Consistency.{Consistency}
-use Rattle.pt_types.specs.declared.outcome.Consistency.TheVariants.{Consistent, Inconsistent, NotRecoverable}
+use Rattle.pt_types.specs.declared.outcome.Consistency.TheVariants.{Consistent, Inconsistent}
+use Rattle.pt_types.specs.declared.outcome.Consistency.TheVariants.{NotRecoverable}
 use Rattle.pt_types.specs.declared.outcome.Outcome.{Outcome}
-use Rattle.pt_types.specs.declared.outcome.Outcome.TheVariants.{Done, Serial, Eperm, Einval, Ebusy, Eagain, Edeadlk, Etimedout, Eownerdead, Enotrecoverable}
-use Rattle.pt_types.specs.Operations.{Operation, Makes, Ends, Acquires, Unlocks, Restores, Rwunlocks, Awaits, Signals, Broadcasts, Arrives, operation, clock_of}
-use Rattle.pt_types.specs.declared.operations.ObjectClass.TheVariants.{Mutex as MutexClass, Rwlock as RwlockClass, Cond as CondClass}
+use Rattle.pt_types.specs.declared.outcome.Outcome.TheVariants.{Done, Serial, Eperm, Einval, Ebusy}
+use Rattle.pt_types.specs.declared.outcome.Outcome.TheVariants.{Eagain, Edeadlk, Etimedout}
+use Rattle.pt_types.specs.declared.outcome.Outcome.TheVariants.{Eownerdead, Enotrecoverable}
+use Rattle.pt_types.specs.Operations.{Operation, Makes, Ends, Acquires, Unlocks, Restores}
+use Rattle.pt_types.specs.Operations.{Rwunlocks, Awaits, Signals, Broadcasts, Arrives, operation}
+use Rattle.pt_types.specs.Operations.{clock_of}
+use Rattle.pt_types.specs.declared.operations.ObjectClass.TheVariants.{Mutex as MutexClass}
+use Rattle.pt_types.specs.declared.operations.ObjectClass.TheVariants.{Rwlock as RwlockClass}
+use Rattle.pt_types.specs.declared.operations.ObjectClass.TheVariants.{Cond as CondClass}
 use Rattle.pt_types.specs.declared.operations.LockKind.TheVariants.{MutexLock, ReadLock, WriteLock}
 use Rattle.pt_types.specs.MutexTable.{is_number, is_lost}
 use Rattle.pt_types.specs.Tables.{reply}
@@ -22,7 +31,8 @@ use Rattle.pt_model.specs.Clients.{is_alive}
 use Rattle.pt_model.specs.Objects.{find, kind_of}
 use Rattle.pt_model.specs.declared.waiting_call.WaitingCall.{WaitingCall}
 use Rattle.pt_model.specs.declared.waiting_call.Role.{Role}
-use Rattle.pt_model.specs.declared.waiting_call.Role.TheVariants.{ForMutex, ForRead, ForWrite, ForBarrier, ForCond}
+use Rattle.pt_model.specs.declared.waiting_call.Role.TheVariants.{ForMutex, ForRead, ForWrite}
+use Rattle.pt_model.specs.declared.waiting_call.Role.TheVariants.{ForBarrier, ForCond}
 use Rattle.pt_model.specs.Answers.{open_calls, at_barrier}
 use Rattle.pt_model.specs.Moves.{move_or, moved, object_by, at_object}
 use Rattle.pt_model.specs.Mutexes.{consistency, owner, count, frees, consistency_by_operation}
@@ -31,9 +41,11 @@ use Rattle.pt_model.specs.Verdicts.{verdict}
 use Rattle.pt_model.specs.Forced.{is_served}
 use Rattle.pt_model.specs.Steps.{Step, Follows}
 use Rattle.pt_model.proofs.Lists.{In-append_left, In-append_cases, any-false}
-use Rattle.pt_model.proofs.Effects.{Effect, Idle, Creates, Removes, Relocks, Frees, Mends, Returns, Wakes, Waits, upon, succeeds, stays, effect, Allowed}
+use Rattle.pt_model.proofs.Effects.{Effect, Idle, Creates, Removes, Relocks, Frees, Mends, Returns}
+use Rattle.pt_model.proofs.Effects.{Wakes, Waits, upon, succeeds, stays, effect, Allowed}
 use Rattle.pt_model.proofs.Allowances.{allowed}
-use Rattle.pt_model.proofs.Changes.{left_by, kind_effect, cause_effect, awaited, gives_up, mends, returns_it, consistency_effect, resolved}
+use Rattle.pt_model.proofs.Changes.{left_by, kind_effect, cause_effect, awaited, gives_up, mends}
+use Rattle.pt_model.proofs.Changes.{returns_it, consistency_effect, resolved}
 use Rattle.pt_model.proofs.Readings.{kind-call, consistency-call, writes-call, reads-call}
 use Rattle.pt_model.proofs.Sound.{Fresh-follows}
 use Rattle.pt_model.proofs.Opens.{stands_at_barrier, open-call}
@@ -41,10 +53,12 @@ use Rattle.pt_model.proofs.Moves.{moved-call}
 use Rattle.pt_model.proofs.Seats.{unused-at}
 use Rattle.pt_model.proofs.Holders.{owner-call}
 use Rattle.pt_touched.specs.TouchLaws.{WasServed}
-use Rattle.pt_touched.specs.Touched.{bound_if, goal, goal_of_operation, touched_by, touched_by_operation}
+use Rattle.pt_touched.specs.Touched.{bound_if, goal, goal_of_operation, touched_by}
+use Rattle.pt_touched.specs.Touched.{touched_by_operation}
 use Rattle.pt_touched.proofs.BoundMutex.{bound-any}
 use Rattle.pt_touched.proofs.WokenWaits.{cond_beside, stands_below, unserved, waits_known, wakes}
-use Rattle.pt_touched.proofs.Unchanged.{Quiet, Stays, writer-same, reader-same, stays-all, served-before}
+use Rattle.pt_touched.proofs.Unchanged.{Quiet, Stays, writer-same, reader-same, stays-all}
+use Rattle.pt_touched.proofs.Unchanged.{served-before}
 
 -- what an effect touches
 abbrev pub touched_effect : History → Effect → Option ℕ

@@ -1,5 +1,6 @@
 -- A call that may be served after an entry waits at what the entry touches, or could be before.
-use Rattle.std.proofs.Common.{◌≡◌, ℕ, Bool, true, false, cond, not, ◌==◌, nat_lt, ◌⊎◌, inl, inr, List, Option, Some, None, refl, sym, ap, ◌∙◌, subst, arith}
+use Rattle.std.proofs.Common.{◌≡◌, ℕ, Bool, true, false, cond, not, ◌==◌, nat_lt, ◌⊎◌, inl, inr}
+use Rattle.std.proofs.Common.{List, Option, Some, None, refl, sym, ap, ◌∙◌, subst, arith}
 use Rattle.std.proofs.lemmas.Bool.Decides.{nat_tests}
 use Rattle.std.proofs.lemmas.Bool.{and_parts, false≢true}
 use Rattle.pt_types.specs.declared.operations.ObjectClass.TheVariants.{Barrier as BarrierClass}
@@ -12,21 +13,25 @@ use Rattle.pt_model.specs.Objects.{is_class, kind_of}
 use Rattle.pt_model.specs.declared.waiting_call.WaitingCall.{WaitingCall}
 use Rattle.pt_model.specs.declared.waiting_call.Move.{Move}
 use Rattle.pt_model.specs.declared.waiting_call.Role.{Role}
-use Rattle.pt_model.specs.declared.waiting_call.Role.TheVariants.{ForMutex, ForRead, ForWrite, ForBarrier, ForCond}
+use Rattle.pt_model.specs.declared.waiting_call.Role.TheVariants.{ForMutex, ForRead, ForWrite}
+use Rattle.pt_model.specs.declared.waiting_call.Role.TheVariants.{ForBarrier, ForCond}
 use Rattle.pt_model.specs.WaitingCall.{is_arrival}
 use Rattle.pt_model.specs.Answers.{open_calls}
 use Rattle.pt_model.specs.Moves.{moved, object_by, at_object}
 use Rattle.pt_model.specs.Mutexes.{count, consistency}
 use Rattle.pt_model.specs.Forced.{is_served}
-use Rattle.pt_model.specs.Steps.{Step, joins, calls, dies, ticks, grants, trips, yields, expires, Follows}
+use Rattle.pt_model.specs.Steps.{Step, joins, calls, dies, ticks, grants, trips, yields, expires}
+use Rattle.pt_model.specs.Steps.{Follows}
 use Rattle.pt_model.proofs.Lists.{In-filter}
-use Rattle.pt_model.proofs.Opens.{stands_at_barrier, open-join, open-moment, open-yield, open-death, open-trip}
+use Rattle.pt_model.proofs.Opens.{stands_at_barrier, open-join, open-moment, open-yield, open-death}
+use Rattle.pt_model.proofs.Opens.{open-trip}
 use Rattle.pt_model.proofs.Sound.{Fresh-follows}
 use Rattle.pt_model.proofs.Seats.{seat, housed, one_class}
 use Rattle.pt_model.proofs.Counts.{count-yield}
 use Rattle.pt_touched.specs.TouchLaws.{Touches, WasServed}
 use Rattle.pt_touched.proofs.TouchedCalls.{call-aside}
-use Rattle.pt_touched.proofs.Unchanged.{Quiet, itself, was, quiet-entry, stays-filter, stays-all, served-before}
+use Rattle.pt_touched.proofs.Unchanged.{Quiet, itself, was, quiet-entry, stays-filter, stays-all}
+use Rattle.pt_touched.proofs.Unchanged.{served-before}
 use Rattle.pt_touched.proofs.TouchedGrants.{grant_aside}
 use Rattle.pt_touched.proofs.TouchedExpiries.{expire_aside}
 use Rattle.pt_touched.proofs.ClientCalls.{open_call-found}

@@ -1,6 +1,7 @@
 -- What an Expire touches: a call that may be served after it, and waits elsewhere, could be
 -- before.
-use Rattle.std.proofs.Common.{◌≡◌, ℕ, Bool, true, false, not, ◌&&◌, ◌||◌, ◌==◌, Option, Some, None, is_some, refl, sym, ap, ◌∙◌, arith}
+use Rattle.std.proofs.Common.{◌≡◌, ℕ, Bool, true, false, not, ◌&&◌, ◌||◌, ◌==◌, Option, Some, None}
+use Rattle.std.proofs.Common.{is_some, refl, sym, ap, ◌∙◌, arith}
 use Rattle.std.proofs.lemmas.Bool.Decides.{nat_tests}
 use Rattle.pt_types.specs.MutexTable.{is_number}
 use Rattle.pt_model.specs.declared.entry.Entry.TheVariants.{Expire}
@@ -10,7 +11,8 @@ use Rattle.pt_model.specs.Clients.{clock, is_due}
 use Rattle.pt_model.specs.declared.waiting_call.WaitingCall.{WaitingCall}
 use Rattle.pt_model.specs.declared.waiting_call.Move.{Move}
 use Rattle.pt_model.specs.declared.waiting_call.Role.{Role}
-use Rattle.pt_model.specs.declared.waiting_call.Role.TheVariants.{ForMutex, ForRead, ForWrite, ForBarrier, ForCond}
+use Rattle.pt_model.specs.declared.waiting_call.Role.TheVariants.{ForMutex, ForRead, ForWrite}
+use Rattle.pt_model.specs.declared.waiting_call.Role.TheVariants.{ForBarrier, ForCond}
 use Rattle.pt_model.specs.WaitingCall.{is_wait}
 use Rattle.pt_model.specs.Answers.{open_calls}
 use Rattle.pt_model.specs.Moves.{cause_by_expiry, move_or, moved, is_moved, object_by, at_object}
@@ -21,7 +23,8 @@ use Rattle.pt_model.proofs.Opens.{open-expire}
 use Rattle.pt_model.proofs.Moves.{moved-expire}
 use Rattle.pt_touched.specs.TouchLaws.{WasServed}
 use Rattle.pt_touched.proofs.WokenWaits.{cond_beside, unserved}
-use Rattle.pt_touched.proofs.Unchanged.{Quiet, Stays, itself, was, quiet-entry, stays-filter, served-before}
+use Rattle.pt_touched.proofs.Unchanged.{Quiet, Stays, itself, was, quiet-entry, stays-filter}
+use Rattle.pt_touched.proofs.Unchanged.{served-before}
 use Rattle.pt_touched.specs.Touched.{goal, goal_if, touched_by}
 
 unmoved : (x b : Bool) → (not x && b) ≡ true → x ≡ false

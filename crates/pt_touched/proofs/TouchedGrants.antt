@@ -1,5 +1,6 @@
 -- What a Grant touches: a call that may be served after it, and waits elsewhere, could be before.
-use Rattle.std.proofs.Common.{◌≡◌, ℕ, suc, Bool, true, false, cond, not, ◌&&◌, ◌||◌, ◌==◌, nat_lt, Option, Some, None, is_some, refl, sym, ap, ◌∙◌, arith}
+use Rattle.std.proofs.Common.{◌≡◌, ℕ, suc, Bool, true, false, cond, not, ◌&&◌, ◌||◌, ◌==◌, nat_lt}
+use Rattle.std.proofs.Common.{Option, Some, None, is_some, refl, sym, ap, ◌∙◌, arith}
 use Rattle.std.proofs.lemmas.Bool.Decides.{nat_tests}
 use Rattle.std.proofs.lemmas.Bool.{and_parts}
 use Rattle.pt_types.specs.MutexTable.{is_number, is_acquired, may_lock, may_relock}
@@ -9,7 +10,8 @@ use Rattle.pt_model.specs.Histories.{History, ◌▷◌}
 use Rattle.pt_model.specs.declared.waiting_call.WaitingCall.{WaitingCall}
 use Rattle.pt_model.specs.declared.waiting_call.Move.{Move}
 use Rattle.pt_model.specs.declared.waiting_call.Role.{Role}
-use Rattle.pt_model.specs.declared.waiting_call.Role.TheVariants.{ForMutex, ForRead, ForWrite, ForBarrier, ForCond}
+use Rattle.pt_model.specs.declared.waiting_call.Role.TheVariants.{ForMutex, ForRead, ForWrite}
+use Rattle.pt_model.specs.declared.waiting_call.Role.TheVariants.{ForBarrier, ForCond}
 use Rattle.pt_model.specs.WaitingCall.{mutex_of}
 use Rattle.pt_model.specs.Answers.{open_calls}
 use Rattle.pt_model.specs.Moves.{moved, is_moved, object_by, at_object, is_least}
@@ -25,7 +27,8 @@ use Rattle.pt_model.proofs.Counts.{count-grant}
 use Rattle.pt_model.proofs.Rwlocks.{writes-grant, reads-grant}
 use Rattle.pt_touched.specs.TouchLaws.{WasServed}
 use Rattle.pt_touched.specs.Touched.{object_if, touched_by}
-use Rattle.pt_touched.proofs.Unchanged.{Quiet, itself, was, quiet-entry, stays-filter, served-before}
+use Rattle.pt_touched.proofs.Unchanged.{Quiet, itself, was, quiet-entry, stays-filter}
+use Rattle.pt_touched.proofs.Unchanged.{served-before}
 
 -- what is granted waits at what it is for
 away : (h : History) (v : WaitingCall) (role : Role) (o : ℕ) → v.role ≡ role

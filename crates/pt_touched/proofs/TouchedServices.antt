@@ -1,10 +1,13 @@
 -- One object is touched at a time, and the call that is served is the least served one there.
-use Rattle.std.proofs.Common.{◌≡◌, ℕ, Bool, true, false, cond, ◌&&◌, ◌||◌, ◌==◌, nat_lt, ◌⊎◌, inl, inr, List, [], ◌∷◌, Option, Some, None, refl, sym, ap, ◌∙◌, subst, arith, filter}
+use Rattle.std.proofs.Common.{◌≡◌, ℕ, Bool, true, false, cond, ◌&&◌, ◌||◌, ◌==◌, nat_lt, ◌⊎◌, inl}
+use Rattle.std.proofs.Common.{inr, List, [], ◌∷◌, Option, Some, None, refl, sym, ap, ◌∙◌, subst}
+use Rattle.std.proofs.Common.{arith, filter}
 use Rattle.std.proofs.lemmas.Bool.Decides.{nat_tests}
 use Rattle.std.proofs.lemmas.Bool.{false≢true}
 use Rattle.std.specs.Option.{option_or}
 use Rattle.pt_model.specs.declared.entry.Entry.{Entry}
-use Rattle.pt_model.specs.declared.entry.Entry.TheVariants.{Join, Death, Moment, Grant, Trip, Yield, Expire}
+use Rattle.pt_model.specs.declared.entry.Entry.TheVariants.{Join, Death, Moment, Grant, Trip, Yield}
+use Rattle.pt_model.specs.declared.entry.Entry.TheVariants.{Expire}
 use Rattle.pt_model.specs.Searches.{In, least, least_with}
 use Rattle.pt_model.specs.Histories.{History, Begin, ◌▷◌, place}
 use Rattle.pt_model.specs.declared.waiting_call.WaitingCall.{WaitingCall}
@@ -12,13 +15,16 @@ use Rattle.pt_model.specs.WaitingCall.{is_arrival}
 use Rattle.pt_model.specs.Answers.{open_calls}
 use Rattle.pt_model.specs.Moves.{at_object, precedes, waiting_at}
 use Rattle.pt_model.specs.Grants.{is_grantable, is_complete, grant_outcome}
-use Rattle.pt_model.specs.Forced.{is_served_before, is_served, service, service_if, forced_yield, forced_expire, forced}
+use Rattle.pt_model.specs.Forced.{is_served_before, is_served, service, service_if, forced_yield}
+use Rattle.pt_model.specs.Forced.{forced_expire, forced}
 use Rattle.pt_model.specs.Seals.{seal}
 use Rattle.pt_model.specs.SealLaws.{Agree}
-use Rattle.pt_model.specs.Steps.{Step, joins, calls, dies, ticks, grants, trips, yields, expires, Follows}
+use Rattle.pt_model.specs.Steps.{Step, joins, calls, dies, ticks, grants, trips, yields, expires}
+use Rattle.pt_model.specs.Steps.{Follows}
 use Rattle.pt_model.proofs.Induction.{by_steps}
 use Rattle.pt_model.proofs.Agreeing.{seal_agrees, grantable-alike, complete-alike, object-alike}
-use Rattle.pt_model.proofs.Lists.{In-filter, filter-in, filter-filter, filter-agree_on, Each-from_in}
+use Rattle.pt_model.proofs.Lists.{In-filter, filter-in, filter-filter, filter-agree_on}
+use Rattle.pt_model.proofs.Lists.{Each-from_in}
 use Rattle.pt_model.proofs.Leasts.{least-in, least-none, none-least}
 use Rattle.pt_model.proofs.Services.{none-served, or_left_true}
 use Rattle.pt_touched.specs.Candidates.{served_at}

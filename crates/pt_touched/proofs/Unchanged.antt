@@ -1,5 +1,7 @@
 -- If nothing changed at an object, a call that waits there can be served no more than before.
-use Rattle.std.proofs.Common.{◌≡◌, ℕ, suc, Bool, true, false, not, ◌&&◌, ◌||◌, ◌==◌, nat_lt, ◌⊎◌, inl, inr, List, [], length, Option, Some, None, is_some, is_none, refl, sym, ap, ◌∙◌, subst, arith, filter}
+use Rattle.std.proofs.Common.{◌≡◌, ℕ, suc, Bool, true, false, not, ◌&&◌, ◌||◌, ◌==◌, nat_lt, ◌⊎◌}
+use Rattle.std.proofs.Common.{inl, inr, List, [], length, Option, Some, None, is_some, is_none}
+use Rattle.std.proofs.Common.{refl, sym, ap, ◌∙◌, subst, arith, filter}
 use Rattle.std.proofs.lemmas.Bool.Decides.{nat_tests}
 use Rattle.std.proofs.lemmas.Bool.{and_parts, and_from, false≢true}
 use Rattle.pt_types.specs.MutexTable.{is_number, is_lost, is_recursive, may_lock, may_relock}
@@ -10,7 +12,8 @@ use Rattle.pt_model.specs.Objects.{kind_of, mutex_kind, barrier_count}
 use Rattle.pt_model.specs.declared.waiting_call.WaitingCall.{WaitingCall}
 use Rattle.pt_model.specs.declared.waiting_call.Move.{Move}
 use Rattle.pt_model.specs.declared.waiting_call.Role.{Role}
-use Rattle.pt_model.specs.declared.waiting_call.Role.TheVariants.{ForMutex, ForRead, ForWrite, ForBarrier, ForCond}
+use Rattle.pt_model.specs.declared.waiting_call.Role.TheVariants.{ForMutex, ForRead, ForWrite}
+use Rattle.pt_model.specs.declared.waiting_call.Role.TheVariants.{ForBarrier, ForCond}
 use Rattle.pt_model.specs.WaitingCall.{is_arrival}
 use Rattle.pt_model.specs.Answers.{open_calls, at_barrier}
 use Rattle.pt_model.specs.Moves.{moved, object_by, at_object, precedes, waiting_at, is_least}
@@ -19,7 +22,8 @@ use Rattle.pt_model.specs.Rwlocks.{writes, reads, writer, reader}
 use Rattle.pt_model.specs.Grants.{holds_back, is_blocked, is_grantable_as, is_complete}
 use Rattle.pt_model.specs.Forced.{is_served}
 use Rattle.pt_model.specs.Steps.{Step, Follows}
-use Rattle.pt_model.proofs.Lists.{In-filter, filter-in, filter-filter, filter-agree_on, Each-from_in, any-in, in-any, all-in, in-all}
+use Rattle.pt_model.proofs.Lists.{In-filter, filter-in, filter-filter, filter-agree_on}
+use Rattle.pt_model.proofs.Lists.{Each-from_in, any-in, in-any, all-in, in-all}
 use Rattle.pt_model.proofs.Leasts.{first_below-same, first_below-more}
 use Rattle.pt_model.proofs.Unheld.{has, Unheld-follows}
 use Rattle.pt_model.proofs.Opens.{stands_at_barrier, left, was_open}

@@ -1,5 +1,6 @@
 -- Candidates: the call that is served at an object, found by one look at the object.
-use Rattle.std.specs.Prelude.{ℕ, nat_lt, length, ◌==◌, Bool, true, false, ◌&&◌, ◌||◌, Option, Some, None, is_some, is_none, if◌then◌else◌}
+use Rattle.std.specs.Prelude.{ℕ, nat_lt, length, ◌==◌, Bool, true, false, ◌&&◌, ◌||◌, Option, Some}
+use Rattle.std.specs.Prelude.{None, is_some, is_none, if◌then◌else◌}
 use Rattle.std.specs.List.{filter}
 use Rattle.pt_types.specs.declared.call.ObjectKind.{ObjectKind}
 use Rattle.pt_types.specs.declared.call.ObjectKind.TheVariants.{Mutex, Rwlock, Cond, Barrier}

@@ -2,8 +2,12 @@
 use Rattle.std.specs.Prelude.{ℕ, Option, Some, None}
 use Rattle.std.specs.List.{filter}
 use Rattle.pt_types.specs.declared.outcome.Outcome.TheVariants.{Done}
-use Rattle.pt_types.specs.Operations.{Operation, Acquires, Unlocks, Rwunlocks, Awaits, Signals, Broadcasts, Arrives, operation, class_needed}
-use Rattle.pt_types.specs.declared.operations.ObjectClass.TheVariants.{Mutex as MutexClass, Rwlock as RwlockClass, Cond as CondClass, Barrier as BarrierClass}
+use Rattle.pt_types.specs.Operations.{Operation, Acquires, Unlocks, Rwunlocks, Awaits, Signals}
+use Rattle.pt_types.specs.Operations.{Broadcasts, Arrives, operation, class_needed}
+use Rattle.pt_types.specs.declared.operations.ObjectClass.TheVariants.{Mutex as MutexClass}
+use Rattle.pt_types.specs.declared.operations.ObjectClass.TheVariants.{Rwlock as RwlockClass}
+use Rattle.pt_types.specs.declared.operations.ObjectClass.TheVariants.{Cond as CondClass}
+use Rattle.pt_types.specs.declared.operations.ObjectClass.TheVariants.{Barrier as BarrierClass}
 use Rattle.pt_model.specs.declared.entry.Entry.{Entry}
 use Rattle.pt_model.specs.declared.entry.Entry.TheVariants.{Call, Death, Grant, Trip, Yield, Expire}
 use Rattle.pt_model.specs.Searches.{least}

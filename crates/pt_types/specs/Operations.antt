@@ -2,7 +2,15 @@
 use Rattle.std.specs.Prelude.{ℕ, Bool, true, false, List, Option, Some, None}
 use Rattle.pt_types.specs.Times.{Timespec}
 use Rattle.pt_types.specs.declared.call.Call.{Call}
-use Rattle.pt_types.specs.declared.call.Call.TheVariants.{MutexInit, Lock, Trylock, Timedlock, Clocklock, Unlock, Consistent, MutexDestroy, RwlockInit, Rdlock, Tryrdlock, Timedrdlock, Clockrdlock, Wrlock, Trywrlock, Timedwrlock, Clockwrlock, Rwunlock, RwlockDestroy, CondInit, CondDestroy, Wait, Timedwait, Clockwait, Signal, Broadcast, BarrierInit, Bwait, BarrierDestroy}
+use Rattle.pt_types.specs.declared.call.Call.TheVariants.{MutexInit, Lock, Trylock, Timedlock}
+use Rattle.pt_types.specs.declared.call.Call.TheVariants.{Clocklock, Unlock, Consistent}
+use Rattle.pt_types.specs.declared.call.Call.TheVariants.{MutexDestroy, RwlockInit, Rdlock}
+use Rattle.pt_types.specs.declared.call.Call.TheVariants.{Tryrdlock, Timedrdlock, Clockrdlock}
+use Rattle.pt_types.specs.declared.call.Call.TheVariants.{Wrlock, Trywrlock, Timedwrlock}
+use Rattle.pt_types.specs.declared.call.Call.TheVariants.{Clockwrlock, Rwunlock, RwlockDestroy}
+use Rattle.pt_types.specs.declared.call.Call.TheVariants.{CondInit, CondDestroy, Wait, Timedwait}
+use Rattle.pt_types.specs.declared.call.Call.TheVariants.{Clockwait, Signal, Broadcast, BarrierInit}
+use Rattle.pt_types.specs.declared.call.Call.TheVariants.{Bwait, BarrierDestroy}
 use Rattle.pt_types.specs.declared.time.Clock.{Clock}
 use Rattle.pt_types.specs.declared.time.Clock.TheVariants.{Real, Mono}
 use Rattle.pt_types.specs.declared.call.How.{How}
@@ -12,7 +20,10 @@ use Rattle.pt_types.specs.declared.call.ObjectKind.TheVariants.{Mutex, Rwlock, C
 use Rattle.pt_types.specs.declared.operations.LockKind.{LockKind}
 use Rattle.pt_types.specs.declared.operations.LockKind.TheVariants.{MutexLock, ReadLock, WriteLock}
 use Rattle.pt_types.specs.declared.operations.ObjectClass.{ObjectClass}
-use Rattle.pt_types.specs.declared.operations.ObjectClass.TheVariants.{Mutex as MutexClass, Rwlock as RwlockClass, Cond as CondClass, Barrier as BarrierClass}
+use Rattle.pt_types.specs.declared.operations.ObjectClass.TheVariants.{Mutex as MutexClass}
+use Rattle.pt_types.specs.declared.operations.ObjectClass.TheVariants.{Rwlock as RwlockClass}
+use Rattle.pt_types.specs.declared.operations.ObjectClass.TheVariants.{Cond as CondClass}
+use Rattle.pt_types.specs.declared.operations.ObjectClass.TheVariants.{Barrier as BarrierClass}
 
 -- the class of an object, whatever else is known of it  [XSH 2.9]
 abbrev pub class_of : ObjectKind → ObjectClass

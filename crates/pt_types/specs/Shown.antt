@@ -1,5 +1,6 @@
 -- Shown: what a call does, as the definitions say it: with the bytes of each name.
-use Rattle.pt_types.specs.Operations.{Operation, Makes, Ends, Acquires, Unlocks, Restores, Rwunlocks, Awaits, Signals, Broadcasts, Arrives}
+use Rattle.pt_types.specs.Operations.{Operation, Makes, Ends, Acquires, Unlocks, Restores}
+use Rattle.pt_types.specs.Operations.{Rwunlocks, Awaits, Signals, Broadcasts, Arrives}
 use Rattle.pt_types.specs.declared.operations.Operation.{Operation as PlainOperation}
 use Rattle.pt_types.specs.declared.operations.Operation.TheVariants as operations
 

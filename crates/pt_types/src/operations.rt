@@ -1,7 +1,10 @@
 //! What each call word does, and to which class of objects.
 
 ghost use Rattle.std.specs.Prelude.{◌≡◌};
-ghost use Rattle.pt_types.specs.Operations.{operation as operation_meant, clock_of as clock_meant, same_class, class_of as class_meant, class_needed as class_meant_by, deadline_of as deadline_meant};
+ghost use Rattle.pt_types.specs.Operations.{operation as operation_meant, clock_of as clock_meant};
+ghost use Rattle.pt_types.specs.Operations.{same_class, class_of as class_meant};
+ghost use Rattle.pt_types.specs.Operations.{class_needed as class_meant_by};
+ghost use Rattle.pt_types.specs.Operations.{deadline_of as deadline_meant};
 ghost use Rattle.pt_types.specs.Shown.{shown_operation};
 
 use crate::{Call, Clock, Deadline, How, Name, ObjectKind};

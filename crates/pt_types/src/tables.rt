@@ -2,11 +2,23 @@
 
 ghost use Rattle.std.specs.Prelude.{◌≡◌};
 ghost use Rattle.pt_types.specs.Tables.{reply as reply_of_verdict};
-ghost use Rattle.pt_types.specs.ObjectTable.{init_verdict as init_table, destroy_verdict as destroy_table, is_bad_kind as is_bad};
+ghost use Rattle.pt_types.specs.ObjectTable.{init_verdict as init_table};
+ghost use Rattle.pt_types.specs.ObjectTable.{destroy_verdict as destroy_table};
+ghost use Rattle.pt_types.specs.ObjectTable.{is_bad_kind as is_bad};
 ghost use Rattle.pt_types.specs.Operations.{is_try as is_try_how, deadline_of as deadline_meant};
 ghost use Rattle.pt_types.specs.Times.{has_bad_deadline as has_bad};
-ghost use Rattle.pt_types.specs.MutexTable.{owns as owns_it, lock_verdict as lock_table, unlock_verdict as unlock_table, consistent_verdict as consistent_table, is_lost as is_lost_consistency, may_relock as may_relock_it, lock_outcome as outcome_of_lock};
-ghost use Rattle.pt_types.specs.RwlockTable.{holds as holds_it, is_free as is_free_lock, relock_outcome as outcome_of_relock, read_verdict as read_table, write_verdict as write_table, rwunlock_verdict as rwunlock_table, may_read as may_read_it, may_write as may_write_it};
+ghost use Rattle.pt_types.specs.MutexTable.{owns as owns_it, lock_verdict as lock_table};
+ghost use Rattle.pt_types.specs.MutexTable.{unlock_verdict as unlock_table};
+ghost use Rattle.pt_types.specs.MutexTable.{consistent_verdict as consistent_table};
+ghost use Rattle.pt_types.specs.MutexTable.{is_lost as is_lost_consistency};
+ghost use Rattle.pt_types.specs.MutexTable.{may_relock as may_relock_it};
+ghost use Rattle.pt_types.specs.MutexTable.{lock_outcome as outcome_of_lock};
+ghost use Rattle.pt_types.specs.RwlockTable.{holds as holds_it, is_free as is_free_lock};
+ghost use Rattle.pt_types.specs.RwlockTable.{relock_outcome as outcome_of_relock};
+ghost use Rattle.pt_types.specs.RwlockTable.{read_verdict as read_table};
+ghost use Rattle.pt_types.specs.RwlockTable.{write_verdict as write_table};
+ghost use Rattle.pt_types.specs.RwlockTable.{rwunlock_verdict as rwunlock_table};
+ghost use Rattle.pt_types.specs.RwlockTable.{may_read as may_read_it, may_write as may_write_it};
 ghost use Rattle.pt_types.specs.CondTable.{wait_verdict as wait_table};
 
 use crate::views::{MutexView, RwlockView};

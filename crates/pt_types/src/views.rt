@@ -1,7 +1,9 @@
 //! A mutex and a read-write lock as their verdict tables see them.
 
 ghost use Rattle.std.specs.Prelude.{◌≡◌};
-ghost use Rattle.pt_types.specs.MutexTable.{after_yield as yielded, after_consistent as restored, after_release as released, is_acquired as is_acquired_by};
+ghost use Rattle.pt_types.specs.MutexTable.{after_yield as yielded, after_consistent as restored};
+ghost use Rattle.pt_types.specs.MutexTable.{after_release as released};
+ghost use Rattle.pt_types.specs.MutexTable.{is_acquired as is_acquired_by};
 
 use crate::{ClientId, Consistency, MutexKind, Outcome};
 

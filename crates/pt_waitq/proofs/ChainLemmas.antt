@@ -1,5 +1,7 @@
 -- What nodes and the ends of chains say of the queues.
-use Rattle.std.proofs.Common.{◌≡◌, ℕ, ◌==◌, ◌+◌, Bool, true, false, cond, ◌||◌, List, [], ◌∷◌, length, filter, Option, Some, None, is_some, unwrap_or, nat_eq, inl, inr, refl, sym, ap, ◌∙◌, subst, arith, eq-eqb}
+use Rattle.std.proofs.Common.{◌≡◌, ℕ, ◌==◌, ◌+◌, Bool, true, false, cond, ◌||◌, List, [], ◌∷◌}
+use Rattle.std.proofs.Common.{length, filter, Option, Some, None, is_some, unwrap_or, nat_eq, inl}
+use Rattle.std.proofs.Common.{inr, refl, sym, ap, ◌∙◌, subst, arith, eq-eqb}
 use Rattle.std.specs.Prelude.{IfSome, IfNone}
 use Rattle.std.specs.Option.{option_map, option_and_then}
 use Rattle.std.specs.Map.{lookup}
@@ -12,7 +14,9 @@ use Rattle.pt_waitq.specs.declared.sides.Queue.{Queue}
 use Rattle.pt_waitq.specs.Queues.{In}
 use Rattle.pt_waitq.specs.Waits.{is_listed, has_waiter, queue_of}
 use Rattle.pt_waitq.specs.ListLemmas.{any-in, In-filter}
-use Rattle.pt_waitq.specs.Chains.{numbers, first_entry, side_of, IsChain, in_chain, nodes_of, node_in, next_in, before_in, entry_in, home_of, index_of, entry_of, AreHomes, AreChains}
+use Rattle.pt_waitq.specs.Chains.{numbers, first_entry, side_of, IsChain, in_chain, nodes_of}
+use Rattle.pt_waitq.specs.Chains.{node_in, next_in, before_in, entry_in, home_of, index_of}
+use Rattle.pt_waitq.specs.Chains.{entry_of, AreHomes, AreChains}
 use Rattle.pt_waitq.proofs.EndLemmas.{chain-kept}
 
 none_first : (es : List (ℕ × Waiter)) → None ≡ first_entry es → es ≡ []

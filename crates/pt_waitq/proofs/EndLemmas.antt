@@ -1,5 +1,7 @@
 -- A chain, its ends and its count, as a node goes after the last or is taken out.
-use Rattle.std.proofs.Common.{◌≡◌, ◌≢◌, ℕ, ◌==◌, ◌+◌, ◌-◌, Bool, true, false, cond, ◌||◌, not, List, [], ◌∷◌, ◌++◌, length, Option, Some, None, is_some, slice_index_or, refl, sym, ap, ◌∙◌, arith}
+use Rattle.std.proofs.Common.{◌≡◌, ◌≢◌, ℕ, ◌==◌, ◌+◌, ◌-◌, Bool, true, false, cond, ◌||◌, not, List}
+use Rattle.std.proofs.Common.{[], ◌∷◌, ◌++◌, length, Option, Some, None, is_some, slice_index_or}
+use Rattle.std.proofs.Common.{refl, sym, ap, ◌∙◌, arith}
 use Rattle.std.specs.Prelude.{slice_index}
 use Rattle.std.proofs.lemmas.Bool.Decides.{nat_tests}
 use Rattle.std.proofs.lemmas.Bool.{false≢true}
@@ -7,7 +9,8 @@ use Rattle.pt_waitq.specs.declared.sides.Side.{Side}
 use Rattle.pt_waitq.specs.Waits.{is_listed}
 use Rattle.pt_waitq.specs.ListLemmas.{filter-rest}
 use Rattle.pt_waitq.specs.Chains.{first_in, last_in, is_at, Unique, IsChain}
-use Rattle.pt_waitq.proofs.LinkLemmas.{but, Links-agree, Links-append, Links-removed, first-removed, last-removed}
+use Rattle.pt_waitq.proofs.LinkLemmas.{but, Links-agree, Links-append, Links-removed, first-removed}
+use Rattle.pt_waitq.proofs.LinkLemmas.{last-removed}
 
 last_append : (b : Option ℕ) (ns : List ℕ) (n : ℕ) → last_in b (ns ++ n ∷ []) ≡ Some n
 last_append b [] n = refl

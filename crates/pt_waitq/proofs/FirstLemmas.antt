@@ -1,5 +1,8 @@
 -- The first of a queue and its writers, found by the counts of its chains.
-use Rattle.std.proofs.Common.{◌≡◌, ◌≢◌, ℕ, ◌==◌, nat_lt, nat_le, ◌<◌, ◌≤◌, ◌+◌, ◌-◌, Bool, true, false, cond, ◌&&◌, ◌||◌, List, [], ◌∷◌, map, length, filter, Option, Some, None, is_some, slice_index_or, nat_eq, inl, inr, refl, sym, ap, ◌∙◌, arith, eq-eqb}
+use Rattle.std.proofs.Common.{◌≡◌, ◌≢◌, ℕ, ◌==◌, nat_lt, nat_le, ◌<◌, ◌≤◌, ◌+◌, ◌-◌, Bool, true}
+use Rattle.std.proofs.Common.{false, cond, ◌&&◌, ◌||◌, List, [], ◌∷◌, map, length, filter, Option}
+use Rattle.std.proofs.Common.{Some, None, is_some, slice_index_or, nat_eq, inl, inr, refl, sym, ap}
+use Rattle.std.proofs.Common.{◌∙◌, arith, eq-eqb}
 use Rattle.std.specs.Prelude.{slice_index, IsTrue, ◌↔◌}
 use Rattle.std.specs.Option.{option_map, option_and_then}
 use Rattle.std.specs.Map.{lookup}
@@ -18,11 +21,14 @@ use Rattle.pt_waitq.specs.ListLemmas.{Each-in, any-in, any-out, In-filter, filte
 use Rattle.pt_waitq.specs.OrderLemmas.{filter-in-order}
 use Rattle.pt_waitq.specs.QueueLemmas.{any-queue_of, queue_of-in-order}
 use Rattle.pt_waitq.specs.WaitingLemmas.{one_entry}
-use Rattle.pt_waitq.specs.Chains.{numbers, first_entry, first_in, side_of, is_kind, chain_of, in_chain, nodes_of, entry_in, index_of, AreChains, HasNoWaiter, IsFirst, IsFirstWriter, IsFirstChain, HasWriterFrom}
+use Rattle.pt_waitq.specs.Chains.{numbers, first_entry, first_in, side_of, is_kind, chain_of}
+use Rattle.pt_waitq.specs.Chains.{in_chain, nodes_of, entry_in, index_of, AreChains, HasNoWaiter}
+use Rattle.pt_waitq.specs.Chains.{IsFirst, IsFirstWriter, IsFirstChain, HasWriterFrom}
 use Rattle.pt_waitq.proofs.MemberLemmas.{filter-in}
 use Rattle.pt_waitq.proofs.SortedLemmas.{kind-of}
 use Rattle.pt_waitq.proofs.HeadLemmas.{goes_ahead, top-head, queue-head}
-use Rattle.pt_waitq.proofs.ChainLemmas.{entry-there, listed-lookup, unmade-none, queue-none, index-there}
+use Rattle.pt_waitq.proofs.ChainLemmas.{entry-there, listed-lookup, unmade-none, queue-none}
+use Rattle.pt_waitq.proofs.ChainLemmas.{index-there}
 
 any-each : {X : Type 0} (p : X → Bool) (xs : List X) → list_any p xs ≡ false
     → Each (λ x. p x ≡ false) xs

@@ -1,5 +1,7 @@
 -- Nodes as clients come and go.
-use Rattle.std.proofs.Common.{◌≡◌, ◌≢◌, ℕ, ◌==◌, ◌<◌, ◌≤◌, ◌+◌, ◌^◌, Bool, true, false, cond, ◌&&◌, ◌||◌, not, List, [], ◌∷◌, ◌++◌, length, Option, Some, None, is_some, nat_eq, refl, sym, ap, ◌∙◌, arith, eq-eqb}
+use Rattle.std.proofs.Common.{◌≡◌, ◌≢◌, ℕ, ◌==◌, ◌<◌, ◌≤◌, ◌+◌, ◌^◌, Bool, true, false, cond, ◌&&◌}
+use Rattle.std.proofs.Common.{◌||◌, not, List, [], ◌∷◌, ◌++◌, length, Option, Some, None, is_some}
+use Rattle.std.proofs.Common.{nat_eq, refl, sym, ap, ◌∙◌, arith, eq-eqb}
 use Rattle.std.specs.Prelude.{IsSome}
 use Rattle.std.specs.Option.{option_and_then}
 use Rattle.std.specs.Map.{lookup}
@@ -11,7 +13,8 @@ use Rattle.pt_waitq.specs.declared.sides.Queue.{Queue}
 use Rattle.pt_waitq.specs.Queues.{In}
 use Rattle.pt_waitq.specs.Waits.{is_listed, has_waiter}
 use Rattle.pt_waitq.specs.ListLemmas.{any-in, filter-none}
-use Rattle.pt_waitq.specs.Chains.{numbers, first_entry, is_at, node_in, entry_in, home_of, entry_of, AreHomes, AreChains}
+use Rattle.pt_waitq.specs.Chains.{numbers, first_entry, is_at, node_in, entry_in, home_of, entry_of}
+use Rattle.pt_waitq.specs.Chains.{AreHomes, AreChains}
 use Rattle.pt_waitq.proofs.ChainLemmas.{some_same, listed-lookup, home-there, chains-agree}
 
 none_some : {X : Type 0} (x : X) → None ≡ Some x → ⊥

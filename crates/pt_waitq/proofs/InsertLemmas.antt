@@ -1,5 +1,7 @@
 -- What stays true of nodes and chains as a waiter is put in.
-use Rattle.std.proofs.Common.{◌≡◌, ℕ, ◌==◌, ◌<◌, ◌≤◌, ◌+◌, ◌^◌, Bool, true, false, cond, ◌||◌, not, List, [], ◌∷◌, ◌++◌, length, filter, Option, Some, is_some, inl, inr, refl, sym, ap, ◌∙◌, arith, eq-eqb}
+use Rattle.std.proofs.Common.{◌≡◌, ℕ, ◌==◌, ◌<◌, ◌≤◌, ◌+◌, ◌^◌, Bool, true, false, cond, ◌||◌, not}
+use Rattle.std.proofs.Common.{List, [], ◌∷◌, ◌++◌, length, filter, Option, Some, is_some, inl, inr}
+use Rattle.std.proofs.Common.{refl, sym, ap, ◌∙◌, arith, eq-eqb}
 use Rattle.std.proofs.lemmas.Bool.Decides.{nat_tests}
 use Rattle.std.proofs.lemmas.Bool.{false≢true}
 use Rattle.pt_waitq.specs.declared.waiter.Waiter.{Waiter}
@@ -9,7 +11,8 @@ use Rattle.pt_waitq.specs.Queues.{In}
 use Rattle.pt_waitq.specs.QueueLemmas.{length-queue_from}
 use Rattle.pt_waitq.specs.Waits.{is_listed, has_waiter, queue_of, IsOnce}
 use Rattle.pt_waitq.specs.ListLemmas.{any-in, any-out, filter-none}
-use Rattle.pt_waitq.specs.Chains.{numbers, first_entry, in_chain, chain_of, nodes_of, home_of, Unique, AreChains}
+use Rattle.pt_waitq.specs.Chains.{numbers, first_entry, in_chain, chain_of, nodes_of, home_of}
+use Rattle.pt_waitq.specs.Chains.{Unique, AreChains}
 use Rattle.pt_waitq.proofs.RemovalLemmas.{filter-fewer}
 use Rattle.pt_waitq.proofs.LinkLemmas.{listed_apart, eq_turned, eq_true}
 use Rattle.pt_waitq.proofs.ChainLemmas.{chain-member, listed-lookup, home-there}

@@ -1,5 +1,7 @@
 -- Queues as they are made and discarded.
-use Rattle.std.proofs.Common.{◌≡◌, ℕ, ◌==◌, ◌<◌, ◌+◌, Bool, true, false, cond, ◌&&◌, not, List, [], ◌∷◌, ◌++◌, length, Option, Some, None, is_some, nat_eq, refl, sym, ap, ◌∙◌, subst, arith}
+use Rattle.std.proofs.Common.{◌≡◌, ℕ, ◌==◌, ◌<◌, ◌+◌, Bool, true, false, cond, ◌&&◌, not, List, []}
+use Rattle.std.proofs.Common.{◌∷◌, ◌++◌, length, Option, Some, None, is_some, nat_eq, refl, sym, ap}
+use Rattle.std.proofs.Common.{◌∙◌, subst, arith}
 use Rattle.std.specs.Map.{lookup}
 use Rattle.std.specs.List.{AllByRecursion as Each}
 use Rattle.std.proofs.lemmas.Bool.Decides.{nat_tests}
@@ -9,7 +11,8 @@ use Rattle.pt_waitq.specs.declared.waiter.Waiter.{Waiter}
 use Rattle.pt_waitq.specs.declared.nodes.Node.{Node}
 use Rattle.pt_waitq.specs.declared.sides.Queue.{Queue}
 use Rattle.pt_waitq.specs.Waits.{is_listed, queue_of, AllStand}
-use Rattle.pt_waitq.specs.Chains.{numbers, first_in, last_in, side_of, IsChain, chain_of, nodes_of, next_in, before_in, index_of, AreChains, HasNone, HasNoWaiter}
+use Rattle.pt_waitq.specs.Chains.{numbers, first_in, last_in, side_of, IsChain, chain_of, nodes_of}
+use Rattle.pt_waitq.specs.Chains.{next_in, before_in, index_of, AreChains, HasNone, HasNoWaiter}
 use Rattle.pt_waitq.proofs.ChangeLemmas.{stand-more, stand-fewer}
 use Rattle.pt_waitq.proofs.ChainLemmas.{listed-lookup, unmade-none, queue-none}
 use Rattle.pt_waitq.proofs.FirstLemmas.{no-waiter}

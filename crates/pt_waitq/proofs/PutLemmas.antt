@@ -1,5 +1,7 @@
 -- A waiter is put in: what is true of nodes, chains and queues stays true.
-use Rattle.std.proofs.Common.{◌≡◌, ◌⊎◌, ℕ, suc, ◌==◌, ◌<◌, ◌≤◌, ◌+◌, Bool, true, false, cond, ◌&&◌, not, List, [], ◌∷◌, ◌++◌, map, length, Option, Some, None, is_some, slice_index_or, nat_eq, inl, inr, refl, sym, ap, ◌∙◌, subst, arith}
+use Rattle.std.proofs.Common.{◌≡◌, ◌⊎◌, ℕ, suc, ◌==◌, ◌<◌, ◌≤◌, ◌+◌, Bool, true, false, cond, ◌&&◌}
+use Rattle.std.proofs.Common.{not, List, [], ◌∷◌, ◌++◌, map, length, Option, Some, None, is_some}
+use Rattle.std.proofs.Common.{slice_index_or, nat_eq, inl, inr, refl, sym, ap, ◌∙◌, subst, arith}
 use Rattle.std.specs.Prelude.{slice_index}
 use Rattle.std.specs.Map.{lookup}
 use Rattle.std.proofs.lemmas.Bool.Decides.{nat_tests}
@@ -14,7 +16,9 @@ use Rattle.pt_waitq.specs.QueueLemmas.{queue_of-more, length-insert}
 use Rattle.pt_waitq.specs.Waits.{is_listed, has_waiter, queue_of, AllStand, IsOnce}
 use Rattle.pt_waitq.specs.ListLemmas.{Each-append}
 use Rattle.pt_waitq.specs.WaitingLemmas.{one_entry}
-use Rattle.pt_waitq.specs.Chains.{numbers, is_at, last_in, side_of, IsChain, is_kind, chain_of, in_chain, nodes_of, next_in, before_in, entry_in, home_of, index_of, entry_of, AreHomes, AreChains, IsPut}
+use Rattle.pt_waitq.specs.Chains.{numbers, is_at, last_in, side_of, IsChain, is_kind, chain_of}
+use Rattle.pt_waitq.specs.Chains.{in_chain, nodes_of, next_in, before_in, entry_in, home_of}
+use Rattle.pt_waitq.specs.Chains.{index_of, entry_of, AreHomes, AreChains, IsPut}
 use Rattle.pt_waitq.proofs.LinkLemmas.{eq_true, last_apart}
 use Rattle.pt_waitq.proofs.EndLemmas.{chain-append, chain-kept}
 use Rattle.pt_waitq.proofs.SortedLemmas.{sorted-more}

@@ -1,5 +1,7 @@
 -- What is read from a list after a write.
-use Rattle.std.proofs.Common.{◌≡◌, ℕ, ◌==◌, ◌<◌, ◌-◌, ◌⊎◌, Bool, true, false, cond, ◌&&◌, not, List, length, Option, None, inl, inr, refl, sym, ap, ◌∙◌, arith, eq-eqb, get_or, get_or-set_other}
+use Rattle.std.proofs.Common.{◌≡◌, ℕ, ◌==◌, ◌<◌, ◌-◌, ◌⊎◌, Bool, true, false, cond, ◌&&◌, not, List}
+use Rattle.std.proofs.Common.{length, Option, None, inl, inr, refl, sym, ap, ◌∙◌, arith, eq-eqb}
+use Rattle.std.proofs.Common.{get_or, get_or-set_other}
 use Rattle.std.proofs.Math.ListN.{set}
 use Rattle.std.proofs.lemmas.Bool.Decides.{nat_tests}
 use Rattle.std.proofs.lemmas.Bool.{false≢true}

@@ -1,10 +1,12 @@
 -- Chains in the order of arrival, and the queues that they make.
-use Rattle.std.proofs.Common.{◌≡◌, ℕ, ◌==◌, Bool, true, false, cond, ◌&&◌, List, [], ◌∷◌, ◌++◌, map, filter, Some, refl, sym, ap, ◌∙◌, arith}
+use Rattle.std.proofs.Common.{◌≡◌, ℕ, ◌==◌, Bool, true, false, cond, ◌&&◌, List, [], ◌∷◌, ◌++◌, map}
+use Rattle.std.proofs.Common.{filter, Some, refl, sym, ap, ◌∙◌, arith}
 use Rattle.std.proofs.lemmas.Bool.Decides.{nat_tests}
 use Rattle.std.specs.List.{AllByRecursion as Each}
 use Rattle.pt_types.specs.Times.{pair_before}
 use Rattle.pt_waitq.specs.declared.waiter.Waiter.{Waiter}
-use Rattle.pt_waitq.specs.Queues.{arrival, comes_before, is_like, IsLatest, insert_in_order, head_of}
+use Rattle.pt_waitq.specs.Queues.{arrival, comes_before, is_like, IsLatest, insert_in_order}
+use Rattle.pt_waitq.specs.Queues.{head_of}
 use Rattle.pt_waitq.specs.Waits.{queue_of, queue_from}
 use Rattle.pt_waitq.specs.QueueLemmas.{queue_of-more, queue_of-filter}
 use Rattle.pt_waitq.specs.Chains.{is_kind, in_chain, chain_of}

@@ -1,5 +1,7 @@
 -- A waiter put in or taken out: from what the calls below say to what is true of all.
-use Rattle.std.proofs.Common.{◌≡◌, ℕ, ◌==◌, ◌<◌, ◌≤◌, ◌+◌, ◌^◌, Bool, true, false, cond, ◌&&◌, ◌||◌, not, List, [], ◌∷◌, ◌++◌, filter, Option, Some, None, is_some, unwrap_or, slice_index_or, nat_eq, refl, sym, ap, ◌∙◌, subst, arith}
+use Rattle.std.proofs.Common.{◌≡◌, ℕ, ◌==◌, ◌<◌, ◌≤◌, ◌+◌, ◌^◌, Bool, true, false, cond, ◌&&◌, ◌||◌}
+use Rattle.std.proofs.Common.{not, List, [], ◌∷◌, ◌++◌, filter, Option, Some, None, is_some}
+use Rattle.std.proofs.Common.{unwrap_or, slice_index_or, nat_eq, refl, sym, ap, ◌∙◌, subst, arith}
 use Rattle.std.specs.Prelude.{slice_index, IfSome, IsSome}
 use Rattle.std.specs.Option.{option_and_then}
 use Rattle.std.specs.Map.{lookup}
@@ -12,7 +14,10 @@ use Rattle.pt_waitq.specs.declared.sides.Queue.{Queue}
 use Rattle.pt_waitq.specs.Queues.{In, IsLatest}
 use Rattle.pt_waitq.specs.Waits.{is_listed, has_waiter, queue_of, AllStand}
 use Rattle.pt_waitq.specs.ListLemmas.{any-append, any-without}
-use Rattle.pt_waitq.specs.Chains.{numbers, after, waiting_from, waiting_by, first_in, last_in, is_at, side_of, Links, chain_of, in_chain, nodes_of, node_in, next_in, before_in, entry_in, home_of, index_of, entry_of, AreHomes, AreChains, IsPut, IsTaken}
+use Rattle.pt_waitq.specs.Chains.{numbers, after, waiting_from, waiting_by, first_in, last_in}
+use Rattle.pt_waitq.specs.Chains.{is_at, side_of, Links, chain_of, in_chain, nodes_of, node_in}
+use Rattle.pt_waitq.specs.Chains.{next_in, before_in, entry_in, home_of, index_of, entry_of}
+use Rattle.pt_waitq.specs.Chains.{AreHomes, AreChains, IsPut, IsTaken}
 use Rattle.pt_waitq.proofs.ChangeLemmas.{stand-in, stand-out}
 use Rattle.pt_waitq.proofs.LinkLemmas.{eq_true}
 use Rattle.pt_waitq.proofs.ChainLemmas.{chain-member, is-listed, listed-lookup, index-there}

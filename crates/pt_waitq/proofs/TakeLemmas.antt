@@ -1,5 +1,8 @@
 -- A waiter is taken out: what is true of nodes, chains and queues stays true.
-use Rattle.std.proofs.Common.{◌≡◌, ◌⊎◌, ℕ, ◌==◌, ◌<◌, ◌≤◌, ◌+◌, ◌-◌, Bool, true, false, cond, ◌&&◌, ◌||◌, not, List, [], ◌∷◌, map, length, filter, Option, Some, None, is_some, unwrap_or, slice_index_or, nat_eq, inl, inr, refl, sym, ap, ◌∙◌, subst, arith, eq-eqb}
+use Rattle.std.proofs.Common.{◌≡◌, ◌⊎◌, ℕ, ◌==◌, ◌<◌, ◌≤◌, ◌+◌, ◌-◌, Bool, true, false, cond, ◌&&◌}
+use Rattle.std.proofs.Common.{◌||◌, not, List, [], ◌∷◌, map, length, filter, Option, Some, None}
+use Rattle.std.proofs.Common.{is_some, unwrap_or, slice_index_or, nat_eq, inl, inr, refl, sym, ap}
+use Rattle.std.proofs.Common.{◌∙◌, subst, arith, eq-eqb}
 use Rattle.std.specs.Prelude.{slice_index}
 use Rattle.std.specs.Option.{option_and_then}
 use Rattle.std.specs.Map.{lookup}
@@ -13,9 +16,13 @@ use Rattle.pt_waitq.specs.declared.sides.Side.{Side}
 use Rattle.pt_waitq.specs.declared.sides.Queue.{Queue}
 use Rattle.pt_waitq.specs.Queues.{In, of_client}
 use Rattle.pt_waitq.specs.Waits.{is_listed, has_waiter, queue_of, AllStand}
-use Rattle.pt_waitq.specs.ListLemmas.{any-out, any-without, In-filter, Each-filter, filter-none, filter-rest}
+use Rattle.pt_waitq.specs.ListLemmas.{any-out, any-without, In-filter, Each-filter, filter-none}
+use Rattle.pt_waitq.specs.ListLemmas.{filter-rest}
 use Rattle.pt_waitq.specs.WaitingLemmas.{one_entry, only-waiter, queue_of-without}
-use Rattle.pt_waitq.specs.Chains.{numbers, first_entry, is_at, side_of, Links, IsChain, is_kind, chain_of, in_chain, nodes_of, node_in, next_in, before_in, entry_in, home_of, index_of, entry_of, AreHomes, AreChains, IsTaken}
+use Rattle.pt_waitq.specs.Chains.{numbers, first_entry, is_at, side_of, Links, IsChain, is_kind}
+use Rattle.pt_waitq.specs.Chains.{chain_of, in_chain, nodes_of, node_in, next_in, before_in}
+use Rattle.pt_waitq.specs.Chains.{entry_in, home_of, index_of, entry_of, AreHomes, AreChains}
+use Rattle.pt_waitq.specs.Chains.{IsTaken}
 use Rattle.pt_waitq.proofs.MemberLemmas.{filter-in}
 use Rattle.pt_waitq.proofs.LinkLemmas.{but, eq_true, listed_apart, next_apart, before_apart}
 use Rattle.pt_waitq.proofs.EndLemmas.{chain-removed, chain-kept}
@@ -23,7 +30,8 @@ use Rattle.pt_waitq.proofs.SortedLemmas.{sorted-fewer}
 use Rattle.pt_waitq.proofs.ChainLemmas.{some_same, index-apart}
 use Rattle.pt_waitq.proofs.HomeLemmas.{entry-changed}
 use Rattle.pt_waitq.proofs.InsertLemmas.{unique-chain}
-use Rattle.pt_waitq.proofs.PutLemmas.{other-chain, either, other-kind, other-level, other-queue, own-kind}
+use Rattle.pt_waitq.proofs.PutLemmas.{other-chain, either, other-kind, other-level, other-queue}
+use Rattle.pt_waitq.proofs.PutLemmas.{own-kind}
 
 -- two filters, in either order
 filter-swap : {X : Type 0} (p q : X → Bool) (xs : List X)

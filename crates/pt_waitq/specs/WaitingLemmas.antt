@@ -1,11 +1,15 @@
 -- Who waits where, and the waiters that are the last of their clients.
-use Rattle.std.proofs.Common.{◌≡◌, ℕ, ◌≤◌, length, ◌==◌, inl, inr, Bool, true, false, cond, ◌&&◌, ◌||◌, not, List, [], ◌∷◌, ◌++◌, filter, refl, sym, ap, ◌∙◌, subst, arith, eq-eqb}
+use Rattle.std.proofs.Common.{◌≡◌, ℕ, ◌≤◌, length, ◌==◌, inl, inr, Bool, true, false, cond, ◌&&◌}
+use Rattle.std.proofs.Common.{◌||◌, not, List, [], ◌∷◌, ◌++◌, filter, refl, sym, ap, ◌∙◌, subst}
+use Rattle.std.proofs.Common.{arith, eq-eqb}
 use Rattle.std.proofs.lemmas.Bool.Decides.{nat_tests}
 use Rattle.std.proofs.lemmas.Bool.{false≢true, and_from, and_parts}
 use Rattle.pt_waitq.specs.declared.waiter.Waiter.{Waiter}
 use Rattle.pt_waitq.specs.Queues.{In, stands_in, of_client, without}
-use Rattle.pt_waitq.specs.Waits.{Waits, is_listed, has_waiter, queue_of, latest, waiting_of, queue_in, IsOnce, AllStand}
-use Rattle.pt_waitq.specs.ListLemmas.{any-in, any-out, any-append, any-filter, filter-all, filter-none}
+use Rattle.pt_waitq.specs.Waits.{Waits, is_listed, has_waiter, queue_of, latest, waiting_of}
+use Rattle.pt_waitq.specs.Waits.{queue_in, IsOnce, AllStand}
+use Rattle.pt_waitq.specs.ListLemmas.{any-in, any-out, any-append, any-filter, filter-all}
+use Rattle.pt_waitq.specs.ListLemmas.{filter-none}
 use Rattle.pt_waitq.specs.QueueLemmas.{queue_of-filter, any-queue_of}
 
 -- who waits in a queue has an entry there

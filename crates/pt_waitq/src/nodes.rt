@@ -1,12 +1,16 @@
 //! A node for each client, linked to those next to it in its chain.
 
-ghost use Rattle.std.specs.Prelude.{◌≡◌, ◌≢◌, ◌+◌, ◌-◌, ◌<◌, ◌≤◌, ◌^◌, ◌==◌, Some, None, IsSome, IfSome, IfNone, false, OnOk, OnErr, unwrap_or, ◌++◌, ◌∷◌, [], slice_index, ◌&&◌, slice_index_or, is_some, if◌then◌else◌, ℕ, not, List, nat_eq, length};
+ghost use Rattle.std.specs.Prelude.{◌≡◌, ◌≢◌, ◌+◌, ◌-◌, ◌<◌, ◌≤◌, ◌^◌, ◌==◌, Some, None, IsSome};
+ghost use Rattle.std.specs.Prelude.{IfSome, IfNone, false, OnOk, OnErr, unwrap_or, ◌++◌, ◌∷◌, []};
+ghost use Rattle.std.specs.Prelude.{slice_index, ◌&&◌, slice_index_or, is_some, if◌then◌else◌, ℕ};
+ghost use Rattle.std.specs.Prelude.{not, List, nat_eq, length};
 ghost use Rattle.std.specs.Map.{lookup};
 ghost use Rattle.std.specs.Option.{option_map, option_and_then};
 ghost use Rattle.indexmap.specs.IndexMap.{spare};
 ghost use Rattle.slab.specs.Slab.{HasRoomFor};
 ghost use Rattle.pt_waitq.specs.declared.waiter.Waiter.{Waiter};
-ghost use Rattle.pt_waitq.specs.Chains.{numbers, is_at, node_in, next_in, before_in, entry_in, home_of, entry_of};
+ghost use Rattle.pt_waitq.specs.Chains.{numbers, is_at, node_in, next_in, before_in, entry_in};
+ghost use Rattle.pt_waitq.specs.Chains.{home_of, entry_of};
 
 use crate::waiter::Waiter;
 use indexmap::IndexMap;

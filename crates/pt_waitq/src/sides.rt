@@ -1,11 +1,15 @@
 //! Queues as the ends and the counts of their chains.
 
-ghost use Rattle.std.specs.Prelude.{◌≡◌, ◌↔◌, ◌+◌, ◌++◌, ◌∷◌, [], false, IsTrue, ◌-◌, ◌<◌, ◌≤◌, ◌^◌, ◌==◌, Some, None, IsSome, IfSome, IfOk, unwrap_or, slice_index, ◌&&◌, slice_index_or, is_some, if◌then◌else◌, ℕ, not, List, nat_eq};
+ghost use Rattle.std.specs.Prelude.{◌≡◌, ◌↔◌, ◌+◌, ◌++◌, ◌∷◌, [], false, IsTrue, ◌-◌, ◌<◌, ◌≤◌};
+ghost use Rattle.std.specs.Prelude.{◌^◌, ◌==◌, Some, None, IsSome, IfSome, IfOk, unwrap_or};
+ghost use Rattle.std.specs.Prelude.{slice_index, ◌&&◌, slice_index_or, is_some, if◌then◌else◌, ℕ};
+ghost use Rattle.std.specs.Prelude.{not, List, nat_eq};
 ghost use Rattle.std.specs.Map.{lookup};
 ghost use Rattle.std.specs.Option.{option_map};
 ghost use Rattle.pt_types.specs.Limits.{most_priority};
 ghost use Rattle.pt_waitq.specs.declared.sides.Queue.{Queue};
-ghost use Rattle.pt_waitq.specs.Chains.{numbers, side_of, IsPut, IsTaken, HasNone, HasNoWaiter, IsFirst, IsFirstWriter, HasWriterFrom};
+ghost use Rattle.pt_waitq.specs.Chains.{numbers, side_of, IsPut, IsTaken, HasNone, HasNoWaiter};
+ghost use Rattle.pt_waitq.specs.Chains.{IsFirst, IsFirstWriter, HasWriterFrom};
 
 use crate::nodes::Rows;
 use crate::spares::Spares;

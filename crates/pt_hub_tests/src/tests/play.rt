@@ -15,44 +15,24 @@ use std::sync::ledger::{Blank, Ledger};
 // joins.
 #[derive(Clone, Copy)]
 pub(super) enum Step {
-    Sends {
-        client: usize,
-        word: Word,
-        place: u64,
-        ready: bool,
-    },
-    Refused {
-        client: usize,
-        word: Word,
-        refusal: Refusal,
-    },
-    Takes {
-        client: usize,
-        place: u64,
-        outcome: Outcome,
-    },
-    TakesNothing {
-        client: usize,
-    },
-    Moment {
-        sec: u64,
-        nsec: u64,
-    },
+    // A client's call, whose entry has this place, and which is answered at once.
+    Asks(usize, Word, u64),
+    // The same, but it has to wait.
+    Waits(usize, Word, u64),
+    Refused(usize, Word, Refusal),
+    // A client takes an answer: the place of its call, and the outcome.
+    Takes(usize, u64, Outcome),
+    TakesNothing(usize),
+    // A reading of the clock, in seconds and nanoseconds.
+    Moment(u64, u64),
     // The moment one second, so many times.
-    Moments {
-        count: u64,
-    },
-    LeastDeadline {
-        sec: u64,
-    },
+    Moments(u64),
+    // The least deadline, in seconds.
+    LeastDeadline(u64),
     // The entry at a place answers a call of this client, or nobody's if it was dropped by a seal.
-    Answers {
-        place: u64,
-        client: Option<u64>,
-    },
-    Seals {
-        at: u64,
-    },
+    Answers(u64, Option<u64>),
+    // The history is sealed, and goes on at this place.
+    Seals(u64),
 }
 
 // What a client must leave: its calls with the answers that it took, and the place of its Death.
@@ -127,14 +107,14 @@ fn audience(client: Option<u64>) -> Audience {
 // Whether what a client does comes out as it must.
 fn comes_out<L: Ledger>(hub: &mut Hub<L>, pass: &mut Pass<L>, step: Step) -> bool {
     match step {
-        Step::Sends {
-            word,
-            place,
-            ready,
-            ..
-        } => sends(hub, pass, word) == Ok(Sent { place, ready }),
-        Step::Refused { word, refusal, .. } => sends(hub, pass, word) == Err(refusal),
-        Step::Takes { place, outcome, .. } => hub.take(pass) == Some(Answer { place, outcome }),
+        Step::Asks(_, word, place) => sends(hub, pass, word) == Ok(Sent { place, ready: true }),
+        Step::Waits(_, word, place) => sends(hub, pass, word)
+            == Ok(Sent {
+                place,
+                ready: false,
+            }),
+        Step::Refused(_, word, refusal) => sends(hub, pass, word) == Err(refusal),
+        Step::Takes(_, place, outcome) => hub.take(pass) == Some(Answer { place, outcome }),
         _ => hub.take(pass).is_none(),
     }
 }
@@ -147,18 +127,19 @@ fn plays<L: Ledger>(
     step: Step,
 ) -> bool {
     match step {
-        Step::Sends { client, .. }
-        | Step::Refused { client, .. }
-        | Step::Takes { client, .. }
-        | Step::TakesNothing { client } => match passes.get_mut(client) {
+        Step::Asks(client, _, _)
+        | Step::Waits(client, _, _)
+        | Step::Refused(client, _, _)
+        | Step::Takes(client, _, _)
+        | Step::TakesNothing(client) => match passes.get_mut(client) {
             Some(pass) => comes_out(hub, pass, step),
             None => false,
         },
-        Step::Moment { sec, nsec } => advances(hub, clock, sec, nsec),
-        Step::Moments { count } => advances_often(hub, clock, count),
-        Step::LeastDeadline { sec } => hub.least_deadline(Clock::Real) == Deadline::new(sec, 0),
-        Step::Answers { place, client } => hub.audience(place) == audience(client),
-        Step::Seals { at } => hub.seal() == Ok(at),
+        Step::Moment(sec, nsec) => advances(hub, clock, sec, nsec),
+        Step::Moments(count) => advances_often(hub, clock, count),
+        Step::LeastDeadline(sec) => hub.least_deadline(Clock::Real) == Deadline::new(sec, 0),
+        Step::Answers(place, client) => hub.audience(place) == audience(client),
+        Step::Seals(at) => hub.seal() == Ok(at),
     }
 }
 

@@ -5,75 +5,38 @@ use super::play::{Leaving, Row, Step, is_played};
 use pt_hub::Closed;
 use pt_types::{Outcome, Refusal};
 
+// What the two clients of the first row leave, whether its history is sealed on the way or not.
+pub(super) const LEFT_24: &[Leaving] = &[
+    Leaving {
+        receipts: &[
+            (2, Word::MutexInit, Outcome::Done),
+            (3, Word::Lock, Outcome::Done),
+            (6, Word::Unlock, Outcome::Done),
+        ],
+        died_at: 8,
+    },
+    Leaving {
+        receipts: &[(5, Word::Lock, Outcome::Done)],
+        died_at: 9,
+    },
+];
+
 // What is answered, taken and refused.
 const ROW_24: Row = Row {
     steps: &[
-        Step::Sends {
-            client: 0,
-            word: Word::MutexInit,
-            place: 2,
-            ready: true,
-        },
-        Step::Takes {
-            client: 0,
-            place: 2,
-            outcome: Outcome::Done,
-        },
-        Step::Sends {
-            client: 0,
-            word: Word::Lock,
-            place: 3,
-            ready: true,
-        },
-        Step::Refused {
-            client: 0,
-            word: Word::Unlock,
-            refusal: Refusal::Blocked,
-        },
-        Step::Takes {
-            client: 0,
-            place: 3,
-            outcome: Outcome::Done,
-        },
-        Step::TakesNothing { client: 0 },
-        Step::Sends {
-            client: 1,
-            word: Word::Lock,
-            place: 5,
-            ready: false,
-        },
-        Step::TakesNothing { client: 1 },
-        Step::Sends {
-            client: 0,
-            word: Word::Unlock,
-            place: 6,
-            ready: true,
-        },
-        Step::Takes {
-            client: 1,
-            place: 5,
-            outcome: Outcome::Done,
-        },
-        Step::Takes {
-            client: 0,
-            place: 6,
-            outcome: Outcome::Done,
-        },
+        Step::Asks(0, Word::MutexInit, 2),
+        Step::Takes(0, 2, Outcome::Done),
+        Step::Asks(0, Word::Lock, 3),
+        Step::Refused(0, Word::Unlock, Refusal::Blocked),
+        Step::Takes(0, 3, Outcome::Done),
+        Step::TakesNothing(0),
+        Step::Waits(1, Word::Lock, 5),
+        Step::TakesNothing(1),
+        Step::Asks(0, Word::Unlock, 6),
+        Step::Takes(1, 5, Outcome::Done),
+        Step::Takes(0, 6, Outcome::Done),
     ],
-    leaving: &[
-        Leaving {
-            receipts: &[
-                (2, Word::MutexInit, Outcome::Done),
-                (3, Word::Lock, Outcome::Done),
-                (6, Word::Unlock, Outcome::Done),
-            ],
-            died_at: 8,
-        },
-        Leaving {
-            receipts: &[(5, Word::Lock, Outcome::Done)],
-            died_at: 9,
-        },
-    ],
+    leaving: LEFT_24,
     found_without_last: 5,
     closed: Closed {
         outer: 8,
@@ -89,58 +52,19 @@ fn row_24(rt: HostRuntime) {
 // A writer's deadline passes and lets a reader in.
 const ROW_12: Row = Row {
     steps: &[
-        Step::Sends {
-            client: 0,
-            word: Word::RwlockInit,
-            place: 3,
-            ready: true,
-        },
-        Step::Takes {
-            client: 0,
-            place: 3,
-            outcome: Outcome::Done,
-        },
-        Step::Sends {
-            client: 0,
-            word: Word::Rdlock,
-            place: 4,
-            ready: true,
-        },
-        Step::Takes {
-            client: 0,
-            place: 4,
-            outcome: Outcome::Done,
-        },
-        Step::Sends {
-            client: 1,
-            word: Word::Timedwrlock,
-            place: 6,
-            ready: false,
-        },
-        Step::Sends {
-            client: 2,
-            word: Word::Timedrdlock,
-            place: 7,
-            ready: false,
-        },
-        Step::LeastDeadline { sec: 5 },
-        Step::Moment {
-            sec: 4,
-            nsec: 999999999,
-        },
-        Step::TakesNothing { client: 1 },
-        Step::TakesNothing { client: 2 },
-        Step::Moment { sec: 5, nsec: 0 },
-        Step::Takes {
-            client: 1,
-            place: 6,
-            outcome: Outcome::Etimedout,
-        },
-        Step::Takes {
-            client: 2,
-            place: 7,
-            outcome: Outcome::Done,
-        },
+        Step::Asks(0, Word::RwlockInit, 3),
+        Step::Takes(0, 3, Outcome::Done),
+        Step::Asks(0, Word::Rdlock, 4),
+        Step::Takes(0, 4, Outcome::Done),
+        Step::Waits(1, Word::Timedwrlock, 6),
+        Step::Waits(2, Word::Timedrdlock, 7),
+        Step::LeastDeadline(5),
+        Step::Moment(4, 999999999),
+        Step::TakesNothing(1),
+        Step::TakesNothing(2),
+        Step::Moment(5, 0),
+        Step::Takes(1, 6, Outcome::Etimedout),
+        Step::Takes(2, 7, Outcome::Done),
     ],
     leaving: &[
         Leaving {

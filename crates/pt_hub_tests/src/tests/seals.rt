@@ -2,6 +2,7 @@
 
 use super::Word;
 use super::play::{Leaving, Row, Step, is_played};
+use super::rows::LEFT_24;
 use pt_hub::Closed;
 use pt_types::{Outcome, Refusal};
 
@@ -9,76 +10,23 @@ use pt_types::{Outcome, Refusal};
 // lock, or its call was open then, as the second lock.
 const ROW_24_SEALED: Row = Row {
     steps: &[
-        Step::Sends {
-            client: 0,
-            word: Word::MutexInit,
-            place: 2,
-            ready: true,
-        },
-        Step::Takes {
-            client: 0,
-            place: 2,
-            outcome: Outcome::Done,
-        },
-        Step::Sends {
-            client: 0,
-            word: Word::Lock,
-            place: 3,
-            ready: true,
-        },
-        Step::Seals { at: 5 },
-        Step::Seals { at: 5 },
-        Step::Refused {
-            client: 0,
-            word: Word::Unlock,
-            refusal: Refusal::Blocked,
-        },
-        Step::Takes {
-            client: 0,
-            place: 3,
-            outcome: Outcome::Done,
-        },
-        Step::TakesNothing { client: 0 },
-        Step::Sends {
-            client: 1,
-            word: Word::Lock,
-            place: 5,
-            ready: false,
-        },
-        Step::Seals { at: 6 },
-        Step::TakesNothing { client: 1 },
-        Step::Sends {
-            client: 0,
-            word: Word::Unlock,
-            place: 6,
-            ready: true,
-        },
-        Step::Takes {
-            client: 1,
-            place: 5,
-            outcome: Outcome::Done,
-        },
-        Step::Seals { at: 8 },
-        Step::Takes {
-            client: 0,
-            place: 6,
-            outcome: Outcome::Done,
-        },
+        Step::Asks(0, Word::MutexInit, 2),
+        Step::Takes(0, 2, Outcome::Done),
+        Step::Asks(0, Word::Lock, 3),
+        Step::Seals(5),
+        Step::Seals(5),
+        Step::Refused(0, Word::Unlock, Refusal::Blocked),
+        Step::Takes(0, 3, Outcome::Done),
+        Step::TakesNothing(0),
+        Step::Waits(1, Word::Lock, 5),
+        Step::Seals(6),
+        Step::TakesNothing(1),
+        Step::Asks(0, Word::Unlock, 6),
+        Step::Takes(1, 5, Outcome::Done),
+        Step::Seals(8),
+        Step::Takes(0, 6, Outcome::Done),
     ],
-    leaving: &[
-        Leaving {
-            receipts: &[
-                (2, Word::MutexInit, Outcome::Done),
-                (3, Word::Lock, Outcome::Done),
-                (6, Word::Unlock, Outcome::Done),
-            ],
-            died_at: 8,
-        },
-        Leaving {
-            receipts: &[(5, Word::Lock, Outcome::Done)],
-            died_at: 9,
-        },
-    ],
+    leaving: LEFT_24,
     found_without_last: 5,
     closed: Closed {
         outer: 8,
@@ -96,60 +44,18 @@ fn row_24_sealed(rt: HostRuntime) {
 // which there is no room, and seals: the Grant at place 4 is there before it, and gone after it.
 const RUNS_ON: Row = Row {
     steps: &[
-        Step::Sends {
-            client: 0,
-            word: Word::MutexInit,
-            place: 2,
-            ready: true,
-        },
-        Step::Takes {
-            client: 0,
-            place: 2,
-            outcome: Outcome::Done,
-        },
-        Step::Sends {
-            client: 0,
-            word: Word::Lock,
-            place: 3,
-            ready: true,
-        },
-        Step::Takes {
-            client: 0,
-            place: 3,
-            outcome: Outcome::Done,
-        },
-        Step::Sends {
-            client: 1,
-            word: Word::Lock,
-            place: 5,
-            ready: false,
-        },
-        Step::Moments { count: 1_048_565 },
-        Step::Answers {
-            place: 4,
-            client: Some(0),
-        },
-        Step::Moments { count: 1 },
-        Step::Answers {
-            place: 4,
-            client: None,
-        },
-        Step::Sends {
-            client: 0,
-            word: Word::Unlock,
-            place: 1_048_572,
-            ready: true,
-        },
-        Step::Takes {
-            client: 1,
-            place: 5,
-            outcome: Outcome::Done,
-        },
-        Step::Takes {
-            client: 0,
-            place: 1_048_572,
-            outcome: Outcome::Done,
-        },
+        Step::Asks(0, Word::MutexInit, 2),
+        Step::Takes(0, 2, Outcome::Done),
+        Step::Asks(0, Word::Lock, 3),
+        Step::Takes(0, 3, Outcome::Done),
+        Step::Waits(1, Word::Lock, 5),
+        Step::Moments(1_048_565),
+        Step::Answers(4, Some(0)),
+        Step::Moments(1),
+        Step::Answers(4, None),
+        Step::Asks(0, Word::Unlock, 1_048_572),
+        Step::Takes(1, 5, Outcome::Done),
+        Step::Takes(0, 1_048_572, Outcome::Done),
     ],
     leaving: &[
         Leaving {

@@ -1,6 +1,7 @@
 use Rattle.std.proofs.Common.{sym, ◌∙◌, arith}
 use Rattle.pt_history.proofs.Places.{place_of_next}
-use Rattle.pt_core.proofs.ApplyingLemmas.{applied-renewed, refused-growth, refused-places, whole-renewed}
+use Rattle.pt_core.proofs.ApplyingLemmas.{applied-renewed, refused-growth, refused-places}
+use Rattle.pt_core.proofs.ApplyingLemmas.{whole-renewed}
 use Rattle.pt_core.proofs.SealedCores.{places-lack, places-left}
 use Rattle.pt_core.proofs.applying.write_sealed.Goals as goal
 

@@ -6,9 +6,12 @@ use Rattle.pt_model.specs.Room.{need, entry_for}
 use Rattle.pt_model.specs.Seals.{seal}
 use Rattle.pt_model.specs.Steps.{Step}
 use Rattle.pt_state.specs.Adds.{past}
+use Rattle.pt_history.specs.Stored.{Stored}
 use Rattle.pt_machine.specs.Renewed.{AddsSealed}
+use Rattle.pt_core.specs.Settling.{Settles}
 use Rattle.pt_core.proofs.OpenLemmas.{room-asked}
 use Rattle.pt_core.proofs.RenewingLemmas.{entry-renewed, step-renewed, roomy-added, enters-renewed}
+use Rattle.pt_core.proofs.RenewingLemmas.{roomy-kept}
 use Rattle.pt_core.proofs.SealedCores.{settled}
 use Rattle.pt_core.proofs.renewing.enter_sealed.Goals as goal
 
@@ -44,7 +47,14 @@ settle-requires g c =
     c.push_outer_sealed.new.self
     (subst (λ (e : Entry). AddsSealed s n e c.push_outer_sealed.new.self)
     (sym (entry-renewed s c.requires.whole v c.requires.accepted))
-    c.in_ok-push_outer_sealed.ensures.ok)
+    c.in_ok-unsealed.ensures.ok)
+
+pub take_memory-requires : goal.take_memory-requires
+take_memory-requires g c = c.settle.ensures.roomy.read
+
+pub returns-clause-roomy : goal.returns-clause-roomy
+returns-clause-roomy g c = roomy-kept c.settle.new.body c.take_memory.new.self
+    c.take_memory.ensures c.settle.ensures.roomy
 
 pub returns-clause-ok : goal.returns-clause-ok
 returns-clause-ok g c =
@@ -67,5 +77,7 @@ returns-clause-ok g c =
     c.push_outer_sealed.new.self
     (subst (λ (e : Entry). AddsSealed s n e c.push_outer_sealed.new.self)
     (sym (entry-renewed s c.requires.whole v c.requires.accepted))
-    c.in_ok-push_outer_sealed.ensures.ok)
-    c.settle.new.body.stored c.settle.ensures.settles
+    c.in_ok-unsealed.ensures.ok)
+    c.take_memory.new.self.stored
+    (subst (λ (t : Stored). Settles c.push_outer_sealed.new.self.stored t)
+    (sym c.take_memory.ensures.stored) c.settle.ensures.settles)

@@ -1,6 +1,7 @@
 use Rattle.std.proofs.Common.{sym, ◌∙◌, arith}
 use Rattle.pt_history.proofs.Places.{place_of_next}
-use Rattle.pt_core.proofs.SealedCores.{settled, whole-sealed, kept-sealed, places-lack, places-left, refused-full, refused-memory}
+use Rattle.pt_core.proofs.SealedCores.{settled, whole-sealed, kept-sealed, places-lack, places-left}
+use Rattle.pt_core.proofs.SealedCores.{refused-full, refused-memory}
 use Rattle.pt_core.proofs.sealing.seal.Goals as goal
 
 pub seal-requires-clause-settled : goal.seal-requires-clause-settled

@@ -1,5 +1,6 @@
 -- A refused growth answers Err; of any other the inner allocator's answer is handed on.
-use Rattle.std.proofs.Common.{◌≡◌, ℕ, ◌+◌, ◌^◌, ◌<◌, Bool, true, false, List, [], ◌∷◌, Ok, Err, refl, w64, Bor}
+use Rattle.std.proofs.Common.{◌≡◌, ℕ, ◌+◌, ◌^◌, ◌<◌, Bool, true, false, List, [], ◌∷◌, Ok, Err}
+use Rattle.std.proofs.Common.{refl, w64, Bor}
 use seplogic.Ra.Ura.{Ura}
 use mir.Syntax.{Ty, Args, Fn, a_type, dnil, dcons}
 use mir.Val.{Val, vbool, vint, vptr}
@@ -14,9 +15,11 @@ use contract.BorrowLft.{◌⊑◌, ⊑_trans}
 use contract.Monad.{Fun, fact}
 use contract.Running.{tables, tables_of}
 use sound.WpLaws.{fm_of, WpFn-mono}
-use types.Kit.{‵, raw, ◌⊛◌, ⋆, some, later, given, learn, pick, by, at_ret, ◌$◌, ◌∵◌, !, qed, move, keep, use0, use1, use2, split, join, fsplit, fjoin, suffices, await, done}
+use types.Kit.{‵, raw, ◌⊛◌, ⋆, some, later, given, learn, pick, by, at_ret, ◌$◌, ◌∵◌, !, qed, move}
+use types.Kit.{keep, use0, use1, use2, split, join, fsplit, fjoin, suffices, await, done}
 use types.Part.{agg}
-use types.Run.{stop, fld, addr, lit, no_more, and_then, first, branches, skips, exec, returns, returns_within, enter}
+use types.Run.{stop, fld, addr, lit, no_more, and_then, first, branches, skips, exec, returns}
+use types.Run.{returns_within, enter}
 use types.ByLocal.{alloc_all, pass_all, free_all, look_at, get, through, sets, lands_as, env}
 use denote.Exit.{yes}
 use denote.RattleType.{owns}
@@ -35,7 +38,9 @@ use denote.Triple.Statement.{Triple}
 use denote.Triple.Table.{entered, cited}
 use denote.Triple.Walked.{Stays, stay_dropped, walk_of, ends_at, walked, Goes-dropped, walk_Meets}
 use Rattle.std.specs.Allocator.{block_if_ok}
-use Rattle.std.proofs.alloc.Calls.{Al, α, seen, token, Answer, answer_val, Answer-typed, Answer-Ok, Answer-err, takes_key, Takes, at_takes, Answered, Takes-goes, Takes-gives, answers}
+use Rattle.std.proofs.alloc.Calls.{Al, α, seen, token, Answer, answer_val, Answer-typed, Answer-Ok}
+use Rattle.std.proofs.alloc.Calls.{Answer-err, takes_key, Takes, at_takes, Answered, Takes-goes}
+use Rattle.std.proofs.alloc.Calls.{Takes-gives, answers}
 use Rattle.std.proofs.VecSteps.Shapes.{after}
 use Rattle.pt_failing_alloc.specs.contracts.Refusing as R
 use Rattle.pt_failing_alloc.specs.contracts.RefusingAllocator.allocate as F

@@ -14,7 +14,8 @@ use contract.BorrowLft.{◌⊑◌, ⊑_trans}
 use contract.Monad.{Fun, fact}
 use contract.Running.{tables, tables_of}
 use sound.WpLaws.{fm_of, WpFn-mono}
-use types.Kit.{Item, ‵, raw, ◌⊛◌, ⋆, later, given, learn, by, ◌$◌, ◌∵◌, !, qed, move, keep, use1, split, split3, join, group, fsplit, fjoin, feq_i, suffices, await, done}
+use types.Kit.{Item, ‵, raw, ◌⊛◌, ⋆, later, given, learn, by, ◌$◌, ◌∵◌, !, qed, move, keep, use1}
+use types.Kit.{split, split3, join, group, fsplit, fjoin, feq_i, suffices, await, done}
 use types.Run.{stop, fld, addr, of_opd, unit_lit, no_more, and_then, returns, enter}
 use types.ByLocal.{alloc_all, pass_all, free_all, look_at, get, through, sets, lands_as}
 use denote.Exit.{yes}
@@ -33,7 +34,8 @@ use denote.Triple.Spec.{triple_of}
 use denote.Triple.Statement.{Triple}
 use denote.Triple.Table.{entered}
 use denote.Triple.Walked.{Stays, stay_dropped, walk_of, ends_at, walked, Goes-dropped, walk_Meets}
-use Rattle.std.proofs.alloc.Calls.{Al, α, seen, token, gives_key, Gives, at_gives, Gives-goes, Gives-Gives}
+use Rattle.std.proofs.alloc.Calls.{Al, α, seen, token, gives_key, Gives, at_gives, Gives-goes}
+use Rattle.std.proofs.alloc.Calls.{Gives-Gives}
 use Rattle.pt_failing_alloc.specs.contracts.Refusing as R
 use Rattle.pt_failing_alloc.specs.contracts.RefusingAllocator.deallocate as F
 use Rattle.pt_failing_alloc.specs.contracts.RefusingAllocator.deallocate.Key as key

@@ -1,7 +1,9 @@
-use Rattle.std.proofs.Common.{◌≡◌, ◌+◌, ◌*◌, ◌-◌, ◌/◌, ◌≤◌, ◌<◌, ◌∙◌, ℕ, ap, sym, List, [], take, drop, length, get_or, arith}
+use Rattle.std.proofs.Common.{◌≡◌, ◌+◌, ◌*◌, ◌-◌, ◌/◌, ◌≤◌, ◌<◌, ◌∙◌, ℕ, ap, sym, List, [], take}
+use Rattle.std.proofs.Common.{drop, length, get_or, arith}
 use Rattle.std.specs.Simd.{first_chunks}
 use Rattle.pt_lanes.proofs.SetLemmas.{NoneFrom, none_set, highest-is, is-highest, is-none}
-use Rattle.pt_lanes.proofs.BlockLemmas.{highest-block, NoneFrom-drop, NoneFrom-block, get_or-first_chunks}
+use Rattle.pt_lanes.proofs.BlockLemmas.{highest-block, NoneFrom-drop, NoneFrom-block}
+use Rattle.pt_lanes.proofs.BlockLemmas.{get_or-first_chunks}
 use Rattle.pt_lanes.proofs.kernel.highest.Goals as goal
 
 rest_is : (xs rest : List ℕ) (count : ℕ) → rest ≡ drop (length xs / 8 * 8) xs

@@ -1,6 +1,7 @@
 use Rattle.std.proofs.Common.{◌≡◌, true, get_or, sym, arith}
 use Rattle.pt_lines.specs.Numbers.{is_digit}
-use Rattle.pt_lines.proofs.NumberLemmas.{value_small, value_more, value_bound, digit_byte, digits_more}
+use Rattle.pt_lines.proofs.NumberLemmas.{value_small, value_more, value_bound, digit_byte}
+use Rattle.pt_lines.proofs.NumberLemmas.{digits_more}
 use Rattle.pt_lines.proofs.number.read_number.Goals as goal
 
 pub overflow_mul-number : goal.overflow_mul-number

@@ -2,7 +2,8 @@ use Rattle.std.proofs.Common.{◌∙◌, refl, arith, sym}
 use Rattle.pt_timers.specs.Deadlines.{deadline_at}
 use Rattle.pt_machine.proofs.TimerDrops.{drops-none, row-moved, row-kept, row-empty, rows-all}
 use Rattle.pt_machine.proofs.clock.drop_moved.Goals as goal
-use Rattle.pt_machine.proofs.clock.drop_moved.Goals.{in-Some+then-was_moved, in-Some+else-was_moved, in_default}
+use Rattle.pt_machine.proofs.clock.drop_moved.Goals.{in-Some+then-was_moved, in-Some+else-was_moved}
+use Rattle.pt_machine.proofs.clock.drop_moved.Goals.{in_default}
 
 -- no deadline is set
 pub returns-then-has_none : goal.returns-then-has_none

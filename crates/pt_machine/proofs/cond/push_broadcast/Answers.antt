@@ -1,5 +1,6 @@
 use Rattle.pt_machine.proofs.Broadcasts.{broadcasting}
-use Rattle.pt_machine.proofs.QueuedBroadcast.{rousing-begins, rousing-ends, rousing-stands, rousing-shorter, rousing-next}
+use Rattle.pt_machine.proofs.QueuedBroadcast.{rousing-begins, rousing-ends, rousing-stands}
+use Rattle.pt_machine.proofs.QueuedBroadcast.{rousing-shorter, rousing-next}
 use Rattle.pt_machine.proofs.cond.push_broadcast.Goals as goal
 
 pub loop-first-init : goal.loop-first-init

@@ -1,47 +1,55 @@
-use Rattle.std.proofs.Common.{sym, ◌∙◌}
+use Rattle.std.proofs.Common.{ap, sym, ◌∙◌}
+use Rattle.pt_table.specs.ClientRows.{client_value}
+use Rattle.pt_records.specs.Callers.{open_in}
 use Rattle.pt_state.specs.Adds.{past}
-use Rattle.pt_machine.proofs.PlaceTakes.{takes, take-admitted, take-nowhere, take-made, take-latest, take-put, row-there}
+use Rattle.pt_machine.proofs.PlaceTakes.{takes, take-admitted, take-nowhere, take-made, take-latest}
+use Rattle.pt_machine.proofs.PlaceTakes.{take-put, row-there}
 use Rattle.pt_machine.proofs.queues.take_place.Goals as goal
 
 pub insert-requires-clause-admitted : goal.insert-requires-clause-admitted
 insert-requires-clause-admitted g c =
     take-admitted c.requires.ready
     (takes (past c.args.state.now) c.args.state.now.clients c.requires.read.follows
-    c.requires.read.callers c.args.c c.at_object.result c.in-Some-priority.prio
-    c.waiter_of.result c.in-Some.open (sym c.open_of.ensures ∙ c.in-Some.is)
-    (sym c.priority.ensures ∙ c.in-Some-priority.is) c.at_object.ensures c.waiter_of.ensures)
+    c.requires.read.callers c.args.c c.at_object.result c.waiter_of.result
+    c.in-Some.caller.now c.in-Some-open.open
+    (ap (client_value c.args.state.now.clients) (sym c.c.view_is) ∙ sym c.in-Some.ensures)
+    c.in-Some-open.is c.at_object.ensures c.waiter_of.ensures)
 
 pub insert-requires-clause-nowhere : goal.insert-requires-clause-nowhere
 insert-requires-clause-nowhere g c =
     take-nowhere c.requires.ready
     (takes (past c.args.state.now) c.args.state.now.clients c.requires.read.follows
-    c.requires.read.callers c.args.c c.at_object.result c.in-Some-priority.prio
-    c.waiter_of.result c.in-Some.open (sym c.open_of.ensures ∙ c.in-Some.is)
-    (sym c.priority.ensures ∙ c.in-Some-priority.is) c.at_object.ensures c.waiter_of.ensures)
+    c.requires.read.callers c.args.c c.at_object.result c.waiter_of.result
+    c.in-Some.caller.now c.in-Some-open.open
+    (ap (client_value c.args.state.now.clients) (sym c.c.view_is) ∙ sym c.in-Some.ensures)
+    c.in-Some-open.is c.at_object.ensures c.waiter_of.ensures)
 
 pub insert-requires-clause-made : goal.insert-requires-clause-made
 insert-requires-clause-made g c =
     take-made c.requires.ready
     (takes (past c.args.state.now) c.args.state.now.clients c.requires.read.follows
-    c.requires.read.callers c.args.c c.at_object.result c.in-Some-priority.prio
-    c.waiter_of.result c.in-Some.open (sym c.open_of.ensures ∙ c.in-Some.is)
-    (sym c.priority.ensures ∙ c.in-Some-priority.is) c.at_object.ensures c.waiter_of.ensures)
+    c.requires.read.callers c.args.c c.at_object.result c.waiter_of.result
+    c.in-Some.caller.now c.in-Some-open.open
+    (ap (client_value c.args.state.now.clients) (sym c.c.view_is) ∙ sym c.in-Some.ensures)
+    c.in-Some-open.is c.at_object.ensures c.waiter_of.ensures)
 
 pub insert-requires-clause-latest : goal.insert-requires-clause-latest
 insert-requires-clause-latest g c =
     take-latest c.requires.ready
     (takes (past c.args.state.now) c.args.state.now.clients c.requires.read.follows
-    c.requires.read.callers c.args.c c.at_object.result c.in-Some-priority.prio
-    c.waiter_of.result c.in-Some.open (sym c.open_of.ensures ∙ c.in-Some.is)
-    (sym c.priority.ensures ∙ c.in-Some-priority.is) c.at_object.ensures c.waiter_of.ensures)
+    c.requires.read.callers c.args.c c.at_object.result c.waiter_of.result
+    c.in-Some.caller.now c.in-Some-open.open
+    (ap (client_value c.args.state.now.clients) (sym c.c.view_is) ∙ sym c.in-Some.ensures)
+    c.in-Some-open.is c.at_object.ensures c.waiter_of.ensures)
 
-pub returns-in-Some-priority-clause-queues : goal.returns-in-Some-priority-clause-queues
-returns-in-Some-priority-clause-queues g c =
+pub returns-in-Some-open-clause-queues : goal.returns-in-Some-open-clause-queues
+returns-in-Some-open-clause-queues g c =
     take-put (past c.args.state.now) c.args.c c.at_object.result c.waiter_of.result
     (takes (past c.args.state.now) c.args.state.now.clients c.requires.read.follows
-    c.requires.read.callers c.args.c c.at_object.result c.in-Some-priority.prio
-    c.waiter_of.result c.in-Some.open (sym c.open_of.ensures ∙ c.in-Some.is)
-    (sym c.priority.ensures ∙ c.in-Some-priority.is) c.at_object.ensures c.waiter_of.ensures)
+    c.requires.read.callers c.args.c c.at_object.result c.waiter_of.result
+    c.in-Some.caller.now c.in-Some-open.open
+    (ap (client_value c.args.state.now.clients) (sym c.c.view_is) ∙ sym c.in-Some.ensures)
+    c.in-Some-open.is c.at_object.ensures c.waiter_of.ensures)
     (g.Q.WaitList.seen c.args.queues.now).queue (g.Q.WaitList.seen c.insert.new.self).queue
     c.insert.ensures.queues
 
@@ -49,4 +57,14 @@ pub returns-in_default-clause-queues : goal.returns-in_default-clause-queues
 returns-in_default-clause-queues g c =
     λ w i e q. absurd (
     row-there (past c.args.state.now) c.args.state.now.clients c.requires.read.follows
-    c.requires.read.callers c.args.c (sym c.open_of.ensures ∙ c.in_default.is) w i e)
+    c.requires.read.callers c.args.c
+    (ap (λ d. open_in (client_value c.args.state.now.clients d)) (sym c.c.view_is)
+    ∙ ap open_in (sym c.in_default.ensures)) w i e)
+
+pub returns-in_default-open-clause-queues : goal.returns-in_default-open-clause-queues
+returns-in_default-open-clause-queues g c =
+    λ w i e q. absurd (
+    row-there (past c.args.state.now) c.args.state.now.clients c.requires.read.follows
+    c.requires.read.callers c.args.c
+    (ap (λ d. open_in (client_value c.args.state.now.clients d)) (sym c.c.view_is)
+    ∙ (ap open_in (sym c.in-Some.ensures) ∙ c.in_default-open.is)) w i e)

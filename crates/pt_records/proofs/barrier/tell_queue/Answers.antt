@@ -1,6 +1,8 @@
-use Rattle.std.proofs.Common.{ℕ, ◌<◌, ◌∷◌, ◌++◌, [], length, map, append-nil, ap, sym, ◌∙◌, subst, arith}
+use Rattle.std.proofs.Common.{ℕ, ◌<◌, ◌∷◌, ◌++◌, [], length, map, append-nil, ap, sym, ◌∙◌, subst}
+use Rattle.std.proofs.Common.{arith}
 use Rattle.pt_records.specs.Arrivals.{passed_to}
-use Rattle.pt_records.proofs.QueueClears.{emptied, emptied-one, first-out, first-split, others-stay, told-first}
+use Rattle.pt_records.proofs.QueueClears.{emptied, emptied-one, first-out, first-split, others-stay}
+use Rattle.pt_records.proofs.QueueClears.{told-first}
 use Rattle.pt_records.proofs.barrier.tell_queue.Goals as goal
 
 -- there is room for the first one's answer

@@ -1,4 +1,5 @@
-use Rattle.std.proofs.Common.{ℕ, ◌≡◌, ◌≤◌, ◌+◌, ◌++◌, ◌==◌, false, length, map, vec_len, vec_capacity}
+use Rattle.std.proofs.Common.{ℕ, ◌≡◌, ◌≤◌, ◌+◌, ◌++◌, ◌==◌, false, length, map, vec_len}
+use Rattle.std.proofs.Common.{vec_capacity}
 use Rattle.pt_records.specs.Arrivals.{passed_to}
 use Rattle.pt_records.proofs.barrier.tell_queue.Given as goal
 

@@ -1,4 +1,5 @@
-use Rattle.std.proofs.Common.{◌≡◌, ◌+◌, ◌++◌, List, drop, take, map, length, length-append, sym, ap, ◌∙◌, subst, arith}
+use Rattle.std.proofs.Common.{◌≡◌, ◌+◌, ◌++◌, List, drop, take, map, length, length-append, sym, ap}
+use Rattle.std.proofs.Common.{◌∙◌, subst, arith}
 use Rattle.std.specs.List.Sorted.{IsPermutation}
 use Rattle.std.proofs.lemmas.List.{map-append}
 use Rattle.std.proofs.lemmas.List.Sorted.{length_permutation}
@@ -8,7 +9,8 @@ use Rattle.pt_model.specs.Answers.{at_barrier, open_calls, told_by_trip}
 use Rattle.pt_records.specs.declared.answers.Answered.{Answered}
 use Rattle.pt_records.specs.Arrivals.{passed_to}
 use Rattle.pt_records.specs.Logs.{logged, told_at}
-use Rattle.pt_records.proofs.TripLemmas.{arrivals-room, drop_front, serial-length, take_front, trip-told, whole}
+use Rattle.pt_records.proofs.TripLemmas.{arrivals-room, drop_front, serial-length, take_front}
+use Rattle.pt_records.proofs.TripLemmas.{trip-told, whole}
 use Rattle.pt_records.proofs.barrier.tell_trip.Goals as goal
 
 pub tell_queue-requires : goal.tell_queue-requires

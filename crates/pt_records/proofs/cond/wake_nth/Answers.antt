@@ -1,7 +1,8 @@
 use Rattle.std.proofs.Common.{sym, ◌∙◌}
 use Rattle.pt_records.specs.Callers.{moved_at, has_open}
 use Rattle.pt_records.specs.Writes.{still_waits_at, woken_at}
-use Rattle.pt_records.proofs.CallerScans.{nth-none, nth-same, nth-written, nth-absent, by-true, by-false}
+use Rattle.pt_records.proofs.CallerScans.{nth-none, nth-same, nth-written, nth-absent, by-true}
+use Rattle.pt_records.proofs.CallerScans.{by-false}
 use Rattle.pt_records.proofs.cond.wake_nth.Goals as goal
 
 pub returns-in_default : goal.returns-in_default
@@ -17,19 +18,19 @@ returns-then-not-is_waiting g c =
     (by-false (has_open (still_waits_at c.args.q) v) (moved_at c.args.at c.args.cause v) v
     (sym c.if-not-is_waiting.ensures)))
 
-pub returns-in-Some-at_mut : goal.returns-in-Some-at_mut
-returns-in-Some-at_mut g c =
+pub returns-in-Some-at_mut_near : goal.returns-in-Some-at_mut_near
+returns-in-Some-at_mut_near g c =
     let v = c.in-Some.caller.now in
     let woken = moved_at c.args.at c.args.cause in
-    rw c.moved-row.ensures
+    rw c.move_open.ensures
     (nth-written (woken_at c.args.q c.args.at c.args.cause) woken c.args.clients.now c.args.index
-    c.in-Some.c v c.in-Some-at_mut.row.now c.requires (sym c.in-Some.ensures.number)
-    (sym c.in-Some.ensures.value) c.in-Some-at_mut.ensures.value
+    c.in-Some.c v c.in-Some-at_mut_near.row.now c.requires (sym c.in-Some.ensures.number)
+    (sym c.in-Some.ensures.value) c.in-Some-at_mut_near.ensures.value
     (by-true (has_open (still_waits_at c.args.q) v) (woken v) v
     (sym c.is_waiting.ensures ∙ c.if-not-is_waiting.false)))
 
-pub returns-in_default-at_mut : goal.returns-in_default-at_mut
-returns-in_default-at_mut g c =
+pub returns-in_default-at_mut_near : goal.returns-in_default-at_mut_near
+returns-in_default-at_mut_near g c =
     nth-absent c.args.clients.now c.args.index c.in-Some.c c.in-Some.caller.now c.requires
     (sym c.in-Some.ensures.number) (sym c.in-Some.ensures.value)
-    c.in_default-at_mut.ensures.value
+    c.in_default-at_mut_near.ensures.value

@@ -1,10 +1,15 @@
-use Rattle.std.proofs.Common.{◌≡◌, ◌-◌, ◌++◌, [], true, ◌∙◌, sym, ap, subst, refl, take, length, inl, inr, append-nil, length-append, arith}
+use Rattle.std.proofs.Common.{◌≡◌, ◌-◌, ◌++◌, [], true, ◌∙◌, sym, ap, subst, refl, take, length}
+use Rattle.std.proofs.Common.{inl, inr, append-nil, length-append, arith}
 use Rattle.pt_lines.specs.Lines.{Held}
 use Rattle.pt_script.specs.Texts.{Writing}
-use Rattle.pt_script.specs.Ends.{BeginsScriptText, Course, IsBehind, IsFaultOf, IsReadFault, IsScriptText}
+use Rattle.pt_script.specs.Ends.{BeginsScriptText, Course, IsBehind, IsFaultOf, IsReadFault}
+use Rattle.pt_script.specs.Ends.{IsScriptText}
 use Rattle.pt_script.specs.Engines.{IsEnd, IsStopped, known_by}
 use Rattle.pt_script.proofs.Runs.{on_ok, on_err, told_fault}
-use Rattle.pt_script.proofs.Wholes.{fed_end, behind_few, behind_fed, behind_end, begins_given, stopped_begins, stopped_why, not_ended, behind_begun, begun_held, has_ended, done_if, whole_answered, nothing_before, never_ended}
+use Rattle.pt_script.proofs.Wholes.{fed_end, behind_few, behind_fed, behind_end, begins_given}
+use Rattle.pt_script.proofs.Wholes.{stopped_begins, stopped_why, not_ended, behind_begun}
+use Rattle.pt_script.proofs.Wholes.{begun_held, has_ended, done_if, whole_answered, nothing_before}
+use Rattle.pt_script.proofs.Wholes.{never_ended}
 use Rattle.pt_script.proofs.whole.run_within.Goals as goal
 
 pub loop-init : goal.loop-init

@@ -1,4 +1,5 @@
-use Rattle.std.proofs.Common.{◌+◌, ◌++◌, [], ◌∷◌, None, Some, length, rules, refl, sym, ap, ◌∙◌, subst, append-nil, arith}
+use Rattle.std.proofs.Common.{◌+◌, ◌++◌, [], ◌∷◌, None, Some, length, rules, refl, sym, ap, ◌∙◌}
+use Rattle.std.proofs.Common.{subst, append-nil, arith}
 use Rattle.rtrb.specs.Ring.{received}
 use Rattle.pt_lines.specs.Replies.{reply_line}
 use Rattle.pt_session.specs.declared.worker.Tally.{Tally}
@@ -6,7 +7,8 @@ use Rattle.pt_session.specs.Transcripts.{all_answered, lines_of, text_of}
 use Rattle.pt_session.specs.Outputs.{Output, IsLabour, StopsBy, labour, output}
 use Rattle.pt_session.specs.Ends.{tallied}
 use Rattle.pt_session.specs.Steps.{StopsWriting}
-use Rattle.pt_session.proofs.LabourLemmas.{all_push_some, labour_part, labour_stopped, labour_whole, lines_push, more_counted, stops_open, text_more}
+use Rattle.pt_session.proofs.LabourLemmas.{all_push_some, labour_part, labour_stopped, labour_whole}
+use Rattle.pt_session.proofs.LabourLemmas.{lines_push, more_counted, stops_open, text_more}
 use Rattle.pt_session.proofs.worker.work_all.Goals as goal
 
 pub returns-in_default-clause-labour : goal.returns-in_default-clause-labour

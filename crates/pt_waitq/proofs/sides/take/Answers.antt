@@ -2,7 +2,8 @@ use Rattle.std.proofs.Common.{◌≡◌, ◌<◌, length, ap, ◌∙◌, arith}
 use Rattle.pt_waitq.specs.declared.sides.Side.{Side}
 use Rattle.pt_waitq.proofs.ReadLemmas.{read-less}
 use Rattle.pt_waitq.proofs.sides.take.Goals as goal
-use Rattle.pt_waitq.proofs.sides.take.Goals.{then-is_none, else-is_none, then-is_none-2, else-is_none-2}
+use Rattle.pt_waitq.proofs.sides.take.Goals.{then-is_none, else-is_none, then-is_none-2}
+use Rattle.pt_waitq.proofs.sides.take.Goals.{else-is_none-2}
 
 pub returns-clause-counts : goal.returns-clause-counts
 returns-clause-counts c i lt =

@@ -1,4 +1,5 @@
-use Rattle.std.proofs.Common.{◌≡◌, ◌+◌, Bool, true, false, Some, None, is_some, refl, sym, ap, subst}
+use Rattle.std.proofs.Common.{◌≡◌, ◌+◌, Bool, true, false, Some, None, is_some, refl, sym, ap}
+use Rattle.std.proofs.Common.{subst}
 use Rattle.pt_table.specs.declared.fault.TableFault.{TableFault}
 use Rattle.pt_table.specs.ObjectRows.{is_taken}
 use Rattle.pt_parts_tests.specs.Linking.{AreFree}

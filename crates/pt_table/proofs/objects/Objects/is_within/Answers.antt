@@ -1,4 +1,5 @@
-use Rattle.std.proofs.Common.{◌≡◌, ◌≤◌, ◌+◌, ℕ, Bool, not, true, false, List, length, Option, Some, None, is_some, refl, sym, subst, arith, true≢false}
+use Rattle.std.proofs.Common.{◌≡◌, ◌≤◌, ◌+◌, ℕ, Bool, not, true, false, List, length, Option, Some}
+use Rattle.std.proofs.Common.{None, is_some, refl, sym, subst, arith, true≢false}
 use Rattle.std.specs.Bool.{OnTrue}
 use Rattle.pt_table.specs.Linked.{IsChain}
 use Rattle.pt_table.proofs.Walked.{IsWalked, walk-begins, walk-on, walk-ends}

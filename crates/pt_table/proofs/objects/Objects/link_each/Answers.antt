@@ -1,7 +1,8 @@
 use Rattle.std.proofs.Common.{◌≡◌, ◌-◌, ◌∷◌, None, Some, take, sym, subst, arith}
 use Rattle.std.specs.Prelude.{slice_index_or}
 use Rattle.pt_table.specs.Linked.{IsChain}
-use Rattle.pt_table.proofs.Gathered.{IsGathered, gathers-none, last-free, last-there, gathers-more, gathers-all}
+use Rattle.pt_table.proofs.Gathered.{IsGathered, gathers-none, last-free, last-there, gathers-more}
+use Rattle.pt_table.proofs.Gathered.{gathers-all}
 use Rattle.pt_table.proofs.Sorted.{no-front, one-more, whole-front}
 use Rattle.pt_table.proofs.objects.Objects.link_each.Goals as goal
 

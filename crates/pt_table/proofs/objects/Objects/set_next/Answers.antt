@@ -1,6 +1,7 @@
 use Rattle.std.proofs.Common.{◌∙◌, ap, sym, cond}
 use Rattle.pt_table.specs.Linked.{is_number, is_linked, next_number, number_before}
-use Rattle.pt_table.proofs.Links.{linked-there, before-found, linked-found, next-once, before-once, linked-once, unlinked-once, written-same}
+use Rattle.pt_table.proofs.Links.{linked-there, before-found, linked-found, next-once, before-once}
+use Rattle.pt_table.proofs.Links.{linked-once, unlinked-once, written-same}
 use Rattle.pt_table.proofs.objects.Objects.set_next.Goals as goal
 
 pub link_near-its-requires : goal.link_near-its-requires

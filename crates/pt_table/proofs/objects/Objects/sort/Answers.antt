@@ -3,7 +3,8 @@ use Rattle.std.specs.Bool.{OnTrue}
 use Rattle.pt_table.specs.Linked.{IsChain}
 use Rattle.pt_table.proofs.Counted.{chain-fits}
 use Rattle.pt_table.proofs.Sorted.{short-sorted, table-short}
-use Rattle.pt_table.proofs.objects.Objects.sort.Goals.{then-len-lt2-via-then-len-lt2, then-len-lt2-via-else-len-lt2+then-is_within}
+use Rattle.pt_table.proofs.objects.Objects.sort.Goals.{then-len-lt2-via-then-len-lt2}
+use Rattle.pt_table.proofs.objects.Objects.sort.Goals.{then-len-lt2-via-else-len-lt2+then-is_within}
 use Rattle.pt_table.proofs.objects.Objects.sort.Goals as goal
 
 pub returns-then-len-lt2-clause-chain : goal.returns-then-len-lt2-clause-chain

@@ -1,6 +1,7 @@
 use Rattle.std.proofs.Common.{◌<◌, take, length, sym, subst, refl, arith}
 use Rattle.std.proofs.lemmas.List.{length-set, length-take-le}
-use Rattle.pt_table.proofs.Drained.{IsDrained, begins, has-room, first-in, one-written, goes-on, all-out}
+use Rattle.pt_table.proofs.Drained.{IsDrained, begins, has-room, first-in, one-written, goes-on}
+use Rattle.pt_table.proofs.Drained.{all-out}
 use Rattle.pt_table.proofs.objects.Objects.take_apart.Goals as goal
 
 pub loop-rest-init : goal.loop-rest-init

@@ -1,6 +1,7 @@
 use Rattle.std.proofs.Common.{◌∙◌, Some, None, cond, sym, ap, subst}
 use Rattle.std.proofs.lemmas.Bool.{eq-eqb}
-use Rattle.pt_table.specs.Linked.{is_linked, next_number, number_before, but_number, IsChain, IsOneOf}
+use Rattle.pt_table.specs.Linked.{is_linked, next_number, number_before, but_number, IsChain}
+use Rattle.pt_table.specs.Linked.{IsOneOf}
 use Rattle.pt_table.proofs.Lookups.{none_some}
 use Rattle.pt_table.proofs.Links.{linked-there}
 use Rattle.pt_table.proofs.Chained.{differs, all-linked, next-listed, before-listed, same-list}

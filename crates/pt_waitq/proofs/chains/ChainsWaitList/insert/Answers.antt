@@ -1,4 +1,5 @@
-use Rattle.std.proofs.Common.{◌≡◌, ◌+◌, ◌-◌, ◌<◌, ◌||◌, ◌==◌, cond, Some, refl, sym, ap, ◌∙◌, subst, arith}
+use Rattle.std.proofs.Common.{◌≡◌, ◌+◌, ◌-◌, ◌<◌, ◌||◌, ◌==◌, cond, Some, refl, sym, ap, ◌∙◌, subst}
+use Rattle.std.proofs.Common.{arith}
 use Rattle.std.specs.Prelude.{IsSome}
 use Rattle.pt_types.specs.Limits.{most_priority}
 use Rattle.pt_waitq.specs.Queues.{IsLatest, insert_in_order}
@@ -7,7 +8,8 @@ use Rattle.pt_waitq.specs.QueueLemmas.{queue_of-more}
 use Rattle.pt_waitq.specs.Chains.{numbers, waiting_by, home_of, AreChains}
 use Rattle.pt_waitq.proofs.ChangeLemmas.{none-stands, idle-if, queue-change, read-as}
 use Rattle.pt_waitq.proofs.ChainLemmas.{listed-lookup}
-use Rattle.pt_waitq.proofs.StepLemmas.{waiting-more, room-there, len-there, last-there, put-stand, step-put, put-admits, home-listed}
+use Rattle.pt_waitq.proofs.StepLemmas.{waiting-more, room-there, len-there, last-there, put-stand}
+use Rattle.pt_waitq.proofs.StepLemmas.{step-put, put-admits, home-listed}
 use Rattle.pt_waitq.proofs.chains.ChainsWaitList.insert.Goals as goal
 
 pub home_of-node-requires : goal.home_of-node-requires

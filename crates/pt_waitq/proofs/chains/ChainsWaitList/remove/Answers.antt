@@ -1,4 +1,5 @@
-use Rattle.std.proofs.Common.{◌≡◌, ◌+◌, ◌-◌, ◌<◌, ℕ, ◌==◌, ◌||◌, false, true, Some, None, refl, sym, ap, ◌∙◌, subst, arith}
+use Rattle.std.proofs.Common.{◌≡◌, ◌+◌, ◌-◌, ◌<◌, ℕ, ◌==◌, ◌||◌, false, true, Some, None, refl, sym}
+use Rattle.std.proofs.Common.{ap, ◌∙◌, subst, arith}
 use Rattle.std.specs.Prelude.{IfNone}
 use Rattle.pt_types.specs.Limits.{most_priority}
 use Rattle.pt_waitq.specs.declared.waiter.Waiter.{Waiter}
@@ -7,9 +8,12 @@ use Rattle.pt_waitq.specs.Waits.{queue_of, queue_in, is_listed, is_admitted, has
 use Rattle.pt_waitq.specs.ListLemmas.{Each-in, filter-rest}
 use Rattle.pt_waitq.specs.WaitingLemmas.{queue_of-without}
 use Rattle.pt_waitq.specs.Chains.{numbers, waiting_by, home_of, entry_of, AreChains}
-use Rattle.pt_waitq.proofs.ChangeLemmas.{found-only, found-nowhere, found-in, nowhere-in, read-as, queue-change}
+use Rattle.pt_waitq.proofs.ChangeLemmas.{found-only, found-nowhere, found-in, nowhere-in, read-as}
+use Rattle.pt_waitq.proofs.ChangeLemmas.{queue-change}
 use Rattle.pt_waitq.proofs.ChainLemmas.{entry-there, entry-nowhere, listed-lookup}
-use Rattle.pt_waitq.proofs.StepLemmas.{place-entry, waiting-more, stands-there, len-stands, beside-there, take-stand, step-take, take-admits, home-listed}
+use Rattle.pt_waitq.proofs.StepLemmas.{place-entry, waiting-more, stands-there, len-stands}
+use Rattle.pt_waitq.proofs.StepLemmas.{beside-there, take-stand, step-take, take-admits}
+use Rattle.pt_waitq.proofs.StepLemmas.{home-listed}
 use Rattle.pt_waitq.proofs.chains.ChainsWaitList.remove.Goals as goal
 
 pub returns-in_err-place-clause-nowhere : goal.returns-in_err-place-clause-nowhere

@@ -1,0 +1,20 @@
+use Rattle.std.proofs.Common.{arith}
+use Rattle.pt_model.specs.StartRows.{rows_of}
+use Rattle.pt_history.proofs.Kept.{counted-same, recorded-same}
+use Rattle.pt_history.proofs.stored.History.take_memory.Goals as goal
+
+pub invariant_of-self : goal.invariant_of-self
+invariant_of-self g c =
+    let i = c.self.inside in
+    let k = c.take_memory-2.ensures in (
+      record {
+        fits = omega (arith, c.self.invariant.0.fits, c.take_memory.ensures.len);
+        held = omega
+            (arith, c.self.invariant.0.held, c.take_memory.ensures.len, c.take_memory.ensures.capacity);
+        places = c.self.invariant.0.places;
+      },
+      counted-same (rows_of i.start) i.start.at i.records c.take_memory-2.new.self i.entries.items
+          c.take_memory.new.list.items i.outer c.take_memory.ensures.items k.same c.self.invariant.1,
+      recorded-same i.records c.take_memory-2.new.self i.entries.items c.take_memory.new.list.items
+          i.room c.take_memory.ensures.items k c.self.invariant.2,
+    )

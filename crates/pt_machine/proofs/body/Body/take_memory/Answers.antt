@@ -1,0 +1,22 @@
+use Rattle.std.proofs.Common.{◌≡◌, sym, ap, subst}
+use Rattle.pt_model.specs.Histories.{History}
+use Rattle.pt_history.specs.Stored.{past_of}
+use Rattle.pt_state.specs.Adds.{past}
+use Rattle.pt_machine.specs.LastTouched.{IsTouched}
+use Rattle.pt_machine.specs.Queued.{IsQueued}
+use Rattle.pt_machine.specs.Reserved.{IsReserved}
+use Rattle.pt_machine.specs.Timed.{AreTimed}
+use Rattle.pt_machine.proofs.body.Body.take_memory.Goals as goal
+
+pub invariant_of-self : goal.invariant_of-self
+invariant_of-self g c =
+    let inside = c.self.inside in
+    let view = g.Q.WaitList.seen inside.queues in
+    let back : past inside.state ≡ past c.take_memory.new.state =
+    sym (ap past_of c.take_memory.ensures.stored) in (
+      subst (λ (h : History). IsQueued h view) back c.self.invariant.0,
+      subst (λ (h : History). AreTimed h inside.timers) back c.self.invariant.1,
+      subst (λ (h : History). IsTouched h inside.touched inside.entering) back
+          c.self.invariant.2,
+      subst (λ (h : History). IsReserved h inside.need) back c.self.invariant.3,
+    )
