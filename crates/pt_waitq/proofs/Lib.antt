@@ -32,3 +32,5 @@ mod FirstLemmas
 mod MadeLemmas
 -- ReadLemmas: what is read from a list after a write
 mod ReadLemmas
+-- HighestLemmas: the highest chain that isn't empty, as one of the counts changes
+mod HighestLemmas

@@ -12,3 +12,5 @@ pub mod QueueLemmas
 pub mod WaitingLemmas
 -- Chains: what nodes and the ends of chains say of the queued waiters
 pub mod Chains
+-- Highest: the highest chain of one kind that isn't empty
+pub mod Highest

@@ -2,8 +2,9 @@
 ghost use Rattle.std.specs.Prelude.{◌≡◌};
 ghost use Rattle.pt_waitq.specs.Waits.{no_waits};
 
+use crate::boxed::BoxedQueue;
 use crate::nodes::{self, Node, Rows};
-use crate::sides::{self, BoxedQueue};
+use crate::sides;
 use crate::spares::Spares;
 use crate::wait_list::WaitList;
 use crate::waiter::Waiter;

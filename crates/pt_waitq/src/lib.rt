@@ -5,6 +5,7 @@
 //! Only tests show that room which is asked for is found.
 #![tactic(auto)]
 
+mod boxed;
 mod chains;
 mod changes;
 mod entries;

@@ -1,22 +1,21 @@
 //! Queues as the ends and the counts of their chains.
 
 ghost use Rattle.std.specs.Prelude.{◌≡◌, ◌↔◌, ◌+◌, ◌++◌, ◌∷◌, [], false, IsTrue, ◌-◌, ◌<◌, ◌≤◌};
-ghost use Rattle.std.specs.Prelude.{◌^◌, ◌==◌, Some, None, IsSome, IfSome, IfOk, unwrap_or};
-ghost use Rattle.std.specs.Prelude.{slice_index, ◌&&◌, slice_index_or, is_some, if◌then◌else◌, ℕ};
-ghost use Rattle.std.specs.Prelude.{not, List, nat_eq};
+ghost use Rattle.std.specs.Prelude.{◌^◌, ◌==◌, ◌&&◌, Some, None, IsSome, IfSome, unwrap_or};
+ghost use Rattle.std.specs.Prelude.{slice_index, slice_index_or, is_some, if◌then◌else◌, ℕ};
+ghost use Rattle.std.specs.Prelude.{not, nat_eq};
 ghost use Rattle.std.specs.Map.{lookup};
 ghost use Rattle.std.specs.Option.{option_map};
 ghost use Rattle.pt_types.specs.Limits.{most_priority};
 ghost use Rattle.pt_waitq.specs.declared.sides.Queue.{Queue};
-ghost use Rattle.pt_waitq.specs.Chains.{numbers, side_of, IsPut, IsTaken, HasNone, HasNoWaiter};
+ghost use Rattle.pt_waitq.specs.Chains.{numbers, side_of, IsPut, IsTaken, HasNone};
 ghost use Rattle.pt_waitq.specs.Chains.{IsFirst, IsFirstWriter, HasWriterFrom};
 
+use crate::boxed::BoxedQueue;
 use crate::nodes::Rows;
 use crate::spares::Spares;
-use pt_lanes::{any_from, highest};
 use pt_types::MOST_PRIORITY;
-use std::alloc::{AllocError, Allocator};
-use std::marker::Model;
+use std::alloc::Allocator;
 
 /// The chains of one kind, by priority from 1 on.
 #[derive(Clone, Copy)]
@@ -34,18 +33,6 @@ pub(crate) struct Queue {
     pub(crate) len: usize,
 }
 
-/// A queue on the heap, so that the map of queues moves a pointer and not 4 kB.
-#[derive(Drop)]
-pub(crate) struct BoxedQueue<A: Allocator> {
-    queue: Box<Queue, A>,
-}
-
-impl<A: Allocator> Model for BoxedQueue<A> {
-    ghost Value = { Queue };
-
-    ghost view = { λ b. b.queue.value };
-}
-
 /// Empty chains of one kind.
 pub(crate) fn no_side() -> Side
     ensures counts { (p : ℕ) → p < most_priority → slice_index result.counts p ≡ 0 }
@@ -57,19 +44,6 @@ pub(crate) fn no_side() -> Side
         heads: [None; MOST_PRIORITY],
         tails: [None; MOST_PRIORITY],
     }
-}
-
-/// A new queue with no waiter.
-pub(crate) fn no_queue<A: Allocator>(alloc: A) -> Result<BoxedQueue<A>, AllocError>
-    ensures { IfOk result HasNone }
-{
-    let queue = Queue {
-        writers: no_side(),
-        readers: no_side(),
-        len: 0,
-    };
-    let queue = Box::new(alloc, queue)?;
-    Ok(BoxedQueue { queue })
 }
 
 /// Makes this node the tail of a chain, and returns the tail before.
@@ -210,7 +184,7 @@ pub(crate) fn len_of<A: Allocator + Copy>(queues: &Rows<BoxedQueue<A>, A>, objec
         ≡ unwrap_or (option_map (λ q. q.len) (lookup (nat_eq object) queues.now.entries)) 0 }
 {
     match queues.get(&object) {
-        Some(boxed) => boxed.queue.len,
+        Some(boxed) => boxed.len(),
         None => 0,
     }
 }
@@ -238,7 +212,7 @@ pub(crate) fn insert<A: Allocator + Copy>(
         → IsPut writer p node result old new }
 {
     let boxed = queues.get_mut(&object).unwrap();
-    put_in(&mut boxed.queue, writer, p, node)
+    boxed.put_in(writer, p, node)
 }
 
 /// Takes a node out of a chain of a queue that there is, if it was between these two.
@@ -265,7 +239,7 @@ pub(crate) fn remove<A: Allocator + Copy>(
         → IsTaken writer p before next old new }
 {
     let boxed = queues.get_mut(&object).unwrap();
-    take_out(&mut boxed.queue, writer, p, before, next)
+    boxed.take_out(writer, p, before, next)
 }
 
 /// Adds an empty queue, and returns whether there was memory.
@@ -313,56 +287,17 @@ pub(crate) fn discard<A: Allocator + Copy>(
     }
 }
 
-/// The head of the first chain, by priority and then by kind.
-fn first_in(queue: &Queue) -> Option<u32>
-    requires { queue.now.len ≡ 0 → HasNoWaiter queue.now }
-    ensures { IsFirst queue.now result }
-{
-    if queue.len == 0 {
-        return None;
-    }
-    let writer = highest(&queue.writers.counts);
-    let reader = highest(&queue.readers.counts);
-    match (writer, reader) {
-        (Some(w), Some(r)) if w < r => queue.readers.heads[r],
-        (Some(w), _) => queue.writers.heads[w],
-        (None, Some(r)) => queue.readers.heads[r],
-        (None, None) => None,
-    }
-}
-
-/// The head of the first chain of writers.
-fn first_writer_in(queue: &Queue) -> Option<u32>
-    ensures { IsFirstWriter queue.now result }
-{
-    match highest(&queue.writers.counts) {
-        Some(w) => queue.writers.heads[w],
-        None => None,
-    }
-}
-
-/// Whether there is a writer of the priority with this index or of a higher one.
-fn writer_from_in(queue: &Queue, p: usize) -> bool
-    ensures { IsTrue result ↔ HasWriterFrom queue.now p }
-{
-    any_from(&queue.writers.counts, p)
-}
-
 /// The node of the first of a queue.
 pub(crate) fn first_of<A: Allocator + Copy>(
     queues: &Rows<BoxedQueue<A>, A>,
     object: u64,
 ) -> Option<u32>
-    requires { (queue : Queue)
-        → lookup (nat_eq object) queues.now.entries ≡ Some queue
-        → queue.len ≡ 0
-        → HasNoWaiter queue }
     ensures none { lookup (nat_eq object) queues.now.entries ≡ None → result ≡ None }
     ensures queue { (queue : Queue)
         → lookup (nat_eq object) queues.now.entries ≡ Some queue
         → IsFirst queue result }
 {
-    first_in(&queues.get(&object)?.queue)
+    queues.get(&object)?.first()
 }
 
 /// The node of the first of a queue that asks for a write lock.
@@ -375,7 +310,7 @@ pub(crate) fn first_writer_of<A: Allocator + Copy>(
         → lookup (nat_eq object) queues.now.entries ≡ Some queue
         → IsFirstWriter queue result }
 {
-    first_writer_in(&queues.get(&object)?.queue)
+    queues.get(&object)?.first_writer()
 }
 
 /// Whether a queue has a writer of the priority with this index or a higher one.
@@ -390,7 +325,7 @@ pub(crate) fn has_writer_from<A: Allocator + Copy>(
         → IsTrue result ↔ HasWriterFrom queue p }
 {
     match queues.get(&object) {
-        Some(boxed) => writer_from_in(&boxed.queue, p),
+        Some(boxed) => boxed.has_writer_from(p),
         None => false,
     }
 }

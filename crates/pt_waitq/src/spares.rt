@@ -3,7 +3,7 @@
 ghost use Rattle.std.specs.Prelude.{◌≡◌, [], IfOk};
 ghost use Rattle.pt_waitq.specs.Chains.{HasNone};
 
-use crate::sides::{self, BoxedQueue};
+use crate::boxed::BoxedQueue;
 use std::alloc::{AllocError, Allocator};
 use std::marker::Model;
 
@@ -45,7 +45,7 @@ impl<A: Allocator + Copy> Spares<A> {
             return Ok(queue);
         }
         self.queues.reserve(room)?;
-        sides::no_queue(*self.queues.allocator())
+        BoxedQueue::new(*self.queues.allocator())
     }
 
     /// Puts a queue back, if there is room for it. It takes no memory.

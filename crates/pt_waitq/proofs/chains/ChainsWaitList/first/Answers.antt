@@ -3,13 +3,8 @@ use Rattle.pt_waitq.specs.Queues.{head_of}
 use Rattle.pt_waitq.specs.Waits.{queue_of}
 use Rattle.pt_waitq.specs.Chains.{waiting_by}
 use Rattle.pt_waitq.proofs.ChangeLemmas.{read-as}
-use Rattle.pt_waitq.proofs.FirstLemmas.{first-told, no-waiter}
+use Rattle.pt_waitq.proofs.FirstLemmas.{first-told}
 use Rattle.pt_waitq.proofs.chains.ChainsWaitList.first.Goals as goal
-
-pub first_of-requires : goal.first_of-requires
-first_of-requires g c =
-    no-waiter c.self.inside.homes.entries c.self.inside.nodes.slots c.self.inside.queues.entries
-    (waiting_by c.self.inside.log.items) c.self.invariant c.object.inside.0
 
 pub returns : goal.returns
 returns g c =

@@ -1,0 +1,117 @@
+-- The highest chain that isn't empty, as one of the counts changes.
+use Rattle.std.proofs.Common.{◌≡◌, ◌≢◌, ℕ, ◌+◌, ◌-◌, ◌==◌, nat_le, ◌<◌, ◌≤◌, max, Bool, true, false}
+use Rattle.std.proofs.Common.{cond, not, List, Option, Some, None, refl, sym, ap, ◌∙◌, subst, arith}
+use Rattle.std.proofs.Common.{eq-eqb}
+use Rattle.std.specs.Prelude.{slice_index, MatchOption}
+use Rattle.std.proofs.lemmas.Bool.Decides.{nat_tests}
+use Rattle.pt_types.specs.Limits.{most_priority}
+use Rattle.pt_waitq.specs.declared.sides.Side.{Side}
+use Rattle.pt_waitq.specs.declared.sides.Queue.{Queue}
+use Rattle.pt_waitq.specs.Chains.{side_of}
+use Rattle.pt_waitq.specs.Highest.{IsBound, IsHighestChain}
+
+-- the highest index after one more at p
+abbrev pub IsRaised : ℕ → Option ℕ → Option ℕ → Type 0
+IsRaised p h raised = MatchOption h (raised ≡ Some p) (λ i. raised ≡ Some (max i p))
+
+-- the counts after the one at p became n
+abbrev pub IsStepped : List ℕ → List ℕ → ℕ → ℕ → Type 0
+IsStepped old new p n =
+    (i : ℕ) → i < most_priority → slice_index new i ≡ cond (p == i) n (slice_index old i)
+
+module _ (old new : List ℕ) (p n : ℕ) (within : p < most_priority)
+    (step : IsStepped old new p n) where
+  at : slice_index new p ≡ n
+  at = step p within ∙ ap (λ b. cond b n (slice_index old p)) (eq-eqb p p refl)
+
+  off : (i : ℕ) → i < most_priority → (p == i) ≡ false → slice_index new i ≡ slice_index old i
+  off i lt e = step i lt ∙ ap (λ b. cond b n (slice_index old i)) e
+
+  -- a chain that is made longer
+  pub raised-highest : (h raised : Option ℕ) → n ≢ 0 → IsRaised p h raised
+      → IsHighestChain old h → IsHighestChain new raised
+  raised-highest None raised some is a =
+      subst (IsHighestChain new) (sym is) (
+        within,
+        λ z. some (sym at ∙ z),
+        λ i lt above.
+            off i lt (grind (arith, nat_tests, above)) ∙ a i lt,
+      )
+  raised-highest (Some h) raised some is a =
+      subst (IsHighestChain new) (sym is) (go (nat_le h p) refl)
+    where
+      go : (b : Bool) → nat_le h p ≡ b → IsHighestChain new (Some (max h p))
+      go true e =
+          let le : h ≤ p = grind (arith, nat_tests, e) in
+          let same : p ≡ max h p = omega (arith, le) in
+          subst (λ m. IsHighestChain new (Some m)) same (
+            within,
+            λ z. some (sym at ∙ z),
+            λ i lt above.
+                off i lt (grind (arith, nat_tests, above)) ∙ a.2 i lt (omega (arith, le, above)),
+          )
+      go false e =
+          let less : p < h = grind (arith, nat_tests, e) in
+          let same : h ≡ max h p = omega (arith, less) in
+          subst (λ m. IsHighestChain new (Some m)) same (
+            a.0,
+            λ z. a.1 (sym (off h a.0 (grind (arith, nat_tests, less))) ∙ z),
+            λ i lt above.
+                off i lt (grind (arith, nat_tests, less, above)) ∙ a.2 i lt above,
+          )
+
+  stays-zero : n ≤ slice_index old p → (i : ℕ) → i < most_priority → slice_index old i ≡ 0
+      → slice_index new i ≡ 0
+  stays-zero le i lt z = go (p == i) refl
+    where
+      go : (b : Bool) → (p == i) ≡ b → slice_index new i ≡ 0
+      go true e =
+          let same : i ≡ p = grind (arith, nat_tests) in
+          let none : slice_index old p ≡ 0 = ap (slice_index old) (sym same) ∙ z in
+          ap (slice_index new) same ∙ omega (arith, at, le, none)
+      go false e = off i lt e ∙ z
+
+  -- a chain that is made shorter
+  pub lowered-bound : (h : Option ℕ) → n ≤ slice_index old p → IsHighestChain old h
+      → IsBound new h
+  lowered-bound None le a = λ i lt. stays-zero le i lt (a i lt)
+  lowered-bound (Some h) le a =
+      (a.0, λ i lt above. stays-zero le i lt (a.2 i lt above))
+
+-- the highest of each kind, after one more of this kind
+abbrev pub AreRaised : Bool → ℕ → Option ℕ → Option ℕ → Option ℕ → Option ℕ → Type 0
+AreRaised true p w r w' r' = IsRaised p w w' × (r' ≡ r)
+AreRaised false p w r w' r' = IsRaised p r r' × (w' ≡ w)
+
+-- a waiter is put in
+pub put-highest : (k : Bool) (old new : Queue) (p : ℕ) (w r w' r' : Option ℕ)
+    → p < most_priority → side_of (not k) new ≡ side_of (not k) old
+    → IsStepped (side_of k old).counts (side_of k new).counts p
+    (slice_index (side_of k old).counts p + 1)
+    → AreRaised k p w r w' r'
+    → IsHighestChain old.writers.counts w × IsHighestChain old.readers.counts r
+    → IsHighestChain new.writers.counts w' × IsHighestChain new.readers.counts r'
+put-highest true old new p w r w' r' within other step is a = (
+  raised-highest old.writers.counts new.writers.counts p _ within step w w' (omega arith)
+      is.0 a.0,
+  subst (λ (s : Side). IsHighestChain s.counts r') (sym other)
+      (subst (IsHighestChain old.readers.counts) (sym is.1) a.1),
+)
+put-highest false old new p w r w' r' within other step is a = (
+  subst (λ (s : Side). IsHighestChain s.counts w') (sym other)
+      (subst (IsHighestChain old.writers.counts) (sym is.1) a.0),
+  raised-highest old.readers.counts new.readers.counts p _ within step r r' (omega arith)
+      is.0 a.1,
+)
+
+-- a waiter is taken out
+pub take-bound : (k : Bool) (old new : Queue) (p : ℕ) (w r : Option ℕ)
+    → p < most_priority
+    → IsStepped (side_of k old).counts (side_of k new).counts p
+    (slice_index (side_of k old).counts p - 1)
+    → IsHighestChain old.writers.counts w × IsHighestChain old.readers.counts r
+    → IsBound (side_of k new).counts (cond k w r)
+take-bound true old new p w r within step a =
+    lowered-bound old.writers.counts new.writers.counts p _ within step w (omega arith) a.0
+take-bound false old new p w r within step a =
+    lowered-bound old.readers.counts new.readers.counts p _ within step r (omega arith) a.1

@@ -1,0 +1,145 @@
+//! Queues on the heap, each with its highest chain of each kind.
+
+ghost use Rattle.std.specs.Prelude.{◌≡◌, ◌↔◌, ◌+◌, ◌<◌, ◌≤◌, ◌^◌, Some, max, slice_index};
+ghost use Rattle.std.specs.Prelude.{IsTrue, IfOk, MatchOption};
+ghost use Rattle.pt_types.specs.Limits.{most_priority};
+ghost use Rattle.pt_waitq.specs.declared.sides.Queue.{Queue};
+ghost use Rattle.pt_waitq.specs.Chains.{side_of, HasNone, IsPut, IsTaken};
+ghost use Rattle.pt_waitq.specs.Chains.{IsFirst, IsFirstWriter, HasWriterFrom};
+ghost use Rattle.pt_waitq.specs.Highest.{IsBound, IsHighestChain};
+
+use crate::sides::{self, Queue};
+use pt_lanes::highest;
+use pt_types::MOST_PRIORITY;
+use std::alloc::{AllocError, Allocator};
+use std::marker::Model;
+
+/// A queue on the heap, so that the map of queues moves a few words and not 4 kB.
+///
+/// It also stores its highest chains, so that none is searched for to find the first of a queue.
+#[derive(Drop)]
+pub(crate) struct BoxedQueue<A: Allocator> {
+    queue: Box<Queue, A>,
+    /// The index of the highest chain of writers that isn't empty.
+    writer: Option<usize>,
+    /// The index of the highest chain of readers that isn't empty.
+    reader: Option<usize>,
+}
+
+impl<A: Allocator> Model for BoxedQueue<A> {
+    ghost Value = { Queue };
+
+    ghost view = { λ b. b.queue.value };
+
+    ghost invariant = { λ b. IsHighestChain b.queue.value.writers.counts b.writer
+        × IsHighestChain b.queue.value.readers.counts b.reader };
+}
+
+/// The index of the highest chain, after one more is in the chain of index `p`.
+fn raised(before: Option<usize>, p: usize) -> Option<usize>
+    ensures { MatchOption before (result ≡ Some p) (λ i. result ≡ Some (max i p)) }
+{
+    match before {
+        Some(i) => Some(i.max(p)),
+        None => Some(p),
+    }
+}
+
+/// The index of the highest chain, which was this one before one was taken out.
+fn lowered(counts: &[u32; MOST_PRIORITY], before: Option<usize>) -> Option<usize>
+    requires { IsBound counts.now before }
+    ensures { IsHighestChain counts.now result }
+{
+    match before {
+        Some(i) if counts[i] == 0 => highest(counts),
+        _ => before,
+    }
+}
+
+impl<A: Allocator> BoxedQueue<A> {
+    /// A new queue with no waiter.
+    pub(crate) fn new(alloc: A) -> Result<Self, AllocError>
+        ensures { IfOk result HasNone }
+    {
+        let queue = Queue {
+            writers: sides::no_side(),
+            readers: sides::no_side(),
+            len: 0,
+        };
+        let queue = Box::new(alloc, queue)?;
+        Ok(BoxedQueue {
+            queue,
+            writer: None,
+            reader: None,
+        })
+    }
+
+    /// How many wait in it.
+    pub(crate) fn len(&self) -> usize
+        ensures { result ≡ self.now.len }
+    {
+        self.queue.len
+    }
+
+    /// Makes a node the tail of one of its chains, and returns the tail before.
+    pub(crate) fn put_in(&mut self, writer: bool, p: usize, node: u32) -> Option<u32>
+        requires index { p < most_priority }
+        requires room { slice_index (side_of writer self.old).counts p + 1 < 2 ^ 32 }
+        requires len { self.old.len + 1 < 2 ^ 64 }
+        ensures { IsPut writer p node result self.old self.new }
+    {
+        if writer {
+            self.writer = raised(self.writer, p);
+        } else {
+            self.reader = raised(self.reader, p);
+        }
+        sides::put_in(&mut self.queue, writer, p, node)
+    }
+
+    /// Takes a node out of one of its chains, which was between these two.
+    pub(crate) fn take_out(
+        &mut self,
+        writer: bool,
+        p: usize,
+        before: Option<u32>,
+        next: Option<u32>,
+    )
+        requires index { p < most_priority }
+        requires stands { 1 ≤ slice_index (side_of writer self.old).counts p }
+        requires len { 1 ≤ self.old.len }
+        ensures { IsTaken writer p before next self.old self.new }
+    {
+        sides::take_out(&mut self.queue, writer, p, before, next);
+        if writer {
+            self.writer = lowered(&self.queue.writers.counts, self.writer);
+        } else {
+            self.reader = lowered(&self.queue.readers.counts, self.reader);
+        }
+    }
+
+    /// The head of the first chain, by priority and then by kind.
+    pub(crate) fn first(&self) -> Option<u32>
+        ensures { IsFirst self.now result }
+    {
+        match (self.writer, self.reader) {
+            (Some(w), Some(r)) if w < r => self.queue.readers.heads[r],
+            (Some(w), _) => self.queue.writers.heads[w],
+            (None, Some(r)) => self.queue.readers.heads[r],
+            (None, None) => None,
+        }
+    }
+
+    /// The head of the first chain of writers.
+    pub(crate) fn first_writer(&self) -> Option<u32>
+        ensures { IsFirstWriter self.now result }
+    {
+        self.queue.writers.heads[self.writer?]
+    }
+
+    /// Whether there is a writer of the priority with this index or of a higher one.
+    pub(crate) fn has_writer_from(&self, p: usize) -> bool
+        ensures { IsTrue result ↔ HasWriterFrom self.now p }
+    {
+        self.writer.is_some_and(|w| p <= w)
+    }
+}
