@@ -18,15 +18,11 @@ use Rattle.pt_types.specs.declared.outcome.Outcome.TheVariants.{Enotrecoverable 
 use Rattle.pt_types.specs.declared.operations.LockKind.{LockKind}
 use Rattle.pt_types.specs.declared.operations.LockKind.TheVariants.{MutexLock, ReadLock, WriteLock}
 use Rattle.pt_types.specs.declared.call.Call.{Call}
-use Rattle.pt_types.specs.declared.call.Call.TheVariants.{MutexInit, Lock, Trylock, Timedlock}
-use Rattle.pt_types.specs.declared.call.Call.TheVariants.{Clocklock, Timedrdlock, Clockrdlock}
-use Rattle.pt_types.specs.declared.call.Call.TheVariants.{Timedwrlock, Clockwrlock}
+use Rattle.pt_types.specs.declared.call.Call.TheVariants.{MutexInit, Timedlock, Clocklock}
+use Rattle.pt_types.specs.declared.call.Call.TheVariants.{Timedrdlock, Clockrdlock, Timedwrlock}
+use Rattle.pt_types.specs.declared.call.Call.TheVariants.{Clockwrlock, BarrierInit}
 use Rattle.pt_types.specs.declared.call.Call.TheVariants.{Wait as WaitCall, Timedwait, Clockwait}
-use Rattle.pt_types.specs.declared.call.Call.TheVariants.{BarrierInit, Unlock, Consistent}
-use Rattle.pt_types.specs.declared.call.Call.TheVariants.{MutexDestroy, RwlockInit, Rdlock}
-use Rattle.pt_types.specs.declared.call.Call.TheVariants.{Tryrdlock, Wrlock, Trywrlock, Rwunlock}
-use Rattle.pt_types.specs.declared.call.Call.TheVariants.{RwlockDestroy, CondInit, CondDestroy}
-use Rattle.pt_types.specs.declared.call.Call.TheVariants.{Signal, Broadcast, Bwait, BarrierDestroy}
+use Rattle.pt_types.specs.NamedVerbs.{call_on}
 use Rattle.pt_model.specs.declared.entry.Entry.{Entry}
 use Rattle.pt_model.specs.declared.entry.Entry.TheVariants.{Join as JoinEntry, Call as CallEntry}
 use Rattle.pt_model.specs.declared.entry.Entry.TheVariants.{Death as DeathEntry}
@@ -36,24 +32,7 @@ use Rattle.pt_model.specs.declared.entry.Entry.TheVariants.{Yield as YieldEntry}
 use Rattle.pt_model.specs.declared.entry.Entry.TheVariants.{Expire as ExpireEntry}
 use Rattle.pt_history.specs.declared.compact.Word.{Word}
 use Rattle.pt_history.specs.declared.compact.Word.TheVariants.{MutexInit as MutexInitWord}
-use Rattle.pt_history.specs.declared.compact.Word.TheVariants.{Lock as LockWord}
-use Rattle.pt_history.specs.declared.compact.Word.TheVariants.{Trylock as TrylockWord}
-use Rattle.pt_history.specs.declared.compact.Word.TheVariants.{Unlock as UnlockWord}
-use Rattle.pt_history.specs.declared.compact.Word.TheVariants.{Consistent as ConsistentWord}
-use Rattle.pt_history.specs.declared.compact.Word.TheVariants.{MutexDestroy as MutexDestroyWord}
-use Rattle.pt_history.specs.declared.compact.Word.TheVariants.{RwlockInit as RwlockInitWord}
-use Rattle.pt_history.specs.declared.compact.Word.TheVariants.{Rdlock as RdlockWord}
-use Rattle.pt_history.specs.declared.compact.Word.TheVariants.{Tryrdlock as TryrdlockWord}
-use Rattle.pt_history.specs.declared.compact.Word.TheVariants.{Wrlock as WrlockWord}
-use Rattle.pt_history.specs.declared.compact.Word.TheVariants.{Trywrlock as TrywrlockWord}
-use Rattle.pt_history.specs.declared.compact.Word.TheVariants.{Rwunlock as RwunlockWord}
-use Rattle.pt_history.specs.declared.compact.Word.TheVariants.{RwlockDestroy as RwlockDestroyWord}
-use Rattle.pt_history.specs.declared.compact.Word.TheVariants.{CondInit as CondInitWord}
-use Rattle.pt_history.specs.declared.compact.Word.TheVariants.{CondDestroy as CondDestroyWord}
-use Rattle.pt_history.specs.declared.compact.Word.TheVariants.{Signal as SignalWord}
-use Rattle.pt_history.specs.declared.compact.Word.TheVariants.{Broadcast as BroadcastWord}
-use Rattle.pt_history.specs.declared.compact.Word.TheVariants.{Bwait as BwaitWord}
-use Rattle.pt_history.specs.declared.compact.Word.TheVariants.{BarrierDestroy as BarrierDestroyWord}
+use Rattle.pt_history.specs.declared.compact.Word.TheVariants.{Named as NamedWord}
 use Rattle.pt_history.specs.declared.compact.Answer.{Answer}
 use Rattle.pt_history.specs.declared.compact.Answer.TheVariants.{Waits, Done, Serial, Eperm, Einval}
 use Rattle.pt_history.specs.declared.compact.Answer.TheVariants.{Ebusy, Eagain, Edeadlk, Etimedout}
@@ -67,24 +46,7 @@ use Rattle.pt_history.specs.declared.compact.Compact.TheVariants.{Trip, Yield, E
 -- the call of a word and a name
 abbrev pub spelled : Word → List ℕ → Call
 spelled (MutexInitWord kind robust) n = MutexInit n kind robust
-spelled LockWord n = Lock n
-spelled TrylockWord n = Trylock n
-spelled UnlockWord n = Unlock n
-spelled ConsistentWord n = Consistent n
-spelled MutexDestroyWord n = MutexDestroy n
-spelled RwlockInitWord n = RwlockInit n
-spelled RdlockWord n = Rdlock n
-spelled TryrdlockWord n = Tryrdlock n
-spelled WrlockWord n = Wrlock n
-spelled TrywrlockWord n = Trywrlock n
-spelled RwunlockWord n = Rwunlock n
-spelled RwlockDestroyWord n = RwlockDestroy n
-spelled CondInitWord n = CondInit n
-spelled CondDestroyWord n = CondDestroy n
-spelled SignalWord n = Signal n
-spelled BroadcastWord n = Broadcast n
-spelled BwaitWord n = Bwait n
-spelled BarrierDestroyWord n = BarrierDestroy n
+spelled (NamedWord verb) n = call_on verb n
 
 -- the number from which the numbers of a history count that begins at a place
 abbrev pub base_of : ℕ → ℕ

@@ -7,31 +7,14 @@ ghost use Rattle.pt_types.specs.declared.call.Call.TheVariants.{BarrierInit};
 
 use pt_model::Entry;
 use pt_types::operations::LockKind;
-use pt_types::{Call, Clock, Deadline, MutexKind, Name, Outcome, Priority};
+use pt_types::{Call, Clock, Deadline, MutexKind, Name, NamedVerb, Outcome, Priority};
 use std::mem::size_of;
 
 /// A call word whose only object is its one name.
 #[derive(Clone, Copy)]
 pub(crate) enum Word {
     MutexInit(MutexKind, bool),
-    Lock,
-    Trylock,
-    Unlock,
-    Consistent,
-    MutexDestroy,
-    RwlockInit,
-    Rdlock,
-    Tryrdlock,
-    Wrlock,
-    Trywrlock,
-    Rwunlock,
-    RwlockDestroy,
-    CondInit,
-    CondDestroy,
-    Signal,
-    Broadcast,
-    Bwait,
-    BarrierDestroy,
+    Named(NamedVerb),
 }
 
 /// The answer that a call got at once, or that it waits.
@@ -141,31 +124,16 @@ pub(crate) fn near(base: u64, place: u64) -> Option<u32>
     Some((place - base) as u32)
 }
 
-/// The word and the name of a call that has one name and nothing else.
+/// The word and the name of a call whose only object is its one name.
 pub(crate) fn named(call: &Call) -> Option<(Word, &Name)>
     ensures { IfSome result (λ p. spelled p.0 p.1.now ≡ call.now) }
 {
     match call {
         Call::MutexInit(name, kind, robust) => Some((Word::MutexInit(*kind, *robust), name)),
-        Call::Lock(name) => Some((Word::Lock, name)),
-        Call::Trylock(name) => Some((Word::Trylock, name)),
-        Call::Unlock(name) => Some((Word::Unlock, name)),
-        Call::Consistent(name) => Some((Word::Consistent, name)),
-        Call::MutexDestroy(name) => Some((Word::MutexDestroy, name)),
-        Call::RwlockInit(name) => Some((Word::RwlockInit, name)),
-        Call::Rdlock(name) => Some((Word::Rdlock, name)),
-        Call::Tryrdlock(name) => Some((Word::Tryrdlock, name)),
-        Call::Wrlock(name) => Some((Word::Wrlock, name)),
-        Call::Trywrlock(name) => Some((Word::Trywrlock, name)),
-        Call::Rwunlock(name) => Some((Word::Rwunlock, name)),
-        Call::RwlockDestroy(name) => Some((Word::RwlockDestroy, name)),
-        Call::CondInit(name) => Some((Word::CondInit, name)),
-        Call::CondDestroy(name) => Some((Word::CondDestroy, name)),
-        Call::Signal(name) => Some((Word::Signal, name)),
-        Call::Broadcast(name) => Some((Word::Broadcast, name)),
-        Call::Bwait(name) => Some((Word::Bwait, name)),
-        Call::BarrierDestroy(name) => Some((Word::BarrierDestroy, name)),
-        _ => None,
+        _ => {
+            let (verb, name) = NamedVerb::of(call)?;
+            Some((Word::Named(verb), name))
+        }
     }
 }
 
@@ -175,24 +143,7 @@ pub(crate) fn call_of(word: Word, name: Name) -> Call
 {
     match word {
         Word::MutexInit(kind, robust) => Call::MutexInit(name, kind, robust),
-        Word::Lock => Call::Lock(name),
-        Word::Trylock => Call::Trylock(name),
-        Word::Unlock => Call::Unlock(name),
-        Word::Consistent => Call::Consistent(name),
-        Word::MutexDestroy => Call::MutexDestroy(name),
-        Word::RwlockInit => Call::RwlockInit(name),
-        Word::Rdlock => Call::Rdlock(name),
-        Word::Tryrdlock => Call::Tryrdlock(name),
-        Word::Wrlock => Call::Wrlock(name),
-        Word::Trywrlock => Call::Trywrlock(name),
-        Word::Rwunlock => Call::Rwunlock(name),
-        Word::RwlockDestroy => Call::RwlockDestroy(name),
-        Word::CondInit => Call::CondInit(name),
-        Word::CondDestroy => Call::CondDestroy(name),
-        Word::Signal => Call::Signal(name),
-        Word::Broadcast => Call::Broadcast(name),
-        Word::Bwait => Call::Bwait(name),
-        Word::BarrierDestroy => Call::BarrierDestroy(name),
+        Word::Named(verb) => verb.call(name),
     }
 }
 

@@ -5,20 +5,22 @@ use Rattle.pt_types.specs.declared.time.Clock.{Clock}
 use Rattle.pt_types.specs.declared.time.Clock.TheVariants.{Real, Mono}
 use Rattle.pt_types.specs.declared.call.Call.{Call}
 use Rattle.pt_types.specs.declared.call.Call.TheVariants as call
+use Rattle.pt_types.specs.declared.named_verb.NamedVerb.{NamedVerb}
+use Rattle.pt_types.specs.declared.named_verb.NamedVerb.TheVariants.{Lock, Trylock, Unlock}
+use Rattle.pt_types.specs.declared.named_verb.NamedVerb.TheVariants.{Consistent, MutexDestroy}
+use Rattle.pt_types.specs.declared.named_verb.NamedVerb.TheVariants.{RwlockInit, Rdlock, Tryrdlock}
+use Rattle.pt_types.specs.declared.named_verb.NamedVerb.TheVariants.{Wrlock, Trywrlock, Rwunlock}
+use Rattle.pt_types.specs.declared.named_verb.NamedVerb.TheVariants.{RwlockDestroy, CondInit}
+use Rattle.pt_types.specs.declared.named_verb.NamedVerb.TheVariants.{CondDestroy, Signal, Broadcast}
+use Rattle.pt_types.specs.declared.named_verb.NamedVerb.TheVariants.{Bwait, BarrierDestroy}
+use Rattle.pt_types.specs.NamedVerbs.{call_on}
 use Rattle.pt_lines.specs.declared.call_line.CallLine.TheVariants as line
-use Rattle.pt_lines.specs.declared.verb.NamedVerb.{NamedVerb}
-use Rattle.pt_lines.specs.declared.verb.NamedVerb.TheVariants.{Lock, Trylock, Unlock, Consistent}
-use Rattle.pt_lines.specs.declared.verb.NamedVerb.TheVariants.{MutexDestroy, RwlockInit, Rdlock}
-use Rattle.pt_lines.specs.declared.verb.NamedVerb.TheVariants.{Tryrdlock, Wrlock, Trywrlock}
-use Rattle.pt_lines.specs.declared.verb.NamedVerb.TheVariants.{Rwunlock, RwlockDestroy, CondInit}
-use Rattle.pt_lines.specs.declared.verb.NamedVerb.TheVariants.{CondDestroy, Signal, Broadcast}
-use Rattle.pt_lines.specs.declared.verb.NamedVerb.TheVariants.{Bwait, BarrierDestroy}
 use Rattle.pt_lines.specs.declared.verb.TimedVerb.{TimedVerb}
 use Rattle.pt_lines.specs.declared.verb.TimedVerb.TheVariants.{Timedlock, Timedrdlock, Timedwrlock}
 use Rattle.pt_lines.specs.declared.verb.ClockedVerb.{ClockedVerb}
 use Rattle.pt_lines.specs.declared.verb.ClockedVerb.TheVariants.{Clocklock, Clockrdlock}
 use Rattle.pt_lines.specs.declared.verb.ClockedVerb.TheVariants.{Clockwrlock}
-use Rattle.pt_lines.specs.Verbs.{named_word, timed_word, clocked_word, moment_word, call_on}
+use Rattle.pt_lines.specs.Verbs.{named_word, timed_word, clocked_word, moment_word}
 use Rattle.pt_lines.specs.Verbs.{call_until, call_by_clock}
 use Rattle.pt_lines.specs.Grammar.{OnName, OnNameUntil, OnNameByClock, OnMoment, Spells, SpellsCall}
 use Rattle.pt_lines.proofs.SpelledLemmas.{IsSpelled, by_name, by_deadline, by_new_mutex}

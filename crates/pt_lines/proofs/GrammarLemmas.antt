@@ -10,6 +10,7 @@ use Rattle.pt_types.specs.declared.call.MutexKind.{MutexKind}
 use Rattle.pt_types.specs.declared.call.Call.TheVariants as call
 use Rattle.pt_types.specs.declared.outcome.Refusal.{Refusal}
 use Rattle.pt_types.specs.declared.outcome.Refusal.TheVariants.{Syntax, Long}
+use Rattle.pt_types.specs.NamedVerbs.{call_on}
 use Rattle.pt_lines.specs.declared.call_line.CallLine.{CallLine}
 use Rattle.pt_lines.specs.declared.call_line.CallLine.TheVariants as line
 use Rattle.pt_lines.specs.declared.verb.TheConstants.{VERBS}
@@ -24,7 +25,7 @@ use Rattle.pt_lines.specs.Fields.{fields, spaced, behind_spaces}
 use Rattle.pt_lines.specs.Grammar.{Spells, robust_word, clock_name}
 use Rattle.pt_lines.specs.Numbers.{number_of}
 use Rattle.pt_lines.specs.Reading.{line_of, line_of_fields, line_read, call_read}
-use Rattle.pt_lines.specs.Verbs.{word_of, verb_of, call_on, call_until, call_by_clock}
+use Rattle.pt_lines.specs.Verbs.{word_of, verb_of, call_until, call_by_clock}
 use Rattle.pt_lines.proofs.ArgumentLemmas.{bytes_are, alone-some, first_then-some, name_found}
 use Rattle.pt_lines.proofs.ArgumentLemmas.{kind_found, robust_found, priority_found, moment_found}
 use Rattle.pt_lines.proofs.ArgumentLemmas.{one_number_found, two_numbers_found, one_deadline_found}

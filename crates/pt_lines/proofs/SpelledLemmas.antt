@@ -6,13 +6,14 @@ use Rattle.pt_types.specs.Times.{Timespec}
 use Rattle.pt_types.specs.declared.time.Clock.{Clock}
 use Rattle.pt_types.specs.declared.call.MutexKind.{MutexKind}
 use Rattle.pt_types.specs.declared.call.Call.TheVariants as call
+use Rattle.pt_types.specs.declared.named_verb.NamedVerb.{NamedVerb}
+use Rattle.pt_types.specs.NamedVerbs.{call_on}
 use Rattle.pt_lines.specs.declared.call_line.CallLine.{CallLine}
 use Rattle.pt_lines.specs.declared.call_line.CallLine.TheVariants as line
 use Rattle.pt_lines.specs.declared.verb.Verb.{Verb}
 use Rattle.pt_lines.specs.declared.verb.Verb.TheVariants.{Hello, Moment, MutexInit, BarrierInit}
 use Rattle.pt_lines.specs.declared.verb.Verb.TheVariants.{Wait, Timedwait, Clockwait, Named, Timed}
 use Rattle.pt_lines.specs.declared.verb.Verb.TheVariants.{Clocked}
-use Rattle.pt_lines.specs.declared.verb.NamedVerb.{NamedVerb}
 use Rattle.pt_lines.specs.declared.verb.TimedVerb.{TimedVerb}
 use Rattle.pt_lines.specs.declared.verb.ClockedVerb.{ClockedVerb}
 use Rattle.pt_lines.specs.Arguments.{name_of, kind_of, robust_of, clock_named, alone, first_then}
@@ -25,7 +26,7 @@ use Rattle.pt_lines.specs.Grammar.{OnHello, OnMoment}
 use Rattle.pt_lines.specs.Numbers.{IsNumber, number_of}
 use Rattle.pt_lines.specs.Reading.{line_of}
 use Rattle.pt_lines.specs.Verbs.{named_word, timed_word, clocked_word, moment_word, word_of}
-use Rattle.pt_lines.specs.Verbs.{call_on, call_until, call_by_clock}
+use Rattle.pt_lines.specs.Verbs.{call_until, call_by_clock}
 use Rattle.pt_lines.proofs.ArgumentLemmas.{first_then-again, name_again, name_is_word, kind_again}
 use Rattle.pt_lines.proofs.ArgumentLemmas.{kind_is_word, robust_again, robust_is_word, clock_again}
 use Rattle.pt_lines.proofs.ArgumentLemmas.{clock_is_word, length-clock_name, priority_again}

@@ -7,12 +7,13 @@ use Rattle.std.specs.Option.{IfSome}
 use Rattle.std.specs.Str.{bytes_eq}
 use Rattle.std.specs.List.{filter}
 use Rattle.pt_types.specs.declared.time.Clock.TheVariants.{Real, Mono}
-use Rattle.pt_lines.specs.declared.verb.NamedVerb.TheVariants.{Lock, Trylock, Unlock, Consistent}
-use Rattle.pt_lines.specs.declared.verb.NamedVerb.TheVariants.{MutexDestroy, RwlockInit, Rdlock}
-use Rattle.pt_lines.specs.declared.verb.NamedVerb.TheVariants.{Tryrdlock, Wrlock, Trywrlock}
-use Rattle.pt_lines.specs.declared.verb.NamedVerb.TheVariants.{Rwunlock, RwlockDestroy, CondInit}
-use Rattle.pt_lines.specs.declared.verb.NamedVerb.TheVariants.{CondDestroy, Signal, Broadcast}
-use Rattle.pt_lines.specs.declared.verb.NamedVerb.TheVariants.{Bwait, BarrierDestroy}
+use Rattle.pt_types.specs.declared.named_verb.NamedVerb.TheVariants.{Lock, Trylock, Unlock}
+use Rattle.pt_types.specs.declared.named_verb.NamedVerb.TheVariants.{Consistent, MutexDestroy}
+use Rattle.pt_types.specs.declared.named_verb.NamedVerb.TheVariants.{RwlockInit, Rdlock, Tryrdlock}
+use Rattle.pt_types.specs.declared.named_verb.NamedVerb.TheVariants.{Wrlock, Trywrlock, Rwunlock}
+use Rattle.pt_types.specs.declared.named_verb.NamedVerb.TheVariants.{RwlockDestroy, CondInit}
+use Rattle.pt_types.specs.declared.named_verb.NamedVerb.TheVariants.{CondDestroy, Signal, Broadcast}
+use Rattle.pt_types.specs.declared.named_verb.NamedVerb.TheVariants.{Bwait, BarrierDestroy}
 use Rattle.pt_lines.specs.declared.verb.TimedVerb.TheVariants.{Timedlock, Timedrdlock, Timedwrlock}
 use Rattle.pt_lines.specs.declared.verb.ClockedVerb.TheVariants.{Clocklock, Clockrdlock}
 use Rattle.pt_lines.specs.declared.verb.ClockedVerb.TheVariants.{Clockwrlock}

@@ -5,6 +5,7 @@ use Rattle.std.specs.Option.{option_map, option_and_then, ok_or}
 use Rattle.pt_types.specs.declared.call.Call.TheVariants as call
 use Rattle.pt_types.specs.declared.outcome.Refusal.{Refusal}
 use Rattle.pt_types.specs.declared.outcome.Refusal.TheVariants.{Syntax, Long}
+use Rattle.pt_types.specs.NamedVerbs.{call_on}
 use Rattle.pt_lines.specs.declared.call_line.CallLine.{CallLine}
 use Rattle.pt_lines.specs.declared.call_line.CallLine.TheVariants as line
 use Rattle.pt_lines.specs.declared.cutter.Cut.{Cut}
@@ -13,7 +14,7 @@ use Rattle.pt_lines.specs.declared.verb.Verb.{Verb}
 use Rattle.pt_lines.specs.declared.verb.Verb.TheVariants.{Hello, Moment, MutexInit, BarrierInit}
 use Rattle.pt_lines.specs.declared.verb.Verb.TheVariants.{Wait, Timedwait, Clockwait, Named, Timed}
 use Rattle.pt_lines.specs.declared.verb.Verb.TheVariants.{Clocked}
-use Rattle.pt_lines.specs.Verbs.{verb_of, call_on, call_until, call_by_clock}
+use Rattle.pt_lines.specs.Verbs.{verb_of, call_until, call_by_clock}
 use Rattle.pt_lines.specs.Fields.{fields}
 use Rattle.pt_lines.specs.Grammar.{Spells}
 use Rattle.pt_lines.specs.Numbers.{number_of}

@@ -48,7 +48,7 @@ fn read_arguments(verb: Verb, args: Fields) -> Option<CallLine>
             let (cond, (mutex, (clock, deadline))) = two_names_clock_and_deadline(args)?;
             Some(CallLine::Ask(Call::Clockwait(cond, mutex, clock, deadline)))
         }
-        Verb::Named(verb) => Some(CallLine::Ask(verb.on(only_name(args)?))),
+        Verb::Named(verb) => Some(CallLine::Ask(verb.call(only_name(args)?))),
         Verb::Timed(verb) => {
             let (name, deadline) = name_and_deadline(args)?;
             Some(CallLine::Ask(verb.on(name, deadline)))

@@ -1,33 +1,10 @@
 ghost use Rattle.std.specs.Prelude.{◌≡◌, IfSome, Some};
 ghost use Rattle.pt_lines.specs.declared.verb.Verb.{Verb};
 ghost use Rattle.pt_lines.specs.Verbs.{named_word, timed_word, clocked_word, moment_word, word_of};
-ghost use Rattle.pt_lines.specs.Verbs.{verb_of, call_on, call_until, call_by_clock};
+ghost use Rattle.pt_lines.specs.Verbs.{verb_of, call_until, call_by_clock};
 
 use crate::verbs::find_verb;
-use pt_types::{Call, Clock, Deadline, Name};
-
-/// The word of a call that one name follows.
-#[derive(Clone, Copy, Debug, PartialEq, Eq)]
-pub enum NamedVerb {
-    Lock,
-    Trylock,
-    Unlock,
-    Consistent,
-    MutexDestroy,
-    RwlockInit,
-    Rdlock,
-    Tryrdlock,
-    Wrlock,
-    Trywrlock,
-    Rwunlock,
-    RwlockDestroy,
-    CondInit,
-    CondDestroy,
-    Signal,
-    Broadcast,
-    Bwait,
-    BarrierDestroy,
-}
+use pt_types::{Call, Clock, Deadline, Name, NamedVerb};
 
 /// The word of a call that a name and a deadline follow.
 #[derive(Clone, Copy, Debug, PartialEq, Eq)]
@@ -95,60 +72,6 @@ const VERBS: [Verb; 32] = [
     Verb::Clocked(ClockedVerb::Clockwrlock),
 ];
 
-impl NamedVerb {
-    /// The word.
-    pub fn word(self) -> &'static [u8]
-        ensures { result.now ≡ named_word self }
-    {
-        match self {
-            NamedVerb::Lock => b"lock",
-            NamedVerb::Trylock => b"trylock",
-            NamedVerb::Unlock => b"unlock",
-            NamedVerb::Consistent => b"consistent",
-            NamedVerb::MutexDestroy => b"mutex-destroy",
-            NamedVerb::RwlockInit => b"rwlock-init",
-            NamedVerb::Rdlock => b"rdlock",
-            NamedVerb::Tryrdlock => b"tryrdlock",
-            NamedVerb::Wrlock => b"wrlock",
-            NamedVerb::Trywrlock => b"trywrlock",
-            NamedVerb::Rwunlock => b"rwunlock",
-            NamedVerb::RwlockDestroy => b"rwlock-destroy",
-            NamedVerb::CondInit => b"cond-init",
-            NamedVerb::CondDestroy => b"cond-destroy",
-            NamedVerb::Signal => b"signal",
-            NamedVerb::Broadcast => b"broadcast",
-            NamedVerb::Bwait => b"bwait",
-            NamedVerb::BarrierDestroy => b"barrier-destroy",
-        }
-    }
-
-    /// The call on this name.
-    pub fn on(self, name: Name) -> Call
-        ensures { result ≡ call_on self name }
-    {
-        match self {
-            NamedVerb::Lock => Call::Lock(name),
-            NamedVerb::Trylock => Call::Trylock(name),
-            NamedVerb::Unlock => Call::Unlock(name),
-            NamedVerb::Consistent => Call::Consistent(name),
-            NamedVerb::MutexDestroy => Call::MutexDestroy(name),
-            NamedVerb::RwlockInit => Call::RwlockInit(name),
-            NamedVerb::Rdlock => Call::Rdlock(name),
-            NamedVerb::Tryrdlock => Call::Tryrdlock(name),
-            NamedVerb::Wrlock => Call::Wrlock(name),
-            NamedVerb::Trywrlock => Call::Trywrlock(name),
-            NamedVerb::Rwunlock => Call::Rwunlock(name),
-            NamedVerb::RwlockDestroy => Call::RwlockDestroy(name),
-            NamedVerb::CondInit => Call::CondInit(name),
-            NamedVerb::CondDestroy => Call::CondDestroy(name),
-            NamedVerb::Signal => Call::Signal(name),
-            NamedVerb::Broadcast => Call::Broadcast(name),
-            NamedVerb::Bwait => Call::Bwait(name),
-            NamedVerb::BarrierDestroy => Call::BarrierDestroy(name),
-        }
-    }
-}
-
 impl TimedVerb {
     /// The word.
     pub fn word(self) -> &'static [u8]
@@ -197,6 +120,32 @@ impl ClockedVerb {
     }
 }
 
+// The word of a call that one name follows.
+fn word_of_named(verb: NamedVerb) -> &'static [u8]
+    ensures { result.now ≡ named_word verb }
+{
+    match verb {
+        NamedVerb::Lock => b"lock",
+        NamedVerb::Trylock => b"trylock",
+        NamedVerb::Unlock => b"unlock",
+        NamedVerb::Consistent => b"consistent",
+        NamedVerb::MutexDestroy => b"mutex-destroy",
+        NamedVerb::RwlockInit => b"rwlock-init",
+        NamedVerb::Rdlock => b"rdlock",
+        NamedVerb::Tryrdlock => b"tryrdlock",
+        NamedVerb::Wrlock => b"wrlock",
+        NamedVerb::Trywrlock => b"trywrlock",
+        NamedVerb::Rwunlock => b"rwunlock",
+        NamedVerb::RwlockDestroy => b"rwlock-destroy",
+        NamedVerb::CondInit => b"cond-init",
+        NamedVerb::CondDestroy => b"cond-destroy",
+        NamedVerb::Signal => b"signal",
+        NamedVerb::Broadcast => b"broadcast",
+        NamedVerb::Bwait => b"bwait",
+        NamedVerb::BarrierDestroy => b"barrier-destroy",
+    }
+}
+
 // The word of a moment of this clock.
 fn word_of_moment(clock: Clock) -> &'static [u8]
     ensures { result.now ≡ moment_word clock }
@@ -220,7 +169,7 @@ impl Verb {
             Verb::Wait => b"wait",
             Verb::Timedwait => b"timedwait",
             Verb::Clockwait => b"clockwait",
-            Verb::Named(verb) => verb.word(),
+            Verb::Named(verb) => word_of_named(verb),
             Verb::Timed(verb) => verb.word(),
             Verb::Clocked(verb) => verb.word(),
         }

@@ -6,8 +6,8 @@ ghost use Rattle.std.specs.Str.{bytes_eq};
 ghost use Rattle.pt_lines.specs.declared.verb.TheConstants.{VERBS};
 ghost use Rattle.pt_lines.specs.Verbs.{verb_of, word_of};
 
-use crate::verb::{ClockedVerb, NamedVerb, TimedVerb, Verb};
-use pt_types::Clock;
+use crate::verb::{ClockedVerb, TimedVerb, Verb};
+use pt_types::{Clock, NamedVerb};
 
 const OF_4: [Verb; 2] = [Verb::Wait, Verb::Named(NamedVerb::Lock)];
 

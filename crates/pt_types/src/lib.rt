@@ -9,6 +9,7 @@ mod call;
 pub mod key_order;
 mod limits;
 mod name;
+mod named_verb;
 mod number;
 pub mod operations;
 mod outcome;
@@ -22,6 +23,7 @@ pub use limits::{
     MOST_PRIORITY, MOST_READS,
 };
 pub use name::Name;
+pub use named_verb::NamedVerb;
 pub use number::{ClientId, ObjectId, Priority};
 pub use outcome::{Consistency, Outcome, Refusal, Verdict};
 pub use time::{Clock, Deadline, Moment};
