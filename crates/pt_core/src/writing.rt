@@ -40,12 +40,12 @@ pub fn told<Q: WaitList, A: Allocator + Copy>(
 pub fn write<Q: WaitList, A: Allocator + Copy>(
     body: &mut Body<Q, A>,
     event: &Event,
-    plan: Plan,
+    plan: &Plan<'_>,
 ) -> Result<Applied, Refusal>
     requires whole { IsWhole body.old }
     requires accepted { refusal_in (past body.old) event.now ≡ None }
-    requires planned { IsPlanned (past body.old) event.now plan }
-    requires small { plan.need ≤ 8195 }
+    requires planned { IsPlanned (past body.old) event.now plan.now }
+    requires small { plan.now.need ≤ 8195 }
     ensures whole { IsWhole body.new }
     ensures ok { IfOk result (λ applied.
         IsWritten (kept body.old.stored) event.now (kept body.new.stored) applied) }

@@ -1,6 +1,6 @@
 -- Planned: what an event's entry is and what it changes beside the tables, as they are found before
 -- the entry is pushed.
-use Rattle.std.specs.Prelude.{◌≡◌, Option}
+use Rattle.std.specs.Prelude.{◌≡◌, Option, Some, None}
 use Rattle.pt_types.specs.declared.outcome.Outcome.{Outcome}
 use Rattle.pt_model.specs.declared.entry.Entry.{Entry}
 use Rattle.pt_model.specs.declared.entry.Entry.TheVariants.{Join, Call, Death, Moment}
@@ -8,7 +8,10 @@ use Rattle.pt_model.specs.declared.entry.Event.{Event}
 use Rattle.pt_model.specs.declared.entry.Event.TheVariants as event
 use Rattle.pt_model.specs.Histories.{History, ◌▷◌, place}
 use Rattle.pt_model.specs.Room.{need, entry_for}
+use Rattle.pt_types.specs.Operations.{operation}
 use Rattle.pt_touched.specs.Touched.{touched_by}
+use Rattle.pt_state.specs.Requests.{IsRequest}
+use Rattle.pt_state.specs.declared.request.Request.{Request}
 use Rattle.pt_machine.specs.declared.planning.Plan.{Plan}
 
 -- the entry that an event becomes, given the answer that its call has at once  [profile]
@@ -18,9 +21,18 @@ entry_with h (event.Call c call) answer = Call c call answer
 entry_with h (event.Death c) answer = Death c
 entry_with h (event.Moment k t) answer = Moment k t
 
--- the answer that the event's call has at once, how many entries are reserved after its entry, and
+-- this is what an event's call asks for, if it is a call
+abbrev pub HasRequest : History → Event → Option Request → Type 0
+HasRequest h (event.Call c call) (Some r) = IsRequest h (operation call) r
+HasRequest h (event.Call c call) None = ⊥
+HasRequest h (event.Join p) r = Unit {0}
+HasRequest h (event.Death c) r = Unit {0}
+HasRequest h (event.Moment k t) r = Unit {0}
+
+-- what the event's call asks for, the answer that it has at once, how many entries are reserved after its entry, and
 -- the one object that the entry touches  [profile]
 pub record IsPlanned (h : History) (v : Event) (p : Plan) : Type 0 where
+  pub asks : HasRequest h v p.request
   pub enters : entry_with h v p.answer ≡ entry_for h v
   pub needs : p.need ≡ need (h ▷ entry_for h v)
   pub touches : p.touched ≡ touched_by h (entry_for h v)

@@ -58,9 +58,9 @@ impl<Q: WaitList, A: Allocator + Copy> Model for Body<Q, A> {
 impl<Q: WaitList, A: Allocator + Copy> Body<Q, A> {
     /// The entry of an event, with its plan. ENOMEM if a growth is refused: then nothing is
     /// pushed. An entry that needs no memory, as a Death and a Moment, is never refused.
-    pub fn push_outer(&mut self, event: &Event, plan: Plan) -> Result<(), Refusal>
+    pub fn push_outer(&mut self, event: &Event, plan: &Plan<'_>) -> Result<(), Refusal>
         requires ready { IsReadyFor self.old (entry_for (past self.old) event.now) }
-        requires planned { IsPlanned (past self.old) event.now plan }
+        requires planned { IsPlanned (past self.old) event.now plan.now }
         ensures ok { OnOk result
             (Adds self.old (entry_for (past self.old) event.now) self.new) }
         ensures err { OnErr result (Stays self.old self.new) }
@@ -68,13 +68,13 @@ impl<Q: WaitList, A: Allocator + Copy> Body<Q, A> {
         ensures enough { needs_memory (entry_for (past self.old) event.now) ≡ false
             → IsOk result }
     {
-        let answer = plan.answer;
         clock::push_outer(
             &mut self.state,
             &mut self.queues,
             &mut self.timers,
             event,
-            answer,
+            plan.answer,
+            &plan.request,
         )?;
         self.touched = plan.touched;
         self.entering = caller_of(event);

@@ -1,11 +1,14 @@
-//! Clients: what a join and a death do to the queues.
+//! Clients: what a join and a death do to the queues, and whose call came at a place.
 
-ghost use Rattle.std.specs.Prelude.{IfErr, OnErr, OnOk, ◌≡◌};
+ghost use Rattle.std.specs.Prelude.{IfErr, OnErr, OnOk, ◌≡◌, ◌≤◌};
 ghost use Rattle.pt_model.specs.Histories.{place};
+ghost use Rattle.pt_model.specs.Queries.{caller};
 ghost use Rattle.pt_model.specs.declared.entry.Entry.TheVariants as entry;
 ghost use Rattle.pt_state.specs.Adds.{Adds, IsReadyFor, Stays, past};
 ghost use Rattle.pt_machine.specs.Queued.{IsQueued};
 
+use crate::body::Body;
+use pt_model::Entry;
 use pt_state::State;
 use pt_types::{ClientId, Priority, Refusal};
 use pt_waitq::WaitList;
@@ -53,4 +56,31 @@ pub(crate) fn push_death<Q: WaitList, A: Allocator + Copy>(
     queues.remove(c);
     queues.dismiss(c);
     state.push_death(c);
+}
+
+impl<Q: WaitList, A: Allocator + Copy> Body<Q, A> {
+    // The client of the call at a place, if its entry is stored there.
+    fn caller_since(&self, place: u64) -> Option<ClientId>
+        requires { self.now.stored.start.at ≤ place }
+        ensures { result ≡ caller (past self.now) place }
+    {
+        match self.state.stored.entry(place)? {
+            Entry::Call(c, _, _) => Some(c),
+            _ => None,
+        }
+    }
+
+    /// The client of the call at a place; of an open call of the Start, by the Start's rows.
+    pub(crate) fn caller_at(&self, place: u64) -> Option<ClientId>
+        ensures { result ≡ caller (past self.now) place }
+    {
+        let start = self.state.stored.start();
+        if start.at <= place {
+            return self.caller_since(place);
+        }
+        match start.caller_at(place) {
+            Some(client) => Some(ClientId(client)),
+            None => None,
+        }
+    }
 }

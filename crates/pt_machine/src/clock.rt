@@ -1,10 +1,12 @@
 //! Deadlines: set as a call waits, dropped as it ends, and the calls that are due.
 
+ghost use Rattle.pt_state.specs.Requests.{IsRequest};
+ghost use Rattle.pt_types.specs.Shown.{shown_operation};
 ghost use Rattle.pt_model.specs.declared.entry.Entry.TheVariants as entry_is;
 ghost use Rattle.pt_state.specs.Adds.{Adds, IsReadyFor, Stays, past};
 ghost use Rattle.pt_machine.specs.Queued.{IsQueued};
 ghost use Rattle.std.specs.Prelude.{IfErr, IfSome, IsOk, None, OnErr, OnOk, Some, ℕ, ◌&&◌, ◌==◌};
-ghost use Rattle.std.specs.Prelude.{◌≡◌, ◌≤◌, false, filter, if◌then◌else◌, option_map, true};
+ghost use Rattle.std.specs.Prelude.{◌≡◌, false, filter, if◌then◌else◌, option_map, true};
 ghost use Rattle.pt_types.specs.Operations.{operation};
 ghost use Rattle.pt_machine.specs.Timed.{AreTimed, asked, can_move_waits as can_move_waits_in};
 ghost use Rattle.pt_machine.specs.Timed.{good_of, was_moved_at};
@@ -14,12 +16,12 @@ ghost use Rattle.pt_records.specs.Callers.{open_in, opens_of};
 ghost use Rattle.pt_types.specs.Times.{deadline_nanos, is_bad_deadline};
 ghost use Rattle.pt_machine.specs.Memory.{needs_memory, needs_memory_to_wait};
 ghost use Rattle.pt_state.specs.Outer.{makes_object};
-ghost use Rattle.pt_machine.specs.Planned.{entry_with};
+ghost use Rattle.pt_machine.specs.Planned.{HasRequest, entry_with};
 ghost use Rattle.pt_state.specs.Serving.{IsFor, called, entry_of};
 ghost use Rattle.pt_table.specs.ClientRows.{client_value};
 ghost use Rattle.pt_model.specs.Found.{keep};
 ghost use Rattle.pt_state.specs.Reads.{AreTables};
-ghost use Rattle.pt_model.specs.Queries.{caller, least_deadline as least_deadline_in};
+ghost use Rattle.pt_model.specs.Queries.{least_deadline as least_deadline_in};
 ghost use Rattle.pt_model.specs.Searches.{In, least};
 ghost use Rattle.pt_model.specs.WaitingCall.{at_place};
 ghost use Rattle.pt_model.specs.Answers.{open_calls};
@@ -27,11 +29,11 @@ ghost use Rattle.pt_model.specs.Forced.{expires_before, forced, forced_service, 
 
 use crate::body::Body;
 use crate::{calls, clients, clock, forced};
-use pt_model::{Entry, Event};
+use pt_model::Event;
 use pt_records::Open;
-use pt_state::{Forced, State};
+use pt_state::{Forced, Request, State};
 use pt_timers::Timers;
-use pt_types::operations::{Operation, clock_of, deadline_of, operation_of};
+use pt_types::operations::{Operation, clock_of, deadline_of};
 use pt_types::{Call, ClientId, Clock, Deadline, Moment, Outcome, Refusal};
 use pt_waitq::WaitList;
 use std::alloc::Allocator;
@@ -51,13 +53,13 @@ pub(crate) fn push_moment<Q: WaitList, A: Allocator + Copy>(
     state.push_moment(clock, moment);
 }
 
-// The deadline of a call, if it has one that is a time.  [XSH pthread_mutex_timedlock, EINVAL]
-fn good_deadline(call: &Call) -> Option<Deadline>
-    ensures { result ≡ good_of (asked (operation call.now)) }
+// The deadline of an operation, if it is a time.  [XSH pthread_mutex_timedlock, EINVAL]
+fn good_deadline(operation: &Operation<'_>) -> Option<Deadline>
+    ensures { result ≡ good_of (asked (shown_operation operation.now)) }
 {
-    let deadline = match operation_of(call) {
-        Operation::Acquires(_, _, how) => deadline_of(how),
-        Operation::Awaits(_, _, deadline) => deadline,
+    let deadline = match operation {
+        Operation::Acquires(_, _, how) => deadline_of(*how),
+        Operation::Awaits(_, _, deadline) => *deadline,
         _ => None,
     };
     match deadline {
@@ -108,8 +110,8 @@ fn drop_moved<A: Allocator + Copy>(timers: &mut Timers<A>, state: &State<A>, pla
     }
 }
 
-// A call that is left waiting has its deadline set first, if that is a time. ENOMEM if the
-// growth of a table is refused.  [XSH pthread_mutex_timedlock]
+// A call that is left waiting has its deadline set first. ENOMEM if a growth is refused.
+// [XSH pthread_mutex_timedlock]
 fn push_timed<Q: WaitList, A: Allocator + Copy>(
     state: &mut State<A>,
     queues: &mut Q,
@@ -117,8 +119,10 @@ fn push_timed<Q: WaitList, A: Allocator + Copy>(
     c: ClientId,
     call: &Call,
     deadline: Deadline,
+    request: &Request<'_>,
 ) -> Result<(), Refusal>
     requires ready { IsReadyFor state.old (entry_is.Call c call.now None) }
+    requires asks { IsRequest (past state.old) (operation call.now) request.now }
     requires queued { IsQueued (past state.old) (Q.seen queues.old) }
     requires timed { AreTimed (past state.old) timers.old }
     requires deadline { asked (operation call.now) ≡ Some deadline }
@@ -133,7 +137,7 @@ fn push_timed<Q: WaitList, A: Allocator + Copy>(
     if let Err(refusal) = timers.set(place, clock_of(call), deadline) {
         return Err(refusal);
     }
-    match calls::push_left(state, queues, c, call) {
+    match calls::push_left(state, queues, c, call, request) {
         Ok(()) => Ok(()),
         Err(refusal) => {
             timers.cancel(place);
@@ -150,8 +154,10 @@ pub(crate) fn push_left<Q: WaitList, A: Allocator + Copy>(
     timers: &mut Timers<A>,
     c: ClientId,
     call: &Call,
+    request: &Request<'_>,
 ) -> Result<(), Refusal>
     requires ready { IsReadyFor state.old (entry_is.Call c call.now None) }
+    requires asks { IsRequest (past state.old) (operation call.now) request.now }
     requires queued { IsQueued (past state.old) (Q.seen queues.old) }
     requires timed { AreTimed (past state.old) timers.old }
     ensures ok { OnOk result (Adds state.old (entry_is.Call c call.now None) state.new) }
@@ -161,20 +167,17 @@ pub(crate) fn push_left<Q: WaitList, A: Allocator + Copy>(
     ensures queued { IsQueued (past state.new) (Q.seen queues.new) }
     ensures timed { AreTimed (past state.new) timers.new }
 {
-    match good_deadline(call) {
-        Some(deadline) => push_timed(state, queues, timers, c, call, deadline),
-        None => calls::push_left(state, queues, c, call),
+    match good_deadline(&request.operation) {
+        Some(deadline) => push_timed(state, queues, timers, c, call, deadline, request),
+        None => calls::push_left(state, queues, c, call, request),
     }
 }
 
-// Whether a call can move waits.  [XSH pthread_cond_broadcast]
-fn can_move_waits(call: &Call) -> bool
-    ensures { result ≡ can_move_waits_in (operation call.now) }
+// Whether an operation can move waits.  [XSH pthread_cond_broadcast]
+fn can_move_waits(operation: &Operation<'_>) -> bool
+    ensures { result ≡ can_move_waits_in (shown_operation operation.now) }
 {
-    matches!(
-        operation_of(call),
-        Operation::Signals(_) | Operation::Broadcasts(_)
-    )
+    matches!(operation, Operation::Signals(_) | Operation::Broadcasts(_))
 }
 
 // A call with its answer: no deadline is set any more for those that it moves. ENOMEM if there
@@ -186,8 +189,10 @@ pub(crate) fn push_answered<Q: WaitList, A: Allocator + Copy>(
     c: ClientId,
     call: &Call,
     answer: Outcome,
+    request: &Request<'_>,
 ) -> Result<(), Refusal>
     requires ready { IsReadyFor state.old (entry_is.Call c call.now (Some answer)) }
+    requires asks { IsRequest (past state.old) (operation call.now) request.now }
     requires queued { IsQueued (past state.old) (Q.seen queues.old) }
     requires timed { AreTimed (past state.old) timers.old }
     ensures ok { OnOk result (Adds state.old (entry_is.Call c call.now (Some answer)) state.new) }
@@ -198,8 +203,8 @@ pub(crate) fn push_answered<Q: WaitList, A: Allocator + Copy>(
     ensures timed { AreTimed (past state.new) timers.new }
 {
     let place = state.stored.len();
-    calls::push_answered(state, queues, c, call, answer)?;
-    if can_move_waits(call) {
+    calls::push_answered(state, queues, c, call, answer, request)?;
+    if can_move_waits(&request.operation) {
         drop_moved(timers, state, place);
     }
     Ok(())
@@ -235,8 +240,10 @@ fn push_call<Q: WaitList, A: Allocator + Copy>(
     c: ClientId,
     call: &Call,
     answer: Option<Outcome>,
+    request: &Request<'_>,
 ) -> Result<(), Refusal>
     requires ready { IsReadyFor state.old (entry_is.Call c call.now answer) }
+    requires asks { IsRequest (past state.old) (operation call.now) request.now }
     requires queued { IsQueued (past state.old) (Q.seen queues.old) }
     requires timed { AreTimed (past state.old) timers.old }
     ensures ok { OnOk result (Adds state.old (entry_is.Call c call.now answer) state.new) }
@@ -247,21 +254,23 @@ fn push_call<Q: WaitList, A: Allocator + Copy>(
     ensures timed { AreTimed (past state.new) timers.new }
 {
     match answer {
-        None => push_left(state, queues, timers, c, call),
-        Some(outcome) => push_answered(state, queues, timers, c, call, outcome),
+        None => push_left(state, queues, timers, c, call, request),
+        Some(outcome) => push_answered(state, queues, timers, c, call, outcome, request),
     }
 }
 
-/// The entry of an event, with the answer that its call has at once. ENOMEM if a growth is
-/// refused: then nothing is pushed. An entry that needs no memory is never refused.
+/// The entry of an event, with the request of its call and the answer that it has at once. ENOMEM if
+/// a growth is refused: then nothing is pushed. An entry that needs no memory is never refused.
 pub(crate) fn push_outer<Q: WaitList, A: Allocator + Copy>(
     state: &mut State<A>,
     queues: &mut Q,
     timers: &mut Timers<A>,
     event: &Event,
     answer: Option<Outcome>,
+    request: &Option<Request<'_>>,
 ) -> Result<(), Refusal>
     requires ready { IsReadyFor state.old (entry_with (past state.old) event.now answer) }
+    requires asks { HasRequest (past state.old) event.now request.now }
     requires queued { IsQueued (past state.old) (Q.seen queues.old) }
     requires timed { AreTimed (past state.old) timers.old }
     ensures ok { OnOk result
@@ -275,7 +284,10 @@ pub(crate) fn push_outer<Q: WaitList, A: Allocator + Copy>(
 {
     match event {
         Event::Join(priority) => clients::push_join(state, queues, *priority),
-        Event::Call(c, call) => push_call(state, queues, timers, *c, call, answer),
+        Event::Call(c, call) => {
+            let request = request.as_ref().unwrap();
+            push_call(state, queues, timers, *c, call, answer, request)
+        }
         Event::Death(c) => {
             push_death(state, queues, timers, *c);
             Ok(())
@@ -326,31 +338,6 @@ impl<Q: WaitList, A: Allocator + Copy> Body<Q, A> {
         match self.state.open_of(c) {
             Some(open) if open.call.place == place => Some(open),
             _ => None,
-        }
-    }
-
-    // The client of the call at a place, if its entry is stored there.
-    fn caller_since(&self, place: u64) -> Option<ClientId>
-        requires { self.now.stored.start.at ≤ place }
-        ensures { result ≡ caller (past self.now) place }
-    {
-        match self.state.stored.entry(place)? {
-            Entry::Call(c, _, _) => Some(c),
-            _ => None,
-        }
-    }
-
-    // The client of the call at a place; of an open call of the Start, by the Start's rows.
-    fn caller_at(&self, place: u64) -> Option<ClientId>
-        ensures { result ≡ caller (past self.now) place }
-    {
-        let start = self.state.stored.start();
-        if start.at <= place {
-            return self.caller_since(place);
-        }
-        match start.caller_at(place) {
-            Some(client) => Some(ClientId(client)),
-            None => None,
         }
     }
 

@@ -4,6 +4,7 @@ ghost use Rattle.std.specs.Prelude.{IfSome, None, Some, ◌≡◌, ◌≤◌, fi
 ghost use Rattle.pt_types.specs.declared.outcome.Outcome.TheVariants as told;
 ghost use Rattle.pt_types.specs.Operations.{Awaits, Broadcasts, Signals, operation};
 ghost use Rattle.pt_types.specs.declared.operations.ObjectClass.TheVariants.{Cond as CondClass};
+ghost use Rattle.pt_types.specs.declared.operations.ObjectClass.TheVariants.{Mutex as MutexClass};
 ghost use Rattle.pt_model.specs.declared.entry.Entry.TheVariants as entry;
 ghost use Rattle.pt_model.specs.Searches.{In, least};
 ghost use Rattle.pt_model.specs.Moves.{cond_waits, moved, precedes, precedes_by, waiting_at};
@@ -13,20 +14,18 @@ ghost use Rattle.pt_machine.specs.Queued.{IsQueued};
 ghost use Rattle.pt_model.specs.WaitingCall.{is_wait as is_wait_role};
 ghost use Rattle.pt_records.specs.Callers.{opens_of};
 ghost use Rattle.pt_types.specs.declared.call.ObjectKind.TheVariants as kind;
-ghost use Rattle.pt_model.specs.Objects.{find, find as find_in, kind_of};
+ghost use Rattle.pt_model.specs.Objects.{find, kind_of};
 ghost use Rattle.pt_model.specs.Answers.{open_calls};
 ghost use Rattle.pt_state.specs.Reads.{AreTables};
-ghost use Rattle.pt_model.specs.Verdicts.{bound_by, cond_view, on, operation_verdict as said_of};
+ghost use Rattle.pt_model.specs.Verdicts.{bound_by, cond_view, operation_verdict as said_of};
 ghost use Rattle.pt_types.specs.Limits.{most_clients};
-ghost use Rattle.pt_types.specs.declared.outcome.Verdict.TheVariants as reply_of;
 
 use crate::body::Body;
 use crate::queues::take_place;
 use pt_cond::CondObj;
 use pt_model::waiting_call::mutex_awaited;
 use pt_records::Open;
-use pt_state::State;
-use pt_types::operations::ObjectClass;
+use pt_state::{Request, State};
 use pt_types::{Call, ClientId, Deadline, Name, ObjectId, Outcome, Verdict};
 use pt_waitq::WaitList;
 use std::alloc::Allocator;
@@ -62,14 +61,16 @@ pub(crate) fn push_signal<Q: WaitList, A: Allocator + Copy>(
     c: ClientId,
     call: &Call,
     n: &Name,
+    object: Option<ObjectId>,
 )
     requires ready { IsReadyFor state.old (entry.Call c call.now (Some told.Done)) }
     requires queued { IsQueued (past state.old) (Q.seen queues.old) }
     requires operation { operation call.now ≡ Signals n.now }
+    requires found { object ≡ find (past state.old) n.now CondClass }
     ensures adds { Adds state.old (entry.Call c call.now (Some told.Done)) state.new }
     ensures queued { IsQueued (past state.new) (Q.seen queues.new) }
 {
-    let q = state.find(n, ObjectClass::Cond).unwrap();
+    let q = object.unwrap();
     match first_waiting(queues, state, q) {
         Some(first) => push_wake(state, queues, c, call, n, first),
         None => state.push_woken(c, call, n, None),
@@ -83,15 +84,17 @@ pub(crate) fn push_broadcast<Q: WaitList, A: Allocator + Copy>(
     c: ClientId,
     call: &Call,
     n: &Name,
+    object: Option<ObjectId>,
 )
     requires ready { IsReadyFor state.old (entry.Call c call.now (Some told.Done)) }
     requires queued { IsQueued (past state.old) (Q.seen queues.old) }
     requires operation { operation call.now ≡ Broadcasts n.now }
+    requires found { object ≡ find (past state.old) n.now CondClass }
     ensures adds { Adds state.old (entry.Call c call.now (Some told.Done)) state.new }
     ensures queued { IsQueued (past state.new) (Q.seen queues.new) }
 {
-    let q = state.find(n, ObjectClass::Cond).unwrap();
-    state.push_broadcast(c, call, n);
+    let q = object.unwrap();
+    state.push_broadcast(c, call, n, Some(q));
     while let Some(first) = queues.first(q) {
         queues.remove(first.client);
         take_place(queues, state, first.client);
@@ -182,27 +185,20 @@ impl<Q: WaitList, A: Allocator + Copy> Body<Q, A> {
         n: &Name,
         k: &Name,
         deadline: Option<Deadline>,
+        request: &Request<'_>,
     ) -> Verdict
-        requires { AreTables self.now }
+        requires read { AreTables self.now }
+        requires object { request.now.object ≡ find (past self.now) n.now CondClass }
+        requires mutex { request.now.mutex ≡ find (past self.now) k.now MutexClass }
         ensures { result ≡ said_of (past self.now) c (Awaits n.now k.now deadline) }
     {
-        let Some(q) = self.state.find(n, ObjectClass::Cond) else {
+        let Some(q) = request.object else {
             return Verdict::Reply(Outcome::Einval);
         };
-        let Some((m, mutex)) = self.state.mutex_named(k) else {
+        let Some((m, mutex)) = self.state.mutex_found(k, request.mutex) else {
             return Verdict::Reply(Outcome::Einval);
         };
         let owns = mutex.is_owned_by(c);
         self.condition(q).verdict_wait(m, owns, deadline)
-    }
-
-    /// A call that wakes waits at a condition.  [XSH pthread_cond_broadcast]
-    pub(crate) fn woken_verdict(&self, n: &Name) -> Verdict
-        requires { AreTables self.now }
-        ensures { result
-            ≡ on (find_in (past self.now) n.now CondClass) (λ o. reply_of.Reply told.Done) }
-    {
-        self.state
-            .known_verdict(n, ObjectClass::Cond, Verdict::Reply(Outcome::Done))
     }
 }

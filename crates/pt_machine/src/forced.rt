@@ -1,11 +1,11 @@
 //! Forced entries: which comes next, and how it comes in.
 
 ghost use Rattle.std.specs.Prelude.{IfSome, ◌≡◌, false, filter, option_map};
-ghost use Rattle.pt_model.specs.Searches.{In, first_below, least};
+ghost use Rattle.pt_model.specs.Searches.{In, least};
 ghost use Rattle.pt_model.specs.Histories.{place};
 ghost use Rattle.pt_model.specs.WaitingCall.{is_arrival as is_arrival_role};
 ghost use Rattle.pt_model.specs.WaitingCall.{is_wait as is_wait_role};
-ghost use Rattle.pt_model.specs.Forced.{forced as forced_in, is_orphan, is_served as is_served_in};
+ghost use Rattle.pt_model.specs.Forced.{forced as forced_in, is_served as is_served_in};
 ghost use Rattle.pt_model.specs.Forced.{is_served_before as is_served_before_in, service};
 ghost use Rattle.pt_state.specs.Adds.{Adds, IsReadyFor, past};
 ghost use Rattle.pt_records.specs.Callers.{opens_of};
@@ -21,7 +21,7 @@ use crate::cond::push_late_wait;
 use pt_model::waiting_call::{is_arrival, is_wait};
 use pt_records::Open;
 use pt_state::{Forced, State};
-use pt_types::{ClientId, ObjectId};
+use pt_types::ClientId;
 use pt_waitq::WaitList;
 use std::alloc::Allocator;
 
@@ -131,15 +131,6 @@ impl<Q: WaitList, A: Allocator + Copy> Body<Q, A> {
         self.candidate(self.touched?)
     }
 
-    // The robust mutex to take from its dead owner first.
-    // [XSH pthread_mutex_lock, EOWNERDEAD; the lowest first is profile]
-    fn first_yield(&self) -> Option<ObjectId>
-        requires { AreTables self.now }
-        ensures { result ≡ first_below (place (past self.now)) (is_orphan (past self.now)) }
-    {
-        self.state.first_orphan()
-    }
-
     /// What must follow, if anything: service, then yields, then deadlines.
     /// [XSH pthread_mutex_unlock, pthread_mutex_lock EOWNERDEAD, pthread_mutex_timedlock]
     pub fn next_forced(&self) -> Option<Forced>
@@ -151,7 +142,7 @@ impl<Q: WaitList, A: Allocator + Copy> Body<Q, A> {
         if let Some(served) = self.first_served() {
             return Some(Forced::Serve(served));
         }
-        if let Some(m) = self.first_yield() {
+        if let Some(m) = self.state.first_orphan() {
             return Some(Forced::Yield(m));
         }
         match self.first_overdue() {

@@ -58,16 +58,18 @@ pub(crate) fn push_ended<Q: WaitList, A: Allocator + Copy>(
     call: &Call,
     n: &Name,
     class: ObjectClass,
+    object: Option<ObjectId>,
 )
     requires ready { IsReadyFor state.old (entry.Call c call.now (Some told.Done)) }
     requires queued { IsQueued (past state.old) (Q.seen queues.old) }
     requires operation { operation call.now ≡ Ends n.now class }
+    requires found { object ≡ find_in (past state.old) n.now class }
     ensures adds { Adds state.old (entry.Call c call.now (Some told.Done)) state.new }
     ensures queued { IsQueued (past state.new) (Q.seen queues.new) }
 {
-    let o = state.find(n, class).unwrap();
+    let o = object.unwrap();
     queues.discard(o);
-    state.push_ended(c, call, n, class);
+    state.push_ended(c, call, n, class, Some(o));
 }
 
 impl<Q: WaitList, A: Allocator + Copy> Body<Q, A> {
@@ -90,13 +92,19 @@ impl<Q: WaitList, A: Allocator + Copy> Body<Q, A> {
     }
 
     /// A call that ends an object.  [XSH pthread_mutex_destroy]
-    pub(crate) fn ends_verdict(&self, n: &Name, class: ObjectClass) -> Verdict
-        requires { AreTables self.now }
+    pub(crate) fn ends_verdict(
+        &self,
+        n: &Name,
+        class: ObjectClass,
+        object: Option<ObjectId>,
+    ) -> Verdict
+        requires read { AreTables self.now }
+        requires found { object ≡ find_in (past self.now) n.now class }
         ensures { result
             ≡ on (find_in (past self.now) n.now class)
             (λ o. destroy_table (is_busy_in (past self.now) class o)) }
     {
-        match self.state.find(n, class) {
+        match object {
             Some(o) => self.end_verdict(class, o),
             None => Verdict::Reply(Outcome::Einval),
         }

@@ -1,5 +1,7 @@
 //! What an event's entry is, and what it changes beside the tables, found once before it is pushed.
 
+ghost use Rattle.pt_state.specs.Requests.{IsRequest};
+ghost use Rattle.pt_types.specs.Shown.{shown_operation};
 ghost use Rattle.std.specs.Prelude.{None, Some, nat_lt, ◌≡◌, ◌≤◌};
 ghost use Rattle.pt_types.specs.Operations.{Awaits, operation};
 ghost use Rattle.pt_types.specs.declared.operations.ObjectClass.TheVariants.{Cond as CondClass};
@@ -16,21 +18,23 @@ ghost use Rattle.pt_state.specs.Reads.{AreTables};
 ghost use Rattle.pt_records.specs.Counts.{one_if};
 ghost use Rattle.pt_touched.specs.Touched.{bound_if, goal_of_operation, touched_by};
 ghost use Rattle.pt_touched.specs.Touched.{touched_by_operation};
-ghost use Rattle.pt_machine.specs.Planned.{IsPlanned, entry_with};
+ghost use Rattle.pt_machine.specs.Planned.{HasRequest, IsPlanned, entry_with};
 
 use crate::body::Body;
 use pt_model::Event;
 use pt_records::mutex::is_last;
-use pt_types::operations::{ObjectClass, Operation, class_needed, operation_of};
+use pt_state::Request;
+use pt_types::operations::Operation;
 use pt_types::tables::reply;
 use pt_types::{Call, ClientId, Deadline, Name, ObjectId, Outcome};
 use pt_waitq::WaitList;
 use std::alloc::Allocator;
 
-/// The answer that an event's call has at once, how many entries are reserved after the event's
-/// entry, and the one object that the entry touches.
-#[derive(Clone, Copy)]
-pub struct Plan {
+/// What an event's call asks for, the answer that it has at once, how many entries are reserved
+/// after the event's entry, and the one object that the entry touches.
+#[derive(Drop)]
+pub struct Plan<'e> {
+    pub request: Option<Request<'e>>,
     pub answer: Option<Outcome>,
     pub need: u64,
     pub touched: Option<ObjectId>,
@@ -71,17 +75,19 @@ impl<Q: WaitList, A: Allocator + Copy> Body<Q, A> {
         n: &Name,
         m: &Name,
         deadline: Option<Deadline>,
+        object: Option<ObjectId>,
     ) -> Change
         requires read { AreTables self.now }
         requires step { Step (past self.now) (entry_is.Call c call.now None) }
         requires operation { operation call.now ≡ Awaits n.now m.now deadline }
+        requires found { object ≡ find (past self.now) m.now MutexClass }
         ensures adds { result.added ≡ 3 }
         ensures uses { let h = past self.now in
             result.used ≡ last_lock h c (meant h m.now MutexClass) }
         ensures touches { let h = past self.now in
             result.touched ≡ Some (meant h m.now MutexClass) }
     {
-        let mutex = self.state.find(m, ObjectClass::Mutex).unwrap();
+        let mutex = object.unwrap();
         Change {
             added: 3,
             used: self.last_lock(c, mutex),
@@ -91,8 +97,9 @@ impl<Q: WaitList, A: Allocator + Copy> Body<Q, A> {
 
     // What a call changes that is left waiting.
     // [XSH pthread_mutex_lock, pthread_cond_wait, pthread_barrier_wait]
-    fn change_to_wait(&self, c: ClientId, call: &Call) -> Change
+    fn change_to_wait(&self, c: ClientId, call: &Call, request: &Request<'_>) -> Change
         requires read { AreTables self.now }
+        requires asks { IsRequest (past self.now) (operation call.now) request.now }
         requires step { Step (past self.now) (entry_is.Call c call.now None) }
         ensures adds { result.added ≡ added_by_operation (operation call.now) }
         ensures uses { result.used ≡ used_to_wait (past self.now) c (operation call.now) }
@@ -100,31 +107,32 @@ impl<Q: WaitList, A: Allocator + Copy> Body<Q, A> {
             ≡ goal_of_operation (past self.now) (operation call.now) }
         ensures small { result.added ≤ 3 }
     {
-        match operation_of(call) {
-            Operation::Acquires(n, lock_kind, _) => Change {
+        match &request.operation {
+            Operation::Acquires(..) => Change {
                 added: 3,
                 used: 0,
-                touched: self.state.find(n, class_needed(lock_kind)),
+                touched: request.object,
             },
-            Operation::Awaits(n, m, deadline) => self.change_to_await(c, call, n, m, deadline),
-            Operation::Arrives(n) => Change {
+            Operation::Awaits(n, m, deadline) => {
+                self.change_to_await(c, call, n, m, *deadline, request.mutex)
+            }
+            Operation::Arrives(_) => Change {
                 added: 3,
                 used: 0,
-                touched: self.state.find(n, ObjectClass::Barrier),
+                touched: request.object,
             },
             _ => NO_CHANGE,
         }
     }
 
     // What an `unlock` changes that is answered 0.  [XSH pthread_mutex_unlock]
-    fn change_by_unlock(&self, c: ClientId, n: &Name) -> Change
+    fn change_by_unlock(&self, c: ClientId, object: Option<ObjectId>) -> Change
         requires { AreTables self.now }
         ensures adds { result.added ≡ 0 }
-        ensures uses { let h = past self.now in
-            result.used ≡ last_lock_if h c (find h n.now MutexClass) }
-        ensures touches { result.touched ≡ find (past self.now) n.now MutexClass }
+        ensures uses { result.used ≡ last_lock_if (past self.now) c object }
+        ensures touches { result.touched ≡ object }
     {
-        match self.state.find(n, ObjectClass::Mutex) {
+        match object {
             Some(m) => Change {
                 added: 0,
                 used: self.last_lock(c, m),
@@ -136,15 +144,16 @@ impl<Q: WaitList, A: Allocator + Copy> Body<Q, A> {
 
     // What a `signal` changes: each wait that is woken has used one entry.
     // [XSH pthread_cond_signal]
-    fn change_by_signal(&self, n: &Name) -> Change
-        requires { AreTables self.now }
+    fn change_by_signal(&self, n: &Name, object: Option<ObjectId>) -> Change
+        requires read { AreTables self.now }
+        requires found { object ≡ find (past self.now) n.now CondClass }
         ensures adds { result.added ≡ 0 }
         ensures uses { let h = past self.now in
             result.used ≡ one_if (nat_lt 0 (waiting_if h (find h n.now CondClass))) }
         ensures touches { let h = past self.now in
             result.touched ≡ bound_if h (find h n.now CondClass) }
     {
-        match self.state.find(n, ObjectClass::Cond) {
+        match object {
             Some(q) => Change {
                 added: 0,
                 used: if 0 < self.waiting(q) { 1 } else { 0 },
@@ -155,15 +164,16 @@ impl<Q: WaitList, A: Allocator + Copy> Body<Q, A> {
     }
 
     // What a `broadcast` changes.  [XSH pthread_cond_broadcast]
-    fn change_by_broadcast(&self, n: &Name) -> Change
-        requires { AreTables self.now }
+    fn change_by_broadcast(&self, n: &Name, object: Option<ObjectId>) -> Change
+        requires read { AreTables self.now }
+        requires found { object ≡ find (past self.now) n.now CondClass }
         ensures adds { result.added ≡ 0 }
         ensures uses { let h = past self.now in
             result.used ≡ waiting_if h (find h n.now CondClass) }
         ensures touches { let h = past self.now in
             result.touched ≡ bound_if h (find h n.now CondClass) }
     {
-        match self.state.find(n, ObjectClass::Cond) {
+        match object {
             Some(q) => Change {
                 added: 0,
                 used: self.waiting(q),
@@ -175,30 +185,41 @@ impl<Q: WaitList, A: Allocator + Copy> Body<Q, A> {
 
     // What a call changes that is answered 0.
     // [XSH pthread_mutex_unlock, pthread_rwlock_unlock, pthread_cond_signal]
-    fn change_as_done(&self, c: ClientId, call: &Call) -> Change
-        requires { AreTables self.now }
+    fn change_as_done(&self, c: ClientId, request: &Request<'_>) -> Change
+        requires read { AreTables self.now }
+        requires asks { IsRequest (past self.now) (shown_operation request.now.operation)
+            request.now }
         ensures adds { result.added ≡ 0 }
-        ensures uses { result.used ≡ used_by_operation (past self.now) c (operation call.now) }
+        ensures uses { result.used
+            ≡ used_by_operation (past self.now) c (shown_operation request.now.operation) }
         ensures touches { result.touched
-            ≡ touched_by_operation (past self.now) (operation call.now) }
+            ≡ touched_by_operation (past self.now) (shown_operation request.now.operation) }
     {
-        match operation_of(call) {
-            Operation::Unlocks(n) => self.change_by_unlock(c, n),
-            Operation::Rwunlocks(n) => Change {
+        let object = request.object;
+        match &request.operation {
+            Operation::Unlocks(_) => self.change_by_unlock(c, object),
+            Operation::Rwunlocks(_) => Change {
                 added: 0,
                 used: 0,
-                touched: self.state.find(n, ObjectClass::Rwlock),
+                touched: object,
             },
-            Operation::Signals(n) => self.change_by_signal(n),
-            Operation::Broadcasts(n) => self.change_by_broadcast(n),
+            Operation::Signals(n) => self.change_by_signal(n, object),
+            Operation::Broadcasts(n) => self.change_by_broadcast(n, object),
             _ => NO_CHANGE,
         }
     }
 
     // What a call changes, with the answer that it has at once.
-    fn change_by_call(&self, c: ClientId, call: &Call, answer: Option<Outcome>) -> Change
+    fn change_by_call(
+        &self,
+        c: ClientId,
+        call: &Call,
+        answer: Option<Outcome>,
+        request: &Request<'_>,
+    ) -> Change
         requires read { AreTables self.now }
         requires step { Step (past self.now) (entry_is.Call c call.now answer) }
+        requires asks { IsRequest (past self.now) (operation call.now) request.now }
         ensures adds { result.added ≡ added_by (entry_is.Call c call.now answer) }
         ensures uses { result.used ≡ used_by (past self.now) (entry_is.Call c call.now answer) }
         ensures touches { result.touched
@@ -206,8 +227,8 @@ impl<Q: WaitList, A: Allocator + Copy> Body<Q, A> {
         ensures small { result.added ≤ 3 }
     {
         match answer {
-            None => self.change_to_wait(c, call),
-            Some(Outcome::Done) => self.change_as_done(c, call),
+            None => self.change_to_wait(c, call, request),
+            Some(Outcome::Done) => self.change_as_done(c, request),
             Some(_) => NO_CHANGE,
         }
     }
@@ -227,9 +248,15 @@ impl<Q: WaitList, A: Allocator + Copy> Body<Q, A> {
     }
 
     // What an event's entry changes, with the answer that its call has at once.
-    fn change_by(&self, event: &Event, answer: Option<Outcome>) -> Change
+    fn change_by(
+        &self,
+        event: &Event,
+        answer: Option<Outcome>,
+        request: &Option<Request<'_>>,
+    ) -> Change
         requires read { AreTables self.now }
         requires step { Step (past self.now) (entry_with (past self.now) event.now answer) }
+        requires asks { HasRequest (past self.now) event.now request.now }
         ensures adds { result.added ≡ added_by (entry_with (past self.now) event.now answer) }
         ensures uses { let h = past self.now in
             result.used ≡ used_by h (entry_with h event.now answer) }
@@ -243,7 +270,10 @@ impl<Q: WaitList, A: Allocator + Copy> Body<Q, A> {
                 used: 0,
                 touched: None,
             },
-            Event::Call(c, call) => self.change_by_call(*c, call, answer),
+            Event::Call(c, call) => {
+                let request = request.as_ref().unwrap();
+                self.change_by_call(*c, call, answer, request)
+            }
             Event::Death(c) => self.change_by_death(*c),
             Event::Moment(..) => NO_CHANGE,
         }
@@ -251,26 +281,40 @@ impl<Q: WaitList, A: Allocator + Copy> Body<Q, A> {
 
     /// The answer that an event's call has at once, if it is a call and has one.
     /// [XSH, the call's page]
-    pub fn answer_at_once(&self, event: &Event) -> Option<Outcome>
-        requires { AreTables self.now }
+    fn answer_at_once(&self, event: &Event, request: &Option<Request<'_>>) -> Option<Outcome>
+        requires read { AreTables self.now }
+        requires asks { HasRequest (past self.now) event.now request.now }
         ensures { let h = past self.now in entry_with h event.now result ≡ entry_for h event.now }
     {
         match event {
-            Event::Call(c, call) => reply(self.verdict(*c, call)),
+            Event::Call(c, _) => reply(self.verdict(*c, request.as_ref().unwrap())),
+            _ => None,
+        }
+    }
+
+    // What an event's call asks for, if it is a call.
+    fn request<'e>(&self, event: &'e Event) -> Option<Request<'e>>
+        requires { AreTables self.now }
+        ensures { HasRequest (past self.now) event.now result }
+    {
+        match event {
+            Event::Call(_, call) => Some(self.state.request(call)),
             _ => None,
         }
     }
 
     /// What an event's entry is and what it changes beside the tables, before it is pushed.
-    pub fn plan(&self, event: &Event) -> Plan
+    pub fn plan<'e>(&self, event: &'e Event) -> Plan<'e>
         requires read { AreTables self.now }
         requires step { Step (past self.now) (entry_for (past self.now) event.now) }
         ensures planned { IsPlanned (past self.now) event.now result }
         ensures small { result.need ≤ 8195 }
     {
-        let answer = self.answer_at_once(event);
-        let change = self.change_by(event, answer);
+        let request = self.request(event);
+        let answer = self.answer_at_once(event, &request);
+        let change = self.change_by(event, answer, &request);
         Plan {
+            request,
             answer,
             need: self.need + change.added - change.used,
             touched: change.touched,

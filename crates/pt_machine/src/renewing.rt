@@ -113,7 +113,7 @@ impl<Q: WaitList, A: Allocator + Copy> Body<Q, A> {
     {
         let before = self.seal_with_room(room)?;
         let plan = self.plan(event);
-        match self.push_outer(event, plan) {
+        match self.push_outer(event, &plan) {
             Ok(()) => Ok(before.unsealed),
             Err(refusal) => {
                 self.unseal(before);

@@ -1,5 +1,7 @@
 //! Read-write locks: the verdict of a call that reads.
 
+ghost use Rattle.pt_model.specs.Objects.{find};
+ghost use Rattle.pt_types.specs.declared.operations.ObjectClass.TheVariants.{Rwlock as RwlockClass};
 ghost use Rattle.std.specs.Prelude.{Some, ◌≡◌, unwrap_or};
 ghost use Rattle.pt_model.specs.Clients.{client};
 ghost use Rattle.pt_model.specs.Grants.{is_blocked as is_blocked_in};
@@ -10,7 +12,6 @@ ghost use Rattle.pt_types.specs.declared.operations.LockKind.TheVariants.{ReadLo
 ghost use Rattle.pt_model.specs.Verdicts.{operation_verdict as said_of};
 
 use crate::body::Body;
-use pt_types::operations::ObjectClass;
 use pt_types::{ClientId, How, Name, ObjectId, Outcome, Verdict};
 use pt_waitq::WaitList;
 use std::alloc::Allocator;
@@ -30,11 +31,18 @@ impl<Q: WaitList, A: Allocator + Copy> Body<Q, A> {
     }
 
     /// A client's call to read.  [XSH pthread_rwlock_rdlock]
-    pub(crate) fn read_verdict(&self, c: ClientId, n: &Name, how: &How) -> Verdict
-        requires { AreTables self.now }
+    pub(crate) fn read_verdict(
+        &self,
+        c: ClientId,
+        n: &Name,
+        how: &How,
+        object: Option<ObjectId>,
+    ) -> Verdict
+        requires read { AreTables self.now }
+        requires found { object ≡ find (past self.now) n.now RwlockClass }
         ensures { result ≡ said_of (past self.now) c (Acquires n.now ReadLock how.now) }
     {
-        match self.state.find(n, ObjectClass::Rwlock) {
+        match object {
             Some(r) => {
                 let blocked = self.is_blocked(r, c);
                 self.state.read_verdict(c, r, blocked, how)

@@ -1,16 +1,19 @@
 //! Barriers: arrivals and trips.
 
+ghost use Rattle.pt_types.specs.declared.operations.ObjectClass.TheVariants.{Barrier as BarrierClass};
+ghost use Rattle.pt_model.specs.Objects.{find};
 ghost use Rattle.std.specs.Prelude.{None, ◌≡◌};
 ghost use Rattle.pt_model.specs.declared.entry.Entry.TheVariants as entry;
 ghost use Rattle.pt_state.specs.Adds.{Adds, IsReadyFor, past};
 ghost use Rattle.pt_records.specs.Arrivals.{AreArrivals, Empties};
 ghost use Rattle.pt_types.specs.Operations.{Arrives, operation};
 
+use crate::request::or_none;
 use crate::state::State;
 use pt_model::Entry;
 use pt_model::waiting_call::Role;
 use pt_records::barrier::trip;
-use pt_types::operations::{ObjectClass, clock_of};
+use pt_types::operations::clock_of;
 use pt_types::{Call, ClientId, Name, ObjectId};
 use pt_waitq::WaitList;
 use std::alloc::Allocator;
@@ -35,13 +38,20 @@ impl<A: Allocator + Copy> State<A> {
     }
 
     // An arrival at a barrier.  [XSH pthread_barrier_wait]
-    pub(crate) fn push_arrival(&mut self, c: ClientId, call: &Call, n: &Name)
+    pub(crate) fn push_arrival(
+        &mut self,
+        c: ClientId,
+        call: &Call,
+        n: &Name,
+        object: Option<ObjectId>,
+    )
         requires ready { IsReadyFor self.old (entry.Call c call.now None) }
         requires operation { operation call.now ≡ Arrives n.now }
+        requires found { object ≡ find (past self.old) n.now BarrierClass }
         ensures { Adds self.old (entry.Call c call.now None) self.new }
     {
-        let object = self.meant(n, ObjectClass::Barrier);
-        let open = self.entered(c, object, Role::ForBarrier, clock_of(call), None);
+        let role = Role::ForBarrier;
+        let open = self.entered(c, or_none(object), role, clock_of(call), None);
         self.push_waiting(c, call, open);
     }
 }

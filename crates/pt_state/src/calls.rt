@@ -1,9 +1,12 @@
 //! Calls: those that are answered at once, and those that wait.
 
+ghost use Rattle.pt_model.specs.Objects.{find};
+ghost use Rattle.pt_types.specs.Operations.{class_needed as class_meant};
+ghost use Rattle.pt_state.specs.Requests.{IsRequest};
 ghost use Rattle.std.specs.Prelude.{IfErr, IsOk, None, OnErr, OnOk, Some, ◌≡◌, false, true};
 ghost use Rattle.pt_model.specs.declared.entry.Entry.TheVariants as entry;
 ghost use Rattle.pt_state.specs.Adds.{Adds, IsNearly, IsReadyFor, Stays, past};
-ghost use Rattle.pt_state.specs.Calling.{is_done, is_plain};
+ghost use Rattle.pt_state.specs.Calling.{is_done};
 ghost use Rattle.pt_types.specs.declared.outcome.Outcome.TheVariants as told;
 ghost use Rattle.pt_types.specs.Operations.{Acquires, Arrives, Awaits, operation};
 ghost use Rattle.pt_table.specs.ClientRows.{nth_value};
@@ -13,15 +16,14 @@ ghost use Rattle.pt_state.specs.Reads.{AreTables};
 ghost use Rattle.pt_state.specs.Left.{IsLeft, IsNearlyLeft, only_stands};
 ghost use Rattle.pt_state.specs.Outer.{asks_to_read};
 
+use crate::request::{Request, or_none};
 use crate::state::State;
 use pt_model::Entry;
 use pt_model::waiting_call::{Role, WaitingCall, role_needed};
 use pt_records::calls::{open_at, stand};
 use pt_records::clients::note_call;
 use pt_records::{Answered, Open};
-use pt_types::operations::{
-    LockKind, Operation, class_needed, clock_of, deadline_of, operation_of,
-};
+use pt_types::operations::{LockKind, Operation, clock_of, deadline_of};
 use pt_types::{Call, ClientId, Clock, Deadline, How, Name, ObjectId, Outcome, Refusal};
 use std::alloc::Allocator;
 
@@ -35,36 +37,27 @@ impl<A: Allocator + Copy> State<A> {
         self.finish(c, call, outcome);
     }
 
-    // A lock that is had at once is a mutex that its owner locks once more.
-    // [XSH pthread_mutex_lock]
-    fn push_locked(&mut self, c: ClientId, call: &Call, n: &Name, lock_kind: LockKind, how: &How)
+    /// A lock that is had at once is a mutex that its owner locks once more.
+    /// [XSH pthread_mutex_lock]
+    pub fn push_locked(
+        &mut self,
+        c: ClientId,
+        call: &Call,
+        n: &Name,
+        lock_kind: LockKind,
+        how: &How,
+        object: Option<ObjectId>,
+    )
         requires ready { IsReadyFor self.old (entry.Call c call.now (Some told.Done)) }
         requires operation { operation call.now
             ≡ Acquires n.now lock_kind how.now }
+        requires found { object ≡ find (past self.old) n.now (class_meant lock_kind) }
         ensures { Adds self.old (entry.Call c call.now (Some told.Done)) self.new }
     {
         match lock_kind {
-            LockKind::MutexLock => self.push_relock(c, call, n, how),
+            LockKind::MutexLock => self.push_relock(c, call, n, how, object),
             LockKind::ReadLock => self.finish(c, call, Outcome::Done),
             LockKind::WriteLock => self.finish(c, call, Outcome::Done),
-        }
-    }
-
-    /// A call that is answered 0, makes no object, ends none and wakes no wait, with what it does.
-    /// [XSH, the call's page]
-    pub fn push_plain(&mut self, c: ClientId, call: &Call)
-        requires ready { IsReadyFor self.old (entry.Call c call.now (Some told.Done)) }
-        requires plain { is_plain (operation call.now) ≡ true }
-        ensures { Adds self.old (entry.Call c call.now (Some told.Done)) self.new }
-    {
-        match operation_of(call) {
-            Operation::Acquires(n, lock_kind, how) => self.push_locked(c, call, n, lock_kind, &how),
-            Operation::Unlocks(n) => self.push_unlock(c, call, n),
-            Operation::Restores(n) => self.push_restored(c, call, n),
-            Operation::Rwunlocks(n) => self.push_rwunlock(c, call, n),
-            Operation::Awaits(..) => self.finish(c, call, Outcome::Done),
-            Operation::Arrives(_) => self.finish(c, call, Outcome::Done),
-            _ => (),
         }
     }
 
@@ -150,17 +143,18 @@ impl<A: Allocator + Copy> State<A> {
         n: &Name,
         lock_kind: LockKind,
         how: How,
+        object: Option<ObjectId>,
     ) -> Result<(), Refusal>
         requires ready { IsReadyFor self.old (entry.Call c call.now None) }
         requires operation { operation call.now ≡ Acquires n.now lock_kind how }
+        requires found { object ≡ find (past self.old) n.now (class_meant lock_kind) }
         ensures ok { OnOk result (Adds self.old (entry.Call c call.now None) self.new) }
         ensures err { OnErr result (Stays self.old self.new) }
         ensures refusal { IfErr result (λ r. r ≡ Refusal.Enomem) }
         ensures enough { asks_to_read (operation call.now) ≡ false → IsOk result }
     {
-        let object = self.meant(n, class_needed(lock_kind));
         let role = role_needed(lock_kind);
-        let open = self.entered(c, object, role, clock_of(call), deadline_of(how));
+        let open = self.entered(c, or_none(object), role, clock_of(call), deadline_of(how));
         match lock_kind {
             LockKind::ReadLock => self.push_reading(c, call, open),
             LockKind::MutexLock | LockKind::WriteLock => {
@@ -172,21 +166,29 @@ impl<A: Allocator + Copy> State<A> {
 
     /// A call that is left waiting. ENOMEM if there is no memory for its row in a read-write
     /// lock. No other operation than these three is left so.  [XSH, the call's page]
-    pub fn push_left(&mut self, c: ClientId, call: &Call) -> Result<(), Refusal>
+    pub fn push_left(
+        &mut self,
+        c: ClientId,
+        call: &Call,
+        request: &Request<'_>,
+    ) -> Result<(), Refusal>
         requires ready { IsReadyFor self.old (entry.Call c call.now None) }
+        requires asks { IsRequest (past self.old) (operation call.now) request.now }
         ensures ok { OnOk result (Adds self.old (entry.Call c call.now None) self.new) }
         ensures err { OnErr result (Stays self.old self.new) }
         ensures refusal { IfErr result (λ r. r ≡ Refusal.Enomem) }
         ensures enough { asks_to_read (operation call.now) ≡ false → IsOk result }
     {
-        match operation_of(call) {
-            Operation::Acquires(n, lock_kind, how) => self.push_acquire(c, call, n, lock_kind, how),
+        match &request.operation {
+            Operation::Acquires(n, lock_kind, how) => {
+                self.push_acquire(c, call, n, *lock_kind, *how, request.object)
+            }
             Operation::Awaits(n, m, deadline) => {
-                self.push_await(c, call, n, m, deadline);
+                self.push_await(c, call, n, m, *deadline, request);
                 Ok(())
             }
             Operation::Arrives(n) => {
-                self.push_arrival(c, call, n);
+                self.push_arrival(c, call, n, request.object);
                 Ok(())
             }
             _ => Ok(()),

@@ -1,5 +1,8 @@
 //! Condition variables: waits, signals and broadcasts.
 
+ghost use Rattle.pt_types.specs.declared.operations.ObjectClass.TheVariants.{Cond as CondClass};
+ghost use Rattle.pt_types.specs.declared.operations.ObjectClass.TheVariants.{Mutex as MutexClass};
+ghost use Rattle.pt_model.specs.Objects.{find};
 ghost use Rattle.std.specs.Prelude.{None, Some, ◌≡◌, option_map};
 ghost use Rattle.pt_types.specs.declared.outcome.Outcome.TheVariants as told;
 ghost use Rattle.pt_types.specs.Operations.{Awaits, Broadcasts, Signals, operation};
@@ -11,13 +14,14 @@ ghost use Rattle.pt_state.specs.Serving.{called};
 ghost use Rattle.pt_model.specs.declared.waiting_call.Role.TheVariants.{ForCond};
 ghost use Rattle.pt_state.specs.Left.{IsLeft};
 
+use crate::request::{Request, or_none};
 use crate::state::State;
 use pt_model::Cause;
 use pt_model::waiting_call::Role;
 use pt_records::Open;
 use pt_records::cond::{wake, wake_waits};
 use pt_records::mutex::release;
-use pt_types::operations::{ObjectClass, clock_of};
+use pt_types::operations::clock_of;
 use pt_types::{Call, ClientId, Deadline, Name, ObjectId, Outcome};
 use std::alloc::Allocator;
 
@@ -42,12 +46,13 @@ impl<A: Allocator + Copy> State<A> {
     }
 
     /// All waits at a condition are woken.  [XSH pthread_cond_broadcast]
-    pub fn push_broadcast(&mut self, c: ClientId, call: &Call, n: &Name)
+    pub fn push_broadcast(&mut self, c: ClientId, call: &Call, n: &Name, object: Option<ObjectId>)
         requires ready { IsReadyFor self.old (entry.Call c call.now (Some told.Done)) }
         requires operation { operation call.now ≡ Broadcasts n.now }
+        requires found { object ≡ find (past self.old) n.now CondClass }
         ensures { Adds self.old (entry.Call c call.now (Some told.Done)) self.new }
     {
-        let q = self.find(n, ObjectClass::Cond).unwrap();
+        let q = object.unwrap();
         let place = self.stored.len();
         wake_waits(&mut self.clients, q, place, Cause::Broadcasted);
         self.finish(c, call, Outcome::Done);
@@ -72,15 +77,17 @@ impl<A: Allocator + Copy> State<A> {
         n: &Name,
         m: &Name,
         deadline: Option<Deadline>,
+        request: &Request<'_>,
     )
         requires ready { IsReadyFor self.old (entry.Call c call.now None) }
         requires operation { operation call.now ≡ Awaits n.now m.now deadline }
+        requires object { request.now.object ≡ find (past self.old) n.now CondClass }
+        requires mutex { request.now.mutex ≡ find (past self.old) m.now MutexClass }
         ensures { Adds self.old (entry.Call c call.now None) self.new }
     {
-        let mutex = self.meant(m, ObjectClass::Mutex);
-        let object = self.meant(n, ObjectClass::Cond);
+        let mutex = or_none(request.mutex);
         let role = Role::ForCond(mutex.0);
-        let open = self.entered(c, object, role, clock_of(call), deadline);
+        let open = self.entered(c, or_none(request.object), role, clock_of(call), deadline);
         self.push_wait(c, call, mutex, open);
     }
 }

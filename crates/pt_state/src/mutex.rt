@@ -36,7 +36,6 @@ use pt_mutex::MutexObj;
 use pt_records::cond::any_returns;
 use pt_records::mutex::{acquire, lock_verdict, release, restore, yield_dead};
 use pt_records::{Object, Open};
-use pt_types::operations::ObjectClass;
 use pt_types::tables::lock_outcome;
 use pt_types::views::is_acquired;
 use pt_types::{Call, ClientId, Consistency, How, Name, ObjectId, Outcome, Verdict};
@@ -54,34 +53,44 @@ impl<A: Allocator + Copy> State<A> {
     }
 
     /// The owner of a mutex locks it once more.  [XSH pthread_mutex_lock]
-    pub fn push_relock(&mut self, c: ClientId, call: &Call, n: &Name, how: &How)
+    pub fn push_relock(
+        &mut self,
+        c: ClientId,
+        call: &Call,
+        n: &Name,
+        how: &How,
+        object: Option<ObjectId>,
+    )
         requires ready { IsReadyFor self.old (entry.Call c call.now (Some told.Done)) }
         requires operation { operation call.now ≡ Acquires n.now MutexLock how.now }
+        requires found { object ≡ find_in (past self.old) n.now MutexClass }
         ensures { Adds self.old (entry.Call c call.now (Some told.Done)) self.new }
     {
-        let m = self.find(n, ObjectClass::Mutex).unwrap();
+        let m = object.unwrap();
         acquire(&mut self.clients, &mut self.objects, m.0, c);
         self.finish(c, call, Outcome::Done);
     }
 
     /// The owner of a mutex gives one lock back.  [XSH pthread_mutex_unlock]
-    pub fn push_unlock(&mut self, c: ClientId, call: &Call, n: &Name)
+    pub fn push_unlock(&mut self, c: ClientId, call: &Call, n: &Name, object: Option<ObjectId>)
         requires ready { IsReadyFor self.old (entry.Call c call.now (Some told.Done)) }
         requires operation { operation call.now ≡ Unlocks n.now }
+        requires found { object ≡ find_in (past self.old) n.now MutexClass }
         ensures { Adds self.old (entry.Call c call.now (Some told.Done)) self.new }
     {
-        let m = self.find(n, ObjectClass::Mutex).unwrap();
+        let m = object.unwrap();
         release(&mut self.clients, &mut self.objects, m.0, c);
         self.finish(c, call, Outcome::Done);
     }
 
     /// The owner of a mutex makes it consistent.  [XSH pthread_mutex_consistent]
-    pub fn push_restored(&mut self, c: ClientId, call: &Call, n: &Name)
+    pub fn push_restored(&mut self, c: ClientId, call: &Call, n: &Name, object: Option<ObjectId>)
         requires ready { IsReadyFor self.old (entry.Call c call.now (Some told.Done)) }
         requires operation { operation call.now ≡ Restores n.now }
+        requires found { object ≡ find_in (past self.old) n.now MutexClass }
         ensures { Adds self.old (entry.Call c call.now (Some told.Done)) self.new }
     {
-        let m = self.find(n, ObjectClass::Mutex).unwrap();
+        let m = object.unwrap();
         restore(&mut self.objects, m.0);
         self.finish(c, call, Outcome::Done);
     }
@@ -148,34 +157,42 @@ impl<A: Allocator + Copy> State<A> {
         ensures { option_copied result ≡ mutex_in (object_value self.now.objects m) }
     {
         match self.objects.at(m.0) {
-            Some(Object::Mutex(kept)) => Some(kept),
+            Some(Object::Mutex(mutex)) => Some(mutex),
             _ => None,
         }
     }
 
-    /// The mutex of this name, with its number.
-    pub fn mutex_named(&self, n: &Name) -> Option<(ObjectId, &MutexObj)>
-        requires { AreTables self.now }
+    /// The mutex that a name means, with its number.
+    pub fn mutex_found(&self, n: &Name, object: Option<ObjectId>) -> Option<(ObjectId, &MutexObj)>
+        requires read { AreTables self.now }
+        requires found { object ≡ find_in (past self.now) n.now MutexClass }
         ensures number { option_map (λ found. found.0) result
             ≡ find_in (past self.now) n.now MutexClass }
         ensures view { IfSome result (λ found. found.1.now.seen
             ≡ mutex_view (past self.now) found.0) }
     {
-        let (number, object) = self.objects.named(n)?;
-        match object {
-            Object::Mutex(kept) => Some((ObjectId(number), kept)),
-            _ => None,
+        let m = object?;
+        match self.mutex_at(m) {
+            Some(mutex) => Some((m, mutex)),
+            None => None,
         }
     }
 
     /// A client's call for a mutex.  [XSH pthread_mutex_lock]
-    pub fn mutex_verdict(&self, c: ClientId, n: &Name, how: &How) -> Verdict
-        requires { AreTables self.now }
+    pub fn mutex_verdict(
+        &self,
+        c: ClientId,
+        n: &Name,
+        how: &How,
+        object: Option<ObjectId>,
+    ) -> Verdict
+        requires read { AreTables self.now }
+        requires found { object ≡ find_in (past self.now) n.now MutexClass }
         ensures { result
             ≡ on (find_in (past self.now) n.now MutexClass)
             (λ m. lock_table (mutex_view (past self.now) m) c how.now) }
     {
-        match self.mutex_named(n) {
+        match self.mutex_found(n, object) {
             Some((_, m)) => lock_verdict(m, c, how),
             None => Verdict::Reply(Outcome::Einval),
         }
@@ -195,22 +212,24 @@ impl<A: Allocator + Copy> State<A> {
     }
 
     /// A client's call on a mutex that it may own.  [XSH pthread_mutex_unlock]
-    pub fn unlocks_verdict(&self, c: ClientId, n: &Name) -> Verdict
-        requires { AreTables self.now }
+    pub fn unlocks_verdict(&self, c: ClientId, n: &Name, object: Option<ObjectId>) -> Verdict
+        requires read { AreTables self.now }
+        requires found { object ≡ find_in (past self.now) n.now MutexClass }
         ensures { result ≡ said_of (past self.now) c (Unlocks n.now) }
     {
-        match self.mutex_named(n) {
+        match self.mutex_found(n, object) {
             Some((_, m)) => m.verdict_unlock(c),
             None => Verdict::Reply(Outcome::Einval),
         }
     }
 
     /// A client's call to make a mutex consistent.  [XSH pthread_mutex_consistent]
-    pub fn restores_verdict(&self, c: ClientId, n: &Name) -> Verdict
-        requires { AreTables self.now }
+    pub fn restores_verdict(&self, c: ClientId, n: &Name, object: Option<ObjectId>) -> Verdict
+        requires read { AreTables self.now }
+        requires found { object ≡ find_in (past self.now) n.now MutexClass }
         ensures { result ≡ said_of (past self.now) c (Restores n.now) }
     {
-        match self.mutex_named(n) {
+        match self.mutex_found(n, object) {
             Some((_, m)) => m.verdict_consistent(c),
             None => Verdict::Reply(Outcome::Einval),
         }

@@ -9,7 +9,6 @@ ghost use Rattle.pt_state.specs.Adds.{Adds, IsReadyFor, Stays, past};
 ghost use Rattle.pt_model.specs.Objects.{find as find_in, object_named, objects};
 ghost use Rattle.pt_state.specs.Reads.{AreTables};
 ghost use Rattle.pt_model.specs.Verdicts.{on};
-ghost use Rattle.pt_model.specs.WaitingCall.{meant as meant_in};
 
 use crate::state::State;
 use pt_barrier::verdict_init;
@@ -19,6 +18,17 @@ use pt_types::{
     Call, ClientId, MOST_OBJECTS, Name, ObjectId, ObjectKind, Outcome, Refusal, Verdict,
 };
 use std::alloc::Allocator;
+
+/// A call that looks at nothing but whether its object exists.
+/// [XSH pthread_cond_signal, pthread_barrier_wait]
+pub fn known_verdict(object: Option<ObjectId>, known: Verdict) -> Verdict
+    ensures { result ≡ on object (λ o. known) }
+{
+    match object {
+        Some(_) => known,
+        None => Verdict::Reply(Outcome::Einval),
+    }
+}
 
 // What becomes of a call that makes an object of this kind, as far as the kind decides it.
 // [XSH pthread_barrier_init]
@@ -59,12 +69,20 @@ impl<A: Allocator + Copy> State<A> {
     }
 
     /// An object is ended.
-    pub fn push_ended(&mut self, c: ClientId, call: &Call, n: &Name, class: ObjectClass)
+    pub fn push_ended(
+        &mut self,
+        c: ClientId,
+        call: &Call,
+        n: &Name,
+        class: ObjectClass,
+        object: Option<ObjectId>,
+    )
         requires ready { IsReadyFor self.old (entry.Call c call.now (Some told.Done)) }
         requires operation { operation call.now ≡ Ends n.now class }
+        requires found { object ≡ find_in (past self.old) n.now class }
         ensures { Adds self.old (entry.Call c call.now (Some told.Done)) self.new }
     {
-        let o = self.find(n, class).unwrap();
+        let o = object.unwrap();
         remove(&mut self.objects, o.0);
         self.finish(c, call, Outcome::Done);
     }
@@ -86,19 +104,6 @@ impl<A: Allocator + Copy> State<A> {
         }
     }
 
-    /// A call that looks at nothing but its object, which is of this class.
-    /// [XSH pthread_cond_signal, pthread_barrier_wait]
-    pub fn known_verdict(&self, n: &Name, class: ObjectClass, known: Verdict) -> Verdict
-        requires { AreTables self.now }
-        ensures { result
-            ≡ on (find_in (past self.now) n.now class) (λ o. known) }
-    {
-        match self.find(n, class) {
-            Some(_) => known,
-            None => Verdict::Reply(Outcome::Einval),
-        }
-    }
-
     /// A call that makes an object.  [XSH pthread_mutex_init]
     pub fn makes_verdict(&self, n: &Name, kind: ObjectKind) -> Verdict
         requires { AreTables self.now }
@@ -113,17 +118,6 @@ impl<A: Allocator + Copy> State<A> {
                 Verdict::Reply(Outcome::Eagain)
             }
             told => told,
-        }
-    }
-
-    // The object that a name means as the call comes; 0 if it means none.
-    pub(crate) fn meant(&self, n: &Name, class: ObjectClass) -> ObjectId
-        requires { AreTables self.now }
-        ensures { result ≡ meant_in (past self.now) n.now class }
-    {
-        match self.find(n, class) {
-            Some(object) => object,
-            None => ObjectId(0),
         }
     }
 }

@@ -28,7 +28,6 @@ use crate::state::State;
 use pt_records::rwlock::{acquire_read, acquire_write, any_holds, make_row, release_lock};
 use pt_records::{Object, Open};
 use pt_rwlock::RwObj;
-use pt_types::operations::ObjectClass;
 use pt_types::{Call, ClientId, How, Name, ObjectId, ObjectKind, Outcome, Refusal, Verdict};
 use std::alloc::Allocator;
 
@@ -46,12 +45,13 @@ impl<A: Allocator + Copy> State<A> {
     }
 
     /// A holder of a read-write lock gives it back.  [XSH pthread_rwlock_unlock]
-    pub fn push_rwunlock(&mut self, c: ClientId, call: &Call, n: &Name)
+    pub fn push_rwunlock(&mut self, c: ClientId, call: &Call, n: &Name, object: Option<ObjectId>)
         requires ready { IsReadyFor self.old (entry.Call c call.now (Some told.Done)) }
         requires operation { operation call.now ≡ Rwunlocks n.now }
+        requires found { object ≡ find_in (past self.old) n.now RwlockClass }
         ensures { Adds self.old (entry.Call c call.now (Some told.Done)) self.new }
     {
-        let r = self.find(n, ObjectClass::Rwlock).unwrap();
+        let r = object.unwrap();
         release_lock(&mut self.objects, r.0, c);
         self.finish(c, call, Outcome::Done);
     }
@@ -89,22 +89,23 @@ impl<A: Allocator + Copy> State<A> {
         ensures { option_copied result ≡ rwlock_in (object_value self.now.objects r) }
     {
         match self.objects.at(r.0) {
-            Some(Object::Rwlock(kept)) => Some(kept),
+            Some(Object::Rwlock(lock)) => Some(lock),
             _ => None,
         }
     }
 
-    /// The read-write lock of this name, with its number.
-    pub fn rwlock_named(&self, n: &Name) -> Option<(ObjectId, &RwObj<A>)>
-        requires { AreTables self.now }
+    /// The read-write lock that a name means, with its number.
+    pub fn rwlock_found(&self, n: &Name, object: Option<ObjectId>) -> Option<(ObjectId, &RwObj<A>)>
+        requires read { AreTables self.now }
+        requires found { object ≡ find_in (past self.now) n.now RwlockClass }
         ensures number { option_map (λ found. found.0) result
             ≡ find_in (past self.now) n.now RwlockClass }
         ensures lock { IfSome result (λ found.
             IsRwlock (past self.now) found.0 found.1.now) }
     {
-        let r = self.find(n, ObjectClass::Rwlock)?;
+        let r = object?;
         match self.rwlock_at(r) {
-            Some(kept) => Some((r, kept)),
+            Some(lock) => Some((r, lock)),
             None => None,
         }
     }
@@ -121,22 +122,30 @@ impl<A: Allocator + Copy> State<A> {
     }
 
     /// A client's call to write.  [XSH pthread_rwlock_wrlock]
-    pub fn write_verdict(&self, c: ClientId, n: &Name, how: &How) -> Verdict
-        requires { AreTables self.now }
+    pub fn write_verdict(
+        &self,
+        c: ClientId,
+        n: &Name,
+        how: &How,
+        object: Option<ObjectId>,
+    ) -> Verdict
+        requires read { AreTables self.now }
+        requires found { object ≡ find_in (past self.now) n.now RwlockClass }
         ensures { result ≡ said_of (past self.now) c (Acquires n.now WriteLock how.now) }
     {
-        match self.rwlock_named(n) {
+        match self.rwlock_found(n, object) {
             Some((_, r)) => r.verdict_write(c, *how),
             None => Verdict::Reply(Outcome::Einval),
         }
     }
 
     /// A client's call to give a read-write lock back.  [XSH pthread_rwlock_unlock]
-    pub fn rwunlocks_verdict(&self, c: ClientId, n: &Name) -> Verdict
-        requires { AreTables self.now }
+    pub fn rwunlocks_verdict(&self, c: ClientId, n: &Name, object: Option<ObjectId>) -> Verdict
+        requires read { AreTables self.now }
+        requires found { object ≡ find_in (past self.now) n.now RwlockClass }
         ensures { result ≡ said_of (past self.now) c (Rwunlocks n.now) }
     {
-        match self.rwlock_named(n) {
+        match self.rwlock_found(n, object) {
             Some((_, r)) => r.verdict_unlock(c),
             None => Verdict::Reply(Outcome::Einval),
         }

@@ -18,7 +18,7 @@ make_room-requires-clause-need g c =
 pub enter-requires-clause-planned : goal.enter-requires-clause-planned
 enter-requires-clause-planned g c =
     let made = c.in_default.ensures.ok.made in
-    subst (λ (h : History). IsPlanned h c.args.event.now c.args.plan)
+    subst (λ (h : History). IsPlanned h c.args.event.now c.args.plan.now)
     (sym (same-past c.args.body.now.stored c.make_room.new.body.stored made.same_start
     made.same_entries))
     c.requires.planned

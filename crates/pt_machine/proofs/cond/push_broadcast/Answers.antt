@@ -7,8 +7,8 @@ pub loop-first-init : goal.loop-first-init
 loop-first-init g c =
     rousing-begins
     (broadcasting c.args.state.now c.push_broadcast.new.self c.args.c c.args.call.now
-    c.args.n.now c.find.result c.unwrap-q.result c.requires.ready c.requires.operation
-    c.find.ensures
+    c.args.n.now c.args.object c.unwrap-q.result c.requires.ready c.requires.operation
+    c.requires.found
     c.unwrap-q.ensures c.push_broadcast.ensures) c.requires.queued
 
 pub take_place-requires-clause-ready : goal.take_place-requires-clause-ready

@@ -10,7 +10,7 @@ use Rattle.pt_machine.proofs.cond.push_signal.Goals as goal
 pub first_waiting-requires-clause-cond : goal.first_waiting-requires-clause-cond
 first_waiting-requires-clause-cond g c =
     cond-found (past c.args.state.now) c.requires.ready.read.follows c.args.n.now
-    c.unwrap-q.result (sym c.find.ensures ∙ c.unwrap-q.ensures)
+    c.unwrap-q.result (sym c.requires.found ∙ c.unwrap-q.ensures)
 
 pub returns-in-None-clause-queued : goal.returns-in-None-clause-queued
 returns-in-None-clause-queued g c =
@@ -24,6 +24,6 @@ returns-in-None-clause-queued g c =
     (g.Q.WaitList.seen c.args.queues.now).queue (g.Q.WaitList.seen c.args.queues.now).admitted
     (g.Q.WaitList.seen c.args.queues.now).made
     (sym (first-named (past c.args.state.now) c.args.n.now c.unwrap-q.result
-    c.first_waiting.result (sym c.find.ensures ∙ c.unwrap-q.ensures)
+    c.first_waiting.result (sym c.requires.found ∙ c.unwrap-q.ensures)
     c.first_waiting.ensures.value None c.in-None.is))
     c.requires.queued)

@@ -7,14 +7,14 @@ discard-requires-clause-made g c =
     end-made c.args.state.now c.args.c c.args.call.now c.requires.ready
     (g.Q.WaitList.seen c.args.queues.now).queue (g.Q.WaitList.seen c.args.queues.now).admitted
     (g.Q.WaitList.seen c.args.queues.now).made c.requires.queued c.args.n.now
-    c.args.class c.unwrap-o.result (sym c.find.ensures ∙ c.unwrap-o.ensures)
+    c.args.class c.unwrap-o.result (sym c.requires.found ∙ c.unwrap-o.ensures)
 
 pub discard-requires-clause-empty : goal.discard-requires-clause-empty
 discard-requires-clause-empty g c =
     end-empty c.args.state.now c.args.c c.args.call.now c.requires.ready
     (g.Q.WaitList.seen c.args.queues.now).queue (g.Q.WaitList.seen c.args.queues.now).admitted
     (g.Q.WaitList.seen c.args.queues.now).made c.requires.queued c.args.n.now
-    c.args.class c.unwrap-o.result (sym c.find.ensures ∙ c.unwrap-o.ensures)
+    c.args.class c.unwrap-o.result (sym c.requires.found ∙ c.unwrap-o.ensures)
     c.requires.operation
 
 pub returns-clause-queued : goal.returns-clause-queued
@@ -22,7 +22,7 @@ returns-clause-queued g c =
     end-queued c.args.state.now c.args.c c.args.call.now c.requires.ready
     (g.Q.WaitList.seen c.args.queues.now).queue (g.Q.WaitList.seen c.args.queues.now).admitted
     (g.Q.WaitList.seen c.args.queues.now).made c.requires.queued c.args.n.now
-    c.args.class c.unwrap-o.result (sym c.find.ensures ∙ c.unwrap-o.ensures)
+    c.args.class c.unwrap-o.result (sym c.requires.found ∙ c.unwrap-o.ensures)
     c.requires.operation c.push_ended.new.self (g.Q.WaitList.seen c.discard.new.self).queue
     (g.Q.WaitList.seen c.discard.new.self).admitted (g.Q.WaitList.seen c.discard.new.self).made
     c.discard.ensures.queues c.discard.ensures.admitted c.discard.ensures.made

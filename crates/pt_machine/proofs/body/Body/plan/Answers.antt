@@ -42,6 +42,7 @@ returns-clause-planned g c =
     let before : c.self.inside.need ≡ need h =
     c.self.invariant.3.needs ∙ ap (λ s. need (past s)) c.self.view_is in
     record {
+      asks = c.request-request.ensures;
       enters = enters;
       needs = omega (
         arith,

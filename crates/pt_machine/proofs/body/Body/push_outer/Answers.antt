@@ -12,14 +12,14 @@ invariant_of-self-2 g c =
     let old = c.self.inside.state in
     let v = c.args.event.now in
     let e = entry_for (past old) v in
-    let planned : IsPlanned (past old) v c.args.plan = rw c.self.view_is c.requires.planned in
+    let planned : IsPlanned (past old) v c.args.plan.now = rw c.self.view_is c.requires.planned in
     let adds : Adds old e c.push_outer.new.state =
     subst (λ (x : Entry). Adds old x c.push_outer.new.state) planned.enters
     c.in_ok-push_outer.ensures.ok in (
       c.push_outer.ensures.queued,
       c.push_outer.ensures.timed,
-      touched-outer old c.push_outer.new.state c.args.plan.touched
+      touched-outer old c.push_outer.new.state c.args.plan.now.touched
           c.caller_of-self-inside.result e adds (event-outer (past old) v) planned.touches
           (c.caller_of-self-inside.ensures (past old)),
-      reserved-outer old c.push_outer.new.state e adds c.args.plan.need planned.needs,
+      reserved-outer old c.push_outer.new.state e adds c.args.plan.now.need planned.needs,
     )

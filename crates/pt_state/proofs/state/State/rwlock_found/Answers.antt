@@ -1,0 +1,13 @@
+use Rattle.std.proofs.Common.{refl, sym, ap, ◌∙◌}
+use Rattle.std.specs.Option.{option_copied}
+use Rattle.pt_table.specs.ObjectRows.{object_value}
+use Rattle.pt_state.specs.Adds.{past}
+use Rattle.pt_state.proofs.JudgeLemmas.{rwlock-missed}
+use Rattle.pt_state.proofs.state.State.rwlock_found.Goals as goal
+
+pub returns-in-None-clause-number : goal.returns-in-None-clause-number
+returns-in-None-clause-number g c =
+    rwlock-missed (past c.args.self.now) c.requires.read.follows
+    (object_value c.args.self.now.objects) c.requires.read.object_rows.look c.args.n.now
+    c.in_ok-r.r c.in_ok-r.r c.args.object c.requires.found c.in_ok-r.was refl
+    (sym c.rwlock_at.ensures ∙ ap option_copied c.in-None.is)

@@ -1,0 +1,45 @@
+-- Requests: what a call asks for, with the objects that its names mean as it comes.
+use Rattle.std.specs.Prelude.{ℕ, ◌≡◌, Option, None}
+use Rattle.pt_types.specs.Operations.{Operation, Makes, Ends, Acquires, Unlocks, Restores}
+use Rattle.pt_types.specs.Operations.{Rwunlocks, Awaits, Signals, Broadcasts, Arrives, class_needed}
+use Rattle.pt_types.specs.declared.operations.ObjectClass.TheVariants.{Mutex as MutexClass}
+use Rattle.pt_types.specs.declared.operations.ObjectClass.TheVariants.{Rwlock as RwlockClass}
+use Rattle.pt_types.specs.declared.operations.ObjectClass.TheVariants.{Cond as CondClass}
+use Rattle.pt_types.specs.declared.operations.ObjectClass.TheVariants.{Barrier as BarrierClass}
+use Rattle.pt_model.specs.Histories.{History}
+use Rattle.pt_model.specs.Objects.{find}
+use Rattle.pt_types.specs.Shown.{shown_operation}
+use Rattle.pt_state.specs.declared.request.Request.{Request}
+
+-- the object of a call, if its name means one; a call that makes one has none yet
+-- [XSH, the call's page]
+abbrev pub object_meant : History → Operation → Option ℕ
+object_meant h (Makes n kind) = None
+object_meant h (Ends n class) = find h n class
+object_meant h (Acquires n lock_kind how) = find h n (class_needed lock_kind)
+object_meant h (Unlocks n) = find h n MutexClass
+object_meant h (Restores n) = find h n MutexClass
+object_meant h (Rwunlocks n) = find h n RwlockClass
+object_meant h (Awaits n m deadline) = find h n CondClass
+object_meant h (Signals n) = find h n CondClass
+object_meant h (Broadcasts n) = find h n CondClass
+object_meant h (Arrives n) = find h n BarrierClass
+
+-- the mutex of a wait at a condition, if its name means one  [XSH pthread_cond_wait]
+abbrev pub mutex_meant : History → Operation → Option ℕ
+mutex_meant h (Awaits n m deadline) = find h m MutexClass
+mutex_meant h (Makes n kind) = None
+mutex_meant h (Ends n class) = None
+mutex_meant h (Acquires n lock_kind how) = None
+mutex_meant h (Unlocks n) = None
+mutex_meant h (Restores n) = None
+mutex_meant h (Rwunlocks n) = None
+mutex_meant h (Signals n) = None
+mutex_meant h (Broadcasts n) = None
+mutex_meant h (Arrives n) = None
+
+-- the operation of a call, and the objects that its names mean
+pub record IsRequest (h : History) (d : Operation) (r : Request) : Type 0 where
+  pub operation : shown_operation r.operation ≡ d
+  pub object : r.object ≡ object_meant h d
+  pub mutex : r.mutex ≡ mutex_meant h d
