@@ -1,4 +1,4 @@
-//! Entries as they are stored: numbers of 32 bits beside where the rest is found.
+//! Entries as they are stored: numbers of 32 bits, and indices of names, deadlines and readings.
 
 ghost use Rattle.std.specs.Prelude.{◌≡◌, ◌+◌, ◌-◌, IfSome};
 ghost use Rattle.pt_history.specs.Compact.{spelled, base_of, answered, with_limit, wait_until};
@@ -10,7 +10,7 @@ use pt_types::operations::LockKind;
 use pt_types::{Call, Clock, Deadline, MutexKind, Name, NamedVerb, Outcome, Priority};
 use std::mem::size_of;
 
-/// A call word whose only object is its one name.
+/// A call word that one name follows, with its other words.
 #[derive(Clone, Copy)]
 pub(crate) enum Word {
     MutexInit(MutexKind, bool),
@@ -48,20 +48,26 @@ pub(crate) enum Compact {
     Join(Priority, u32),
     /// The word, the answer, the length of the name, the client, and where the name begins.
     Named(Word, Answer, u8, u32, u32),
-    /// The making of a barrier: as `Named`, with its count last.
+    /// A `barrier-init`: as `Named` without the word, and the count last.
     Barrier(Answer, u8, u32, u32, u32),
-    /// A call for a lock with a deadline: as `Named`, with the index of its limit last.
+    /// A timed call for a lock: as `Named`, with the lock for the word, and the index of its limit
+    /// last.
     Timed(LockKind, Answer, u8, u32, u32, u32),
     /// A wait: the answer, the lengths of both names, the client, and where the names begin.
     Wait(Answer, u8, u8, u32, u32),
     /// A wait with a deadline: as `Wait`, with the index of its limit last.
     TimedWait(Answer, u8, u8, u32, u32, u32),
+    /// The client.
     Death(u32),
     /// The clock, and the index of the reading.
     Moment(Clock, u32),
+    /// The outcome, and the place of the call.
     Grant(Outcome, u32),
+    /// The barrier.
     Trip(u32),
+    /// The mutex.
     Yield(u32),
+    /// The place of the call.
     Expire(u32),
     /// The index of an entry that is stored whole.
     Whole(u32),
@@ -69,7 +75,7 @@ pub(crate) enum Compact {
 
 const _: () = prove!(size_of::<Compact>() == 16);
 
-/// The answer to a call.
+/// The stored form of an answer; None is a call that waits.
 pub(crate) fn answer_of(outcome: Option<Outcome>) -> Answer
     ensures { answered result ≡ outcome }
 {
@@ -107,14 +113,14 @@ pub(crate) fn outcome_of(answer: Answer) -> Option<Outcome>
     }
 }
 
-/// The number from which the numbers of a history count that begins at a place.
+/// The base of a history that begins at a place: 2^31 before it, or 0.
 pub(crate) fn base(at: u64) -> u64
     ensures { result ≡ base_of at }
 {
     at.saturating_sub(2_147_483_648)
 }
 
-/// A place as it is counted from the base; None if that takes more than 32 bits.
+/// A place counted from the base; None if it is before the base, or takes more than 32 bits.
 pub(crate) fn near(base: u64, place: u64) -> Option<u32>
     ensures { IfSome result (λ n. base + n ≡ place) }
 {
@@ -124,7 +130,7 @@ pub(crate) fn near(base: u64, place: u64) -> Option<u32>
     Some((place - base) as u32)
 }
 
-/// The word and the name of a call whose only object is its one name.
+/// The word and the name of such a call; None for another call.
 pub(crate) fn named(call: &Call) -> Option<(Word, &Name)>
     ensures { IfSome result (λ p. spelled p.0 p.1.now ≡ call.now) }
 {
@@ -153,7 +159,7 @@ fn limit(deadline: Deadline, clock: Option<Clock>) -> TimeLimit
     TimeLimit { deadline, clock }
 }
 
-/// The lock, the name and the limit of a call for a lock with a deadline.
+/// The lock, the name and the limit of a timed call for a lock; None for another call.
 pub(crate) fn timed(call: &Call) -> Option<(LockKind, &Name, TimeLimit)>
     ensures { IfSome result (λ p. with_limit p.0 p.1.now p.2.deadline p.2.clock ≡ call.now) }
 {
@@ -205,7 +211,7 @@ pub(crate) fn barrier(call: &Call) -> Option<(&Name, u32)>
     }
 }
 
-/// Both names and the limit of a wait with a deadline.
+/// Both names and the limit of a timed wait; None for another call.
 pub(crate) fn timed_wait(call: &Call) -> Option<(&Name, &Name, TimeLimit)>
     ensures { IfSome result (λ p. wait_until p.0.now p.1.now p.2.deadline p.2.clock ≡ call.now) }
 {

@@ -1,5 +1,4 @@
--- Planned: what an event's entry is and what it changes beside the tables, as they are found before
--- the entry is pushed.
+-- Planned: what is known of an event's entry before it is pushed.
 use Rattle.std.specs.Prelude.{◌≡◌, Option, Some, None}
 use Rattle.pt_types.specs.declared.outcome.Outcome.{Outcome}
 use Rattle.pt_model.specs.declared.entry.Entry.{Entry}
@@ -29,8 +28,8 @@ HasRequest h (event.Join p) r = Unit {0}
 HasRequest h (event.Death c) r = Unit {0}
 HasRequest h (event.Moment k t) r = Unit {0}
 
--- what the event's call asks for, the answer that it has at once, how many entries are reserved after its entry, and
--- the one object that the entry touches  [profile]
+-- what the event's call asks for, the answer that it gets at once, how many entries are reserved
+-- after its entry, and the one object that the entry touches  [profile]
 pub record IsPlanned (h : History) (v : Event) (p : Plan) : Type 0 where
   pub asks : HasRequest h v p.request
   pub enters : entry_with h v p.answer ≡ entry_for h v

@@ -1,4 +1,4 @@
-//! Calls: the verdict of each, and how those that are answered at once and those that wait come in.
+//! Calls: the verdict of each, and the push of its entry, answered or waiting.
 
 ghost use Rattle.pt_model.specs.Objects.{find};
 ghost use Rattle.pt_types.specs.Operations.{class_needed};
@@ -26,8 +26,8 @@ use pt_types::{Call, ClientId, How, Name, ObjectId, Outcome, Refusal, Verdict};
 use pt_waitq::WaitList;
 use std::alloc::Allocator;
 
-/// A call that is left waiting takes its place in a queue. ENOMEM if there is no memory for
-/// its row in a read-write lock; another call needs none.  [XSH, the call's page]
+/// Pushes a call that waits, and puts it into its queue. ENOMEM if there is no memory for its row
+/// in a read-write lock; no other call needs memory.  [XSH, the call's page]
 pub(crate) fn push_left<Q: WaitList, A: Allocator + Copy>(
     state: &mut State<A>,
     queues: &mut Q,
@@ -53,9 +53,8 @@ pub(crate) fn push_left<Q: WaitList, A: Allocator + Copy>(
     }
 }
 
-// A call that is answered 0, with what it does. ENOMEM if there is no memory for the object that
-// it makes.
-// [XSH, the call's page]
+// Pushes a call that is answered 0, and does what it asks for. ENOMEM if there is no memory for the
+// object that it makes.  [XSH, the call's page]
 fn push_done<Q: WaitList, A: Allocator + Copy>(
     state: &mut State<A>,
     queues: &mut Q,
@@ -103,6 +102,7 @@ fn push_done<Q: WaitList, A: Allocator + Copy>(
             push_broadcast(state, queues, c, call, n, object);
             Ok(())
         }
+        // These always wait.
         Operation::Awaits(..) | Operation::Arrives(_) => {
             state.finish(c, call, Outcome::Done);
             Ok(())
@@ -110,7 +110,7 @@ fn push_done<Q: WaitList, A: Allocator + Copy>(
     }
 }
 
-/// A call with its answer. ENOMEM if there is no memory for the object that it makes.
+/// Pushes a call with its answer. ENOMEM if there is no memory for the object that it makes.
 /// [XSH, the call's page]
 pub(crate) fn push_answered<Q: WaitList, A: Allocator + Copy>(
     state: &mut State<A>,
@@ -139,7 +139,7 @@ pub(crate) fn push_answered<Q: WaitList, A: Allocator + Copy>(
 }
 
 impl<Q: WaitList, A: Allocator + Copy> Body<Q, A> {
-    /// What becomes at once of a client's call.  [XSH, the call's page]
+    /// The answer that a client's call gets at once, or that it waits.  [XSH, the call's page]
     pub fn verdict(&self, c: ClientId, request: &Request<'_>) -> Verdict
         requires read { AreTables self.now }
         requires asks { IsRequest (past self.now) (shown_operation request.now.operation)
@@ -163,7 +163,7 @@ impl<Q: WaitList, A: Allocator + Copy> Body<Q, A> {
             Operation::Unlocks(n) => self.state.unlocks_verdict(c, n, object),
             Operation::Restores(n) => self.state.restores_verdict(c, n, object),
             Operation::Rwunlocks(n) => self.state.rwunlocks_verdict(c, n, object),
-            Operation::Awaits(n, k, deadline) => self.awaits_verdict(c, n, k, *deadline, request),
+            Operation::Awaits(n, m, deadline) => self.awaits_verdict(c, n, m, *deadline, request),
             Operation::Signals(_) => known_verdict(object, Verdict::Reply(Outcome::Done)),
             Operation::Broadcasts(_) => known_verdict(object, Verdict::Reply(Outcome::Done)),
             Operation::Arrives(_) => known_verdict(object, Verdict::Stands),

@@ -1,4 +1,5 @@
-//! Deadlines: set as a call waits, dropped as it ends, and the calls that are due.
+//! The push of any entry with its deadline: set as a call waits, dropped as it ends; and the calls
+//! whose deadline has passed.
 
 ghost use Rattle.pt_state.specs.Requests.{IsRequest};
 ghost use Rattle.pt_types.specs.Shown.{shown_operation};
@@ -28,7 +29,7 @@ ghost use Rattle.pt_model.specs.Answers.{open_calls};
 ghost use Rattle.pt_model.specs.Forced.{expires_before, forced, forced_service, is_overdue};
 
 use crate::body::Body;
-use crate::{calls, clients, clock, forced};
+use crate::{calls, clients, forced};
 use pt_model::Event;
 use pt_records::Open;
 use pt_state::{Forced, Request, State};
@@ -38,8 +39,8 @@ use pt_types::{Call, ClientId, Clock, Deadline, Moment, Outcome, Refusal};
 use pt_waitq::WaitList;
 use std::alloc::Allocator;
 
-/// A reading of the clock is handed in.
-pub(crate) fn push_moment<Q: WaitList, A: Allocator + Copy>(
+// Pushes a reading of a clock.
+fn push_moment<Q: WaitList, A: Allocator + Copy>(
     state: &mut State<A>,
     queues: &mut Q,
     clock: Clock,
@@ -68,7 +69,7 @@ fn good_deadline(operation: &Operation<'_>) -> Option<Deadline>
     }
 }
 
-// Whether the entry at this place moved an open call.  [XSH pthread_cond_broadcast]
+// Whether an open call was moved by the entry at this place.  [XSH pthread_cond_broadcast]
 fn was_moved(open: &Open, place: u64) -> bool
     ensures { result ≡ was_moved_at place «open».now }
 {
@@ -88,7 +89,7 @@ fn has_none<A: Allocator + Copy>(timers: &Timers<A>) -> bool
     }
 }
 
-// The deadlines of those that the entry at a place moved are set no more.
+// Drops the deadlines of the calls that the entry at this place moved.
 // [XSH pthread_cond_broadcast]
 fn drop_moved<A: Allocator + Copy>(timers: &mut Timers<A>, state: &State<A>, place: u64)
     ensures { (p : ℕ)
@@ -110,8 +111,8 @@ fn drop_moved<A: Allocator + Copy>(timers: &mut Timers<A>, state: &State<A>, pla
     }
 }
 
-// A call that is left waiting has its deadline set first. ENOMEM if a growth is refused.
-// [XSH pthread_mutex_timedlock]
+// Sets the deadline of a call that waits, and pushes the call. ENOMEM if a growth is refused: then
+// no deadline is set.  [XSH pthread_mutex_timedlock]
 fn push_timed<Q: WaitList, A: Allocator + Copy>(
     state: &mut State<A>,
     queues: &mut Q,
@@ -146,9 +147,9 @@ fn push_timed<Q: WaitList, A: Allocator + Copy>(
     }
 }
 
-// A call that is left waiting. ENOMEM if there is no memory for its row or its deadline.
+// Pushes a call that waits, with its deadline if that is a time. ENOMEM if a growth is refused.
 // [XSH, the call's page]
-pub(crate) fn push_left<Q: WaitList, A: Allocator + Copy>(
+fn push_left<Q: WaitList, A: Allocator + Copy>(
     state: &mut State<A>,
     queues: &mut Q,
     timers: &mut Timers<A>,
@@ -180,9 +181,9 @@ fn can_move_waits(operation: &Operation<'_>) -> bool
     matches!(operation, Operation::Signals(_) | Operation::Broadcasts(_))
 }
 
-// A call with its answer: no deadline is set any more for those that it moves. ENOMEM if there
-// is no memory for the object that it makes.  [XSH, the call's page]
-pub(crate) fn push_answered<Q: WaitList, A: Allocator + Copy>(
+// Pushes a call with its answer, and drops the deadlines of the waits that it moves. ENOMEM if
+// there is no memory for the object that it makes.  [XSH, the call's page]
+fn push_answered<Q: WaitList, A: Allocator + Copy>(
     state: &mut State<A>,
     queues: &mut Q,
     timers: &mut Timers<A>,
@@ -210,8 +211,8 @@ pub(crate) fn push_answered<Q: WaitList, A: Allocator + Copy>(
     Ok(())
 }
 
-// A client's process ends: no deadline is set any more for its open call.
-pub(crate) fn push_death<Q: WaitList, A: Allocator + Copy>(
+// Pushes a Death, and drops the deadline of the client's open call.
+fn push_death<Q: WaitList, A: Allocator + Copy>(
     state: &mut State<A>,
     queues: &mut Q,
     timers: &mut Timers<A>,
@@ -231,7 +232,7 @@ pub(crate) fn push_death<Q: WaitList, A: Allocator + Copy>(
     }
 }
 
-// A call, with the answer that it has at once. ENOMEM if a growth is refused.
+// Pushes a call, with the answer that it gets at once. ENOMEM if a growth is refused.
 // [XSH, the call's page]
 fn push_call<Q: WaitList, A: Allocator + Copy>(
     state: &mut State<A>,
@@ -259,8 +260,9 @@ fn push_call<Q: WaitList, A: Allocator + Copy>(
     }
 }
 
-/// The entry of an event, with the request of its call and the answer that it has at once. ENOMEM if
-/// a growth is refused: then nothing is pushed. An entry that needs no memory is never refused.
+/// Pushes the entry of an event, given the request of its call and the answer that it gets at once.
+/// ENOMEM if a growth is refused: then nothing is pushed. An entry that needs no memory is never
+/// refused.  [profile]
 pub(crate) fn push_outer<Q: WaitList, A: Allocator + Copy>(
     state: &mut State<A>,
     queues: &mut Q,
@@ -293,13 +295,13 @@ pub(crate) fn push_outer<Q: WaitList, A: Allocator + Copy>(
             Ok(())
         }
         Event::Moment(clock, moment) => {
-            clock::push_moment(state, queues, *clock, *moment);
+            push_moment(state, queues, *clock, *moment);
             Ok(())
         }
     }
 }
 
-/// What must follow is pushed: no deadline is set any more for the call that it is for.
+/// Pushes what must follow, and drops the deadline of the call that it serves or ends.
 /// [XSH pthread_mutex_unlock, pthread_mutex_lock EOWNERDEAD, pthread_mutex_timedlock]
 pub(crate) fn push_forced<Q: WaitList, A: Allocator + Copy>(
     state: &mut State<A>,
@@ -350,7 +352,7 @@ impl<Q: WaitList, A: Allocator + Copy> Body<Q, A> {
         self.open_if_at(self.caller_at(place)?, place)
     }
 
-    /// The call whose deadline ends it first, if no call is to be served.
+    /// The open call with the least deadline that has passed, if no call is to be served.
     /// [XSH pthread_mutex_timedlock, the order is profile]
     pub(crate) fn first_overdue(&self) -> Option<Open>
         requires read { AreTables self.now }
@@ -365,8 +367,8 @@ impl<Q: WaitList, A: Allocator + Copy> Body<Q, A> {
         self.open_at(place)
     }
 
-    /// The least deadline by a clock of the open calls that aren't moved, as it was written, if
-    /// nothing is forced.
+    /// The least deadline by this clock of the open calls that are not moved, as it was written.
+    /// [profile]
     pub fn least_deadline(&self, clock: Clock) -> Option<Deadline>
         requires read { AreTables self.now }
         requires quiet { forced (past self.now) ≡ None }

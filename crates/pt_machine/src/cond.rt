@@ -30,7 +30,8 @@ use pt_types::{Call, ClientId, Deadline, Name, ObjectId, Outcome, Verdict};
 use pt_waitq::WaitList;
 use std::alloc::Allocator;
 
-// The first wait at a condition is woken, and waits at its mutex.  [XSH pthread_cond_signal]
+// Pushes a `signal` that wakes this wait, which then waits at its mutex.
+// [XSH pthread_cond_signal]
 fn push_wake<Q: WaitList, A: Allocator + Copy>(
     state: &mut State<A>,
     queues: &mut Q,
@@ -54,7 +55,7 @@ fn push_wake<Q: WaitList, A: Allocator + Copy>(
     take_place(queues, state, woken);
 }
 
-// A signal wakes the first wait, if there is one.  [XSH pthread_cond_signal]
+/// Pushes a `signal`, which wakes the first wait, if there is one.  [XSH pthread_cond_signal]
 pub(crate) fn push_signal<Q: WaitList, A: Allocator + Copy>(
     state: &mut State<A>,
     queues: &mut Q,
@@ -77,7 +78,8 @@ pub(crate) fn push_signal<Q: WaitList, A: Allocator + Copy>(
     }
 }
 
-// All waits at a condition are woken, and wait at its mutex.  [XSH pthread_cond_broadcast]
+/// Pushes a `broadcast`: all waits at its condition are woken, and wait at their mutex.
+/// [XSH pthread_cond_broadcast]
 pub(crate) fn push_broadcast<Q: WaitList, A: Allocator + Copy>(
     state: &mut State<A>,
     queues: &mut Q,
@@ -101,7 +103,7 @@ pub(crate) fn push_broadcast<Q: WaitList, A: Allocator + Copy>(
     }
 }
 
-// The deadline of a wait has passed: it waits at its mutex.  [XSH pthread_cond_timedwait]
+/// Pushes the Expire of a wait, which then waits at its mutex.  [XSH pthread_cond_timedwait]
 pub(crate) fn push_late_wait<Q: WaitList, A: Allocator + Copy>(
     state: &mut State<A>,
     queues: &mut Q,
@@ -120,8 +122,8 @@ pub(crate) fn push_late_wait<Q: WaitList, A: Allocator + Copy>(
     take_place(queues, state, late);
 }
 
-/// The wait that a signal at this condition wakes.  [XSH pthread_cond_signal]
-pub(crate) fn first_waiting<Q: WaitList, A: Allocator + Copy>(
+// The wait that a signal at this condition wakes.  [XSH pthread_cond_signal]
+fn first_waiting<Q: WaitList, A: Allocator + Copy>(
     queues: &Q,
     state: &State<A>,
     q: ObjectId,
@@ -153,9 +155,9 @@ impl<Q: WaitList, A: Allocator + Copy> Body<Q, A> {
         }
     }
 
-    /// The condition, bound to the mutex with which calls wait there, if some do.
-    /// [XSH pthread_cond_wait]
-    pub(crate) fn condition(&self, q: ObjectId) -> CondObj
+    // The condition, bound to the mutex with which calls wait there, if some do.
+    // [XSH pthread_cond_wait]
+    fn condition(&self, q: ObjectId) -> CondObj
         requires read { AreTables self.now }
         requires cond { kind_of (past self.now) q ≡ Some kind.Cond }
         ensures { result ≡ cond_view (past self.now) q }
@@ -178,27 +180,27 @@ impl<Q: WaitList, A: Allocator + Copy> Body<Q, A> {
         self.queues.len(q) as u64
     }
 
-    /// A client's wait at a condition with a mutex.  [XSH pthread_cond_timedwait]
+    /// The verdict of a client's wait at a condition with a mutex.  [XSH pthread_cond_timedwait]
     pub(crate) fn awaits_verdict(
         &self,
         c: ClientId,
         n: &Name,
-        k: &Name,
+        m: &Name,
         deadline: Option<Deadline>,
         request: &Request<'_>,
     ) -> Verdict
         requires read { AreTables self.now }
         requires object { request.now.object ≡ find (past self.now) n.now CondClass }
-        requires mutex { request.now.mutex ≡ find (past self.now) k.now MutexClass }
-        ensures { result ≡ said_of (past self.now) c (Awaits n.now k.now deadline) }
+        requires mutex { request.now.mutex ≡ find (past self.now) m.now MutexClass }
+        ensures { result ≡ said_of (past self.now) c (Awaits n.now m.now deadline) }
     {
         let Some(q) = request.object else {
             return Verdict::Reply(Outcome::Einval);
         };
-        let Some((m, mutex)) = self.state.mutex_found(k, request.mutex) else {
+        let Some((number, mutex)) = self.state.mutex_found(m, request.mutex) else {
             return Verdict::Reply(Outcome::Einval);
         };
         let owns = mutex.is_owned_by(c);
-        self.condition(q).verdict_wait(m, owns, deadline)
+        self.condition(q).verdict_wait(number, owns, deadline)
     }
 }

@@ -1,4 +1,5 @@
-//! What an event's entry is, and what it changes beside the tables, found once before it is pushed.
+//! Plans: the request, the answer, the reserved entries and the touched object, before an entry is
+//! pushed.
 
 ghost use Rattle.pt_state.specs.Requests.{IsRequest};
 ghost use Rattle.pt_types.specs.Shown.{shown_operation};
@@ -30,18 +31,20 @@ use pt_types::{Call, ClientId, Deadline, Name, ObjectId, Outcome};
 use pt_waitq::WaitList;
 use std::alloc::Allocator;
 
-/// What an event's call asks for, the answer that it has at once, how many entries are reserved
-/// after the event's entry, and the one object that the entry touches.
+/// What is known of an event's entry before it is pushed.  [profile]
 #[derive(Drop)]
 pub struct Plan<'e> {
+    /// What the event's call asks for; None if it is no call.
     pub request: Option<Request<'e>>,
+    /// The answer that the call gets at once; None if it waits, or the event is no call.
     pub answer: Option<Outcome>,
+    /// How many entries are reserved after the event's entry.
     pub need: u64,
+    /// The one object at which the entry may let a call go on, if there is one.
     pub touched: Option<ObjectId>,
 }
 
-// The entries that are reserved from an entry on, those that are reserved no longer, and the one
-// object that it touches.
+// How many entries an entry adds to those reserved, how many it releases, and what it touches.
 #[derive(Clone, Copy)]
 struct Change {
     added: u64,
@@ -56,7 +59,7 @@ const NO_CHANGE: Change = Change {
 };
 
 impl<Q: WaitList, A: Allocator + Copy> Body<Q, A> {
-    // One if the client's lock is the last one on the robust mutex: no Yield is reserved then.
+    // How many Yields are reserved no longer: 1 if this is the last lock on a robust mutex.
     fn last_lock(&self, c: ClientId, m: ObjectId) -> u64
         requires { AreTables self.now }
         ensures { result ≡ last_lock (past self.now) c m }
@@ -68,7 +71,7 @@ impl<Q: WaitList, A: Allocator + Copy> Body<Q, A> {
     }
 
     // What a wait changes: its client gives one lock on the mutex back.  [XSH pthread_cond_wait]
-    fn change_to_await(
+    fn change_by_wait(
         &self,
         c: ClientId,
         call: &Call,
@@ -95,9 +98,9 @@ impl<Q: WaitList, A: Allocator + Copy> Body<Q, A> {
         }
     }
 
-    // What a call changes that is left waiting.
+    // What a call changes if it has to wait.
     // [XSH pthread_mutex_lock, pthread_cond_wait, pthread_barrier_wait]
-    fn change_to_wait(&self, c: ClientId, call: &Call, request: &Request<'_>) -> Change
+    fn change_if_waiting(&self, c: ClientId, call: &Call, request: &Request<'_>) -> Change
         requires read { AreTables self.now }
         requires asks { IsRequest (past self.now) (operation call.now) request.now }
         requires step { Step (past self.now) (entry_is.Call c call.now None) }
@@ -114,7 +117,7 @@ impl<Q: WaitList, A: Allocator + Copy> Body<Q, A> {
                 touched: request.object,
             },
             Operation::Awaits(n, m, deadline) => {
-                self.change_to_await(c, call, n, m, *deadline, request.mutex)
+                self.change_by_wait(c, call, n, m, *deadline, request.mutex)
             }
             Operation::Arrives(_) => Change {
                 added: 3,
@@ -125,7 +128,7 @@ impl<Q: WaitList, A: Allocator + Copy> Body<Q, A> {
         }
     }
 
-    // What an `unlock` changes that is answered 0.  [XSH pthread_mutex_unlock]
+    // What an `unlock` changes if it is answered 0.  [XSH pthread_mutex_unlock]
     fn change_by_unlock(&self, c: ClientId, object: Option<ObjectId>) -> Change
         requires { AreTables self.now }
         ensures adds { result.added ≡ 0 }
@@ -142,7 +145,7 @@ impl<Q: WaitList, A: Allocator + Copy> Body<Q, A> {
         }
     }
 
-    // What a `signal` changes: each wait that is woken has used one entry.
+    // What a `signal` changes: the wait that it wakes, if any, needs one entry less.
     // [XSH pthread_cond_signal]
     fn change_by_signal(&self, n: &Name, object: Option<ObjectId>) -> Change
         requires read { AreTables self.now }
@@ -163,7 +166,8 @@ impl<Q: WaitList, A: Allocator + Copy> Body<Q, A> {
         }
     }
 
-    // What a `broadcast` changes.  [XSH pthread_cond_broadcast]
+    // What a `broadcast` changes: each wait that it wakes needs one entry less.
+    // [XSH pthread_cond_broadcast]
     fn change_by_broadcast(&self, n: &Name, object: Option<ObjectId>) -> Change
         requires read { AreTables self.now }
         requires found { object ≡ find (past self.now) n.now CondClass }
@@ -183,9 +187,9 @@ impl<Q: WaitList, A: Allocator + Copy> Body<Q, A> {
         }
     }
 
-    // What a call changes that is answered 0.
+    // What a call changes if it is answered 0.
     // [XSH pthread_mutex_unlock, pthread_rwlock_unlock, pthread_cond_signal]
-    fn change_as_done(&self, c: ClientId, request: &Request<'_>) -> Change
+    fn change_if_done(&self, c: ClientId, request: &Request<'_>) -> Change
         requires read { AreTables self.now }
         requires asks { IsRequest (past self.now) (shown_operation request.now.operation)
             request.now }
@@ -227,13 +231,13 @@ impl<Q: WaitList, A: Allocator + Copy> Body<Q, A> {
         ensures small { result.added ≤ 3 }
     {
         match answer {
-            None => self.change_to_wait(c, call, request),
-            Some(Outcome::Done) => self.change_as_done(c, request),
+            None => self.change_if_waiting(c, call, request),
+            Some(Outcome::Done) => self.change_if_done(c, request),
             Some(_) => NO_CHANGE,
         }
     }
 
-    // What a client's Death changes.
+    // What a client's Death changes: what its open call and its own Death needed is released.
     fn change_by_death(&self, c: ClientId) -> Change
         requires { AreTables self.now }
         ensures adds { result.added ≡ 0 }
@@ -279,8 +283,8 @@ impl<Q: WaitList, A: Allocator + Copy> Body<Q, A> {
         }
     }
 
-    /// The answer that an event's call has at once, if it is a call and has one.
-    /// [XSH, the call's page]
+    // The answer that an event's call gets at once, if it is a call and gets one.
+    // [XSH, the call's page]
     fn answer_at_once(&self, event: &Event, request: &Option<Request<'_>>) -> Option<Outcome>
         requires read { AreTables self.now }
         requires asks { HasRequest (past self.now) event.now request.now }
@@ -303,7 +307,7 @@ impl<Q: WaitList, A: Allocator + Copy> Body<Q, A> {
         }
     }
 
-    /// What an event's entry is and what it changes beside the tables, before it is pushed.
+    /// What is known of an event's entry before it is pushed.  [profile]
     pub fn plan<'e>(&self, event: &'e Event) -> Plan<'e>
         requires read { AreTables self.now }
         requires step { Step (past self.now) (entry_for (past self.now) event.now) }

@@ -121,6 +121,7 @@ impl<Q: WaitList, A: Allocator + Copy> Body<Q, A> {
             }
         }
     }
+
     /// Moves entries and answers into the memory of those that a seal put aside.
     pub fn take_memory(&mut self, unsealed: Unsealed<A>)
         requires { AreTables self.old }

@@ -45,7 +45,7 @@ fn goal_of(open: &Open) -> ObjectId
 }
 
 impl<Q: WaitList, A: Allocator + Copy> Body<Q, A> {
-    // The object at which the client's open call waits, if it has one.
+    /// The object at which the client's open call waits, if it has one.
     pub(crate) fn object_of(&self, c: ClientId) -> Option<ObjectId>
         requires { AreTables self.now }
         ensures { let h = past self.now in result ≡ object_if h (open_call_of h c) }

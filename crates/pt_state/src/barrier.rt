@@ -8,7 +8,7 @@ ghost use Rattle.pt_state.specs.Adds.{Adds, IsReadyFor, past};
 ghost use Rattle.pt_records.specs.Arrivals.{AreArrivals, Empties};
 ghost use Rattle.pt_types.specs.Operations.{Arrives, operation};
 
-use crate::request::or_none;
+use crate::request::or_zero;
 use crate::state::State;
 use pt_model::Entry;
 use pt_model::waiting_call::Role;
@@ -51,7 +51,7 @@ impl<A: Allocator + Copy> State<A> {
         ensures { Adds self.old (entry.Call c call.now None) self.new }
     {
         let role = Role::ForBarrier;
-        let open = self.entered(c, or_none(object), role, clock_of(call), None);
+        let open = self.entered(c, or_zero(object), role, clock_of(call), None);
         self.push_waiting(c, call, open);
     }
 }

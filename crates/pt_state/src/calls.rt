@@ -16,7 +16,7 @@ ghost use Rattle.pt_state.specs.Reads.{AreTables};
 ghost use Rattle.pt_state.specs.Left.{IsLeft, IsNearlyLeft, only_stands};
 ghost use Rattle.pt_state.specs.Outer.{asks_to_read};
 
-use crate::request::{Request, or_none};
+use crate::request::{Request, or_zero};
 use crate::state::State;
 use pt_model::Entry;
 use pt_model::waiting_call::{Role, WaitingCall, role_needed};
@@ -56,6 +56,7 @@ impl<A: Allocator + Copy> State<A> {
     {
         match lock_kind {
             LockKind::MutexLock => self.push_relock(c, call, n, how, object),
+            // A call for one of these two is answered by its Grant, and never at once.
             LockKind::ReadLock => self.finish(c, call, Outcome::Done),
             LockKind::WriteLock => self.finish(c, call, Outcome::Done),
         }
@@ -154,7 +155,7 @@ impl<A: Allocator + Copy> State<A> {
         ensures enough { asks_to_read (operation call.now) ≡ false → IsOk result }
     {
         let role = role_needed(lock_kind);
-        let open = self.entered(c, or_none(object), role, clock_of(call), deadline_of(how));
+        let open = self.entered(c, or_zero(object), role, clock_of(call), deadline_of(how));
         match lock_kind {
             LockKind::ReadLock => self.push_reading(c, call, open),
             LockKind::MutexLock | LockKind::WriteLock => {
@@ -191,6 +192,7 @@ impl<A: Allocator + Copy> State<A> {
                 self.push_arrival(c, call, n, request.object);
                 Ok(())
             }
+            // The others never wait.
             _ => Ok(()),
         }
     }

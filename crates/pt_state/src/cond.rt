@@ -14,7 +14,7 @@ ghost use Rattle.pt_state.specs.Serving.{called};
 ghost use Rattle.pt_model.specs.declared.waiting_call.Role.TheVariants.{ForCond};
 ghost use Rattle.pt_state.specs.Left.{IsLeft};
 
-use crate::request::{Request, or_none};
+use crate::request::{Request, or_zero};
 use crate::state::State;
 use pt_model::Cause;
 use pt_model::waiting_call::Role;
@@ -85,9 +85,9 @@ impl<A: Allocator + Copy> State<A> {
         requires mutex { request.now.mutex ≡ find (past self.old) m.now MutexClass }
         ensures { Adds self.old (entry.Call c call.now None) self.new }
     {
-        let mutex = or_none(request.mutex);
+        let mutex = or_zero(request.mutex);
         let role = Role::ForCond(mutex.0);
-        let open = self.entered(c, or_none(request.object), role, clock_of(call), deadline);
+        let open = self.entered(c, or_zero(request.object), role, clock_of(call), deadline);
         self.push_wait(c, call, mutex, open);
     }
 }

@@ -12,18 +12,20 @@ use pt_types::operations::{ObjectClass, Operation, class_needed, operation_of};
 use pt_types::{Call, ObjectId};
 use std::alloc::Allocator;
 
-/// What a call asks for, with the objects that its names mean as it comes.
+/// The operation of a call, and the objects that its names mean when it is made.
+/// [XSH, the call's page]
 #[derive(Drop)]
 pub struct Request<'c> {
+    /// What the call does.
     pub operation: Operation<'c>,
-    /// The object of the call. A call that makes one has none yet.
+    /// The object that its first name means; None if it means none, and for a call that makes one.
     pub object: Option<ObjectId>,
-    /// The mutex of a wait at a condition.
+    /// The mutex that a wait's second name means; None if that means none, and for other calls.
     pub mutex: Option<ObjectId>,
 }
 
-/// The object that was found; 0 if none was.
-pub(crate) fn or_none(object: Option<ObjectId>) -> ObjectId
+/// The object's number; 0 if there is none.
+pub(crate) fn or_zero(object: Option<ObjectId>) -> ObjectId
     ensures { result ≡ unwrap_or object 0 }
 {
     match object {
@@ -33,7 +35,7 @@ pub(crate) fn or_none(object: Option<ObjectId>) -> ObjectId
 }
 
 impl<A: Allocator + Copy> State<A> {
-    // The object of an operation, if its name means one. One that makes an object has none yet.
+    // The object that an operation's first name means; None for an operation that makes one.
     fn object_of(&self, operation: &Operation<'_>) -> Option<ObjectId>
         requires { AreTables self.now }
         ensures { result ≡ object_meant (past self.now) (shown_operation operation.now) }
@@ -52,7 +54,7 @@ impl<A: Allocator + Copy> State<A> {
         }
     }
 
-    /// What a call asks for, with the objects that its names mean as it comes.
+    /// What a call asks for, with each of its names looked up once.  [XSH, the call's page]
     pub fn request<'c>(&self, call: &'c Call) -> Request<'c>
         requires { AreTables self.now }
         ensures { IsRequest (past self.now) (operation_meant call.now) result }

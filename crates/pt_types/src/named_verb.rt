@@ -5,7 +5,7 @@ ghost use Rattle.pt_types.specs.NamedVerbs.{call_on};
 use crate::call::Call;
 use crate::name::Name;
 
-/// A call word that is followed by one name.
+/// A call word that one name follows, and nothing else.  [XSH, the call's page]
 #[derive(Clone, Copy, Debug, PartialEq, Eq)]
 pub enum NamedVerb {
     Lock,
@@ -30,6 +30,7 @@ pub enum NamedVerb {
 
 impl NamedVerb {
     /// The word and the name of a call; None if other arguments follow its word.
+    /// [XSH, the call's page]
     pub fn of(call: &Call) -> Option<(NamedVerb, &Name)>
         ensures found { IfSome result (λ p. call_on p.0 p.1.now ≡ call.now) }
         ensures exact { (verb : NamedVerb) (name : List ℕ) →
@@ -58,7 +59,7 @@ impl NamedVerb {
         }
     }
 
-    /// The call on this name.
+    /// The call of this word on this name.  [XSH, the call's page]
     pub fn call(self, name: Name) -> Call
         ensures { result ≡ call_on self name }
     {

@@ -16,7 +16,7 @@ use std::marker::Model;
 
 /// A queue on the heap, so that the map of queues moves a few words and not 4 kB.
 ///
-/// It also stores its highest chains, so that none is searched for to find the first of a queue.
+/// It also stores its highest chains, so that its first waiter is found without a search.
 #[derive(Drop)]
 pub(crate) struct BoxedQueue<A: Allocator> {
     queue: Box<Queue, A>,
@@ -35,7 +35,7 @@ impl<A: Allocator> Model for BoxedQueue<A> {
         × IsHighestChain b.queue.value.readers.counts b.reader };
 }
 
-/// The index of the highest chain, after one more is in the chain of index `p`.
+// The index of the highest chain, after a waiter was put into the chain of index `p`.
 fn raised(before: Option<usize>, p: usize) -> Option<usize>
     ensures { MatchOption before (result ≡ Some p) (λ i. result ≡ Some (max i p)) }
 {
@@ -45,7 +45,7 @@ fn raised(before: Option<usize>, p: usize) -> Option<usize>
     }
 }
 
-/// The index of the highest chain, which was this one before one was taken out.
+// The index of the highest chain, after a waiter was taken out; it was `before` until then.
 fn lowered(counts: &[u32; MOST_PRIORITY], before: Option<usize>) -> Option<usize>
     requires { IsBound counts.now before }
     ensures { IsHighestChain counts.now result }
@@ -81,7 +81,7 @@ impl<A: Allocator> BoxedQueue<A> {
         self.queue.len
     }
 
-    /// Makes a node the tail of one of its chains, and returns the tail before.
+    /// Makes a node the tail of one of its chains, and returns the previous tail.
     pub(crate) fn put_in(&mut self, writer: bool, p: usize, node: u32) -> Option<u32>
         requires index { p < most_priority }
         requires room { slice_index (side_of writer self.old).counts p + 1 < 2 ^ 32 }
@@ -96,7 +96,7 @@ impl<A: Allocator> BoxedQueue<A> {
         sides::put_in(&mut self.queue, writer, p, node)
     }
 
-    /// Takes a node out of one of its chains, which was between these two.
+    /// Takes a node, which is between these two, out of one of its chains.
     pub(crate) fn take_out(
         &mut self,
         writer: bool,
@@ -117,7 +117,8 @@ impl<A: Allocator> BoxedQueue<A> {
         }
     }
 
-    /// The head of the first chain, by priority and then by kind.
+    /// The first waiter's node: of the highest chain, writers first.
+    /// [XSH pthread_rwlock_unlock, 2.8.4]
     pub(crate) fn first(&self) -> Option<u32>
         ensures { IsFirst self.now result }
     {
@@ -129,7 +130,7 @@ impl<A: Allocator> BoxedQueue<A> {
         }
     }
 
-    /// The head of the first chain of writers.
+    /// The first writer's node.  [XSH pthread_rwlock_unlock]
     pub(crate) fn first_writer(&self) -> Option<u32>
         ensures { IsFirstWriter self.now result }
     {
@@ -137,6 +138,7 @@ impl<A: Allocator> BoxedQueue<A> {
     }
 
     /// Whether there is a writer of the priority with this index or of a higher one.
+    /// [XSH pthread_rwlock_rdlock]
     pub(crate) fn has_writer_from(&self, p: usize) -> bool
         ensures { IsTrue result ↔ HasWriterFrom self.now p }
     {

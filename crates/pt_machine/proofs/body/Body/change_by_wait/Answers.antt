@@ -3,7 +3,7 @@ use Rattle.pt_types.specs.declared.operations.ObjectClass.TheVariants.{Mutex as 
 use Rattle.pt_model.specs.WaitingCall.{meant}
 use Rattle.pt_state.specs.Adds.{past}
 use Rattle.pt_machine.proofs.LastTouches.{awaited-there}
-use Rattle.pt_machine.proofs.body.Body.change_to_await.Goals as goal
+use Rattle.pt_machine.proofs.body.Body.change_by_wait.Goals as goal
 
 pub unwrap-mutex-requires : goal.unwrap-mutex-requires
 unwrap-mutex-requires g c =
