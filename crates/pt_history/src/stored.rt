@@ -5,7 +5,7 @@ use crate::compact::{Compact, base};
 use crate::memory::take_memory;
 use crate::records::Records;
 use pt_model::{Entry, Start};
-use pt_types::Refusal;
+use pt_types::{Call, ClientId, Outcome, Refusal};
 use std::alloc::{Allocator, Global};
 use std::marker::Model;
 
@@ -58,6 +58,7 @@ impl<A: Allocator + Copy> History<A> {
     ghost use Rattle.pt_model.specs.StartRows.{no_rows, rows_of};
     ghost use Rattle.pt_history.specs.Stored.{Stored, begun, past_of};
     ghost use Rattle.pt_model.specs.Histories.{outer};
+    ghost use Rattle.pt_model.specs.declared.entry.Entry.TheVariants.{Call as CallEntry};
 
     /// An empty history of at most so many entries. It takes no memory.
     pub fn with_limit(alloc: A, limit: u32) -> History<A>
@@ -108,6 +109,22 @@ impl<A: Allocator + Copy> History<A> {
     {
         self.outer += outer_in(&entry);
         let compact = self.records.store(base(self.start.at), entry);
+        self.entries.push_reserved(compact);
+        self.room -= 1;
+    }
+
+    /// Appends the entry of a call, in room that was made for it. It takes no memory.
+    pub fn push_call(&mut self, client: ClientId, call: &Call, outcome: Option<Outcome>)
+        requires { 0 < self.old.room }
+        ensures { self.new
+            ≡ record self.old {
+              entries = self.old.entries ++ CallEntry client call.now outcome ∷ [];
+              room = self.old.room - 1;
+            } }
+    {
+        self.outer += 1;
+        let base = base(self.start.at);
+        let compact = self.records.store_borrowed(base, client, call, outcome);
         self.entries.push_reserved(compact);
         self.room -= 1;
     }

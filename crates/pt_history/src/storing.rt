@@ -9,7 +9,7 @@ ghost use Rattle.pt_model.specs.declared.entry.Entry.TheVariants.{Moment as Mome
 use crate::compact::{Answer, Compact, alone, answer_of, barrier, named, near, timed, timed_wait};
 use crate::records::{Records, one_text, short, two_texts};
 use pt_model::Entry;
-use pt_types::{Call, Clock, Moment};
+use pt_types::{Call, ClientId, Clock, Moment, Outcome};
 use std::alloc::Allocator;
 
 impl<A: Allocator + Copy> Records<A> {
@@ -124,6 +124,21 @@ impl<A: Allocator + Copy> Records<A> {
         }
     }
 
+    // A call whose client's number fits.
+    fn store_short_call(
+        &mut self,
+        base: u64,
+        client: ClientId,
+        call: &Call,
+        outcome: Option<Outcome>,
+    ) -> Option<Compact>
+        requires { HasRoom self.old 1 }
+        ensures { ShowsIfSome base (CallEntry client call.now outcome) self.old self.new result }
+    {
+        let client = near(base, client.0)?;
+        self.store_call(base, client, call, answer_of(outcome))
+    }
+
     // A reading of a clock.
     fn store_moment(&mut self, base: u64, clock: Clock, moment: Moment) -> Option<Compact>
         requires { HasRoom self.old 1 }
@@ -140,9 +155,8 @@ impl<A: Allocator + Copy> Records<A> {
         ensures { ShowsIfSome base entry.now self.old self.new result }
     {
         match entry {
-            Entry::Call(client, call, answer) => {
-                let client = near(base, client.0)?;
-                self.store_call(base, client, call, answer_of(*answer))
+            Entry::Call(client, call, outcome) => {
+                self.store_short_call(base, *client, call, *outcome)
             }
             Entry::Moment(clock, moment) => self.store_moment(base, *clock, *moment),
             _ => alone(base, entry),
@@ -169,6 +183,25 @@ impl<A: Allocator + Copy> Records<A> {
         match self.store_short(base, &entry) {
             Some(compact) => compact,
             None => self.store_whole(base, entry),
+        }
+    }
+
+    /// Stores what a call's entry refers to, and returns its stored form. The call is copied only
+    /// if a number of it doesn't fit. It takes no memory.
+    pub(crate) fn store_borrowed(
+        &mut self,
+        base: u64,
+        client: ClientId,
+        call: &Call,
+        outcome: Option<Outcome>,
+    ) -> Compact
+        requires room { HasRoom self.old 1 }
+        requires few { vec_len self.old.wholes ≤ 4294967295 }
+        ensures { Shows base (CallEntry client call.now outcome) self.old self.new result }
+    {
+        match self.store_short_call(base, client, call, outcome) {
+            Some(compact) => compact,
+            None => self.store_whole(base, Entry::Call(client, call.copied(), outcome)),
         }
     }
 }

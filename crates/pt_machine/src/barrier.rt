@@ -34,7 +34,7 @@ pub(crate) fn push_tripped<Q: WaitList, A: Allocator + Copy>(
     ensures adds { Adds state.old (service (past state.old) (called found.now)) state.new }
     ensures queued { IsQueued (past state.new) (Q.seen queues.new) }
 {
-    state.push_trip(ObjectId(found.call.object), queues);
+    state.push_trip(found.call.object, queues);
 }
 
 impl<Q: WaitList, A: Allocator + Copy> Body<Q, A> {

@@ -5,7 +5,7 @@ ghost use Rattle.pt_types.specs.MutexTable.{is_recursive};
 ghost use Rattle.pt_types.specs.RwlockTable.{may_read as may_read_it};
 ghost use Rattle.pt_rwlock.specs.RwlockState.{seen_by};
 ghost use Rattle.pt_model.specs.Searches.{In};
-ghost use Rattle.pt_model.specs.WaitingCall.{is_wait as is_wait_role};
+ghost use Rattle.pt_model.specs.WaitingCall.{is_wait as is_wait_role, is_write as is_write_role};
 ghost use Rattle.pt_touched.specs.Candidates.{candidate as candidate_in, entering};
 ghost use Rattle.pt_touched.specs.Candidates.{first_at as first_at_in, if_passes, is_read};
 ghost use Rattle.pt_touched.specs.Candidates.{mutex_candidate as mutex_candidate_in, open_call_if};
@@ -28,7 +28,7 @@ use pt_records::mutex::may_lock;
 use pt_records::rwlock::may_read;
 use pt_records::{Object, Open};
 use pt_rwlock::RwObj;
-use pt_types::{ClientId, MutexKind, ObjectId};
+use pt_types::{MutexKind, ObjectId};
 use pt_waitq::WaitList;
 use std::alloc::Allocator;
 
@@ -53,7 +53,14 @@ fn reads_more<A: Allocator + Copy>(r: ObjectId, lock: &RwObj<A>, open: &Open) ->
         && may_read_it (seen_by lock.now «open».now.call.client) true) }
 {
     let reads = matches!(open.call.role, Role::ForRead);
-    at_object(open) == r && reads && may_read(lock, ClientId(open.call.client), true)
+    at_object(open) == r && reads && may_read(lock, open.call.client, true)
+}
+
+// Whether an open call is for a write lock.  [XSH pthread_rwlock_wrlock]
+fn is_writer(open: &Open) -> bool
+    ensures { result ≡ is_write_role (called «open».now).role }
+{
+    is_write(open.call.role)
 }
 
 impl<Q: WaitList, A: Allocator + Copy> Body<Q, A> {
@@ -81,9 +88,11 @@ impl<Q: WaitList, A: Allocator + Copy> Body<Q, A> {
         if may_lock(mutex) {
             return self.first_at(m);
         }
-        match self.state.open_of(mutex.owner()?) {
-            Some(wait) if comes_back(m, mutex, &wait) => Some(wait),
-            _ => None,
+        let wait = self.state.open_of(mutex.owner()?)?;
+        if comes_back(m, mutex, &wait) {
+            Some(wait)
+        } else {
+            None
         }
     }
 
@@ -98,9 +107,11 @@ impl<Q: WaitList, A: Allocator + Copy> Body<Q, A> {
             ≡ if_passes (reads_again_at h r) (open_call_if h (entering h)) }
         ensures known { IfSome result (λ found. In found (opens_of self.now.clients)) }
     {
-        match self.state.open_of(self.entering?) {
-            Some(open) if reads_more(r, lock, &open) => Some(open),
-            _ => None,
+        let open = self.state.open_of(self.entering?)?;
+        if reads_more(r, lock, &open) {
+            Some(open)
+        } else {
+            None
         }
     }
 
@@ -117,9 +128,7 @@ impl<Q: WaitList, A: Allocator + Copy> Body<Q, A> {
             return None;
         }
         match self.first_at(r) {
-            Some(first) if is_write(first.call.role) && !lock.is_free() => {
-                self.reader_again(r, lock)
-            }
+            Some(first) if is_writer(&first) && !lock.is_free() => { self.reader_again(r, lock) }
             first => first,
         }
     }

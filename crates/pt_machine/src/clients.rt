@@ -78,9 +78,6 @@ impl<Q: WaitList, A: Allocator + Copy> Body<Q, A> {
         if start.at <= place {
             return self.caller_since(place);
         }
-        match start.caller_at(place) {
-            Some(client) => Some(ClientId(client)),
-            None => None,
-        }
+        start.caller_at(place)
     }
 }

@@ -38,19 +38,19 @@ fn push_wake<Q: WaitList, A: Allocator + Copy>(
     c: ClientId,
     call: &Call,
     n: &Name,
-    first: Open,
+    first: &Open,
 )
     requires ready { IsReadyFor state.old (entry.Call c call.now (Some told.Done)) }
     requires queued { IsQueued (past state.old) (Q.seen queues.old) }
     requires operation { operation call.now ≡ Signals n.now }
-    requires first { Some (called first)
+    requires first { Some (called first.now)
         ≡ least (precedes_by (moved (past state.old)))
         (cond_waits (past state.old) (moved (past state.old)) n.now) }
     ensures adds { Adds state.old (entry.Call c call.now (Some told.Done)) state.new }
     ensures queued { IsQueued (past state.new) (Q.seen queues.new) }
 {
-    let woken = ClientId(first.call.client);
-    state.push_woken(c, call, n, Some(first));
+    let woken = first.call.client;
+    state.push_woken(c, call, n, Some(*first));
     queues.remove(woken);
     take_place(queues, state, woken);
 }
@@ -73,7 +73,7 @@ pub(crate) fn push_signal<Q: WaitList, A: Allocator + Copy>(
 {
     let q = object.unwrap();
     match first_waiting(queues, state, q) {
-        Some(first) => push_wake(state, queues, c, call, n, first),
+        Some(first) => push_wake(state, queues, c, call, n, &first),
         None => state.push_woken(c, call, n, None),
     }
 }
@@ -116,7 +116,7 @@ pub(crate) fn push_late_wait<Q: WaitList, A: Allocator + Copy>(
     ensures adds { Adds state.old (entry.Expire found.now.call.place) state.new }
     ensures queued { IsQueued (past state.new) (Q.seen queues.new) }
 {
-    let late = ClientId(found.call.client);
+    let late = found.call.client;
     state.push_expire(found);
     queues.remove(late);
     take_place(queues, state, late);

@@ -21,7 +21,6 @@ use crate::cond::push_late_wait;
 use pt_model::waiting_call::{is_arrival, is_wait};
 use pt_records::Open;
 use pt_state::{Forced, State};
-use pt_types::ClientId;
 use pt_waitq::WaitList;
 use std::alloc::Allocator;
 
@@ -40,7 +39,7 @@ fn push_granted<Q: WaitList, A: Allocator + Copy>(
     ensures queued { IsQueued (past state.new) (Q.seen queues.new) }
 {
     state.push_granted(found);
-    queues.remove(ClientId(found.call.client));
+    queues.remove(found.call.client);
 }
 
 // A call is served.  [XSH pthread_barrier_wait, pthread_mutex_unlock, pthread_rwlock_unlock]
@@ -76,7 +75,7 @@ fn push_late_lock<Q: WaitList, A: Allocator + Copy>(
     ensures queued { IsQueued (past state.new) (Q.seen queues.new) }
 {
     state.push_expire(found);
-    queues.remove(ClientId(found.call.client));
+    queues.remove(found.call.client);
 }
 
 // A deadline has passed.  [XSH pthread_cond_timedwait, pthread_mutex_timedlock]

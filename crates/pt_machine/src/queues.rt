@@ -28,7 +28,7 @@ fn waiter_of(open: &Open, prio: Priority) -> Waiter
         } }
 {
     Waiter {
-        client: ClientId(open.call.client),
+        client: open.call.client,
         place: open.call.place,
         prio,
         writer: is_write(open.call.role),

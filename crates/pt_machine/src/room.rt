@@ -24,8 +24,8 @@ use pt_model::waiting_call::{is_arrival, is_wait, mutex_of};
 use pt_records::Open;
 use pt_records::calls::reserved_by;
 use pt_state::Forced;
+use pt_types::Refusal;
 use pt_types::views::is_acquired;
-use pt_types::{ObjectId, Refusal};
 use pt_waitq::WaitList;
 use std::alloc::Allocator;
 
@@ -122,7 +122,7 @@ impl<Q: WaitList, A: Allocator + Copy> Body<Q, A> {
             need_in (h ▷ service h (called «open».now)) + result ≡ need_in h }
     {
         if is_arrival(open.call.role) {
-            3 * self.arrivals(ObjectId(open.call.object)) as u64
+            3 * self.arrivals(open.call.object) as u64
         } else {
             self.used_by_grant(open)
         }

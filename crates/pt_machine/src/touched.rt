@@ -39,8 +39,8 @@ fn goal_of(open: &Open) -> ObjectId
     ensures { result ≡ goal (called «open».now).role «open».now.call.object }
 {
     match open.call.role {
-        Role::ForCond(m) => ObjectId(m),
-        _ => ObjectId(open.call.object),
+        Role::ForCond(m) => m,
+        _ => open.call.object,
     }
 }
 

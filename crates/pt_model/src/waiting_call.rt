@@ -12,7 +12,7 @@ ghost use Rattle.pt_model.specs.Verdicts.{mutex_awaited as mutex_awaited_by};
 use crate::entry::Cause;
 use pt_types::key_order::Key;
 use pt_types::operations::LockKind;
-use pt_types::{Clock, ObjectId};
+use pt_types::{ClientId, Clock, ObjectId};
 
 /// What a waiting call is for; a wait also has its mutex's number.  [XSH, the call's page]
 #[derive(Clone, Copy, Debug, PartialEq, Eq)]
@@ -21,7 +21,7 @@ pub enum Role {
     ForRead,
     ForWrite,
     ForBarrier,
-    ForCond(u64),
+    ForCond(ObjectId),
 }
 
 /// A call that came without a reply, with what held as it came.
@@ -29,12 +29,11 @@ pub enum Role {
 pub struct WaitingCall {
     /// The place of its entry.
     pub place: u64,
-    /// The number of its client.
-    pub client: u64,
+    pub client: ClientId,
     /// The priority with which the client joined.
     pub priority: u64,
-    /// The number of its object; of a wait, of its condition.
-    pub object: u64,
+    /// The object that it names; of a wait, its condition variable.
+    pub object: ObjectId,
     pub role: Role,
     /// The clock of its deadline.
     pub clock: Clock,
@@ -87,8 +86,8 @@ pub fn mutex_of(w: &WaitingCall) -> Option<ObjectId>
     ensures { result ≡ mutex_meant w.now.role w.now.object }
 {
     match w.role {
-        Role::ForMutex => Some(ObjectId(w.object)),
-        Role::ForCond(m) => Some(ObjectId(m)),
+        Role::ForMutex => Some(w.object),
+        Role::ForCond(m) => Some(m),
         _ => None,
     }
 }
@@ -98,7 +97,7 @@ pub fn mutex_awaited(role: Role) -> Option<ObjectId>
     ensures { result ≡ mutex_awaited_by role }
 {
     match role {
-        Role::ForCond(m) => Some(ObjectId(m)),
+        Role::ForCond(m) => Some(m),
         _ => None,
     }
 }

@@ -19,7 +19,7 @@ use pt_types::{ClientId, ObjectId, Outcome};
 pub fn is_open(entries: &[Entry], w: &WaitingCall) -> bool
     ensures { result ≡ is_open_by (history entries.now) (said (history entries.now)) w.now }
 {
-    is_alive(entries, ClientId(w.client)) && outcome(entries, w.place).is_none()
+    is_alive(entries, w.client) && outcome(entries, w.place).is_none()
 }
 
 /// Whether the call at a place is open and waits at this barrier.  [XSH pthread_barrier_wait]
@@ -31,7 +31,7 @@ pub fn is_open_at_barrier(entries: &[Entry], b: ObjectId, i: u64) -> bool
         (at_place i (opens (history entries.now))) }
 {
     match waiting_call_at(entries, i) {
-        Some(w) => is_arrival(w.role) && w.object == b.0 && is_open(entries, &w),
+        Some(w) => is_arrival(w.role) && w.object == b && is_open(entries, &w),
         None => false,
     }
 }
@@ -67,9 +67,7 @@ pub fn is_living_at_barrier(entries: &[Entry], b: ObjectId, j: u64) -> bool
         (at_place j (stood (history entries.now))) }
 {
     match waiting_call_at(entries, j) {
-        Some(w) => {
-            is_arrival(w.role) && w.object == b.0 && is_alive(entries, ClientId(w.client))
-        }
+        Some(w) => { is_arrival(w.role) && w.object == b && is_alive(entries, w.client) }
         None => false,
     }
 }
@@ -159,7 +157,7 @@ pub fn place_if(w: Option<WaitingCall>, c: ClientId, found: Option<u64>) -> Opti
     ensures { result ≡ place_or w c found }
 {
     match w {
-        Some(w) if w.client == c.0 => Some(w.place),
+        Some(w) if w.client == c => Some(w.place),
         _ => found,
     }
 }

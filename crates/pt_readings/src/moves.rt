@@ -34,7 +34,7 @@ pub fn came_to(entries: &[Entry], n: &Name, i: u64) -> bool
     match waiting_call_at(entries, i) {
         Some(w) => {
             is_wait(w.role)
-                && means(entries, n, ObjectClass::Cond, ObjectId(w.object))
+                && means(entries, n, ObjectClass::Cond, w.object)
                 && is_open(entries, &w)
         }
         None => false,
@@ -58,7 +58,7 @@ pub fn waits_before(entries: &[Entry], n: &Name, w: &WaitingCall, i: u64) -> boo
     if !is_wait(v.role) || !goes_before(key_with(&v, None), key_with(w, None)) {
         return false;
     }
-    if !means(entries, n, ObjectClass::Cond, ObjectId(v.object)) {
+    if !means(entries, n, ObjectClass::Cond, v.object) {
         return false;
     }
     is_open(entries, &v) && moved(entries, v.place).is_none()
@@ -155,8 +155,8 @@ pub fn at_object(entries: &[Entry], w: &WaitingCall) -> ObjectId
     ensures { result ≡ at_object_in (history entries.now) w.now }
 {
     match w.role {
-        Role::ForCond(m) if moved(entries, w.place).is_some() => ObjectId(m),
-        _ => ObjectId(w.object),
+        Role::ForCond(m) if moved(entries, w.place).is_some() => m,
+        _ => w.object,
     }
 }
 

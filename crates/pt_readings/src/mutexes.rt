@@ -64,7 +64,7 @@ pub fn is_for(entries: &[Entry], j: u64, m: ObjectId, c: ClientId) -> bool
     ensures { result ≡ is_for_it (at_place j (stood (history entries.now))) m c }
 {
     match waiting_call_at(entries, j) {
-        Some(w) => w.client == c.0 && mutex_of(&w) == Some(m),
+        Some(w) => w.client == c && mutex_of(&w) == Some(m),
         None => false,
     }
 }

@@ -35,7 +35,7 @@ pub fn is_for_read(entries: &[Entry], j: u64, r: ObjectId, c: ClientId) -> bool
     ensures { result ≡ is_reader (at_place j (stood (history entries.now))) r c }
 {
     match waiting_call_at(entries, j) {
-        Some(w) => matches!(w.role, Role::ForRead) && w.object == r.0 && w.client == c.0,
+        Some(w) => matches!(w.role, Role::ForRead) && w.object == r && w.client == c,
         None => false,
     }
 }
@@ -45,7 +45,7 @@ pub fn is_for_write(entries: &[Entry], j: u64, r: ObjectId, c: ClientId) -> bool
     ensures { result ≡ is_writer (at_place j (stood (history entries.now))) r c }
 {
     match waiting_call_at(entries, j) {
-        Some(w) => matches!(w.role, Role::ForWrite) && w.object == r.0 && w.client == c.0,
+        Some(w) => matches!(w.role, Role::ForWrite) && w.object == r && w.client == c,
         None => false,
     }
 }

@@ -11,15 +11,15 @@ use pt_model::waiting_call::{Role, WaitingCall, is_wait, role_needed};
 use pt_types::operations::{
     ObjectClass, Operation, class_needed, clock_of, deadline_of, operation_of,
 };
-use pt_types::{ClientId, Clock, Deadline, Name};
+use pt_types::{ClientId, Clock, Deadline, Name, ObjectId};
 
 /// The object that a name means as the call comes; 0 if it means none.
-pub fn meant(entries: &[Entry], n: &Name, class: ObjectClass) -> u64
+pub fn meant(entries: &[Entry], n: &Name, class: ObjectClass) -> ObjectId
     ensures { result ≡ meant_in (history entries.now) n.now class }
 {
     match find(entries, n, class) {
-        Some(object) => object.0,
-        None => 0,
+        Some(object) => object,
+        None => ObjectId(0),
     }
 }
 
@@ -28,7 +28,7 @@ pub fn meant(entries: &[Entry], n: &Name, class: ObjectClass) -> u64
 pub fn entered(
     entries: &[Entry],
     c: ClientId,
-    object: u64,
+    object: ObjectId,
     role: Role,
     clock: Clock,
     deadline: Option<Deadline>,
@@ -38,7 +38,7 @@ pub fn entered(
 {
     WaitingCall {
         place: entries.len() as u64,
-        client: c.0,
+        client: c,
         priority: match client(entries, c) {
             Some(priority) => priority.level() as u64,
             None => 0,

@@ -10,17 +10,22 @@ ghost use Rattle.pt_records.specs.OpenRows.{object_of};
 use crate::clients::{Caller, Open};
 use pt_model::waiting_call::Role;
 use pt_table::Clients;
-use pt_types::{ObjectId, Outcome};
+use pt_types::{ClientId, ObjectId, Outcome};
 use std::alloc::Allocator;
 
 /// The client's latest call came at this place, and is open.
-pub fn stand<A: Allocator + Copy>(clients: &mut Clients<Caller, A>, c: u64, open: Open, place: u64)
+pub fn stand<A: Allocator + Copy>(
+    clients: &mut Clients<Caller, A>,
+    c: ClientId,
+    open: Open,
+    place: u64,
+)
     requires { has_client clients.old c ≡ true }
     ensures { (v : Caller) → client_value clients.old c ≡ Some v
         → WritesCaller clients.old clients.new c
         (record v { «open» = Some «open»; latest = Some place; answer = None }) }
 {
-    if let Some(row) = clients.at_mut(c) {
+    if let Some(row) = clients.at_mut(c.0) {
         row.open = Some(open);
         row.latest = Some(place);
         row.answer = None;
@@ -28,12 +33,12 @@ pub fn stand<A: Allocator + Copy>(clients: &mut Clients<Caller, A>, c: u64, open
 }
 
 /// The client's open call is answered.
-pub fn close<A: Allocator + Copy>(clients: &mut Clients<Caller, A>, c: u64, answer: Outcome)
+pub fn close<A: Allocator + Copy>(clients: &mut Clients<Caller, A>, c: ClientId, answer: Outcome)
     requires { has_client clients.old c ≡ true }
     ensures { (v : Caller) → client_value clients.old c ≡ Some v
         → WritesCaller clients.old clients.new c (closed (Some answer) v) }
 {
-    if let Some(row) = clients.at_mut(c) {
+    if let Some(row) = clients.at_mut(c.0) {
         row.open = None;
         row.answer = Some(answer);
     }
@@ -75,7 +80,7 @@ pub fn at_object(open: &Open) -> ObjectId
     ensures { result ≡ object_of «open».now }
 {
     match open.call.role {
-        Role::ForCond(m) if is_moved(open) => ObjectId(m),
-        _ => ObjectId(open.call.object),
+        Role::ForCond(m) if is_moved(open) => m,
+        _ => open.call.object,
     }
 }

@@ -9,13 +9,13 @@ ghost use Rattle.pt_types.specs.Limits.{most_clients};
 
 use pt_model::waiting_call::{Move, WaitingCall};
 use pt_table::Clients;
-use pt_types::{Outcome, Priority, Refusal};
+use pt_types::{ClientId, Outcome, Priority, Refusal};
 use std::alloc::Allocator;
 
 /// The client's latest call came at this place, and was answered at once.
 pub fn note_call<A: Allocator + Copy>(
     clients: &mut Clients<Caller, A>,
-    c: u64,
+    c: ClientId,
     place: u64,
     answer: Outcome,
 )
@@ -23,7 +23,7 @@ pub fn note_call<A: Allocator + Copy>(
     ensures { (v : Caller) → client_value clients.old c ≡ Some v
         → WritesCaller clients.old clients.new c (called_at place (Some answer) v) }
 {
-    if let Some(row) = clients.at_mut(c) {
+    if let Some(row) = clients.at_mut(c.0) {
         row.latest = Some(place);
         row.answer = Some(answer);
     }
@@ -32,7 +32,7 @@ pub fn note_call<A: Allocator + Copy>(
 /// A new client gets its row. ENOMEM if there is no memory for it.
 pub fn admit<A: Allocator + Copy>(
     clients: &mut Clients<Caller, A>,
-    c: u64,
+    c: ClientId,
     caller: Caller,
 ) -> Result<(), Refusal>
     requires new { has_client clients.old c ≡ false }
@@ -41,18 +41,18 @@ pub fn admit<A: Allocator + Copy>(
     ensures err { OnErr result (clients.new ≡ clients.old) }
     ensures reason { IfErr result (λ refusal. refusal ≡ Refusal.Enomem) }
 {
-    match clients.add(c, caller) {
+    match clients.add(c.0, caller) {
         Ok(()) => Ok(()),
         Err(_) => Err(Refusal::Enomem),
     }
 }
 
 /// The client's row is taken out.
-pub fn dismiss<A: Allocator + Copy>(clients: &mut Clients<Caller, A>, c: u64)
+pub fn dismiss<A: Allocator + Copy>(clients: &mut Clients<Caller, A>, c: ClientId)
     requires { has_client clients.old c ≡ true }
     ensures { RemovesCaller clients.old clients.new c }
 {
-    let _ = clients.remove(c);
+    let _ = clients.remove(c.0);
 }
 
 /// A client's open call, with its move if it is a wait that was moved.

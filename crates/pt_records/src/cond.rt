@@ -10,11 +10,11 @@ ghost use Rattle.pt_records.specs.OpenRows.{returns_to as returns_to_it};
 ghost use Rattle.std.specs.List.{list_any};
 
 use crate::calls::{is_moved, open_at};
-use crate::clients::Caller;
+use crate::clients::{Caller, Open};
 use pt_model::Cause;
 use pt_model::waiting_call::{Move, Role, is_wait};
 use pt_table::Clients;
-use pt_types::ObjectId;
+use pt_types::{ClientId, ObjectId};
 use std::alloc::Allocator;
 
 // The client's open call, if it has one, is moved by the entry at this place.
@@ -27,12 +27,17 @@ fn move_open(caller: &mut Caller, at: u64, cause: Cause)
 }
 
 /// The client's open call is moved by the entry at this place.
-pub fn wake<A: Allocator + Copy>(clients: &mut Clients<Caller, A>, c: u64, at: u64, cause: Cause)
+pub fn wake<A: Allocator + Copy>(
+    clients: &mut Clients<Caller, A>,
+    c: ClientId,
+    at: u64,
+    cause: Cause,
+)
     requires { has_client clients.old c ≡ true }
     ensures { (v : Caller) → client_value clients.old c ≡ Some v
         → WritesCaller clients.old clients.new c (moved_at at cause v) }
 {
-    if let Some(row) = clients.at_mut(c) {
+    if let Some(row) = clients.at_mut(c.0) {
         move_open(row, at, cause);
     }
 }
@@ -42,7 +47,7 @@ fn is_waiting(caller: &Caller, q: ObjectId) -> bool
     ensures { result ≡ has_open (still_waits_at q) caller.now }
 {
     match &caller.open {
-        Some(open) => { is_wait(open.call.role) && open.moved.is_none() && q.0 == open.call.object }
+        Some(open) => { is_wait(open.call.role) && open.moved.is_none() && q == open.call.object }
         None => false,
     }
 }
@@ -84,13 +89,24 @@ pub fn wake_waits<A: Allocator + Copy>(
     }
 }
 
+// Whether an open call is a wait that isn't moved and will come back to the mutex.
+// [XSH pthread_mutex_destroy]
+fn returns_to(open: &Open, m: ObjectId) -> bool
+    ensures { result ≡ returns_to_it m «open».now }
+{
+    match open.call.role {
+        Role::ForCond(mutex) => mutex == m && !is_moved(open),
+        _ => false,
+    }
+}
+
 /// Whether the open call in the row at an index is a wait that isn't moved and will come back to
 /// the mutex.  [XSH pthread_mutex_destroy]
 fn returns_from<A: Allocator + Copy>(clients: &Clients<Caller, A>, m: ObjectId, i: usize) -> bool
     ensures { result ≡ passes (returns_to_it m) (open_in (nth_value clients.now i)) }
 {
     match open_at(clients, i) {
-        Some(open) => matches!(open.call.role, Role::ForCond(k) if k == m.0) && !is_moved(&open),
+        Some(open) => returns_to(&open, m),
         None => false,
     }
 }

@@ -22,7 +22,7 @@ use crate::objects::Object;
 use crate::owned::{hold, let_go};
 use pt_mutex::MutexObj;
 use pt_table::{Clients, Objects};
-use pt_types::{ClientId, Consistency, How, Verdict};
+use pt_types::{ClientId, Consistency, How, ObjectId, Verdict};
 use std::alloc::Allocator;
 
 /// Whether an object is a robust mutex with an owner.
@@ -65,7 +65,7 @@ pub fn may_lock(mutex: &MutexObj) -> bool
 }
 
 // The mutex counts one lock more of the client.  [XSH pthread_mutex_lock]
-fn lock<A: Allocator + Copy>(objects: &mut Objects<Object<A>, A>, m: u64, c: ClientId)
+fn lock<A: Allocator + Copy>(objects: &mut Objects<Object<A>, A>, m: ObjectId, c: ClientId)
     requires there { IsSome (mutex_in (object_value objects.old m)) }
     requires may { (x : MutexState) → object_value objects.old m ≡ Some (Mutex x)
         → IsTrue (can_acquire x.seen c) }
@@ -74,7 +74,7 @@ fn lock<A: Allocator + Copy>(objects: &mut Objects<Object<A>, A>, m: u64, c: Cli
     ensures chains { (x : MutexState) → object_value objects.old m ≡ Some (Mutex x)
         → KeepsChains objects.old objects.new }
 {
-    if let Some(object) = objects.at_mut(m) {
+    if let Some(object) = objects.at_mut(m.0) {
         if let Object::Mutex(mutex) = object {
             mutex.acquire(c);
         }
@@ -82,7 +82,7 @@ fn lock<A: Allocator + Copy>(objects: &mut Objects<Object<A>, A>, m: u64, c: Cli
 }
 
 // The mutex counts one lock less of the client.  [XSH pthread_mutex_unlock]
-fn unlock<A: Allocator + Copy>(objects: &mut Objects<Object<A>, A>, m: u64, c: ClientId)
+fn unlock<A: Allocator + Copy>(objects: &mut Objects<Object<A>, A>, m: ObjectId, c: ClientId)
     requires there { IsSome (mutex_in (object_value objects.old m)) }
     requires owned { (x : MutexState) → object_value objects.old m ≡ Some (Mutex x)
         → IsTrue (owns x.seen c) }
@@ -91,7 +91,7 @@ fn unlock<A: Allocator + Copy>(objects: &mut Objects<Object<A>, A>, m: u64, c: C
     ensures chains { (x : MutexState) → object_value objects.old m ≡ Some (Mutex x)
         → KeepsChains objects.old objects.new }
 {
-    if let Some(object) = objects.at_mut(m) {
+    if let Some(object) = objects.at_mut(m.0) {
         if let Object::Mutex(mutex) = object {
             mutex.release(c);
         }
@@ -99,14 +99,14 @@ fn unlock<A: Allocator + Copy>(objects: &mut Objects<Object<A>, A>, m: u64, c: C
 }
 
 // The mutex has no owner any more.  [XSH pthread_mutex_lock, EOWNERDEAD]
-fn free<A: Allocator + Copy>(objects: &mut Objects<Object<A>, A>, m: u64)
+fn free<A: Allocator + Copy>(objects: &mut Objects<Object<A>, A>, m: ObjectId)
     requires { IsSome (mutex_in (object_value objects.old m)) }
     ensures mutex { (x : MutexState) → object_value objects.old m ≡ Some (Mutex x)
         → WritesObject objects.old objects.new m (Mutex (record x { seen = yielded x.seen })) }
     ensures chains { (x : MutexState) → object_value objects.old m ≡ Some (Mutex x)
         → KeepsChains objects.old objects.new }
 {
-    if let Some(object) = objects.at_mut(m) {
+    if let Some(object) = objects.at_mut(m.0) {
         if let Object::Mutex(mutex) = object {
             mutex.yield_dead();
         }
@@ -117,7 +117,7 @@ fn free<A: Allocator + Copy>(objects: &mut Objects<Object<A>, A>, m: u64)
 pub fn acquire<A: Allocator + Copy>(
     clients: &mut Clients<Caller, A>,
     objects: &mut Objects<Object<A>, A>,
-    m: u64,
+    m: ObjectId,
     c: ClientId,
 )
     requires there { IsSome (mutex_in (object_value objects.old m)) }
@@ -140,7 +140,7 @@ pub fn acquire<A: Allocator + Copy>(
 pub fn release<A: Allocator + Copy>(
     clients: &mut Clients<Caller, A>,
     objects: &mut Objects<Object<A>, A>,
-    m: u64,
+    m: ObjectId,
     c: ClientId,
 )
     requires there { IsSome (mutex_in (object_value objects.old m)) }
@@ -159,14 +159,14 @@ pub fn release<A: Allocator + Copy>(
 }
 
 /// What the mutex guards is in order again.  [XSH pthread_mutex_consistent]
-pub fn restore<A: Allocator + Copy>(objects: &mut Objects<Object<A>, A>, m: u64)
+pub fn restore<A: Allocator + Copy>(objects: &mut Objects<Object<A>, A>, m: ObjectId)
     requires { IsSome (mutex_in (object_value objects.old m)) }
     ensures mutex { (x : MutexState) → object_value objects.old m ≡ Some (Mutex x)
         → WritesObject objects.old objects.new m (Mutex (record x { seen = restored x.seen })) }
     ensures chains { (x : MutexState) → object_value objects.old m ≡ Some (Mutex x)
         → KeepsChains objects.old objects.new }
 {
-    if let Some(object) = objects.at_mut(m) {
+    if let Some(object) = objects.at_mut(m.0) {
         if let Object::Mutex(mutex) = object {
             mutex.mark_consistent();
         }
@@ -175,7 +175,10 @@ pub fn restore<A: Allocator + Copy>(objects: &mut Objects<Object<A>, A>, m: u64)
 
 /// The mutex is taken from its dead owner. It is the head of the chain of the robust mutexes whose
 /// owner is dead, and the head that is left is returned.  [XSH pthread_mutex_lock, EOWNERDEAD]
-pub fn yield_dead<A: Allocator + Copy>(objects: &mut Objects<Object<A>, A>, m: u64) -> Option<u64>
+pub fn yield_dead<A: Allocator + Copy>(
+    objects: &mut Objects<Object<A>, A>,
+    m: ObjectId,
+) -> Option<u64>
     requires there { IsSome (mutex_in (object_value objects.old m)) }
     requires chained { (clients : List (ClientRow Caller))
         × AreChained clients objects.old (Some m) }
@@ -184,7 +187,7 @@ pub fn yield_dead<A: Allocator + Copy>(objects: &mut Objects<Object<A>, A>, m: u
     ensures chained { (clients : List (ClientRow Caller)) → AreChained clients objects.old (Some m)
         → AreChained clients objects.new result }
 {
-    let head = objects.unlink(m, m);
+    let head = objects.unlink(m.0, m.0);
     free(objects, m);
     head
 }

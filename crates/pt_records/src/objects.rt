@@ -15,7 +15,7 @@ use pt_mutex::MutexObj;
 use pt_rwlock::RwObj;
 use pt_table::Objects;
 use pt_types::operations::ObjectClass;
-use pt_types::{Name, ObjectKind, Refusal};
+use pt_types::{Name, ObjectId, ObjectKind, Refusal};
 use std::alloc::{Allocator, Global};
 
 /// The class of an object.  [XSH 2.9]
@@ -55,7 +55,7 @@ pub fn make<A: Allocator + Copy>(kind: ObjectKind, alloc: A) -> Object<A>
 /// A new object gets its row. ENOMEM if there is no memory for it.
 pub fn add<A: Allocator + Copy>(
     objects: &mut Objects<Object<A>, A>,
-    o: u64,
+    o: ObjectId,
     name: Name,
     object: Object<A>,
 ) -> Result<(), Refusal>
@@ -66,16 +66,16 @@ pub fn add<A: Allocator + Copy>(
     ensures err { OnErr result (objects.new ≡ objects.old) }
     ensures reason { IfErr result (λ refusal. refusal ≡ Refusal.Enomem) }
 {
-    match objects.add(o, name, object) {
+    match objects.add(o.0, name, object) {
         Ok(()) => Ok(()),
         Err(_) => Err(Refusal::Enomem),
     }
 }
 
 /// The object's row is taken out, and its name is free.
-pub fn remove<A: Allocator + Copy>(objects: &mut Objects<Object<A>, A>, o: u64)
+pub fn remove<A: Allocator + Copy>(objects: &mut Objects<Object<A>, A>, o: ObjectId)
     requires { has_object objects.old o ≡ true }
     ensures { RemovesObject objects.old objects.new o }
 {
-    let _ = objects.remove(o);
+    let _ = objects.remove(o.0);
 }

@@ -19,24 +19,24 @@ ghost use Rattle.pt_types.specs.MutexTable.{owns};
 use crate::clients::Caller;
 use crate::objects::Object;
 use pt_table::{Clients, Objects};
-use pt_types::ClientId;
+use pt_types::{ClientId, ObjectId};
 use std::alloc::Allocator;
 
 // Whether an object is a robust mutex that nobody owns.
-fn is_robust_free<A: Allocator + Copy>(objects: &Objects<Object<A>, A>, m: u64) -> bool
+fn is_robust_free<A: Allocator + Copy>(objects: &Objects<Object<A>, A>, m: ObjectId) -> bool
     ensures { result ≡ passes is_robust_free_it (object_value objects.now m) }
 {
-    match objects.at(m) {
+    match objects.at(m.0) {
         Some(Object::Mutex(mutex)) => mutex.is_robust() && mutex.owner().is_none(),
         _ => false,
     }
 }
 
 // Whether an object is a robust mutex that its owner has locked once.
-fn is_locked_once<A: Allocator + Copy>(objects: &Objects<Object<A>, A>, m: u64) -> bool
+fn is_locked_once<A: Allocator + Copy>(objects: &Objects<Object<A>, A>, m: ObjectId) -> bool
     ensures { result ≡ passes is_locked_once_it (object_value objects.now m) }
 {
-    match objects.at(m) {
+    match objects.at(m.0) {
         Some(Object::Mutex(mutex)) => mutex.is_robust() && !(1 < mutex.count()),
         _ => false,
     }
@@ -46,7 +46,7 @@ fn is_locked_once<A: Allocator + Copy>(objects: &Objects<Object<A>, A>, m: u64) 
 fn own<A: Allocator + Copy>(
     clients: &mut Clients<Caller, A>,
     objects: &mut Objects<Object<A>, A>,
-    m: u64,
+    m: ObjectId,
     c: ClientId,
 )
     requires there { has_object objects.old m ≡ true }
@@ -61,7 +61,7 @@ fn own<A: Allocator + Copy>(
     ensures clients { Once clients.old → unowned clients.new ≡ unowned clients.old }
 {
     if let Some(row) = clients.at_mut(c.0) {
-        row.owned = Some(objects.link(row.owned, m));
+        row.owned = Some(objects.link(row.owned, m.0));
     }
 }
 
@@ -69,7 +69,7 @@ fn own<A: Allocator + Copy>(
 fn disown<A: Allocator + Copy>(
     clients: &mut Clients<Caller, A>,
     objects: &mut Objects<Object<A>, A>,
-    m: u64,
+    m: ObjectId,
     c: ClientId,
 )
     requires client { has_client clients.old c ≡ true }
@@ -83,7 +83,7 @@ fn disown<A: Allocator + Copy>(
 {
     if let Some(row) = clients.at_mut(c.0) {
         if let Some(head) = row.owned {
-            row.owned = objects.unlink(head, m);
+            row.owned = objects.unlink(head, m.0);
         }
     }
 }
@@ -93,7 +93,7 @@ fn disown<A: Allocator + Copy>(
 pub(crate) fn hold<A: Allocator + Copy>(
     clients: &mut Clients<Caller, A>,
     objects: &mut Objects<Object<A>, A>,
-    m: u64,
+    m: ObjectId,
     c: ClientId,
 )
     requires client { has_client clients.old c ≡ true }
@@ -111,7 +111,7 @@ pub(crate) fn hold<A: Allocator + Copy>(
 pub(crate) fn let_go<A: Allocator + Copy>(
     clients: &mut Clients<Caller, A>,
     objects: &mut Objects<Object<A>, A>,
-    m: u64,
+    m: ObjectId,
     c: ClientId,
 )
     requires there { IsSome (mutex_in (object_value objects.old m)) }

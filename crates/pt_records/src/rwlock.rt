@@ -20,7 +20,7 @@ use crate::clients::Caller;
 use crate::objects::Object;
 use pt_rwlock::RwObj;
 use pt_table::{Clients, Objects};
-use pt_types::{ClientId, Refusal};
+use pt_types::{ClientId, ObjectId, Refusal};
 use std::alloc::Allocator;
 
 /// Whether a client may read, with writers ahead or none.  [XSH pthread_rwlock_rdlock]
@@ -33,7 +33,7 @@ pub fn may_read<A: Allocator + Copy>(lock: &RwObj<A>, c: ClientId, blocked: bool
 /// The client has its row in the lock. ENOMEM if there is no memory for a new one.
 pub fn make_row<A: Allocator + Copy>(
     objects: &mut Objects<Object<A>, A>,
-    r: u64,
+    r: ObjectId,
     c: ClientId,
 ) -> Result<(), Refusal>
     requires { IsSome (rwlock_in (object_value objects.old r)) }
@@ -49,7 +49,7 @@ pub fn make_row<A: Allocator + Copy>(
         → KeepsChains objects.old objects.new }
     ensures reason { IfErr result (λ refusal. refusal ≡ Refusal.Enomem) }
 {
-    if let Some(object) = objects.at_mut(r) {
+    if let Some(object) = objects.at_mut(r.0) {
         if let Object::Rwlock(lock) = object {
             lock.make_row(c)?;
         }
@@ -58,7 +58,11 @@ pub fn make_row<A: Allocator + Copy>(
 }
 
 /// The client has one read lock more.  [XSH pthread_rwlock_rdlock]
-pub fn acquire_read<A: Allocator + Copy>(objects: &mut Objects<Object<A>, A>, r: u64, c: ClientId)
+pub fn acquire_read<A: Allocator + Copy>(
+    objects: &mut Objects<Object<A>, A>,
+    r: ObjectId,
+    c: ClientId,
+)
     requires there { IsSome (rwlock_in (object_value objects.old r)) }
     requires may { (x : RwlockState) → object_value objects.old r ≡ Some (Rwlock x)
         → IsTrue (can_acquire_read x c) }
@@ -69,7 +73,7 @@ pub fn acquire_read<A: Allocator + Copy>(objects: &mut Objects<Object<A>, A>, r:
     ensures row { (x : RwlockState) → object_value objects.old r ≡ Some (Rwlock x)
         → ChangesRow x (with_reads x c (reads_of x c + 1)) c (Some (reads_of x c + 1)) }
 {
-    if let Some(object) = objects.at_mut(r) {
+    if let Some(object) = objects.at_mut(r.0) {
         if let Object::Rwlock(lock) = object {
             lock.acquire_read(c);
         }
@@ -77,7 +81,11 @@ pub fn acquire_read<A: Allocator + Copy>(objects: &mut Objects<Object<A>, A>, r:
 }
 
 /// The client has the write lock.  [XSH pthread_rwlock_wrlock]
-pub fn acquire_write<A: Allocator + Copy>(objects: &mut Objects<Object<A>, A>, r: u64, c: ClientId)
+pub fn acquire_write<A: Allocator + Copy>(
+    objects: &mut Objects<Object<A>, A>,
+    r: ObjectId,
+    c: ClientId,
+)
     requires there { IsSome (rwlock_in (object_value objects.old r)) }
     requires free { (x : RwlockState) → object_value objects.old r ≡ Some (Rwlock x)
         → IsTrue (nobody_holds x) }
@@ -86,7 +94,7 @@ pub fn acquire_write<A: Allocator + Copy>(objects: &mut Objects<Object<A>, A>, r
     ensures chains { (x : RwlockState) → object_value objects.old r ≡ Some (Rwlock x)
         → KeepsChains objects.old objects.new }
 {
-    if let Some(object) = objects.at_mut(r) {
+    if let Some(object) = objects.at_mut(r.0) {
         if let Object::Rwlock(lock) = object {
             lock.acquire_write(c);
         }
@@ -94,7 +102,11 @@ pub fn acquire_write<A: Allocator + Copy>(objects: &mut Objects<Object<A>, A>, r
 }
 
 /// The client gives back the write lock, or one read lock.  [XSH pthread_rwlock_unlock]
-pub fn release_lock<A: Allocator + Copy>(objects: &mut Objects<Object<A>, A>, r: u64, c: ClientId)
+pub fn release_lock<A: Allocator + Copy>(
+    objects: &mut Objects<Object<A>, A>,
+    r: ObjectId,
+    c: ClientId,
+)
     requires there { IsSome (rwlock_in (object_value objects.old r)) }
     requires held { (x : RwlockState) → object_value objects.old r ≡ Some (Rwlock x)
         → IsTrue (holds (seen_by x c)) }
@@ -106,7 +118,7 @@ pub fn release_lock<A: Allocator + Copy>(objects: &mut Objects<Object<A>, A>, r:
         → is_number x.writer c ≡ false
         → ChangesRow x (released_lock x c) c (Some (reads_of x c - 1)) }
 {
-    if let Some(object) = objects.at_mut(r) {
+    if let Some(object) = objects.at_mut(r.0) {
         if let Object::Rwlock(lock) = object {
             lock.release(c);
         }

@@ -53,7 +53,7 @@ pub fn is_open(entries: &[Entry], entry: &Entry, w: &WaitingCall) -> bool
         ≡ is_open_by (history entries.now ▷ entry.now)
         (outcome_in (history entries.now ▷ entry.now)) w.now }
 {
-    is_alive(entries, entry, ClientId(w.client)) && answer(entries, entry, w.place).is_none()
+    is_alive(entries, entry, w.client) && answer(entries, entry, w.place).is_none()
 }
 
 /// The call at a place, if it is open after one more entry.

@@ -61,10 +61,16 @@ pub fn better_served(
         ≡ best_of (is_served_before_in (history entries.now)) w
         best }
 {
-    match (w, best) {
-        (Some(w), Some(v)) if !is_served_before(entries, &v, &w) => Some(w),
-        (Some(w), None) => Some(w),
-        _ => best,
+    let Some(w) = w else {
+        return best;
+    };
+    let Some(v) = best else {
+        return Some(w);
+    };
+    if is_served_before(entries, &v, &w) {
+        Some(v)
+    } else {
+        Some(w)
     }
 }
 
@@ -88,7 +94,7 @@ pub fn service(entries: &[Entry], w: &WaitingCall) -> Entry
     ensures { result ≡ service_in (history entries.now) w.now }
 {
     if is_arrival(w.role) {
-        Entry::Trip(ObjectId(w.object))
+        Entry::Trip(w.object)
     } else {
         Entry::Grant(w.place, grant_outcome(entries, w))
     }
@@ -162,10 +168,16 @@ pub fn sooner(w: Option<WaitingCall>, best: Option<WaitingCall>) -> Option<Waiti
     ensures { result
         ≡ best_of expires_before_it w best }
 {
-    match (w, best) {
-        (Some(w), Some(v)) if !expires_before(&v, &w) => Some(w),
-        (Some(w), None) => Some(w),
-        _ => best,
+    let Some(w) = w else {
+        return best;
+    };
+    let Some(v) = best else {
+        return Some(w);
+    };
+    if expires_before(&v, &w) {
+        Some(v)
+    } else {
+        Some(w)
     }
 }
 

@@ -20,7 +20,7 @@ use pt_readings::mutexes::{consistency, mutex_view};
 use pt_readings::objects::{barrier_count, kind_of};
 use pt_readings::rwlocks::rwlock_view;
 use pt_types::tables::{is_lost, lock_outcome, may_read, may_relock, may_write};
-use pt_types::{ClientId, ObjectId, Outcome};
+use pt_types::{ObjectId, Outcome};
 
 /// Whether the open call at a place waits at the lock as a writer of this priority or a higher
 /// one.  [XSH pthread_rwlock_rdlock]
@@ -61,12 +61,11 @@ pub fn may_lock(entries: &[Entry], m: ObjectId, w: &WaitingCall) -> bool
 pub fn is_grantable(entries: &[Entry], w: &WaitingCall) -> bool
     ensures { result ≡ is_grantable_in (history entries.now) w.now }
 {
-    let o = ObjectId(w.object);
-    let c = ClientId(w.client);
+    let o = w.object;
+    let c = w.client;
     match w.role {
         Role::ForMutex => may_lock(entries, o, w),
         Role::ForCond(m) => {
-            let m = ObjectId(m);
             is_moved(entries, w)
                 && (may_lock(entries, m, w) || may_relock(&mutex_view(entries, m), c))
         }
@@ -100,7 +99,7 @@ pub fn arrivals(entries: &[Entry], b: ObjectId) -> u64
 pub fn is_complete(entries: &[Entry], w: &WaitingCall) -> bool
     ensures { result ≡ is_complete_in (history entries.now) w.now }
 {
-    let b = ObjectId(w.object);
+    let b = w.object;
     is_arrival(w.role) && arrivals(entries, b) == barrier_count(kind_of(entries, b))
 }
 
@@ -116,8 +115,8 @@ pub fn grant_outcome(entries: &[Entry], w: &WaitingCall) -> Outcome
     ensures { result ≡ grant_outcome_in (history entries.now) w.now }
 {
     match w.role {
-        Role::ForMutex => mutex_outcome(entries, w, ObjectId(w.object)),
-        Role::ForCond(m) => mutex_outcome(entries, w, ObjectId(m)),
+        Role::ForMutex => mutex_outcome(entries, w, w.object),
+        Role::ForCond(m) => mutex_outcome(entries, w, m),
         _ => Outcome::Done,
     }
 }

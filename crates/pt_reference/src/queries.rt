@@ -24,8 +24,7 @@ use pt_types::{ClientId, Clock, Outcome};
 /// An answer: who gets it, to the call at which place, and what it says.
 #[derive(Clone, Copy, Debug, PartialEq, Eq)]
 pub struct Told {
-    /// The number of the client.
-    pub client: u64,
+    pub client: ClientId,
     /// The place of the call.
     pub place: u64,
     pub outcome: Outcome,
@@ -83,7 +82,7 @@ pub fn latest(entries: &[Entry], c: ClientId) -> Option<u64>
 }
 
 /// The answer to a client's call at this place, if it has one.
-pub fn told_if(client: u64, place: u64, outcome: Option<Outcome>) -> Option<Told>
+pub fn told_if(client: ClientId, place: u64, outcome: Option<Outcome>) -> Option<Told>
     ensures { option_map shown_told result ≡ told_meant client place outcome }
 {
     match outcome {
@@ -104,27 +103,27 @@ pub fn answer_of(entries: &[Entry], c: ClientId) -> Option<Told>
         return None;
     }
     match latest(entries, c) {
-        Some(place) => told_if(c.0, place, outcome(entries, place)),
+        Some(place) => told_if(c, place, outcome(entries, place)),
         None => None,
     }
 }
 
 /// The client of the call that came without a reply at a place; 0 if there is none.
-pub fn client_at(entries: &[Entry], j: u64) -> u64
+pub fn client_at(entries: &[Entry], j: u64) -> ClientId
     ensures { result ≡ client_if (at_place j (stood (history entries.now))) }
 {
     match waiting_call_at(entries, j) {
         Some(w) => w.client,
-        None => 0,
+        None => ClientId(0),
     }
 }
 
 /// Who gets the answer to the call at a place that an entry after these gives.
-pub fn told_client(entries: &[Entry], entry: &Entry, j: u64) -> u64
+pub fn told_client(entries: &[Entry], entry: &Entry, j: u64) -> ClientId
     ensures { result ≡ client_told (history entries.now) entry.now j }
 {
     match entry {
-        Entry::Call(c, _, _) => c.0,
+        Entry::Call(c, _, _) => *c,
         _ => client_at(entries, j),
     }
 }

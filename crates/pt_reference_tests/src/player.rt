@@ -37,7 +37,7 @@ fn write_told(
     place: u64,
 ) -> Result<(), AllocError> {
     if let Some(told) = told_at(before, entry, place) {
-        let (client, word) = (told.client, told.outcome.word());
+        let (client, word) = (told.client.0, told.outcome.word());
         write!(text, ", {client} {place} {word}")?;
     }
     Ok(())

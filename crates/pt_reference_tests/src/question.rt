@@ -39,7 +39,7 @@ fn write_answer_of(
 ) -> Result<(), AllocError> {
     match answer_of(entries, client) {
         Some(told) => {
-            let (client, place, word) = (told.client, told.place, told.outcome.word());
+            let (client, place, word) = (told.client.0, told.place, told.outcome.word());
             writeln!(text, "{client} {place} {word}")
         }
         None => writeln!(text, "none"),

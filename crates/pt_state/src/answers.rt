@@ -27,7 +27,7 @@ impl<A: Allocator + Copy> State<A> {
         let call = found.call;
         let at = self.stored.len();
         close(&mut self.clients, call.client, outcome);
-        let client = ClientId(call.client);
+        let client = call.client;
         let place = call.place;
         tell(
             &mut self.answers,

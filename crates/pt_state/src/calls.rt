@@ -75,15 +75,14 @@ impl<A: Allocator + Copy> State<A> {
         ensures { Adds self.old (entry.Call c call.now (Some outcome)) self.new }
     {
         let place = self.stored.len();
-        note_call(&mut self.clients, c.0, place, outcome);
+        note_call(&mut self.clients, c, place, outcome);
         self.answers.push_reserved(Answered {
             at: place,
             client: c,
             place,
             outcome,
         });
-        self.stored
-            .push(Entry::Call(c, call.copied(), Some(outcome)));
+        self.stored.push_call(c, call, Some(outcome));
     }
 
     /// A client's call that is entered now.
@@ -102,9 +101,9 @@ impl<A: Allocator + Copy> State<A> {
     {
         let call = WaitingCall {
             place: self.stored.len(),
-            client: c.0,
+            client: c,
             priority: self.priority_of(c),
-            object: object.0,
+            object,
             role,
             clock,
             deadline: match deadline {
@@ -121,8 +120,8 @@ impl<A: Allocator + Copy> State<A> {
         ensures { Adds self.old (entry.Call c call.now None) self.new }
     {
         let place = self.stored.len();
-        stand(&mut self.clients, c.0, open, place);
-        self.stored.push(Entry::Call(c, call.copied(), None));
+        stand(&mut self.clients, c, open, place);
+        self.stored.push_call(c, call, None);
     }
 
     /// A call that changes no object as it begins to wait.
@@ -157,7 +156,7 @@ impl<A: Allocator + Copy> State<A> {
         let role = role_needed(lock_kind);
         let open = self.entered(c, or_zero(object), role, clock_of(call), deadline_of(how));
         match lock_kind {
-            LockKind::ReadLock => self.push_reading(c, call, open),
+            LockKind::ReadLock => self.push_reading(c, call, &open),
             LockKind::MutexLock | LockKind::WriteLock => {
                 self.push_waiting(c, call, open);
                 Ok(())

@@ -136,7 +136,7 @@ impl<A: Allocator + Copy> State<A> {
             answer: None,
             owned: None,
         };
-        admit(&mut self.clients, place, caller)?;
+        admit(&mut self.clients, ClientId(place), caller)?;
         self.stored.push(Entry::Join(ClientId(place), priority));
         Ok(())
     }
@@ -148,7 +148,7 @@ impl<A: Allocator + Copy> State<A> {
         ensures { Adds self.old (entry.Death c) self.new }
     {
         self.orphans = orphans_of(&self.clients, &mut self.objects, c);
-        dismiss(&mut self.clients, c.0);
+        dismiss(&mut self.clients, c);
         self.stored.push(Entry::Death(c));
     }
 }

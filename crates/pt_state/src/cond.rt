@@ -65,7 +65,7 @@ impl<A: Allocator + Copy> State<A> {
         requires role { «open».call.role ≡ ForCond m }
         ensures { Adds self.old (entry.Call c call.now None) self.new }
     {
-        release(&mut self.clients, &mut self.objects, m.0, c);
+        release(&mut self.clients, &mut self.objects, m, c);
         self.leave(c, call, open);
     }
 
@@ -86,7 +86,7 @@ impl<A: Allocator + Copy> State<A> {
         ensures { Adds self.old (entry.Call c call.now None) self.new }
     {
         let mutex = or_zero(request.mutex);
-        let role = Role::ForCond(mutex.0);
+        let role = Role::ForCond(mutex);
         let open = self.entered(c, or_zero(request.object), role, clock_of(call), deadline);
         self.push_wait(c, call, mutex, open);
     }

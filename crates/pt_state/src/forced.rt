@@ -68,8 +68,8 @@ impl<A: Allocator + Copy> State<A> {
         ensures { Adds self.old (service (past self.old) (called found.now)) self.new }
     {
         match found.call.role {
-            Role::ForMutex => self.push_grant_mutex(found, ObjectId(found.call.object)),
-            Role::ForCond(m) => self.push_grant_mutex(found, ObjectId(m)),
+            Role::ForMutex => self.push_grant_mutex(found, found.call.object),
+            Role::ForCond(m) => self.push_grant_mutex(found, m),
             Role::ForRead => self.push_grant_read(found),
             Role::ForWrite => self.push_grant_write(found),
             Role::ForBarrier => unreachable!(),
@@ -81,8 +81,8 @@ impl<A: Allocator + Copy> State<A> {
         ensures { result ≡ outcome_by_role_in self.now.objects «open».now }
     {
         match open.call.role {
-            Role::ForMutex => self.told_at(ObjectId(open.call.object), open.moved),
-            Role::ForCond(m) => self.told_at(ObjectId(m), open.moved),
+            Role::ForMutex => self.told_at(open.call.object, open.moved),
+            Role::ForCond(m) => self.told_at(m, open.moved),
             _ => Outcome::Done,
         }
     }

@@ -67,7 +67,7 @@ impl<A: Allocator + Copy> State<A> {
         ensures { Adds self.old (entry.Call c call.now (Some told.Done)) self.new }
     {
         let m = object.unwrap();
-        acquire(&mut self.clients, &mut self.objects, m.0, c);
+        acquire(&mut self.clients, &mut self.objects, m, c);
         self.finish(c, call, Outcome::Done);
     }
 
@@ -79,7 +79,7 @@ impl<A: Allocator + Copy> State<A> {
         ensures { Adds self.old (entry.Call c call.now (Some told.Done)) self.new }
     {
         let m = object.unwrap();
-        release(&mut self.clients, &mut self.objects, m.0, c);
+        release(&mut self.clients, &mut self.objects, m, c);
         self.finish(c, call, Outcome::Done);
     }
 
@@ -91,7 +91,7 @@ impl<A: Allocator + Copy> State<A> {
         ensures { Adds self.old (entry.Call c call.now (Some told.Done)) self.new }
     {
         let m = object.unwrap();
-        restore(&mut self.objects, m.0);
+        restore(&mut self.objects, m);
         self.finish(c, call, Outcome::Done);
     }
 
@@ -112,7 +112,7 @@ impl<A: Allocator + Copy> State<A> {
         requires { IsReadyFor self.old (entry.Yield m) }
         ensures { Adds self.old (entry.Yield m) self.new }
     {
-        self.orphans = yield_dead(&mut self.objects, m.0);
+        self.orphans = yield_dead(&mut self.objects, m);
         self.stored.push(Entry::Yield(m));
     }
 
@@ -127,8 +127,8 @@ impl<A: Allocator + Copy> State<A> {
     {
         let outcome = self.grant_outcome(found);
         if is_acquired(outcome) {
-            let c = ClientId(found.call.client);
-            acquire(&mut self.clients, &mut self.objects, m.0, c);
+            let c = found.call.client;
+            acquire(&mut self.clients, &mut self.objects, m, c);
             self.grant(found, outcome);
         } else {
             self.grant(found, outcome);

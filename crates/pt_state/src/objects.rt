@@ -59,7 +59,12 @@ impl<A: Allocator + Copy> State<A> {
         ensures reason { IfErr result (λ refusal. refusal ≡ Refusal.Enomem) }
     {
         let place = self.stored.len();
-        match add(&mut self.objects, place, n.copied(), make(kind, self.alloc)) {
+        match add(
+            &mut self.objects,
+            ObjectId(place),
+            n.copied(),
+            make(kind, self.alloc),
+        ) {
             Ok(()) => {
                 self.finish(c, call, Outcome::Done);
                 Ok(())
@@ -83,7 +88,7 @@ impl<A: Allocator + Copy> State<A> {
         ensures { Adds self.old (entry.Call c call.now (Some told.Done)) self.new }
     {
         let o = object.unwrap();
-        remove(&mut self.objects, o.0);
+        remove(&mut self.objects, o);
         self.finish(c, call, Outcome::Done);
     }
 

@@ -52,7 +52,7 @@ impl<A: Allocator + Copy> State<A> {
         ensures { Adds self.old (entry.Call c call.now (Some told.Done)) self.new }
     {
         let r = object.unwrap();
-        release_lock(&mut self.objects, r.0, c);
+        release_lock(&mut self.objects, r, c);
         self.finish(c, call, Outcome::Done);
     }
 
@@ -66,7 +66,7 @@ impl<A: Allocator + Copy> State<A> {
             (grant_outcome_in (past self.old) (called found.now))) self.new }
     {
         let call = found.call;
-        acquire_read(&mut self.objects, call.object, ClientId(call.client));
+        acquire_read(&mut self.objects, call.object, call.client);
         self.grant(found, Outcome::Done);
     }
 
@@ -80,7 +80,7 @@ impl<A: Allocator + Copy> State<A> {
             (grant_outcome_in (past self.old) (called found.now))) self.new }
     {
         let call = found.call;
-        acquire_write(&mut self.objects, call.object, ClientId(call.client));
+        acquire_write(&mut self.objects, call.object, call.client);
         self.grant(found, Outcome::Done);
     }
 
@@ -153,16 +153,16 @@ impl<A: Allocator + Copy> State<A> {
 
     /// A call for a read lock: its client gets a row in the lock. ENOMEM if there is no memory
     /// for it.  [XSH pthread_rwlock_rdlock]
-    pub fn push_reading(&mut self, c: ClientId, call: &Call, open: Open) -> Result<(), Refusal>
+    pub fn push_reading(&mut self, c: ClientId, call: &Call, open: &Open) -> Result<(), Refusal>
         requires ready { IsReadyFor self.old (entry.Call c call.now None) }
-        requires left { IsLeft (past self.old) c call.now «open» }
-        requires role { «open».call.role ≡ ForRead }
+        requires left { IsLeft (past self.old) c call.now «open».now }
+        requires role { «open».now.call.role ≡ ForRead }
         ensures ok { OnOk result (Adds self.old (entry.Call c call.now None) self.new) }
         ensures err { OnErr result (Stays self.old self.new) }
         ensures refusal { IfErr result (λ r. r ≡ Refusal.Enomem) }
     {
         make_row(&mut self.objects, open.call.object, c)?;
-        self.leave(c, call, open);
+        self.leave(c, call, *open);
         Ok(())
     }
 }

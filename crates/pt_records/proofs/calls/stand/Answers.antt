@@ -4,8 +4,9 @@ use Rattle.pt_records.proofs.calls.stand.Goals as goal
 
 pub returns-in-Some : goal.returns-in-Some
 returns-in-Some g c =
-    writes-by (λ v. record v {
+    rw (← c.c.view_is)
+    (writes-by (λ v. record v {
       «open» = Some c.args.open;
       latest = Some c.args.place;
       answer = None;
-    }) c.args.clients.now c.args.c c.in-Some.row.now c.in-Some.ensures.value
+    }) c.args.clients.now c.c.inside.0 c.in-Some.row.now c.in-Some.ensures.value)

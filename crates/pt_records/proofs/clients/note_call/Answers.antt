@@ -5,5 +5,6 @@ use Rattle.pt_records.proofs.clients.note_call.Goals as goal
 
 pub returns-in-Some : goal.returns-in-Some
 returns-in-Some g c =
-    writes-by (called_at c.args.place (Some c.args.answer)) c.args.clients.now c.args.c
-    c.in-Some.row.now c.in-Some.ensures.value
+    rw (← c.c.view_is)
+    (writes-by (called_at c.args.place (Some c.args.answer)) c.args.clients.now c.c.inside.0
+    c.in-Some.row.now c.in-Some.ensures.value)

@@ -6,11 +6,12 @@ use Rattle.pt_records.proofs.mutex.restore.Goals as goal
 
 pub returns-in-Mutex-clause-mutex : goal.returns-in-Mutex-clause-mutex
 returns-in-Mutex-clause-mutex g c =
-    writes-mutex (λ x. record x { seen = restored x.seen }) c.args.objects.now c.args.m
+    rw (← c.m.view_is)
+    (writes-mutex (λ x. record x { seen = restored x.seen }) c.args.objects.now c.m.inside.0
     c.in-Some.object.now c.in-Mutex.mutex c.mark_consistent.new.self
     c.in-Some.ensures.value c.in-Mutex.is
-    c.mark_consistent.ensures
+    c.mark_consistent.ensures)
 
 pub returns-in-Mutex-clause-chains : goal.returns-in-Mutex-clause-chains
 returns-in-Mutex-clause-chains g c =
-    λ x e. keeps-written c.args.objects.now c.args.m (Mutex c.mark_consistent.new.self)
+    λ x e. keeps-written c.args.objects.now c.m.inside.0 (Mutex c.mark_consistent.new.self)

@@ -6,10 +6,11 @@ use Rattle.pt_records.proofs.mutex.unlock.Goals as goal
 
 pub returns-in-Mutex-clause-mutex : goal.returns-in-Mutex-clause-mutex
 returns-in-Mutex-clause-mutex g c =
-    writes-mutex (λ x. record x { seen = released x.seen }) c.args.objects.now c.args.m
+    rw (← c.m.view_is)
+    (writes-mutex (λ x. record x { seen = released x.seen }) c.args.objects.now c.m.inside.0
     c.in-Some.object.now c.in-Mutex.mutex c.release.new.self c.in-Some.ensures.value c.in-Mutex.is
-    c.release.ensures
+    c.release.ensures)
 
 pub returns-in-Mutex-clause-chains : goal.returns-in-Mutex-clause-chains
 returns-in-Mutex-clause-chains g c =
-    λ x e. keeps-written c.args.objects.now c.args.m (Mutex c.release.new.self)
+    λ x e. keeps-written c.args.objects.now c.m.inside.0 (Mutex c.release.new.self)

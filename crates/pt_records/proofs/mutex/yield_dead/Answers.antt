@@ -9,6 +9,7 @@ use Rattle.pt_records.proofs.mutex.yield_dead.Goals as goal
 
 pub unlink-head-requires : goal.unlink-head-requires
 unlink-head-requires g c =
+    rw c.m.view_is
     (head-orphan c.requires.chained.0 c.args.objects.now c.args.m c.requires.chained.1).0
 
 pub free-requires : goal.free-requires
@@ -32,10 +33,10 @@ returns-clause-chained g c =
     let there = same-value old mid c.unlink-head.ensures.rows c.args.m ∙ x.1 in
     λ clients a. freed-chained clients old mid c.free.new.objects c.args.m c.unlink-head.result
     x.0 a
-    (record {
+    (rw (← c.m.view_is) (record {
       chain = c.unlink-head.ensures.chain;
       others = c.unlink-head.ensures.others;
       linked = c.unlink-head.ensures.linked;
-    }) (c.free.ensures.chains x.0 there)
+    })) (c.free.ensures.chains x.0 there)
     (written-relinked old mid c.unlink-head.ensures.rows c.free.new.objects c.args.m
     (Mutex (record x.0 { seen = yielded x.0.seen })) (c.free.ensures.mutex x.0 there))

@@ -6,10 +6,11 @@ use Rattle.pt_records.proofs.rwlock.acquire_write.Goals as goal
 
 pub returns-in-Rwlock-clause-lock : goal.returns-in-Rwlock-clause-lock
 returns-in-Rwlock-clause-lock g c =
-    writes-lock (λ x. record x { writer = Some c.args.c }) c.args.objects.now c.args.r
+    rw (← c.r.view_is)
+    (writes-lock (λ x. record x { writer = Some c.args.c }) c.args.objects.now c.r.inside.0
     c.in-Some.object.now c.in-Rwlock.lock c.acquire_write.new.self c.in-Some.ensures.value
-    c.in-Rwlock.is c.acquire_write.ensures
+    c.in-Rwlock.is c.acquire_write.ensures)
 
 pub returns-in-Rwlock-clause-chains : goal.returns-in-Rwlock-clause-chains
 returns-in-Rwlock-clause-chains g c =
-    λ x e. keeps-written c.args.objects.now c.args.r (Rwlock c.acquire_write.new.self)
+    λ x e. keeps-written c.args.objects.now c.r.inside.0 (Rwlock c.acquire_write.new.self)

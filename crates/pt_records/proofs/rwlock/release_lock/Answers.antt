@@ -6,10 +6,11 @@ use Rattle.pt_records.proofs.rwlock.release_lock.Goals as goal
 
 pub returns-in-Rwlock-clause-lock : goal.returns-in-Rwlock-clause-lock
 returns-in-Rwlock-clause-lock g c =
-    writes-lock (λ x. released x c.args.c) c.args.objects.now c.args.r
+    rw (← c.r.view_is)
+    (writes-lock (λ x. released x c.args.c) c.args.objects.now c.r.inside.0
     c.in-Some.object.now c.in-Rwlock.lock c.release.new.self c.in-Some.ensures.value
-    c.in-Rwlock.is c.release.ensures.change
+    c.in-Rwlock.is c.release.ensures.change)
 
 pub returns-in-Rwlock-clause-chains : goal.returns-in-Rwlock-clause-chains
 returns-in-Rwlock-clause-chains g c =
-    λ x e. keeps-written c.args.objects.now c.args.r (Rwlock c.release.new.self)
+    λ x e. keeps-written c.args.objects.now c.r.inside.0 (Rwlock c.release.new.self)

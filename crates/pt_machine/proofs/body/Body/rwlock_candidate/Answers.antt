@@ -15,7 +15,7 @@ returns-in-Some-clause-value g c =
     (ap is_some (sym c.writer.ensures) ∙ (sym c.is_some.ensures ∙ c.if-is_some.false)))
     (sym c.is_free.ensures ∙ c.if-not-is_free.true) (called c.in-Some.first)
     (ap (option_map called) (sym c.in-Some.is) ∙ c.first_at.ensures.value)
-    (sym c.is_write.ensures ∙ c.if-is_write.true)
+    (sym c.is_writer.ensures ∙ c.if-is_writer.true)
 
 pub returns-in_default-clause-value : goal.returns-in_default-clause-value
 returns-in_default-clause-value g c =
