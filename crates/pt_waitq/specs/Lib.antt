@@ -6,6 +6,7 @@ pub mod Waits
 pub mod Members
 -- WaitLaws: what holds of all queues at once, with the lemmas that it needs below
 pub mod WaitLaws
+pub mod Links
 pub mod ListLemmas
 pub mod OrderLemmas
 pub mod QueueLemmas

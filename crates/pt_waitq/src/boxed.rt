@@ -8,13 +8,14 @@ ghost use Rattle.pt_waitq.specs.Chains.{side_of, HasNone, IsPut, IsTaken};
 ghost use Rattle.pt_waitq.specs.Chains.{IsFirst, IsFirstWriter, HasWriterFrom};
 ghost use Rattle.pt_waitq.specs.Highest.{IsBound, IsHighestChain};
 
+use crate::link::{Link, NodeIndex};
 use crate::sides::{self, Queue};
 use pt_lanes::highest;
 use pt_types::MOST_PRIORITY;
 use std::alloc::{AllocError, Allocator};
 use std::marker::Model;
 
-/// A queue on the heap, so that the map of queues moves a few words and not 4 kB.
+/// A queue on the heap, so that the map of queues moves a few words and not 2 kB.
 ///
 /// It also stores its highest chains, so that its first waiter is found without a search.
 #[derive(Drop)]
@@ -51,7 +52,7 @@ fn lowered(counts: &[u32; MOST_PRIORITY], before: Option<usize>) -> Option<usize
     ensures { IsHighestChain counts.now result }
 {
     match before {
-        Some(i) if counts[i] == 0 => highest(counts),
+        Some(i) if counts[i] == 0 => highest(&counts[..i]),
         _ => before,
     }
 }
@@ -82,7 +83,7 @@ impl<A: Allocator> BoxedQueue<A> {
     }
 
     /// Makes a node the tail of one of its chains, and returns the previous tail.
-    pub(crate) fn put_in(&mut self, writer: bool, p: usize, node: u32) -> Option<u32>
+    pub(crate) fn put_in(&mut self, writer: bool, p: usize, node: NodeIndex) -> Link
         requires index { p < most_priority }
         requires room { slice_index (side_of writer self.old).counts p + 1 < 2 ^ 32 }
         requires len { self.old.len + 1 < 2 ^ 64 }
@@ -97,13 +98,7 @@ impl<A: Allocator> BoxedQueue<A> {
     }
 
     /// Takes a node, which is between these two, out of one of its chains.
-    pub(crate) fn take_out(
-        &mut self,
-        writer: bool,
-        p: usize,
-        before: Option<u32>,
-        next: Option<u32>,
-    )
+    pub(crate) fn take_out(&mut self, writer: bool, p: usize, before: Link, next: Link)
         requires index { p < most_priority }
         requires stands { 1 ≤ slice_index (side_of writer self.old).counts p }
         requires len { 1 ≤ self.old.len }
@@ -119,22 +114,22 @@ impl<A: Allocator> BoxedQueue<A> {
 
     /// The first waiter's node: of the highest chain, writers first.
     /// [XSH pthread_rwlock_unlock, 2.8.4]
-    pub(crate) fn first(&self) -> Option<u32>
+    pub(crate) fn first(&self) -> Option<NodeIndex>
         ensures { IsFirst self.now result }
     {
         match (self.writer, self.reader) {
-            (Some(w), Some(r)) if w < r => self.queue.readers.heads[r],
-            (Some(w), _) => self.queue.writers.heads[w],
-            (None, Some(r)) => self.queue.readers.heads[r],
+            (Some(w), Some(r)) if w < r => self.queue.readers.heads[r].get(),
+            (Some(w), _) => self.queue.writers.heads[w].get(),
+            (None, Some(r)) => self.queue.readers.heads[r].get(),
             (None, None) => None,
         }
     }
 
     /// The first writer's node.  [XSH pthread_rwlock_unlock]
-    pub(crate) fn first_writer(&self) -> Option<u32>
+    pub(crate) fn first_writer(&self) -> Option<NodeIndex>
         ensures { IsFirstWriter self.now result }
     {
-        self.queue.writers.heads[self.writer?]
+        self.queue.writers.heads[self.writer?].get()
     }
 
     /// Whether there is a writer of the priority with this index or of a higher one.

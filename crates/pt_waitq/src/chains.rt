@@ -3,7 +3,9 @@ ghost use Rattle.std.specs.Prelude.{◌≡◌};
 ghost use Rattle.pt_waitq.specs.Waits.{no_waits};
 
 use crate::boxed::BoxedQueue;
-use crate::nodes::{self, Node, Rows};
+use crate::link::NodeIndex;
+use crate::nodes::{self, Node};
+use crate::rows::Rows;
 use crate::sides;
 use crate::spares::Spares;
 use crate::wait_list::WaitList;
@@ -20,7 +22,7 @@ use std::marker::Model;
 /// A queue counts its writers and its readers by priority.
 #[derive(Drop)]
 pub struct Chains<A: Allocator + Copy = Global> {
-    homes: Rows<u32, A>,
+    homes: Rows<NodeIndex, A>,
     nodes: Slab<Node, A>,
     queues: Rows<BoxedQueue<A>, A>,
     spares: Spares<A>,

@@ -12,38 +12,32 @@ ghost use Rattle.pt_waitq.specs.declared.waiter.Waiter.{Waiter};
 ghost use Rattle.pt_waitq.specs.Chains.{numbers, is_at, node_in, next_in, before_in, entry_in};
 ghost use Rattle.pt_waitq.specs.Chains.{home_of, entry_of};
 
+use crate::link::{Link, MOST_NODES, NodeIndex};
+use crate::rows::{Rows, row_of};
 use crate::waiter::Waiter;
-use indexmap::IndexMap;
 use slab::Slab;
 use std::alloc::{AllocError, Allocator};
-use std::hash::{BuildHasherDefault, FoldHasher};
-
-/// Rows by number.
-pub(crate) type Rows<T, A> = IndexMap<u64, T, BuildHasherDefault<FoldHasher>, A>;
-
-/// How many clients may have a node.
-const MOST_NODES: usize = 4294967295;
 
 /// A client's place in a chain, if it is in one.
 #[derive(Clone, Copy)]
 pub(crate) struct Node {
     pub(crate) entry: Option<(u64, Waiter)>,
-    pub(crate) next: Option<u32>,
-    pub(crate) before: Option<u32>,
+    pub(crate) next: Link,
+    pub(crate) before: Link,
 }
 
 /// A waiter in its chain: its node, its queue's number, and the nodes next to it.
 #[derive(Clone, Copy)]
 pub(crate) struct Place {
-    pub(crate) node: u32,
+    pub(crate) node: NodeIndex,
     pub(crate) object: u64,
     pub(crate) waiter: Waiter,
-    pub(crate) before: Option<u32>,
-    pub(crate) next: Option<u32>,
+    pub(crate) before: Link,
+    pub(crate) next: Link,
 }
 
 /// Lets a node lead to this one.
-pub(crate) fn set_next<A: Allocator + Copy>(nodes: &mut Slab<Node, A>, node: u32, next: Option<u32>)
+pub(crate) fn set_next<A: Allocator + Copy>(nodes: &mut Slab<Node, A>, node: NodeIndex, next: Link)
     requires { IsSome (node_in nodes.old.slots node) }
     ensures there { (n : ℕ)
         → is_some (node_in nodes.new.slots n) ≡ is_some (node_in nodes.old.slots n) }
@@ -52,14 +46,14 @@ pub(crate) fn set_next<A: Allocator + Copy>(nodes: &mut Slab<Node, A>, node: u32
     ensures before { (n : ℕ) → before_in nodes.new.slots n ≡ before_in nodes.old.slots n }
     ensures entry { (n : ℕ) → entry_in nodes.new.slots n ≡ entry_in nodes.old.slots n }
 {
-    nodes.get_mut(node as usize).unwrap().next = next;
+    nodes.get_mut(node.get()).unwrap().next = next;
 }
 
 /// Lets a node lead back to this one.
 pub(crate) fn set_before<A: Allocator + Copy>(
     nodes: &mut Slab<Node, A>,
-    node: u32,
-    before: Option<u32>,
+    node: NodeIndex,
+    before: Link,
 )
     requires { IsSome (node_in nodes.old.slots node) }
     ensures there { (n : ℕ)
@@ -70,11 +64,11 @@ pub(crate) fn set_before<A: Allocator + Copy>(
         ≡ (if node == n then before else before_in nodes.old.slots n) }
     ensures entry { (n : ℕ) → entry_in nodes.new.slots n ≡ entry_in nodes.old.slots n }
 {
-    nodes.get_mut(node as usize).unwrap().before = before;
+    nodes.get_mut(node.get()).unwrap().before = before;
 }
 
 /// Writes a node anew.
-pub(crate) fn set_node<A: Allocator + Copy>(nodes: &mut Slab<Node, A>, node: u32, value: Node)
+pub(crate) fn set_node<A: Allocator + Copy>(nodes: &mut Slab<Node, A>, node: NodeIndex, value: Node)
     requires { IsSome (node_in nodes.old.slots node) }
     ensures there { (n : ℕ)
         → is_some (node_in nodes.new.slots n) ≡ is_some (node_in nodes.old.slots n) }
@@ -88,26 +82,26 @@ pub(crate) fn set_node<A: Allocator + Copy>(nodes: &mut Slab<Node, A>, node: u32
         → entry_in nodes.new.slots n
         ≡ (if node == n then value.entry else entry_in nodes.old.slots n) }
 {
-    *nodes.get_mut(node as usize).unwrap() = value;
+    *nodes.get_mut(node.get()).unwrap() = value;
 }
 
 /// The waiter of a node that is in a chain.
 pub(crate) fn waiter_of<A: Allocator + Copy>(
     nodes: &Slab<Node, A>,
-    node: Option<u32>,
+    node: Option<NodeIndex>,
 ) -> Option<Waiter>
     ensures { result
         ≡ option_map (λ e. e.1) (option_and_then (λ n. entry_in nodes.now.slots n) node) }
 {
-    let (_, waiter) = nodes.get(node? as usize)?.entry?;
+    let (_, waiter) = nodes.get(node?.get())?.entry?;
     Some(waiter)
 }
 
 /// Puts a node after the last of its chain.
 pub(crate) fn insert<A: Allocator + Copy>(
     nodes: &mut Slab<Node, A>,
-    last: Option<u32>,
-    node: u32,
+    last: Link,
+    node: NodeIndex,
     entry: (u64, Waiter),
 )
     requires there { IsSome (node_in nodes.old.slots node) }
@@ -125,12 +119,12 @@ pub(crate) fn insert<A: Allocator + Copy>(
         → entry_in nodes.new.slots n
         ≡ (if node == n then Some entry else entry_in nodes.old.slots n) }
 {
-    if let Some(l) = last {
-        set_next(nodes, l, Some(node));
+    if let Some(l) = last.get() {
+        set_next(nodes, l, Link::to(node));
     }
     let value = Node {
         entry: Some(entry),
-        next: None,
+        next: Link::none(),
         before: last,
     };
     set_node(nodes, node, value);
@@ -139,9 +133,9 @@ pub(crate) fn insert<A: Allocator + Copy>(
 /// Takes a node out from between these two.
 pub(crate) fn remove<A: Allocator + Copy>(
     nodes: &mut Slab<Node, A>,
-    node: u32,
-    before: Option<u32>,
-    next: Option<u32>,
+    node: NodeIndex,
+    before: Link,
+    next: Link,
 )
     requires there { IsSome (node_in nodes.old.slots node) }
     requires before { IfSome before (λ n. IsSome (node_in nodes.old.slots n)) }
@@ -161,31 +155,31 @@ pub(crate) fn remove<A: Allocator + Copy>(
     ensures entry { (n : ℕ)
         → entry_in nodes.new.slots n ≡ (if node == n then None else entry_in nodes.old.slots n) }
 {
-    if let Some(n) = before {
+    if let Some(n) = before.get() {
         set_next(nodes, n, next);
     }
-    if let Some(n) = next {
+    if let Some(n) = next.get() {
         set_before(nodes, n, before);
     }
     let value = Node {
         entry: None,
-        next: None,
-        before: None,
+        next: Link::none(),
+        before: Link::none(),
     };
     set_node(nodes, node, value);
 }
 
 /// The index of a client's node, which it has.
-pub(crate) fn home_of<A: Allocator + Copy>(homes: &Rows<u32, A>, client: u64) -> u32
+pub(crate) fn home_of<A: Allocator + Copy>(homes: &Rows<NodeIndex, A>, client: u64) -> NodeIndex
     requires { IsSome (home_of homes.now.entries client) }
     ensures { home_of homes.now.entries client ≡ Some result }
 {
-    *homes.get(&client).unwrap()
+    *row_of(homes, client).unwrap()
 }
 
 /// Where a client waits, if it does.
 pub(crate) fn place_of<A: Allocator + Copy>(
-    homes: &Rows<u32, A>,
+    homes: &Rows<NodeIndex, A>,
     nodes: &Slab<Node, A>,
     client: u64,
 ) -> Option<Place>
@@ -194,8 +188,8 @@ pub(crate) fn place_of<A: Allocator + Copy>(
     ensures node { IfSome result (λ p. node_in nodes.now.slots p.node
         ≡ Some (record { entry = Some (p.object, p.waiter); next = p.next; before = p.before })) }
 {
-    let index = *homes.get(&client)?;
-    let node = *nodes.get(index as usize)?;
+    let index = *row_of(homes, client)?;
+    let node = *nodes.get(index.get())?;
     let (object, waiter) = node.entry?;
     Some(Place {
         node: index,
@@ -208,7 +202,7 @@ pub(crate) fn place_of<A: Allocator + Copy>(
 
 /// Makes room for one more node, if there are not too many.
 pub(crate) fn make_room<A: Allocator + Copy>(
-    homes: &mut Rows<u32, A>,
+    homes: &mut Rows<NodeIndex, A>,
     nodes: &mut Slab<Node, A>,
 ) -> Result<(), AllocError>
     ensures homes { homes.new.entries ≡ homes.old.entries }
@@ -216,7 +210,7 @@ pub(crate) fn make_room<A: Allocator + Copy>(
     ensures nodes { nodes.new.slots ≡ nodes.old.slots }
     ensures home_room { OnOk result (0 < spare homes.new) }
     ensures node_room { OnOk result (HasRoomFor nodes.new 1) }
-    ensures index { OnOk result (nodes.new.vacant_key < 2 ^ 32) }
+    ensures index { OnOk result (nodes.new.vacant_key < 2 ^ 32 - 1) }
 {
     if homes.len() >= MOST_NODES || nodes.vacant_key() >= MOST_NODES {
         return Err(AllocError);
@@ -227,14 +221,14 @@ pub(crate) fn make_room<A: Allocator + Copy>(
 
 /// Adds a node that is in no chain, and returns its index.
 pub(crate) fn admit<A: Allocator + Copy>(
-    homes: &mut Rows<u32, A>,
+    homes: &mut Rows<NodeIndex, A>,
     nodes: &mut Slab<Node, A>,
     client: u64,
-) -> u32
+) -> NodeIndex
     requires new { lookup (nat_eq client) homes.old.entries ≡ None }
     requires home_room { 0 < spare homes.old }
     requires node_room { HasRoomFor nodes.old 1 }
-    requires index { nodes.old.vacant_key < 2 ^ 32 }
+    requires index { nodes.old.vacant_key < 2 ^ 32 - 1 }
     ensures homes { homes.new.entries ≡ homes.old.entries ++ (client, result) ∷ [] }
     ensures vacant { node_in nodes.old.slots result ≡ None }
     ensures node { node_in nodes.new.slots result
@@ -245,17 +239,17 @@ pub(crate) fn admit<A: Allocator + Copy>(
 {
     let value = Node {
         entry: None,
-        next: None,
-        before: None,
+        next: Link::none(),
+        before: Link::none(),
     };
-    let node = nodes.insert_reserved(value) as u32;
+    let node = NodeIndex::new(nodes.insert_reserved(value));
     homes.insert(client, node).unwrap();
     node
 }
 
 /// Takes a client's node away.
 pub(crate) fn dismiss<A: Allocator + Copy>(
-    homes: &mut Rows<u32, A>,
+    homes: &mut Rows<NodeIndex, A>,
     nodes: &mut Slab<Node, A>,
     client: u64,
 )
@@ -268,6 +262,6 @@ pub(crate) fn dismiss<A: Allocator + Copy>(
     ensures len { length homes.new.entries ≤ length homes.old.entries }
 {
     if let Some(node) = homes.swap_remove(&client) {
-        nodes.try_remove(node as usize);
+        nodes.try_remove(node.get());
     }
 }

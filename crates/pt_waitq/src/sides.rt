@@ -12,7 +12,8 @@ ghost use Rattle.pt_waitq.specs.Chains.{numbers, side_of, IsPut, IsTaken, HasNon
 ghost use Rattle.pt_waitq.specs.Chains.{IsFirst, IsFirstWriter, HasWriterFrom};
 
 use crate::boxed::BoxedQueue;
-use crate::nodes::Rows;
+use crate::link::{Link, NodeIndex};
+use crate::rows::{Rows, row_of};
 use crate::spares::Spares;
 use pt_types::MOST_PRIORITY;
 use std::alloc::Allocator;
@@ -21,8 +22,8 @@ use std::alloc::Allocator;
 #[derive(Clone, Copy)]
 pub(crate) struct Side {
     pub(crate) counts: [u32; MOST_PRIORITY],
-    pub(crate) heads: [Option<u32>; MOST_PRIORITY],
-    pub(crate) tails: [Option<u32>; MOST_PRIORITY],
+    pub(crate) heads: [Link; MOST_PRIORITY],
+    pub(crate) tails: [Link; MOST_PRIORITY],
 }
 
 /// A queue's chains of both kinds.
@@ -39,15 +40,16 @@ pub(crate) fn no_side() -> Side
     ensures heads { (p : ℕ) → p < most_priority → slice_index_or result.heads p None ≡ None }
     ensures tails { (p : ℕ) → p < most_priority → slice_index_or result.tails p None ≡ None }
 {
+    let nowhere = Link::none();
     Side {
         counts: [0; MOST_PRIORITY],
-        heads: [None; MOST_PRIORITY],
-        tails: [None; MOST_PRIORITY],
+        heads: [nowhere; MOST_PRIORITY],
+        tails: [nowhere; MOST_PRIORITY],
     }
 }
 
 /// Makes this node the tail of a chain, and returns the tail before.
-pub(crate) fn add(side: &mut Side, p: usize, node: u32) -> Option<u32>
+pub(crate) fn add(side: &mut Side, p: usize, node: NodeIndex) -> Link
     requires index { p < most_priority }
     requires room { slice_index side.old.counts p + 1 < 2 ^ 32 }
     ensures last { result ≡ slice_index_or side.old.tails p None }
@@ -66,17 +68,18 @@ pub(crate) fn add(side: &mut Side, p: usize, node: u32) -> Option<u32>
         then Some node
         else slice_index_or side.old.heads i None) }
 {
+    let link = Link::to(node);
     let last = side.tails[p];
     if last.is_none() {
-        side.heads[p] = Some(node);
+        side.heads[p] = link;
     }
-    side.tails[p] = Some(node);
+    side.tails[p] = link;
     side.counts[p] += 1;
     last
 }
 
 /// Takes a node out of a chain, which was between these two.
-pub(crate) fn take(side: &mut Side, p: usize, before: Option<u32>, next: Option<u32>)
+pub(crate) fn take(side: &mut Side, p: usize, before: Link, next: Link)
     requires index { p < most_priority }
     requires stands { 1 ≤ slice_index side.old.counts p }
     ensures counts { (i : ℕ)
@@ -106,7 +109,7 @@ pub(crate) fn take(side: &mut Side, p: usize, before: Option<u32>, next: Option<
 }
 
 /// Makes a node the tail of one of a queue's chains, and returns the tail before.
-pub(crate) fn put_in(queue: &mut Queue, writer: bool, p: usize, node: u32) -> Option<u32>
+pub(crate) fn put_in(queue: &mut Queue, writer: bool, p: usize, node: NodeIndex) -> Link
     requires index { p < most_priority }
     requires room { slice_index (side_of writer queue.old).counts p + 1 < 2 ^ 32 }
     requires len { queue.old.len + 1 < 2 ^ 64 }
@@ -139,13 +142,7 @@ pub(crate) fn put_in(queue: &mut Queue, writer: bool, p: usize, node: u32) -> Op
 }
 
 /// Takes a node out of one of a queue's chains, which was between these two.
-pub(crate) fn take_out(
-    queue: &mut Queue,
-    writer: bool,
-    p: usize,
-    before: Option<u32>,
-    next: Option<u32>,
-)
+pub(crate) fn take_out(queue: &mut Queue, writer: bool, p: usize, before: Link, next: Link)
     requires index { p < most_priority }
     requires stands { 1 ≤ slice_index (side_of writer queue.old).counts p }
     requires len { 1 ≤ queue.old.len }
@@ -183,7 +180,7 @@ pub(crate) fn len_of<A: Allocator + Copy>(queues: &Rows<BoxedQueue<A>, A>, objec
     ensures { result
         ≡ unwrap_or (option_map (λ q. q.len) (lookup (nat_eq object) queues.now.entries)) 0 }
 {
-    match queues.get(&object) {
+    match row_of(queues, object) {
         Some(boxed) => boxed.len(),
         None => 0,
     }
@@ -195,8 +192,8 @@ pub(crate) fn insert<A: Allocator + Copy>(
     object: u64,
     writer: bool,
     p: usize,
-    node: u32,
-) -> Option<u32>
+    node: NodeIndex,
+) -> Link
     requires index { p < most_priority }
     requires there { IsSome (lookup (nat_eq object) queues.old.entries) }
     requires room { IfSome (lookup (nat_eq object) queues.old.entries) (λ q.
@@ -221,8 +218,8 @@ pub(crate) fn remove<A: Allocator + Copy>(
     object: u64,
     writer: bool,
     p: usize,
-    before: Option<u32>,
-    next: Option<u32>,
+    before: Link,
+    next: Link,
 )
     requires index { p < most_priority }
     requires there { IsSome (lookup (nat_eq object) queues.old.entries) }
@@ -291,26 +288,26 @@ pub(crate) fn discard<A: Allocator + Copy>(
 pub(crate) fn first_of<A: Allocator + Copy>(
     queues: &Rows<BoxedQueue<A>, A>,
     object: u64,
-) -> Option<u32>
+) -> Option<NodeIndex>
     ensures none { lookup (nat_eq object) queues.now.entries ≡ None → result ≡ None }
     ensures queue { (queue : Queue)
         → lookup (nat_eq object) queues.now.entries ≡ Some queue
         → IsFirst queue result }
 {
-    queues.get(&object)?.first()
+    row_of(queues, object)?.first()
 }
 
 /// The node of the first of a queue that asks for a write lock.
 pub(crate) fn first_writer_of<A: Allocator + Copy>(
     queues: &Rows<BoxedQueue<A>, A>,
     object: u64,
-) -> Option<u32>
+) -> Option<NodeIndex>
     ensures none { lookup (nat_eq object) queues.now.entries ≡ None → result ≡ None }
     ensures queue { (queue : Queue)
         → lookup (nat_eq object) queues.now.entries ≡ Some queue
         → IsFirstWriter queue result }
 {
-    queues.get(&object)?.first_writer()
+    row_of(queues, object)?.first_writer()
 }
 
 /// Whether a queue has a writer of the priority with this index or a higher one.
@@ -324,7 +321,7 @@ pub(crate) fn has_writer_from<A: Allocator + Copy>(
         → lookup (nat_eq object) queues.now.entries ≡ Some queue
         → IsTrue result ↔ HasWriterFrom queue p }
 {
-    match queues.get(&object) {
+    match row_of(queues, object) {
         Some(boxed) => boxed.has_writer_from(p),
         None => false,
     }

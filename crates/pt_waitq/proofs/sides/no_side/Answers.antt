@@ -1,4 +1,4 @@
-use Rattle.std.proofs.Common.{None}
+use Rattle.std.proofs.Common.{None, ◌∙◌}
 use Rattle.std.proofs.lemmas.List.{get_or-replicate}
 use Rattle.pt_types.specs.Limits.{most_priority}
 use Rattle.pt_waitq.proofs.sides.no_side.Goals as goal
@@ -7,7 +7,9 @@ pub returns-clause-counts : goal.returns-clause-counts
 returns-clause-counts c p lt = get_or-replicate most_priority p 0 0 lt
 
 pub returns-clause-heads : goal.returns-clause-heads
-returns-clause-heads c p lt = get_or-replicate most_priority p None None lt
+returns-clause-heads c p lt =
+    get_or-replicate most_priority p c.none-nowhere.result None lt ∙ c.none-nowhere.ensures
 
 pub returns-clause-tails : goal.returns-clause-tails
-returns-clause-tails c p lt = get_or-replicate most_priority p None None lt
+returns-clause-tails c p lt =
+    get_or-replicate most_priority p c.none-nowhere.result None lt ∙ c.none-nowhere.ensures

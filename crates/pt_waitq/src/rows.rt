@@ -1,0 +1,35 @@
+//! Rows by the number of what they are of.
+
+ghost use Rattle.std.specs.Prelude.{◌≡◌, IfSome, Some, nat_eq};
+ghost use Rattle.std.specs.Option.{option_copied};
+ghost use Rattle.std.specs.Map.{lookup};
+
+use indexmap::IndexMap;
+use std::alloc::Allocator;
+use std::hash::{BuildHasherDefault, FoldHasher};
+
+/// Rows by number.
+pub(crate) type Rows<T, A> = IndexMap<u64, T, BuildHasherDefault<FoldHasher>, A>;
+
+// The row that is as far after the first one as its number is above that one's.
+fn row_by_distance<T, A: Allocator + Copy>(rows: &Rows<T, A>, number: u64) -> Option<&T>
+    ensures { IfSome result (λ row. lookup (nat_eq number) rows.now.entries ≡ Some row.now) }
+{
+    let (first, _) = rows.first()?;
+    let distance = number.checked_sub(*first)?;
+    match rows.get_index(distance as usize) {
+        Some((listed, row)) if *listed == number => Some(row),
+        _ => None,
+    }
+}
+
+/// The row of a number, if there is one. Of numbers that follow one another it is found by their
+/// distance, and of any other by its hash.
+pub(crate) fn row_of<T, A: Allocator + Copy>(rows: &Rows<T, A>, number: u64) -> Option<&T>
+    ensures { option_copied result ≡ lookup (nat_eq number) rows.now.entries }
+{
+    match row_by_distance(rows, number) {
+        Some(row) => Some(row),
+        None => rows.get(&number),
+    }
+}
