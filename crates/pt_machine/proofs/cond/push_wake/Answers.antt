@@ -9,11 +9,11 @@ use Rattle.pt_machine.proofs.cond.push_wake.Goals as goal
 pub take_place-requires-clause-ready : goal.take_place-requires-clause-ready
 take_place-requires-clause-ready g c =
     stands-moved c.args.state.now c.push_woken.new.self
-    (entry.Call c.args.c c.args.call.now (Some told.Done)) (called c.args.first.now) c.requires.ready
-    c.push_woken.ensures
+    (entry.Call c.args.c c.args.call.now (Some told.Done)) (called c.args.first.now)
+    c.requires.ready c.push_woken.ensures
     (moves-first (past c.args.state.now) c.args.c c.args.call.now c.args.n.now
-    c.requires.ready.read.follows c.requires.ready.step c.requires.operation (called c.args.first.now)
-    c.requires.first)
+    c.requires.ready.read.follows c.requires.ready.step c.requires.operation
+    (called c.args.first.now) c.requires.first)
     (g.Q.WaitList.seen c.args.queues.now).queue (g.Q.WaitList.seen c.remove.new.self).queue
     (g.Q.WaitList.seen c.args.queues.now).admitted (g.Q.WaitList.seen c.remove.new.self).admitted
     (g.Q.WaitList.seen c.args.queues.now).made (g.Q.WaitList.seen c.remove.new.self).made
@@ -22,11 +22,11 @@ take_place-requires-clause-ready g c =
 pub returns-clause-queued : goal.returns-clause-queued
 returns-clause-queued g c =
     queued-taken c.args.state.now c.push_woken.new.self
-    (entry.Call c.args.c c.args.call.now (Some told.Done)) (called c.args.first.now) c.requires.ready
-    c.push_woken.ensures
+    (entry.Call c.args.c c.args.call.now (Some told.Done)) (called c.args.first.now)
+    c.requires.ready c.push_woken.ensures
     (moves-first (past c.args.state.now) c.args.c c.args.call.now c.args.n.now
-    c.requires.ready.read.follows c.requires.ready.step c.requires.operation (called c.args.first.now)
-    c.requires.first)
+    c.requires.ready.read.follows c.requires.ready.step c.requires.operation
+    (called c.args.first.now) c.requires.first)
     (g.Q.WaitList.seen c.args.queues.now).queue (g.Q.WaitList.seen c.remove.new.self).queue
     (g.Q.WaitList.seen c.args.queues.now).admitted (g.Q.WaitList.seen c.remove.new.self).admitted
     (g.Q.WaitList.seen c.args.queues.now).made (g.Q.WaitList.seen c.remove.new.self).made

@@ -24,15 +24,15 @@ invariant_of-self g c =
     let room : i.room ≡ c.args.self.now.room = ap (λ (s : Stored). s.room) c.self.view_is in
     let more = c.push_reserved.ensures.items in
     let all = entries-more i.start.at _ i.records c.store_borrowed-compact.new.self i.entries.items
-    c.push_reserved.new.self.items _ e i.room c.base-base.ensures more c.store_borrowed-compact.ensures
-    c.self.invariant.2 in (
+    c.push_reserved.new.self.items _ e i.room c.base-base.ensures more
+    c.store_borrowed-compact.ensures c.self.invariant.2 in (
       record {
         fits = omega (arith, c.self.invariant.0.fits, c.push_reserved.ensures.len);
         held = omega (arith, c.self.invariant.0.held, c.push_reserved.ensures.len);
         places = c.self.invariant.0.places;
       },
-      counted-more (rows_of i.start) i.start.at i.records c.store_borrowed-compact.new.self i.entries.items
-          c.push_reserved.new.self.items e i.outer _ all refl
+      counted-more (rows_of i.start) i.start.at i.records c.store_borrowed-compact.new.self
+          i.entries.items c.push_reserved.new.self.items e i.outer _ all refl
           c.self.invariant.1,
       recorded-more _ i.records c.store_borrowed-compact.new.self i.entries.items
           c.push_reserved.new.self.items _ e i.room more (omega arith)
@@ -48,5 +48,5 @@ returns g c =
     c.push_reserved.ensures.items
     c.store_borrowed-compact.ensures c.self.invariant.2 in
     seen-more c.args.self.now (rows_of i.start) (entries_of i.start.at i.records i.entries.items)
-    (entries_of i.start.at c.store_borrowed-compact.new.self c.push_reserved.new.self.items) i.limit i.room
-    e all c.self.view_is
+    (entries_of i.start.at c.store_borrowed-compact.new.self c.push_reserved.new.self.items)
+    i.limit i.room e all c.self.view_is

@@ -9,12 +9,17 @@ invariant_of-self g c =
     let k = c.take_memory-2.ensures in (
       record {
         fits = omega (arith, c.self.invariant.0.fits, c.take_memory.ensures.len);
-        held = omega
-            (arith, c.self.invariant.0.held, c.take_memory.ensures.len, c.take_memory.ensures.capacity);
+        held = omega (
+          arith,
+          c.self.invariant.0.held,
+          c.take_memory.ensures.len,
+          c.take_memory.ensures.capacity,
+        );
         places = c.self.invariant.0.places;
       },
       counted-same (rows_of i.start) i.start.at i.records c.take_memory-2.new.self i.entries.items
-          c.take_memory.new.list.items i.outer c.take_memory.ensures.items k.same c.self.invariant.1,
+          c.take_memory.new.list.items i.outer c.take_memory.ensures.items k.same
+          c.self.invariant.1,
       recorded-same i.records c.take_memory-2.new.self i.entries.items c.take_memory.new.list.items
           i.room c.take_memory.ensures.items k c.self.invariant.2,
     )
