@@ -23,8 +23,8 @@ use Rattle.pt_core.specs.declared.applied.Applied.{Applied}
 use Rattle.pt_core.specs.Cores.{Kept, past}
 use Rattle.pt_core.specs.Applying.{IsApplied, IsRefusal, IsWantOfMemory, IsWritten, opened}
 use Rattle.pt_script.specs.declared.line_id.LineId.{LineId}
-use Rattle.pt_script.specs.declared.engine.Mark.{Mark}
-use Rattle.pt_script.specs.declared.engine.Mark.TheVariants as mark
+use Rattle.pt_script.specs.declared.mark.Mark.{Mark}
+use Rattle.pt_script.specs.declared.mark.Mark.TheVariants as mark
 use Rattle.pt_script.specs.Scripts.{Script, line_at, told_text, refusal_text, greeting}
 use Rattle.pt_script.specs.Scripts.{clients_with, calls_with, same_who, lines_of_who}
 use Rattle.pt_script.specs.Says.{SaysOf, refuses, lacks, accepts}

@@ -1,6 +1,6 @@
 -- The line that is stored for a client is that of its latest call, to which it is answered.
 use Rattle.std.proofs.Common.{◌≡◌, ℕ, ◌<◌, ◌==◌, Bool, true, false, cond, List, [], ◌∷◌, ◌++◌, Some}
-use Rattle.std.proofs.Common.{None, nat_eq, refl, sym, ap, ◌∙◌, subst, arith}
+use Rattle.std.proofs.Common.{None, nat_eq, refl, sym, ap, ◌∙◌, subst, arith, eq-eqb}
 use Rattle.pt_types.specs.Limits.{most_entries}
 use Rattle.pt_model.specs.declared.entry.Entry.{Entry}
 use Rattle.pt_model.specs.declared.entry.Event.{Event}
@@ -21,16 +21,25 @@ use Rattle.pt_core.specs.declared.applied.Applied.{Applied}
 use Rattle.pt_core.specs.Cores.{Kept, past}
 use Rattle.pt_core.specs.Applying.{IsApplied, IsWritten, opened}
 use Rattle.pt_script.specs.declared.line_id.LineId.{LineId}
-use Rattle.pt_script.specs.declared.engine.Mark.{Mark}
+use Rattle.pt_script.specs.declared.mark.Mark.{Mark}
+use Rattle.pt_script.specs.declared.mark.Mark.TheVariants.{Client, Call, Nothing}
 use Rattle.pt_script.specs.Scripts.{line_at, calls_with, told_text}
 use Rattle.pt_script.specs.Engines.{AreLines, IsAsked, IsLegal, IsLineOf, IsSound, calls_marked}
-use Rattle.pt_script.specs.Engines.{latest_line, latest_text, mark_of}
+use Rattle.pt_script.specs.Engines.{latest_line, latest_text, mark_of, IsOwn}
 use Rattle.pt_script.proofs.Accepted.{answers_are, calls_as, fresh_noted, limit_next}
 use Rattle.pt_script.proofs.Latest.{IsToLatest, replies_latest}
 use Rattle.pt_script.proofs.Noted.{line_here, line_on, none_forced}
 use Rattle.pt_script.proofs.Opened.{goes_on, legal_follow, legal_next, legal_opened, longer}
 use Rattle.pt_script.proofs.Opened.{opened_by, same_start}
 use Rattle.pt_script.proofs.Texts.{same_text}
+
+-- after a call its line is the one that is stored for its client
+pub asked_now : (m : Mark) (line : LineId) (old new : List (ℕ × LineId)) → IsAsked m line old new
+    → IsOwn m line new
+asked_now (Call c) line old new is =
+    is c ∙ ap (λ t. cond t (Some line) (latest_line old c)) (eq-eqb c c refl)
+asked_now Client line old new is = tt
+asked_now Nothing line old new is = tt
 
 -- before the first line
 abbrev empty : Kept

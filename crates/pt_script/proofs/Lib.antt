@@ -8,6 +8,8 @@ mod Texts
 mod Opened
 -- Accepted: what is answered of an event: it is refused, or accepted
 mod Accepted
+-- Lines: what is answered of a line, once it is counted
+mod Lines
 -- Runs: lines one after the other: what is said of them, and how many they are
 mod Runs
 -- Wholes: A whole script, as its pieces come

@@ -6,8 +6,11 @@ use Rattle.std.proofs.lemmas.Bool.Decides.{same_from_decides, Decides-like}
 use Rattle.std.specs.Str.{bytes_eq}
 use Rattle.std.proofs.lemmas.Slice.Eq.{bytes_eq-Decides}
 use Rattle.pt_script.specs.declared.names.Row.{Row}
-use Rattle.pt_script.specs.Scripts.{number_named}
-use Rattle.pt_script.specs.Names.{Known, Counted, lines_in, client_in, row_of, IsRowRaised}
+use Rattle.pt_lines.specs.declared.client.Who.{Who}
+use Rattle.pt_lines.specs.declared.client.Who.TheVariants.{Named, Star, Unknown}
+use Rattle.pt_script.specs.Scripts.{number_named, number_of}
+use Rattle.pt_script.specs.Names.{Known, Counted, lines_in, client_in, client_counted, row_of}
+use Rattle.pt_script.specs.Names.{IsRowRaised}
 use Rattle.pt_script.specs.Names.{IsRowGiven, IsGiven, AreCounted}
 use Rattle.pt_script.proofs.Counted.{ap_cond, lookup_push}
 
@@ -98,3 +101,10 @@ joined_counted old new total known name c counted given first = record {
         ap (λ r. option_or r (Some c))
         (sym (ap (number_named known.clients) (sym (same refl)) ∙ first))
     by other false same = none_else (number_named known.clients other)
+
+-- the number of a client, by what is counted
+pub client_known : (k : Counted) (total : ℕ) (known : Known) → AreCounted k total known
+    → (who : Who) → client_counted k who ≡ number_of known.clients who
+client_known k total known are (Named name) = are.joined name
+client_known k total known are Star = refl
+client_known k total known are Unknown = refl

@@ -1,8 +1,7 @@
 -- Texts of answers, and how they are written.
-use Rattle.std.proofs.Common.{◌≡◌, ℕ, ◌<◌, ◌≤◌, List, [], ◌∷◌, ◌++◌, length, take, drop, append-nil}
+use Rattle.std.proofs.Common.{◌≡◌, ℕ, ◌<◌, ◌≤◌, List, [], ◌∷◌, ◌++◌, length, take, drop}
 use Rattle.std.proofs.Common.{refl, sym, ap, ◌∙◌}
-use Rattle.std.proofs.lemmas.Grind.{flat_map-append}
-use Rattle.std.proofs.lemmas.List.{take-append-drop, take-append-le, drop-append-le}
+use Rattle.std.proofs.lemmas.List.{append_assoc, take-append-drop, take-append-le, drop-append-le}
 use Rattle.std.proofs.Math.Seq.{take-append_seam, drop-append_seam}
 use Rattle.pt_model.specs.Searches.{Each}
 use Rattle.pt_model.specs.Records.{Told}
@@ -11,13 +10,11 @@ use Rattle.pt_script.specs.Scripts.{line_at, told_line, told_text}
 use Rattle.pt_script.specs.Engines.{IsLineOf, latest_line, latest_text}
 use Rattle.pt_script.specs.Texts.{IsCutShort}
 
-pub latest_more : (asked : List (ℕ × LineId)) (ts : List Told) (t : Told)
-    → latest_text asked (ts ++ t ∷ [])
-    ≡ latest_text asked ts ++ told_line (latest_line asked t.client) t.outcome
-latest_more asked ts t =
-    flat_map-append (λ u. told_line (latest_line asked u.client) u.outcome) ts (t ∷ [])
-    ∙ ap (λ ys. latest_text asked ts ++ ys)
-    (append-nil (told_line (latest_line asked t.client) t.outcome))
+-- the first of these answers, and then the others
+pub latest_next : (asked : List (ℕ × LineId)) (out : List ℕ) (t : Told) (ts : List Told)
+    → out ++ latest_text asked (t ∷ ts)
+    ≡ (out ++ told_line (latest_line asked t.client) t.outcome) ++ latest_text asked ts
+latest_next asked out t ts = sym (append_assoc out _ (latest_text asked ts))
 
 -- answers are under the lines of their calls, if those are the ones that are stored
 pub same_text : (asked calls : List (ℕ × LineId)) (ts : List Told)

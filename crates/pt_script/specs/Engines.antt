@@ -24,8 +24,8 @@ use Rattle.pt_core.specs.Cores.{Kept, Seen, past, shown}
 use Rattle.pt_script.specs.declared.line_id.LineId.{LineId}
 use Rattle.pt_script.specs.declared.fault.ScriptFault.{ScriptFault}
 use Rattle.pt_script.specs.declared.fault.ScriptFault.TheVariants.{Read, Write, Memory}
-use Rattle.pt_script.specs.declared.engine.Mark.{Mark}
-use Rattle.pt_script.specs.declared.engine.Mark.TheVariants.{Client, Call, Nothing}
+use Rattle.pt_script.specs.declared.mark.Mark.{Mark}
+use Rattle.pt_script.specs.declared.mark.Mark.TheVariants.{Client, Call, Nothing}
 use Rattle.pt_script.specs.Scripts.{Script, core_of, line_at, told_line, clients_joined}
 use Rattle.pt_script.specs.Says.{SaysAll}
 use Rattle.pt_script.specs.Texts.{BreaksOff, IsUntouched, Writing}
@@ -92,6 +92,11 @@ abbrev pub mark_of : Event → Mark
 mark_of (event.Join p) = Client
 mark_of (event.Call c call) = Call c
 mark_of _ = Nothing
+
+-- of a call that is noted the line is stored for its client
+abbrev pub IsOwn : Mark → LineId → List (ℕ × LineId) → Type 0
+IsOwn (Call c) line asked = latest_line asked c ≡ Some line
+IsOwn _ line asked = Unit {0}
 
 -- the clients after a line of this mark
 abbrev pub clients_marked : Mark → Who → ℕ → List (List ℕ × ℕ) → List (List ℕ × ℕ)

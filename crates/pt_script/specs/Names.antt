@@ -38,6 +38,11 @@ lines_counted k (Named name) = lines_in (row_of k.rows name)
 lines_counted k Star = k.star
 lines_counted k Unknown = k.unknown
 
+-- the number of the client that has joined; `*` and `?` never do  [profile]
+abbrev pub client_counted : Counted → Who → Option ℕ
+client_counted k (Named name) = client_in (row_of k.rows name)
+client_counted k _ = None
+
 -- one line more of this name, and all else of the rows as it was
 pub record IsRowRaised (old : List (List ℕ × Row)) (name : List ℕ)
     (new : List (List ℕ × Row)) : Type 0 where

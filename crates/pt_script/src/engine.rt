@@ -4,16 +4,17 @@ ghost use Rattle.pt_core.specs.Cores.{shown};
 ghost use Rattle.indexmap.specs.IndexMap.{spare};
 ghost use Rattle.pt_script.specs.Scripts.{lines_of_who, number_of};
 ghost use Rattle.pt_script.specs.Engines.{mark_of, clients_marked, calls_marked, greeting_marked};
-ghost use Rattle.pt_script.specs.Engines.{latest_text, IsAsked};
+ghost use Rattle.pt_script.specs.Engines.{client_for, latest_text, IsAsked, IsOwn};
 
 use crate::fault::ScriptFault;
 use crate::line_id::LineId;
-use crate::names::Names;
+use crate::mark::{Mark, mark_of};
+use crate::names::{CountedLine, Names};
 use crate::text::{Asked, tell, tell_all};
 use http_server::Log;
 use indexmap::IndexMap;
 use pt_core::Core;
-use pt_lines::{ClientName, Cutter, ScriptBody, ScriptLine, Who, Word};
+use pt_lines::{Cutter, ScriptBody, ScriptLine, Who, Word};
 use pt_model::Event;
 use pt_types::{ClientId, Outcome, Priority, Refusal};
 use std::alloc::{Allocator, Global};
@@ -21,24 +22,6 @@ use std::marker::Model;
 
 // The line that made the call at each place. It is for proofs alone and takes no memory.
 type Calls = Log<u64, LineId>;
-
-// What is noted of an event, once it is accepted.
-#[derive(Debug, PartialEq, Eq, Drop)]
-enum Mark {
-    Client,
-    Call(ClientId),
-    Nothing,
-}
-
-fn mark_of(event: &Event) -> Mark
-    ensures { result ≡ mark_of event.now }
-{
-    match event {
-        Event::Join(_) => Mark::Client,
-        Event::Call(client, _) => Mark::Call(*client),
-        Event::Death(_) | Event::Moment(_, _) => Mark::Nothing,
-    }
-}
 
 // Notes an accepted line, whose entry is at this place.
 fn note<A: Allocator + Copy>(
@@ -68,6 +51,13 @@ fn note<A: Allocator + Copy>(
     }
 }
 
+// The client of a name, if one has joined under it.
+fn joined(client: Option<ClientId>) -> Result<ClientId, Refusal>
+    ensures { result ≡ client_for client }
+{
+    client.ok_or(Refusal::Nohello)
+}
+
 // An accepted hello is answered 0.
 fn greet<A: Allocator + Copy>(
     out: &mut Vec<u8, A>,
@@ -83,22 +73,22 @@ fn greet<A: Allocator + Copy>(
     }
 }
 
-// Appends the answers that the entries from this place on give.
-fn tell_from<A: Allocator + Copy>(
+// Appends the answers that the entries from this place on give. The first of them is of this line.
+fn tell_from<'a, A: Allocator + Copy>(
     out: &mut Vec<u8, A>,
-    core: &Core<A>,
-    asked: &Asked<A>,
+    core: &'a Core<A>,
+    asked: &'a Asked<A>,
+    mark: &'a Mark,
+    line: &'a LineId,
     place: u64,
 ) -> Result<(), ScriptFault>
+    requires { IsOwn mark.now line.now asked.now.entries }
     ensures ok { OnOk result (out.new.items ≡ out.old.items
         ++ latest_text asked.now.entries
         (answers_behind (shown core.now).start place core.now.entries)) }
     ensures why { IfErr result (λ fault. fault ≡ ScriptFault.Memory) }
 {
-    match core.answers_from(place) {
-        Ok(replies) => tell_all(out, asked, &replies),
-        Err(_) => Err(ScriptFault::Memory),
-    }
+    tell_all(out, asked, mark, line, core.answers_since(place))
 }
 
 /// All clients of a script, the lines that they sent, and the core that these asked.
@@ -139,10 +129,10 @@ impl<A: Allocator + Copy> Engine<A> {
     ghost use Rattle.pt_model.specs.Clients.{is_alive};
     ghost use Rattle.pt_lines.specs.Lines.{to_come, IsBegun};
     ghost use Rattle.pt_core.specs.Cores.{past};
-    ghost use Rattle.pt_script.specs.Scripts.{begun, core_of, number_named, join_for, event_for};
+    ghost use Rattle.pt_script.specs.Scripts.{begun, core_of, join_for, event_for};
     ghost use Rattle.pt_script.specs.Scripts.{event_of_body};
     ghost use Rattle.pt_script.specs.Says.{Says, SaysOf};
-    ghost use Rattle.pt_script.specs.Engines.{Adds, Answers, IsAnswered, client_for, known_by};
+    ghost use Rattle.pt_script.specs.Engines.{Adds, Answers, IsAnswered, known_by};
 
     /// An engine that has read no line. A refused growth is a fault.
     #[tactic(auto, using(crate::proofs::Asked::begun_sound, crate::proofs::Asked::begun_lines))]
@@ -185,53 +175,54 @@ impl<A: Allocator + Copy> Engine<A> {
         }
     }
 
-    // What a hello asks for.
-    fn join_for(&self, name: &ClientName, priority: Priority) -> Result<Event, Refusal>
-        ensures { result
-            ≡ join_for (past (core_of (known_by self.now))) priority
-            (number_named self.now.clients name.now) }
+    // What a hello asks for under a name with which this client joined, if one did.
+    fn join_for(&self, client: Option<ClientId>, priority: Priority) -> Result<Event, Refusal>
+        ensures { result ≡ join_for (past (core_of (known_by self.now))) priority client }
     {
-        match self.names.client(name) {
+        match client {
             None => Ok(Event::Join(priority)),
             Some(client) if self.lives(client) => Err(Refusal::Nohello),
             Some(_) => Err(Refusal::Dead),
         }
     }
 
-    // The client of a name, if one has joined under it.
-    fn client(&self, name: &ClientName) -> Result<ClientId, Refusal>
-        ensures { result ≡ client_for (number_named self.now.clients name.now) }
-    {
-        match self.names.client(name) {
-            Some(client) => Ok(client),
-            None => Err(Refusal::Nohello),
-        }
-    }
-
-    // What a line says, as an event.
-    fn event_for(&self, who: &Who, body: ScriptBody) -> Result<Event, Refusal>
+    // What a line says, as an event. The client is the one that joined under the line's name.
+    fn event_for(
+        &self,
+        who: &Who,
+        client: Option<ClientId>,
+        body: ScriptBody,
+    ) -> Result<Event, Refusal>
+        requires { client ≡ number_of self.now.clients who.now }
         ensures { result ≡ event_for (known_by self.now) who.now body }
     {
         match (who, body) {
-            (Who::Named(name), ScriptBody::Hello(priority)) => self.join_for(name, priority),
-            (Who::Named(name), ScriptBody::Ask(call)) => Ok(Event::Call(self.client(name)?, call)),
-            (Who::Named(name), ScriptBody::Die) => Ok(Event::Death(self.client(name)?)),
+            (Who::Named(_), ScriptBody::Hello(priority)) => self.join_for(client, priority),
+            (Who::Named(_), ScriptBody::Ask(call)) => Ok(Event::Call(joined(client)?, call)),
+            (Who::Named(_), ScriptBody::Die) => Ok(Event::Death(joined(client)?)),
             (Who::Star, ScriptBody::Tick(clock, moment)) => Ok(Event::Moment(clock, moment)),
             _ => Err(Refusal::Syntax),
         }
     }
 
     // The event that a line asks for, or why it asks for none.
-    fn event_of(&self, who: &Who, body: Result<ScriptBody, Refusal>) -> Result<Event, Refusal>
+    fn event_of(
+        &self,
+        who: &Who,
+        client: Option<ClientId>,
+        body: Result<ScriptBody, Refusal>,
+    ) -> Result<Event, Refusal>
+        requires { client ≡ number_of self.now.clients who.now }
         ensures { result ≡ event_of_body (known_by self.now) who.now body }
     {
         match body {
-            Ok(body) => self.event_for(who, body),
+            Ok(body) => self.event_for(who, client, body),
             Err(refusal) => Err(refusal),
         }
     }
 
     // Does what a counted line asks for, and appends its answer.
+    #[tactic(auto, using(crate::proofs::Asked::asked_now))]
     fn run(&mut self, event: Event, line: LineId, out: &mut Vec<u8, A>) -> Result<(), ScriptFault>
         requires counted { 0 < lines_of_who self.old.seen line.who }
         requires first { mark_of event ≡ Mark.Client → number_of self.old.clients line.who ≡ None }
@@ -256,7 +247,7 @@ impl<A: Allocator + Copy> Engine<A> {
                     place,
                 );
                 greet(out, &mark, &line)?;
-                tell_from(out, &self.core, &self.asked, place)?;
+                tell_from(out, &self.core, &self.asked, &mark, &line, place)?;
                 Ok(())
             }
             Err(refusal) => {
@@ -276,8 +267,8 @@ impl<A: Allocator + Copy> Engine<A> {
         ensures why { IfErr result (λ fault. fault ≡ ScriptFault.Memory) }
     {
         let ScriptLine { who, body } = line;
-        let event = self.event_of(&who, body);
-        let number = self.names.count(&who)?;
+        let CountedLine { number, client } = self.names.count(&who)?;
+        let event = self.event_of(&who, client, body);
         let line = LineId { who, number };
         match event {
             Ok(event) => {

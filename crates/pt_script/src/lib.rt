@@ -22,6 +22,7 @@ mod engine;
 mod fault;
 mod laws;
 mod line_id;
+mod mark;
 mod names;
 mod program;
 mod text;

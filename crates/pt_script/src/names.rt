@@ -1,6 +1,6 @@
 ghost use Rattle.std.specs.Prelude.{◌≡◌, ◌<◌, ◌++◌, ◌^◌, ◌∷◌, [], suc, length, Some, None, IsSome};
 ghost use Rattle.std.specs.Prelude.{OnOk, OnErr, IfOk, IfErr};
-ghost use Rattle.pt_script.specs.Names.{lines_in, row_of, IsRowRaised, IsRowGiven};
+ghost use Rattle.pt_script.specs.Names.{client_in, lines_in, row_of, IsRowRaised, IsRowGiven};
 
 use crate::fault::ScriptFault;
 use http_server::Log;
@@ -15,6 +15,15 @@ use std::marker::Model;
 #[derive(Debug, Drop)]
 pub struct Row {
     pub lines: u64,
+    pub client: Option<ClientId>,
+}
+
+/// A line that was counted.
+#[derive(Clone, Copy, Debug, PartialEq, Eq)]
+pub struct CountedLine {
+    /// Its number among the lines of its client, from 1.
+    pub number: u64,
+    /// The client that joined under its name, if one did.
     pub client: Option<ClientId>,
 }
 
@@ -61,9 +70,12 @@ impl<A: Allocator + Copy> Model for Names<A> {
 }
 
 // Makes the row of a name's first line.
-fn begin<A: Allocator + Copy>(rows: &mut Rows<A>, name: &ClientName) -> Result<u64, ScriptFault>
+fn begin<A: Allocator + Copy>(
+    rows: &mut Rows<A>,
+    name: &ClientName,
+) -> Result<CountedLine, ScriptFault>
     requires { row_of rows.old.entries name.now ≡ None }
-    ensures number { IfOk result (λ n. n ≡ 1) }
+    ensures counted { IfOk result (λ n. (n.number ≡ 1) × (n.client ≡ None)) }
     ensures ok { OnOk result (IsRowRaised rows.old.entries name.now rows.new.entries) }
     ensures err { OnErr result (rows.new.entries ≡ rows.old.entries) }
     ensures why { IfErr result (λ fault. fault ≡ ScriptFault.Memory) }
@@ -73,27 +85,46 @@ fn begin<A: Allocator + Copy>(rows: &mut Rows<A>, name: &ClientName) -> Result<u
         client: None,
     };
     match rows.insert(name.copied(), row) {
-        Ok(_) => Ok(1),
+        Ok(_) => Ok(CountedLine {
+            number: 1,
+            client: None,
+        }),
         Err(_) => Err(ScriptFault::Memory),
     }
 }
 
-// Counts a line of this name, and answers its number among them.
+// Counts a line of this name.
 fn count_named<A: Allocator + Copy>(
     rows: &mut Rows<A>,
     name: &ClientName,
-) -> Result<u64, ScriptFault>
+) -> Result<CountedLine, ScriptFault>
     requires { lines_in (row_of rows.old.entries name.now) < 2 ^ 53 }
-    ensures number { IfOk result (λ n. n ≡ suc (lines_in (row_of rows.old.entries name.now))) }
+    ensures number { IfOk result (λ n.
+        n.number ≡ suc (lines_in (row_of rows.old.entries name.now))) }
+    ensures client { IfOk result (λ n. n.client ≡ client_in (row_of rows.old.entries name.now)) }
     ensures ok { OnOk result (IsRowRaised rows.old.entries name.now rows.new.entries) }
     ensures err { OnErr result (rows.new.entries ≡ rows.old.entries) }
     ensures why { IfErr result (λ fault. fault ≡ ScriptFault.Memory) }
 {
     if let Some(row) = rows.get_mut(name) {
         row.lines += 1;
-        return Ok(row.lines);
+        return Ok(CountedLine {
+            number: row.lines,
+            client: row.client,
+        });
     }
     begin(rows, name)
+}
+
+// A line of the clocks, or of no client that can be read, by its number.
+fn unnamed(number: u64) -> CountedLine
+    ensures number { result.number ≡ number }
+    ensures client { result.client ≡ None }
+{
+    CountedLine {
+        number,
+        client: None,
+    }
 }
 
 // Gives the client of this name its number.
@@ -107,12 +138,13 @@ fn give<A: Allocator + Copy>(rows: &mut Rows<A>, name: &ClientName, client: Clie
 }
 
 impl<A: Allocator + Copy> Counts<A> {
-    ghost use Rattle.pt_script.specs.Names.{lines_counted, client_in, IsRaised, IsGiven};
+    ghost use Rattle.pt_script.specs.Names.{client_counted, lines_counted, IsRaised, IsGiven};
 
-    // Counts a line of this client, and answers its number among them.
-    fn raise(&mut self, who: &Who) -> Result<u64, ScriptFault>
+    // Counts a line.
+    fn raise(&mut self, who: &Who) -> Result<CountedLine, ScriptFault>
         requires { lines_counted self.old who.now < 2 ^ 53 }
-        ensures number { IfOk result (λ n. n ≡ suc (lines_counted self.old who.now)) }
+        ensures number { IfOk result (λ n. n.number ≡ suc (lines_counted self.old who.now)) }
+        ensures client { IfOk result (λ n. n.client ≡ client_counted self.old who.now) }
         ensures ok { OnOk result (IsRaised self.old who.now self.new) }
         ensures err { OnErr result (self.new ≡ self.old) }
         ensures why { IfErr result (λ fault. fault ≡ ScriptFault.Memory) }
@@ -121,22 +153,12 @@ impl<A: Allocator + Copy> Counts<A> {
             Who::Named(name) => count_named(&mut self.rows, name),
             Who::Star => {
                 self.star += 1;
-                Ok(self.star)
+                Ok(unnamed(self.star))
             }
             Who::Unknown => {
                 self.unknown += 1;
-                Ok(self.unknown)
+                Ok(unnamed(self.unknown))
             }
-        }
-    }
-
-    // The number of the client that joined under this name.
-    fn client(&self, name: &ClientName) -> Option<ClientId>
-        ensures { result ≡ client_in (row_of self.now.rows name.now) }
-    {
-        match self.rows.get(name) {
-            Some(row) => row.client,
-            None => None,
         }
     }
 
@@ -150,7 +172,7 @@ impl<A: Allocator + Copy> Counts<A> {
 }
 
 impl<A: Allocator + Copy> Names<A> {
-    ghost use Rattle.pt_script.specs.Scripts.{lines_of_who, number_named, number_of};
+    ghost use Rattle.pt_script.specs.Scripts.{lines_of_who, number_of};
     ghost use Rattle.pt_script.specs.Scripts.{clients_joined};
 
     /// No client, and no line. It takes no memory.
@@ -177,27 +199,20 @@ impl<A: Allocator + Copy> Names<A> {
         self.total
     }
 
-    /// Counts a line of this client, and answers its number among them, from 1. A refused growth
-    /// is a fault, and changes nothing.
-    pub fn count(&mut self, who: &Who) -> Result<u64, ScriptFault>
+    /// Counts a line. A refused growth is a fault, and changes nothing.
+    pub fn count(&mut self, who: &Who) -> Result<CountedLine, ScriptFault>
         requires { length self.old.seen < 2 ^ 53 }
-        ensures number { IfOk result (λ n. n ≡ suc (lines_of_who self.old.seen who.now)) }
+        ensures number { IfOk result (λ n. n.number ≡ suc (lines_of_who self.old.seen who.now)) }
+        ensures client { IfOk result (λ n. n.client ≡ number_of self.old.clients who.now) }
         ensures ok { OnOk result
             (self.new ≡ record self.old { seen = self.old.seen ++ who.now ∷ [] }) }
         ensures err { OnErr result (self.new ≡ self.old) }
         ensures why { IfErr result (λ fault. fault ≡ ScriptFault.Memory) }
     {
-        let number = self.counts.raise(who)?;
+        let counted = self.counts.raise(who)?;
         self.total += 1;
         self.seen = self.seen.and(who, &());
-        Ok(number)
-    }
-
-    /// The number of the client that joined under this name.
-    pub fn client(&self, name: &ClientName) -> Option<ClientId>
-        ensures { result ≡ number_named self.now.clients name.now }
-    {
-        self.counts.client(name)
+        Ok(counted)
     }
 
     /// A client of which a line came joins under its name, with this number; `*` and `?` never do.

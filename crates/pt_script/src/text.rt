@@ -1,16 +1,19 @@
-ghost use Rattle.std.specs.Prelude.{◌≡◌, ◌<◌, ◌≤◌, ◌+◌, ◌-◌, ◌++◌, length, map, take, vec_len};
+ghost use Rattle.std.specs.Prelude.{◌≡◌, ◌<◌, ◌≤◌, ◌+◌, ◌-◌, ◌++◌, length, take, vec_len};
 ghost use Rattle.std.specs.Prelude.{vec_capacity, IsOk, OnOk, OnErr, IfOk, IfErr, Some};
 ghost use Rattle.pt_lines.specs.Replies.{reply_line};
-ghost use Rattle.pt_core.specs.Replies.{told_of};
-ghost use Rattle.pt_script.specs.Engines.{latest_text};
+ghost use Rattle.std.specs.Option.{option_copied};
+ghost use Rattle.pt_script.specs.Engines.{latest_line, latest_text, IsOwn};
+ghost use Rattle.pt_script.specs.Scripts.{told_line};
 ghost use Rattle.pt_script.specs.Texts.{BreaksOff, IsBroken, IsCutShort, writing};
 
 use crate::fault::ScriptFault;
 use crate::line_id::LineId;
+use crate::mark::Mark;
 use indexmap::IndexMap;
-use pt_core::Reply;
+use pt_core::{Answers, Reply};
 use pt_io::Sink;
 use pt_lines::{Word, write_reply};
+use pt_types::ClientId;
 use std::alloc::Allocator;
 use std::hash::{BuildHasherDefault, FoldHasher};
 
@@ -37,21 +40,58 @@ pub fn tell<A: Allocator + Copy>(
     }
 }
 
-/// Appends answers of the core, each under the line that made its client's latest call.
-#[tactic(auto, using(crate::proofs::Texts::latest_more))]
-pub fn tell_all<A: Allocator + Copy>(
+// The line that is stored for a client. That of a call that is noted just now is at hand.
+fn line_of<'a, A: Allocator + Copy>(
+    asked: &'a Asked<A>,
+    mark: &Mark,
+    line: &'a LineId,
+    client: ClientId,
+) -> Option<&'a LineId>
+    requires { IsOwn mark.now line.now asked.now.entries }
+    ensures { option_copied result ≡ latest_line asked.now.entries client }
+{
+    match mark {
+        Mark::Call(caller) if *caller == client => Some(line),
+        _ => asked.get(&client.0),
+    }
+}
+
+// Appends an answer of the core under the line that made its client's latest call.
+fn tell_reply<A: Allocator + Copy>(
     out: &mut Vec<u8, A>,
     asked: &Asked<A>,
-    replies: &[Reply],
+    mark: &Mark,
+    line: &LineId,
+    reply: &Reply,
 ) -> Result<(), ScriptFault>
-    ensures ok { OnOk result (out.new.items
-        ≡ out.old.items ++ latest_text asked.now.entries (map told_of replies.now)) }
+    requires { IsOwn mark.now line.now asked.now.entries }
+    ensures ok { OnOk result (out.new.items ≡ out.old.items
+        ++ told_line (latest_line asked.now.entries reply.now.client) reply.now.outcome) }
     ensures why { IfErr result (λ fault. fault ≡ ScriptFault.Memory) }
 {
-    for reply in replies {
-        if let Some(line) = asked.get(&reply.client.0) {
-            tell(out, line, Word::Outcome(reply.outcome))?;
-        }
+    match line_of(asked, mark, line, reply.client) {
+        Some(line) => tell(out, line, Word::Outcome(reply.outcome)),
+        None => Ok(()),
+    }
+}
+
+/// Appends answers of the core, each under the line that made its client's latest call. The line of
+/// a call that is noted just now is at hand, and is not looked up.
+#[tactic(auto, using(crate::proofs::Texts::latest_next))]
+pub fn tell_all<'a, A: Allocator + Copy>(
+    out: &mut Vec<u8, A>,
+    asked: &'a Asked<A>,
+    mark: &'a Mark,
+    line: &'a LineId,
+    mut answers: Answers<'a>,
+) -> Result<(), ScriptFault>
+    requires { IsOwn mark.now line.now asked.now.entries }
+    ensures ok { OnOk result (out.new.items
+        ≡ out.old.items ++ latest_text asked.now.entries answers.entry) }
+    ensures why { IfErr result (λ fault. fault ≡ ScriptFault.Memory) }
+{
+    while let Some(reply) = answers.next() {
+        tell_reply(out, asked, mark, line, &reply)?;
     }
     Ok(())
 }
