@@ -12,7 +12,7 @@ pub not_space : (x : ℕ) → x ≢ 32 → (x == 32) ≡ false
 not_space x ne = grind arith
 
 -- a byte that is no space goes into the first field
-fields-other :
+pub fields-other :
     (x : ℕ) (xs : List ℕ) → (x == 32) ≡ false → fields (x ∷ xs) ≡ push_first x (fields xs)
 fields-other x xs ne = ap (λ b. cond b ([] ∷ fields xs) (push_first x (fields xs))) ne
 

@@ -10,6 +10,8 @@ pub mod NumberLemmas
 pub mod VerbLemmas
 -- ArgumentLemmas: what fields are read as, and what is read again from its fields
 pub mod ArgumentLemmas
+-- WholeLemmas: one name or number alone is the whole text
+pub mod WholeLemmas
 -- SpelledLemmas: the text of a line is the word of a verb and the fields that it is read from
 pub mod SpelledLemmas
 -- CallLemmas: each call is spelled by its verb

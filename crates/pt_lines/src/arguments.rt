@@ -69,19 +69,21 @@ fn only_field<'a>(mut args: Fields<'a>) -> Option<&'a [u8]>
     Some(field)
 }
 
-/// A name, and no more.
+#[tactic(auto, using(crate::proofs::WholeLemmas::whole_name))]
+/// A name, and no more. No name has a space, so what is left is one field or no name.
 pub fn only_name(args: Fields) -> Option<Name>
     ensures { result ≡ alone name_of args.entry }
 {
-    read_name(only_field(args)?)
+    read_name(args.rest()?)
 }
 
-// A number, and no more.
+#[tactic(auto, using(crate::proofs::WholeLemmas::whole_number))]
+// A number, and no more. No number has a space either.
 fn only_number(args: Fields) -> Option<u64>
     ensures value { result ≡ alone number_of args.entry }
     ensures fits { IfSome result IsNumber }
 {
-    read_number(only_field(args)?)
+    read_number(args.rest()?)
 }
 
 /// A priority, and no more.

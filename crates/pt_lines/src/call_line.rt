@@ -1,6 +1,7 @@
 ghost use Rattle.std.specs.Prelude.{◌≡◌, ◌≤◌, Ok, Some, IfOk, IfErr, IsOk, nat_lt, length};
 ghost use Rattle.std.specs.Prelude.{if◌then◌else◌};
 ghost use Rattle.pt_lines.specs.declared.call_line.CallLine.{CallLine};
+ghost use Rattle.pt_lines.specs.declared.verb.Verb.TheVariants as word;
 ghost use Rattle.pt_lines.specs.Grammar.{Spells};
 ghost use Rattle.pt_lines.specs.Reading.{line_of, line_read, call_read};
 
@@ -10,7 +11,7 @@ use crate::arguments::{
 };
 use crate::cutter::Cut;
 use crate::fields::Fields;
-use crate::verb::Verb;
+use crate::verb::{ClockedVerb, TimedVerb, Verb};
 use pt_types::{Call, Clock, MOST_IN_LINE, Moment, Priority, Refusal};
 
 /// A line of a connection: a hello, a call, or a reading of a clock.  [profile]
@@ -21,42 +22,101 @@ pub enum CallLine {
     Tick(Clock, Moment),
 }
 
-// The line of a verb and the fields after it.
+// A hello.
+#[inline(never)]
+fn read_hello(args: Fields) -> Option<CallLine>
+    ensures { result ≡ line_of word.Hello args.entry }
+{
+    Some(CallLine::Hello(only_priority(args)?))
+}
+
+// A reading of this clock.
+#[inline(never)]
+fn read_tick(clock: Clock, args: Fields) -> Option<CallLine>
+    ensures { result ≡ line_of (word.Moment clock) args.entry }
+{
+    Some(CallLine::Tick(clock, only_moment(args)?))
+}
+
+// A call with a kind, and whether the mutex is robust.
+#[inline(never)]
+fn read_mutex_init(args: Fields) -> Option<CallLine>
+    ensures { result ≡ line_of word.MutexInit args.entry }
+{
+    let (name, (kind, robust)) = name_and_kind(args)?;
+    Some(CallLine::Ask(Call::MutexInit(name, kind, robust)))
+}
+
+// A call with a count.
+#[inline(never)]
+fn read_barrier_init(args: Fields) -> Option<CallLine>
+    ensures { result ≡ line_of word.BarrierInit args.entry }
+{
+    let (name, count) = name_and_count(args)?;
+    Some(CallLine::Ask(Call::BarrierInit(name, count)))
+}
+
+// A call on two names.
+#[inline(never)]
+fn read_wait(args: Fields) -> Option<CallLine>
+    ensures { result ≡ line_of word.Wait args.entry }
+{
+    let (cond, mutex) = two_names(args)?;
+    Some(CallLine::Ask(Call::Wait(cond, mutex)))
+}
+
+// A call on two names with a deadline.
+#[inline(never)]
+fn read_timedwait(args: Fields) -> Option<CallLine>
+    ensures { result ≡ line_of word.Timedwait args.entry }
+{
+    let (cond, (mutex, deadline)) = two_names_and_deadline(args)?;
+    Some(CallLine::Ask(Call::Timedwait(cond, mutex, deadline)))
+}
+
+// A call on two names with a deadline of a clock.
+#[inline(never)]
+fn read_clockwait(args: Fields) -> Option<CallLine>
+    ensures { result ≡ line_of word.Clockwait args.entry }
+{
+    let (cond, (mutex, (clock, deadline))) = two_names_clock_and_deadline(args)?;
+    Some(CallLine::Ask(Call::Clockwait(cond, mutex, clock, deadline)))
+}
+
+// A call with a deadline.
+#[inline(never)]
+fn read_timed(verb: TimedVerb, args: Fields) -> Option<CallLine>
+    ensures { result ≡ line_of (word.Timed verb) args.entry }
+{
+    let (name, deadline) = name_and_deadline(args)?;
+    Some(CallLine::Ask(verb.on(name, deadline)))
+}
+
+// A call with a deadline of a clock.
+#[inline(never)]
+fn read_clocked(verb: ClockedVerb, args: Fields) -> Option<CallLine>
+    ensures { result ≡ line_of (word.Clocked verb) args.entry }
+{
+    let (name, (clock, deadline)) = name_clock_and_deadline(args)?;
+    Some(CallLine::Ask(verb.on(name, clock, deadline)))
+}
+
+// The line of a verb and the fields after it. What is seldom read stands in functions that are not
+// inlined, so that a line with one name has no room to clear for it.
 fn read_arguments(verb: Verb, args: Fields) -> Option<CallLine>
     ensures { result ≡ line_of verb args.entry }
 {
     match verb {
-        Verb::Hello => Some(CallLine::Hello(only_priority(args)?)),
-        Verb::Moment(clock) => Some(CallLine::Tick(clock, only_moment(args)?)),
-        Verb::MutexInit => {
-            let (name, (kind, robust)) = name_and_kind(args)?;
-            Some(CallLine::Ask(Call::MutexInit(name, kind, robust)))
-        }
-        Verb::BarrierInit => {
-            let (name, count) = name_and_count(args)?;
-            Some(CallLine::Ask(Call::BarrierInit(name, count)))
-        }
-        Verb::Wait => {
-            let (cond, mutex) = two_names(args)?;
-            Some(CallLine::Ask(Call::Wait(cond, mutex)))
-        }
-        Verb::Timedwait => {
-            let (cond, (mutex, deadline)) = two_names_and_deadline(args)?;
-            Some(CallLine::Ask(Call::Timedwait(cond, mutex, deadline)))
-        }
-        Verb::Clockwait => {
-            let (cond, (mutex, (clock, deadline))) = two_names_clock_and_deadline(args)?;
-            Some(CallLine::Ask(Call::Clockwait(cond, mutex, clock, deadline)))
-        }
+        Verb::Hello => read_hello(args),
+        Verb::Moment(clock) => read_tick(clock, args),
+        Verb::MutexInit => read_mutex_init(args),
+        Verb::BarrierInit => read_barrier_init(args),
+        Verb::Wait => read_wait(args),
+        Verb::Timedwait => read_timedwait(args),
+        Verb::Clockwait => read_clockwait(args),
         Verb::Named(verb) => Some(CallLine::Ask(verb.call(only_name(args)?))),
-        Verb::Timed(verb) => {
-            let (name, deadline) = name_and_deadline(args)?;
-            Some(CallLine::Ask(verb.on(name, deadline)))
-        }
-        Verb::Clocked(verb) => {
-            let (name, (clock, deadline)) = name_clock_and_deadline(args)?;
-            Some(CallLine::Ask(verb.on(name, clock, deadline)))
-        }
+        Verb::Timed(verb) => read_timed(verb, args),
+        Verb::Clocked(verb) => read_clocked(verb, args),
     }
 }
 

@@ -116,11 +116,9 @@ impl Who {
     pub fn named(name: &[u8]) -> Who
         ensures { result ≡ who_named name.now }
     {
-        if name == b"*".as_slice() {
-            return Who::Star;
-        }
         match ClientName::new(name) {
             Some(name) => Who::Named(name),
+            None if name == b"*".as_slice() => Who::Star,
             None => Who::Unknown,
         }
     }

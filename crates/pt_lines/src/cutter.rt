@@ -15,6 +15,9 @@ use pt_types::{MOST_IN_LINE, Refusal};
 use std::alloc::{Allocator, Global};
 use std::marker::Model;
 
+// How many bytes are searched first for a newline.
+const SHORT_LINE: usize = 32;
+
 /// What is given of a line: its text without the newline, or that it has more than 128 bytes.
 /// [profile]
 #[derive(Debug, PartialEq, Eq, Drop)]
@@ -142,16 +145,29 @@ impl<A: Allocator + Copy> Cutter<A> {
         Some(cut)
     }
 
-    // The place of the newline of the first line, if that is whole and not too long.
+    // The place of the newline of the first line, if it is among the first so many bytes.
+    fn newline_within(&self, most: usize) -> Option<usize>
+        requires short { most ≤ 129 }
+        requires whole { self.now.dropping ≡ false }
+        ensures { IfSome result (IsFront self.now) }
+    {
+        let count = self.held.len().min(most);
+        let text = self.held.as_slice();
+        memchr(b'\n', &text[..count])
+    }
+
+    // The place of the newline of the first line, if that is whole and not too long. Few bytes are
+    // searched in fewer steps, and most lines are short.
     fn front(&self) -> Option<usize>
         ensures { IfSome result (IsFront self.now) }
     {
         if self.dropping {
             return None;
         }
-        let count = self.held.len().min(MOST_IN_LINE + 1);
-        let text = self.held.as_slice();
-        memchr(b'\n', &text[..count])
+        match self.newline_within(SHORT_LINE) {
+            Some(end) => Some(end),
+            None => self.newline_within(MOST_IN_LINE + 1),
+        }
     }
 
     /// What is read of the next line as one of a script, as soon as `next_line` would return it.

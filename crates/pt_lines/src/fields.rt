@@ -1,6 +1,6 @@
 ghost use Rattle.std.specs.Prelude.{◌≡◌, [], ◌∷◌, MatchOption};
 ghost use Rattle.memchr.specs.Find.{IsFirstByte, is_byte};
-ghost use Rattle.pt_lines.specs.Fields.{fields};
+ghost use Rattle.pt_lines.specs.Fields.{fields, fields_left};
 
 use std::marker::Model;
 
@@ -37,6 +37,13 @@ impl<'a> Fields<'a> {
         ensures { result ≡ fields text.now }
     {
         Fields { rest: Some(text) }
+    }
+
+    /// The text that is left: these fields with a space between each two.
+    pub fn rest(self) -> Option<&'a [u8]>
+        ensures { fields_left result ≡ self.entry }
+    {
+        self.rest
     }
 
     /// The next field.
