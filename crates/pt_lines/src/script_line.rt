@@ -1,13 +1,17 @@
-ghost use Rattle.std.specs.Prelude.{◌≡◌};
+ghost use Rattle.std.specs.Prelude.{◌≡◌, IfSome, Ok};
 ghost use Rattle.std.specs.Option.{option_copied};
+ghost use Rattle.pt_types.specs.NamedVerbs.{call_on};
+ghost use Rattle.pt_lines.specs.declared.script_line.ScriptBody.TheVariants as ScriptBody;
 ghost use Rattle.pt_lines.specs.Clients.{before_space, behind_space};
 ghost use Rattle.pt_lines.specs.Script.{body_of, body_read, IsReadAs, short_read, script_read};
 
+use crate::arguments::only_name;
 use crate::call_line::{CallLine, read_call};
 use crate::client::Who;
 use crate::cutter::Cut;
-use crate::fields::first_space;
-use pt_types::{Call, Clock, MOST_IN_LINE, Moment, Priority, Refusal};
+use crate::fields::{Fields, first_space};
+use crate::verb::Verb;
+use pt_types::{Call, Clock, MOST_IN_LINE, Moment, Name, NamedVerb, Priority, Refusal};
 
 /// What a line of a script says.
 #[derive(Debug, PartialEq, Eq, Drop)]
@@ -62,17 +66,58 @@ fn read_body(who: &Who, rest: &[u8]) -> Result<ScriptBody, Refusal>
     body_of(who, line)
 }
 
+// The call that a client sends by a word and one name, as most calls are.
+fn read_named(who: &Who, rest: &[u8]) -> Option<(NamedVerb, Name)>
+    ensures { IfSome result (λ named.
+        body_read who.now rest.now ≡ Ok (ScriptBody.Ask (call_on named.0 named.1))) }
+{
+    let Who::Named(_) = who else {
+        return None;
+    };
+    let mut fields = Fields::new(rest);
+    let Verb::Named(verb) = Verb::read(fields.next()?)? else {
+        return None;
+    };
+    let name = only_name(fields)?;
+    Some((verb, name))
+}
+
+// A line of which all is read in turn. It isn't inlined, so that a call of one name has no room to
+// clear for it.
+#[inline(never)]
+fn read_other(who: Who, rest: &[u8]) -> ScriptLine
+    ensures { result ≡ record { who = who; body = body_read who rest.now } }
+{
+    let body = read_body(&who, rest);
+    ScriptLine { who, body }
+}
+
+// A line with a space, after whose client this rest is.
+fn read_rest(who: Who, rest: &[u8]) -> ScriptLine
+    ensures { result ≡ record { who = who; body = body_read who rest.now } }
+{
+    match read_named(&who, rest) {
+        Some((verb, name)) => ScriptLine {
+            who,
+            body: Ok(ScriptBody::Ask(verb.call(name))),
+        },
+        None => read_other(who, rest),
+    }
+}
+
 // A line that is not too long.
 fn read_short(text: &[u8]) -> ScriptLine
     ensures { result ≡ short_read text.now }
 {
     let (name, rest) = split_at_space(text);
     let who = Who::named(name);
-    let body = match rest {
-        Some(rest) => read_body(&who, rest),
-        None => Err(Refusal::Syntax),
-    };
-    ScriptLine { who, body }
+    match rest {
+        Some(rest) => read_rest(who, rest),
+        None => ScriptLine {
+            who,
+            body: Err(Refusal::Syntax),
+        },
+    }
 }
 
 /// Reads a line of a script. It takes no memory.
