@@ -16,15 +16,14 @@ use Rattle.pt_lines.specs.declared.client.Who.{Who}
 use Rattle.pt_lines.specs.declared.client.Who.TheVariants.{Named, Star, Unknown}
 use Rattle.pt_lines.specs.declared.script_line.ScriptBody.{ScriptBody}
 use Rattle.pt_lines.specs.declared.script_line.ScriptBody.TheVariants.{Hello, Ask, Die, Tick}
+use Rattle.pt_lines.specs.declared.script_line.ScriptLine.{ScriptLine}
 use Rattle.pt_lines.specs.Arguments.{name_of, alone}
 use Rattle.pt_lines.specs.ClientNames.{IsClientName}
 use Rattle.pt_lines.specs.Clients.{who_text, who_named, before_space, behind_space}
-use Rattle.pt_lines.specs.Fields.{fields}
 use Rattle.pt_lines.specs.Grammar.{Spells}
-use Rattle.pt_lines.specs.Reading.{call_read, line_read, line_of, line_of_fields}
+use Rattle.pt_lines.specs.Reading.{call_read, line_read, line_of}
 use Rattle.pt_lines.specs.Script.{SpellsBody, SpellsScript, long_line, IsReadAs, body_of, body_from}
 use Rattle.pt_lines.specs.Script.{body_read, body_behind, short_read}
-use Rattle.pt_lines.specs.Verbs.{verb_of}
 use Rattle.pt_lines.proofs.ArgumentLemmas.{bytes_are}
 use Rattle.pt_lines.proofs.ClientLemmas.{before-word, behind-word, both_sides, client_name_is_word}
 use Rattle.pt_lines.proofs.ClientLemmas.{IsNamed, named_is, named_again}
@@ -150,18 +149,20 @@ called_again text rest read s =
     ap (λ b. cond b (Ok Die) (body_from (Named text) (call_read rest))) (not_die rest read s)
     ∙ ap (body_from (Named text)) (call_read-spelled rest read s)
 
+-- a line of this client
+abbrev pub line_with : Who → Result ScriptBody Refusal → ScriptLine
+line_with who body = record { who = who; body = body }
+
 -- a word of one name, and the name alone after it, are read as the call
 pub named_said :
-    (who : Who) (text rest : List ℕ) (fs args : List (List ℕ)) (word : List ℕ)
-    (o : Option Verb) (v : Verb) (verb : NamedVerb) (r : Option (List ℕ)) (name : List ℕ)
-    → who ≡ Named text → fs ≡ fields rest → fs ≡ word ∷ args → o ≡ verb_of word → o ≡ Some v
-    → v ≡ first.Named verb → r ≡ alone name_of args → r ≡ Some name
+    (who : Who) (text rest : List ℕ) (args : List (List ℕ)) (o : Option Verb) (verb : NamedVerb)
+    (r : Option (List ℕ)) (name : List ℕ)
+    → who ≡ Named text → line_read rest ≡ option_and_then (λ v. line_of v args) o
+    → o ≡ Some (first.Named verb) → r ≡ alone name_of args → r ≡ Some name
     → body_read who rest ≡ Ok (Ask (call_on verb name))
-named_said who text rest fs args word o v verb r name is split first_is found some_verb named
-    alone_is some_name =
+named_said who text rest args o verb r name is read_is some_verb alone_is some_name =
     let read : line_read rest ≡ Some (line.Ask (call_on verb name)) =
-    ap line_of_fields (sym split ∙ first_is)
-    ∙ ap (option_and_then (λ w. line_of w args)) (sym found ∙ some_verb ∙ ap Some named)
+    read_is ∙ ap (option_and_then (λ v. line_of v args)) some_verb
     ∙ ap (option_map (λ n. line.Ask (call_on verb n))) (sym alone_is ∙ some_name) in
     ap (λ w. body_read w rest) is
     ∙ called_again text rest (line.Ask (call_on verb name))

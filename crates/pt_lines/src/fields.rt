@@ -39,6 +39,13 @@ impl<'a> Fields<'a> {
         Fields { rest: Some(text) }
     }
 
+    /// The parts of what is left of a text, if anything is.
+    pub fn left(rest: Option<&'a [u8]>) -> Self
+        ensures { result ≡ fields_left rest.entry }
+    {
+        Fields { rest }
+    }
+
     /// The text that is left: these fields with a space between each two.
     pub fn rest(self) -> Option<&'a [u8]>
         ensures { fields_left result ≡ self.entry }

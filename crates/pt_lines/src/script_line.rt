@@ -1,17 +1,17 @@
-ghost use Rattle.std.specs.Prelude.{◌≡◌, IfSome, Ok};
-ghost use Rattle.std.specs.Option.{option_copied};
-ghost use Rattle.pt_types.specs.NamedVerbs.{call_on};
-ghost use Rattle.pt_lines.specs.declared.script_line.ScriptBody.TheVariants as ScriptBody;
+ghost use Rattle.std.specs.Prelude.{◌≡◌};
+ghost use Rattle.std.specs.Option.{option_copied, option_and_then};
 ghost use Rattle.pt_lines.specs.Clients.{before_space, behind_space};
+ghost use Rattle.pt_lines.specs.Fields.{fields_left};
+ghost use Rattle.pt_lines.specs.Reading.{line_of, line_read, call_read};
 ghost use Rattle.pt_lines.specs.Script.{body_of, body_read, IsReadAs, short_read, script_read};
 
 use crate::arguments::only_name;
-use crate::call_line::{CallLine, read_call};
+use crate::call_line::{CallLine, read_arguments};
 use crate::client::Who;
 use crate::cutter::Cut;
 use crate::fields::{Fields, first_space};
 use crate::verb::Verb;
-use pt_types::{Call, Clock, MOST_IN_LINE, Moment, Name, NamedVerb, Priority, Refusal};
+use pt_types::{Call, Clock, MOST_IN_LINE, Moment, Priority, Refusal};
 
 /// What a line of a script says.
 #[derive(Debug, PartialEq, Eq, Drop)]
@@ -53,8 +53,42 @@ fn body_of(who: &Who, line: CallLine) -> Result<ScriptBody, Refusal>
     }
 }
 
+// The verb of a text, and what is behind it.
+fn read_verb(rest: &[u8]) -> (Option<Verb>, Option<&[u8]>)
+    ensures { line_read rest.now
+        ≡ option_and_then (λ verb. line_of verb (fields_left result.1)) result.0 }
+{
+    let mut fields = Fields::new(rest);
+    match fields.next() {
+        Some(word) => (Verb::read(word), fields.rest()),
+        None => (None, None),
+    }
+}
+
+// The text as a connection's line, once its verb is read.
+fn read_line(rest: &[u8], verb: Option<Verb>, args: Option<&[u8]>) -> Result<CallLine, Refusal>
+    requires { line_read rest.now
+        ≡ option_and_then (λ verb. line_of verb (fields_left args)) verb }
+    ensures { result ≡ call_read rest.now }
+{
+    if rest.len() > MOST_IN_LINE {
+        return Err(Refusal::Long);
+    }
+    match verb {
+        Some(verb) => read_arguments(verb, Fields::left(args)).ok_or(Refusal::Syntax),
+        None => Err(Refusal::Syntax),
+    }
+}
+
 // What is said after a client and a space.
-fn read_body(who: &Who, rest: &[u8]) -> Result<ScriptBody, Refusal>
+fn read_body(
+    who: &Who,
+    rest: &[u8],
+    verb: Option<Verb>,
+    args: Option<&[u8]>,
+) -> Result<ScriptBody, Refusal>
+    requires { line_read rest.now
+        ≡ option_and_then (λ verb. line_of verb (fields_left args)) verb }
     ensures { result ≡ body_read who.now rest.now }
 {
     match who {
@@ -62,47 +96,36 @@ fn read_body(who: &Who, rest: &[u8]) -> Result<ScriptBody, Refusal>
         Who::Named(_) if rest == b"die".as_slice() => return Ok(ScriptBody::Die),
         _ => {}
     }
-    let line = read_call(rest)?;
+    let line = read_line(rest, verb, args)?;
     body_of(who, line)
 }
 
-// The call that a client sends by a word and one name, as most calls are.
-fn read_named(who: &Who, rest: &[u8]) -> Option<(NamedVerb, Name)>
-    ensures { IfSome result (λ named.
-        body_read who.now rest.now ≡ Ok (ScriptBody.Ask (call_on named.0 named.1))) }
-{
-    let Who::Named(_) = who else {
-        return None;
-    };
-    let mut fields = Fields::new(rest);
-    let Verb::Named(verb) = Verb::read(fields.next()?)? else {
-        return None;
-    };
-    let name = only_name(fields)?;
-    Some((verb, name))
-}
-
-// A line of which all is read in turn. It isn't inlined, so that a call of one name has no room to
-// clear for it.
+// Any line with a space. It isn't inlined, so that a call of one name has no room to clear for it.
 #[inline(never)]
-fn read_other(who: Who, rest: &[u8]) -> ScriptLine
+fn read_other(who: Who, rest: &[u8], verb: Option<Verb>, args: Option<&[u8]>) -> ScriptLine
+    requires { line_read rest.now
+        ≡ option_and_then (λ verb. line_of verb (fields_left args)) verb }
     ensures { result ≡ record { who = who; body = body_read who rest.now } }
 {
-    let body = read_body(&who, rest);
+    let body = read_body(&who, rest, verb, args);
     ScriptLine { who, body }
 }
 
-// A line with a space, after whose client this rest is.
+// A line after whose client and a space this rest is. Most are calls of one name.
 fn read_rest(who: Who, rest: &[u8]) -> ScriptLine
     ensures { result ≡ record { who = who; body = body_read who rest.now } }
 {
-    match read_named(&who, rest) {
-        Some((verb, name)) => ScriptLine {
+    let (verb, args) = read_verb(rest);
+    if let Who::Named(_) = who
+        && let Some(Verb::Named(verb)) = verb
+        && let Some(name) = only_name(Fields::left(args))
+    {
+        return ScriptLine {
             who,
             body: Ok(ScriptBody::Ask(verb.call(name))),
-        },
-        None => read_other(who, rest),
+        };
     }
+    read_other(who, rest, verb, args)
 }
 
 // A line that is not too long.
