@@ -1,6 +1,7 @@
 -- CutLemmas: lines by the bytes that they begin with.
 use Rattle.std.proofs.Common.{◌≡◌, ◌≢◌, ◌<◌, ◌≤◌, ◌+◌, ◌∙◌, ◌==◌, ℕ, suc, Bool, true, false, cond}
-use Rattle.std.proofs.Common.{nat_le, List, [], ◌∷◌, ◌++◌, length, take, drop, get_or, refl, map}
+use Rattle.std.proofs.Common.{nat_le, nat_lt, List, [], ◌∷◌, ◌++◌, length, take, drop, get_or, refl}
+use Rattle.std.proofs.Common.{map}
 use Rattle.std.proofs.Common.{Option, None, Some, length-append, ap, sym, drop-cons, add-one, arith}
 use Rattle.std.proofs.Common.{append_assoc}
 use Rattle.std.proofs.lemmas.Grind.{common_steps}
@@ -14,7 +15,7 @@ use Rattle.pt_lines.specs.Cuts.{cut_of}
 use Rattle.pt_lines.specs.Lines.{lines_after, lines, lines_past_newline, NoNewline, Held, IsBegun}
 use Rattle.pt_lines.specs.Lines.{to_come, last_of, joined, AllTexts, IsFront, past_line}
 use Rattle.pt_lines.specs.declared.script_line.ScriptLine.{ScriptLine}
-use Rattle.pt_lines.specs.Script.{script_of, script_read, IsNextScriptLine}
+use Rattle.pt_lines.specs.Script.{script_of, script_read, short_read, long_line, IsNextScriptLine}
 
 not_newline : (x : ℕ) → x ≢ 10 → (x == 10) ≡ false
 not_newline x ne = grind arith
@@ -221,6 +222,14 @@ read_in_place old rest dropping end line front is past same =
           front.given more
           ∙ ap (λ h. cut_of (take end old.rest) ∷ to_come h more) (sym after);
     }
+
+-- a line that is not too long is read as a short one
+pub short_is_read :
+    (n : ℕ) (xs : List ℕ) → n ≤ 128 → short_read (take n xs) ≡ script_read (take n xs)
+short_is_read n xs le =
+    let fits = take_short n xs le in
+    let test : nat_lt 128 (length (take n xs)) ≡ false = grind arith in
+    sym (ap (λ b. cond b long_line (short_read (take n xs))) test)
 
 front_len : (n : ℕ) (xs : List ℕ) → n ≤ length xs → length (take n xs) ≡ n
 front_len n xs le = grind (arith, common_steps)

@@ -7,7 +7,7 @@ ghost use Rattle.pt_lines.specs.Cuts.{is_long};
 ghost use Rattle.pt_lines.specs.Lines.{lines, lines_past_newline, to_come, NoNewline, IsBegun};
 ghost use Rattle.pt_lines.specs.Lines.{LinesOfTexts};
 
-use crate::script_line::{ScriptLine, read_script_line};
+use crate::script_line::{ScriptLine, read_short};
 use arrayvec::ArrayVec;
 use bytes::BytesMut;
 use memchr::memchr;
@@ -184,7 +184,7 @@ impl<A: Allocator + Copy> Cutter<A> {
             return Some(ScriptLine::of(&cut));
         };
         let text = self.held.as_slice();
-        let line = read_script_line(&text[..end]);
+        let line = read_short(&text[..end]);
         self.held.advance(end + 1);
         Some(line)
     }

@@ -128,8 +128,8 @@ fn read_rest(who: Who, rest: &[u8]) -> ScriptLine
     read_other(who, rest, verb, args)
 }
 
-// A line that is not too long.
-fn read_short(text: &[u8]) -> ScriptLine
+/// Reads a line that is not too long.
+pub fn read_short(text: &[u8]) -> ScriptLine
     ensures { result ≡ short_read text.now }
 {
     let (name, rest) = split_at_space(text);

@@ -1,7 +1,7 @@
 use Rattle.std.proofs.Common.{◌≡◌, ◌+◌, ◌∙◌, ap, take, drop}
 use Rattle.pt_lines.specs.Lines.{Held}
-use Rattle.pt_lines.specs.Script.{script_read}
-use Rattle.pt_lines.proofs.CutLemmas.{read_in_place}
+use Rattle.pt_lines.specs.Script.{short_read}
+use Rattle.pt_lines.proofs.CutLemmas.{read_in_place, short_is_read}
 use Rattle.pt_lines.proofs.cutter.Cutter.next_script_line.Goals as goal
 
 pub returns-clause-some : goal.returns-clause-some
@@ -11,7 +11,8 @@ returns-clause-some g c =
     ap (λ (h : Held). h.rest) c.self.view_is in
     let text = c.as_slice-text.ensures ∙ rest in
     read_in_place c.args.self.now c.advance.new.self.items c.self.inside.dropping end
-    c.read_script_line-line.result c.in-Some.ensures
-    (c.read_script_line-line.ensures.value ∙ ap (λ xs. script_read (take end xs)) text)
+    c.read_short-line.result c.in-Some.ensures
+    (c.read_short-line.ensures ∙ ap (λ xs. short_read (take end xs)) text
+    ∙ short_is_read end c.args.self.now.rest c.in-Some.ensures.short)
     (c.advance.ensures.items ∙ ap (λ xs. drop (end + 1) xs) rest)
     (ap (λ (h : Held). h.dropping) c.self.view_is)
