@@ -26,11 +26,12 @@ begun limit = record { start = no_rows; entries = []; limit = limit; room = 0 }
 abbrev pub past_of : Stored → History
 past_of s = behind (reads_of s.start) s.entries
 
--- so many entries, with their room, fit the limit and the memory that is held, and places are
--- numbers
-pub record IsWithin (at len room limit capacity : ℕ) : Type 0 where
+-- so many entries, with their room, fit the limit; there is memory for the room and perhaps for
+-- more; and places are numbers
+pub record IsWithin (at len room memory limit capacity : ℕ) : Type 0 where
   pub fits : len + room ≤ limit
-  pub held : len + room ≤ capacity
+  pub enough : room ≤ memory
+  pub held : len + memory ≤ capacity
   pub places : at ≤ most_places
 
 -- as many outer entries are counted as there are; the Start has a place for each that it counts

@@ -1,12 +1,13 @@
-ghost use Rattle.std.specs.Prelude.{◌≡◌, if◌then◌else◌};
+ghost use Rattle.std.specs.Prelude.{◌≡◌, ◌+◌, ◌≤◌, if◌then◌else◌, vec_len, vec_capacity, OnOk};
 ghost use Rattle.pt_model.specs.Histories.{is_forced};
+ghost use Rattle.pt_history.specs.Records.{HasRoom, KeepsParts};
 
 use crate::compact::{Compact, base};
 use crate::memory::take_memory;
 use crate::records::Records;
 use pt_model::{Entry, Start};
 use pt_types::{Call, ClientId, Outcome, Refusal};
-use std::alloc::{Allocator, Global};
+use std::alloc::{AllocError, Allocator, Global};
 use std::marker::Model;
 
 /// What a history begins with, and the entries since in the order in which they came. Places go on
@@ -19,6 +20,29 @@ pub struct History<A: Allocator + Copy = Global> {
     outer: u64,
     limit: u32,
     room: u64,
+    /// For how many more entries there is memory, whatever they are.
+    memory: u64,
+}
+
+/// For how many entries memory is asked for at least, so that it is asked for once in a while.
+const BATCH: u64 = 64;
+
+// Makes memory for so many entries more, whatever they are.
+fn grow<A: Allocator + Copy>(
+    entries: &mut Vec<Compact, A>,
+    records: &mut Records<A>,
+    many: u64,
+) -> Result<(), AllocError>
+    requires { many ≤ 4294967295 }
+    ensures entries { entries.new.items ≡ entries.old.items }
+    ensures len { vec_len entries.new ≡ vec_len entries.old }
+    ensures capacity { vec_capacity entries.old ≤ vec_capacity entries.new }
+    ensures parts { KeepsParts records.old records.new }
+    ensures made { OnOk result (vec_len entries.old + many ≤ vec_capacity entries.new) }
+    ensures room { OnOk result (HasRoom records.new many) }
+{
+    entries.reserve(many as usize)?;
+    records.reserve(many)
 }
 
 // What the entry adds to the number of outer entries.
@@ -46,9 +70,9 @@ impl<A: Allocator + Copy> Model for History<A> {
     } };
 
     ghost invariant = { λ h.
-        IsWithin h.start.at (vec_len h.entries) h.room h.limit (vec_capacity h.entries)
+        IsWithin h.start.at (vec_len h.entries) h.room h.memory h.limit (vec_capacity h.entries)
         × IsCounted (rows_of h.start) (entries_of h.start.at h.records h.entries.items) h.outer
-        × IsRecorded h.records h.entries.items h.room };
+        × IsRecorded h.records h.entries.items h.memory };
 }
 
 impl<A: Allocator + Copy> History<A> {
@@ -71,6 +95,7 @@ impl<A: Allocator + Copy> History<A> {
             outer: 0,
             limit,
             room: 0,
+            memory: 0,
         }
     }
 
@@ -88,11 +113,12 @@ impl<A: Allocator + Copy> History<A> {
         if room > self.limit as u64 - self.entries.len() as u64 {
             return Err(Refusal::Full);
         }
-        if self.entries.reserve(room as usize).is_err() {
-            return Err(Refusal::Enomem);
-        }
-        if self.records.reserve(room).is_err() {
-            return Err(Refusal::Enomem);
+        if room > self.memory {
+            let many = room.max(BATCH);
+            if grow(&mut self.entries, &mut self.records, many).is_err() {
+                return Err(Refusal::Enomem);
+            }
+            self.memory = many;
         }
         self.room = room;
         Ok(())
@@ -111,6 +137,7 @@ impl<A: Allocator + Copy> History<A> {
         let compact = self.records.store(base(self.start.at), entry);
         self.entries.push_reserved(compact);
         self.room -= 1;
+        self.memory -= 1;
     }
 
     /// Appends the entry of a call, in room that was made for it. It takes no memory.
@@ -127,6 +154,7 @@ impl<A: Allocator + Copy> History<A> {
         let compact = self.records.store_borrowed(base, client, call, outcome);
         self.entries.push_reserved(compact);
         self.room -= 1;
+        self.memory -= 1;
     }
 
     /// Forgets the entries and begins anew with this Start. The room stays, and so does the memory.

@@ -5,6 +5,7 @@ pub invariant_of-self : goal.invariant_of-self
 invariant_of-self g c = (
   record {
     fits = omega (arith, c.self.invariant.0.fits, c.clear.ensures.len);
+    enough = c.self.invariant.0.enough;
     held = omega (arith, c.self.invariant.0.held, c.clear.ensures.len, c.clear.ensures.capacity);
     places = c.requires.places;
   },

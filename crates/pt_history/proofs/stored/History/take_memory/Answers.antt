@@ -9,6 +9,7 @@ invariant_of-self g c =
     let k = c.take_memory-2.ensures in (
       record {
         fits = omega (arith, c.self.invariant.0.fits, c.take_memory.ensures.len);
+        enough = c.self.invariant.0.enough;
         held = omega (
           arith,
           c.self.invariant.0.held,
@@ -21,5 +22,5 @@ invariant_of-self g c =
           c.take_memory.new.list.items i.outer c.take_memory.ensures.items k.same
           c.self.invariant.1,
       recorded-same i.records c.take_memory-2.new.self i.entries.items c.take_memory.new.list.items
-          i.room c.take_memory.ensures.items k c.self.invariant.2,
+          i.memory c.take_memory.ensures.items k c.self.invariant.2,
     )
