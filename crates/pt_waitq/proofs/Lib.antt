@@ -34,3 +34,5 @@ mod MadeLemmas
 mod ReadLemmas
 -- HighestLemmas: the highest chain that isn't empty, as one of the counts changes
 mod HighestLemmas
+-- PlaceLemmas: an entry of a map that is found at its index
+mod PlaceLemmas

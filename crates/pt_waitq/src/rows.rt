@@ -1,8 +1,9 @@
 //! Rows by the number of what they are of.
 
-ghost use Rattle.std.specs.Prelude.{◌≡◌, IfSome, Some, nat_eq};
+ghost use Rattle.std.specs.Prelude.{◌≡◌, IfSome, Some, nat_eq, slice_get};
 ghost use Rattle.std.specs.Option.{option_copied};
 ghost use Rattle.std.specs.Map.{lookup};
+ghost use Rattle.pt_waitq.specs.Chains.{numbers};
 
 use indexmap::IndexMap;
 use std::alloc::Allocator;
@@ -19,6 +20,21 @@ fn row_by_distance<T, A: Allocator + Copy>(rows: &Rows<T, A>, number: u64) -> Op
     let distance = number.checked_sub(*first)?;
     match rows.get_index(distance as usize) {
         Some((listed, row)) if *listed == number => Some(row),
+        _ => None,
+    }
+}
+
+/// The index of a number that is listed as far after the first one as it is above it.
+pub(crate) fn index_by_distance<T, A: Allocator + Copy>(
+    rows: &Rows<T, A>,
+    number: u64,
+) -> Option<usize>
+    ensures { IfSome result (λ i. slice_get (numbers rows.now.entries) i ≡ Some number) }
+{
+    let (first, _) = rows.first()?;
+    let distance = number.checked_sub(*first)? as usize;
+    match rows.get_index(distance) {
+        Some((listed, _)) if *listed == number => Some(distance),
         _ => None,
     }
 }

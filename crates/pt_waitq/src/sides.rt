@@ -13,7 +13,7 @@ ghost use Rattle.pt_waitq.specs.Chains.{IsFirst, IsFirstWriter, HasWriterFrom};
 
 use crate::boxed::BoxedQueue;
 use crate::link::{Link, NodeIndex};
-use crate::rows::{Rows, row_of};
+use crate::rows::{Rows, index_by_distance, row_of};
 use crate::spares::Spares;
 use pt_types::MOST_PRIORITY;
 use std::alloc::Allocator;
@@ -208,8 +208,10 @@ pub(crate) fn insert<A: Allocator + Copy>(
         → lookup (nat_eq object) queues.new.entries ≡ Some new
         → IsPut writer p node result old new }
 {
-    let boxed = queues.get_mut(&object).unwrap();
-    boxed.put_in(writer, p, node)
+    match index_by_distance(queues, object) {
+        Some(index) => queues.get_index_mut(index).unwrap().put_in(writer, p, node),
+        None => queues.get_mut(&object).unwrap().put_in(writer, p, node),
+    }
 }
 
 /// Takes a node out of a chain of a queue that there is, if it was between these two.
@@ -235,8 +237,16 @@ pub(crate) fn remove<A: Allocator + Copy>(
         → lookup (nat_eq object) queues.new.entries ≡ Some new
         → IsTaken writer p before next old new }
 {
-    let boxed = queues.get_mut(&object).unwrap();
-    boxed.take_out(writer, p, before, next)
+    match index_by_distance(queues, object) {
+        Some(index) => queues
+            .get_index_mut(index)
+            .unwrap()
+            .take_out(writer, p, before, next),
+        None => queues
+            .get_mut(&object)
+            .unwrap()
+            .take_out(writer, p, before, next),
+    }
 }
 
 /// Adds an empty queue, and returns whether there was memory.

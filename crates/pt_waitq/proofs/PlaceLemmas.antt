@@ -1,0 +1,65 @@
+-- A map's entry that is found at its index.
+use Rattle.std.proofs.Common.{◌≡◌, ℕ, zero, suc, ◌==◌, Bool, true, false, cond, List, [], ◌∷◌}
+use Rattle.std.proofs.Common.{Option, Some, None, arith, refl, sym, ap, ◌∙◌, subst, nat_eq}
+use Rattle.std.proofs.lemmas.Bool.Decides.{nat_tests}
+use Rattle.std.specs.List.{AllByRecursion as Each, IsDistinct}
+use Rattle.std.specs.Prelude.{slice_get, unwrap_or}
+use Rattle.std.specs.Map.{lookup, values_of}
+use Rattle.indexmap.specs.IndexMap.{set_value_at}
+use Rattle.pt_waitq.specs.Chains.{numbers}
+
+-- a number after the first is another
+apart : (x o : ℕ) (ks : List ℕ) (i : ℕ)
+    → Each (λ y. (x == y) ≡ false) ks → slice_get ks i ≡ Some o → (o == x) ≡ false
+apart x o [] i all at = cc
+apart x o (k ∷ ks) zero all at =
+    let same : k ≡ o = ap (λ n. unwrap_or n k) at in
+    let other : (x == k) ≡ false = all.0 in
+    grind (arith, nat_tests)
+apart x o (k ∷ ks) (suc i) all at = apart x o ks i all.1 at
+
+module _ {X : Type 0} where
+  -- the numbers stay as a value is written
+  pub numbers-set : (es : List (ℕ × X)) (i : ℕ) (w : X)
+      → numbers (set_value_at es i w) ≡ numbers es
+  numbers-set [] i w = refl
+  numbers-set (e ∷ es) zero w = refl
+  numbers-set (e ∷ es) (suc i) w = ap (λ ns. e.0 ∷ ns) (numbers-set es i w)
+
+  -- the value of a number that is listed at an index is the one there
+  pub found-at : (es : List (ℕ × X)) (i o : ℕ)
+      → IsDistinct (λ a b. a == b) (numbers es) → slice_get (numbers es) i ≡ Some o
+      → lookup (nat_eq o) es ≡ slice_get (values_of es) i
+  unfolding IsDistinct
+  found-at [] i o unique at = cc
+  found-at (e ∷ es) zero o unique at =
+      let same : e.0 ≡ o = ap (λ n. unwrap_or n e.0) at in
+      let own : (o == e.0) ≡ true = grind (arith, nat_tests) in
+      rw own refl
+  found-at (e ∷ es) (suc i) o unique at =
+      rw (apart e.0 o (numbers es) i unique.0 at) (found-at es i o unique.1 at)
+
+  -- it is the one that is written there
+  pub found-set : (es : List (ℕ × X)) (i o : ℕ) (w : X)
+      → IsDistinct (λ a b. a == b) (numbers es) → slice_get (numbers es) i ≡ Some o
+      → lookup (nat_eq o) (set_value_at es i w) ≡ Some w
+  unfolding IsDistinct
+  found-set [] i o w unique at = cc
+  found-set (e ∷ es) zero o w unique at =
+      let same : e.0 ≡ o = ap (λ n. unwrap_or n e.0) at in
+      let own : (o == e.0) ≡ true = grind (arith, nat_tests) in
+      rw own refl
+  found-set (e ∷ es) (suc i) o w unique at =
+      rw (apart e.0 o (numbers es) i unique.0 at) (found-set es i o w unique.1 at)
+
+  -- other numbers have what they had
+  pub others-set : (es : List (ℕ × X)) (i o x : ℕ) (w : X)
+      → slice_get (numbers es) i ≡ Some o → (o == x) ≡ false
+      → lookup (nat_eq x) (set_value_at es i w) ≡ lookup (nat_eq x) es
+  others-set [] i o x w at other = refl
+  others-set (e ∷ es) zero o x w at other =
+      let same : e.0 ≡ o = ap (λ n. unwrap_or n e.0) at in
+      let far : (x == e.0) ≡ false = grind (arith, nat_tests) in
+      rw far refl
+  others-set (e ∷ es) (suc i) o x w at other =
+      ap (λ found. cond (x == e.0) (Some e.1) found) (others-set es i o x w at other)
