@@ -14,7 +14,7 @@ use pt_types::key_order::Key;
 use pt_types::operations::LockKind;
 use pt_types::{ClientId, Clock, ObjectId};
 
-/// What a waiting call is for; a wait also has its mutex's number.  [XSH, the call's page]
+/// What a waiting call is for; a wait also has its mutex.  [XSH, the call's page]
 #[derive(Clone, Copy, Debug, PartialEq, Eq)]
 pub enum Role {
     ForMutex,
