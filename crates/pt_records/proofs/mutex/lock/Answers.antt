@@ -8,8 +8,8 @@ pub returns-in-Mutex-clause-mutex : goal.returns-in-Mutex-clause-mutex
 returns-in-Mutex-clause-mutex g c =
     rw (← c.m.view_is)
     (writes-mutex (λ x. record x { seen = acquired x.seen c.args.c }) c.args.objects.now
-    c.m.inside.0 c.in-Some.object.now c.in-Mutex.mutex c.acquire.new.self c.in-Some.ensures.value c.in-Mutex.is
-    c.acquire.ensures)
+    c.m.inside.0 c.in-Some.object.now c.in-Mutex.mutex c.acquire.new.self
+    c.in-Some.ensures.value c.in-Mutex.is c.acquire.ensures)
 
 pub returns-in-Mutex-clause-chains : goal.returns-in-Mutex-clause-chains
 returns-in-Mutex-clause-chains g c =
