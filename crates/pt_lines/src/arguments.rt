@@ -69,16 +69,16 @@ fn only_field<'a>(mut args: Fields<'a>) -> Option<&'a [u8]>
     Some(field)
 }
 
-#[tactic(auto, using(crate::proofs::WholeLemmas::whole_name))]
 /// A name, and no more. No name has a space, so what is left is one field or no name.
+#[tactic(auto, using(crate::proofs::WholeLemmas::whole_name))]
 pub fn only_name(args: Fields) -> Option<Name>
     ensures { result ≡ alone name_of args.entry }
 {
     read_name(args.rest()?)
 }
 
-#[tactic(auto, using(crate::proofs::WholeLemmas::whole_number))]
 // A number, and no more. No number has a space either.
+#[tactic(auto, using(crate::proofs::WholeLemmas::whole_number))]
 fn only_number(args: Fields) -> Option<u64>
     ensures value { result ≡ alone number_of args.entry }
     ensures fits { IfSome result IsNumber }

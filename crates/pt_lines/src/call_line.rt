@@ -103,7 +103,7 @@ fn read_clocked(verb: ClockedVerb, args: Fields) -> Option<CallLine>
 
 /// The line of a verb and the fields after it. What is seldom read stands in functions that are not
 /// inlined, so that a line with one name has no room to clear for it.
-pub fn read_arguments(verb: Verb, args: Fields) -> Option<CallLine>
+pub(crate) fn read_arguments(verb: Verb, args: Fields) -> Option<CallLine>
     ensures { result ≡ line_of verb args.entry }
 {
     match verb {

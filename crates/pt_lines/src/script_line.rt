@@ -129,7 +129,7 @@ fn read_rest(who: Who, rest: &[u8]) -> ScriptLine
 }
 
 /// Reads a line that is not too long.
-pub fn read_short(text: &[u8]) -> ScriptLine
+pub(crate) fn read_short(text: &[u8]) -> ScriptLine
     ensures { result ≡ short_read text.now }
 {
     let (name, rest) = split_at_space(text);
