@@ -121,7 +121,7 @@ pub(crate) fn base(at: u64) -> u64
 }
 
 /// A place counted from the base; None if it is before the base, or takes more than 32 bits.
-pub(crate) fn near(base: u64, place: u64) -> Option<u32>
+pub fn near(base: u64, place: u64) -> Option<u32>
     ensures { IfSome result (λ n. base + n ≡ place) }
 {
     if place < base || place - base > 4_294_967_295 {

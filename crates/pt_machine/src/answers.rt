@@ -12,7 +12,7 @@ ghost use Rattle.pt_records.specs.Logs.{logged};
 
 use crate::body::Body;
 use pt_model::Entry;
-use pt_records::Answered;
+use pt_records::LoggedAnswers;
 use pt_types::{ClientId, Outcome};
 use pt_waitq::WaitList;
 use std::alloc::Allocator;
@@ -73,9 +73,9 @@ impl<Q: WaitList, A: Allocator + Copy> Body<Q, A> {
     }
 
     /// The answers that the entries from a place on gave, in order.
-    pub fn answers_since(&self, place: u64) -> &[Answered]
+    pub fn answers_since(&self, place: u64) -> LoggedAnswers<'_>
         requires { AreTables self.now }
-        ensures { map (λ a. (logged a).1) result.now ≡ answers_in
+        ensures { map (λ a. (logged a).1) result ≡ answers_in
             (reads_of self.now.stored.start) place self.now.stored.entries }
     {
         self.state.answers_since(place)

@@ -1,7 +1,7 @@
 //! The tables with their queues and deadlines, and the two ways by which an entry comes in.
 
 ghost use Rattle.pt_state.specs.Adds.{Adds, IsReadyFor, Stays, past};
-ghost use Rattle.std.specs.Prelude.{IfErr, IsOk, OnErr, OnOk, ◌+◌, ◌<◌, ◌≡◌, false, vec_len};
+ghost use Rattle.std.specs.Prelude.{IfErr, IsOk, OnErr, OnOk, ◌+◌, ◌<◌, ◌≡◌, false, length};
 ghost use Rattle.pt_model.specs.Room.{entry_for};
 ghost use Rattle.pt_machine.specs.Memory.{needs_memory};
 ghost use Rattle.pt_machine.specs.Planned.{IsPlanned};
@@ -109,7 +109,7 @@ impl<A: Allocator + Copy> Body<Chains<A>, A> {
     /// No entry, of at most so many. It takes no memory.
     pub fn new(alloc: A, limit: u32) -> Body<Chains<A>, A>
         ensures stored { result.stored ≡ begun limit }
-        ensures answers { vec_len result.answers ≡ 0 }
+        ensures answers { length result.answers.items ≡ 0 }
         ensures read { AreTables result }
     {
         Body {

@@ -1,7 +1,7 @@
 //! Room: what an event needs, and which events are refused.
 
 ghost use Rattle.std.specs.Prelude.{Err, IfErr, IsOk, None, OnErr, OnOk, ◌+◌, ◌<◌, ◌↔◌, ◌≡◌, ◌≢◌};
-ghost use Rattle.std.specs.Prelude.{◌≤◌, length, vec_capacity, vec_len};
+ghost use Rattle.std.specs.Prelude.{◌≤◌, length};
 ghost use Rattle.pt_model.specs.Room.{entry_for, is_over as is_over_in, need as need_in};
 ghost use Rattle.pt_model.specs.Room.{refusal as refusal_in, refusal_within as refusal_within_in};
 ghost use Rattle.pt_model.specs.Room.{reserved_for};
@@ -59,11 +59,11 @@ impl<Q: WaitList, A: Allocator + Copy> Body<Q, A> {
     pub fn reserve_answers(&mut self, many: u64) -> Result<(), Refusal>
         ensures same { self.new ≡ record self.old { answers = self.new.answers } }
         ensures told { self.new.answers.items ≡ self.old.answers.items }
-        ensures kept { vec_capacity self.old.answers ≤ vec_capacity self.new.answers }
+        ensures kept { self.old.answers.capacity ≤ self.new.answers.capacity }
         ensures ok { OnOk result
-            (vec_len self.old.answers + many ≤ vec_capacity self.new.answers) }
+            (length self.old.answers.items + many ≤ self.new.answers.capacity) }
         ensures err { IfErr result (λ refusal. refusal ≡ Refusal.Enomem) }
-        ensures enough { vec_len self.old.answers + many ≤ vec_capacity self.old.answers
+        ensures enough { length self.old.answers.items + many ≤ self.old.answers.capacity
             → IsOk result }
     {
         match self.state.answers.reserve(many as usize) {

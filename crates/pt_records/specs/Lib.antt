@@ -1,3 +1,4 @@
+pub mod AnswerLogs
 pub mod Arrivals
 pub mod Callers
 pub mod Chained

@@ -1,9 +1,10 @@
 //! The answers so far, and those from a place on.
 
 ghost use Rattle.std.specs.Prelude.{[], ◌==◌, ◌++◌, ◌+◌, ◌<◌, ◌∷◌, ◌≡◌, ◌≤◌, drop, find, length};
-ghost use Rattle.std.specs.Prelude.{map, option_map, vec_capacity, vec_len};
+ghost use Rattle.std.specs.Prelude.{map, option_map};
 ghost use Rattle.pt_records.specs.Logs.{Rises, first_said, logged, since};
 
+use crate::answer_log::{AnswerLog, LoggedAnswers};
 use pt_types::{ClientId, Outcome};
 use std::alloc::Allocator;
 
@@ -19,14 +20,15 @@ pub struct Answered {
 }
 
 /// Where the answers begin that the entries from a place on gave. It is looked for from the end.
-pub fn answered_since(answers: &[Answered], place: u64) -> usize
-    requires { Rises 0 (map logged answers.now) }
-    ensures within { result ≤ length answers.now }
-    ensures rest { map logged (drop result answers.now) ≡ since place (map logged answers.now) }
+pub fn answered_since<A: Allocator + Copy>(answers: &AnswerLog<A>, place: u64) -> usize
+    requires { Rises 0 (map logged answers.now.items) }
+    ensures within { result ≤ length answers.now.items }
+    ensures rest { map logged (drop result answers.now.items)
+        ≡ since place (map logged answers.now.items) }
 {
     let mut i = answers.len();
     while i > 0 {
-        if answers[i - 1].at < place {
+        if answers.at(i - 1).at < place {
             return i;
         }
         i -= 1;
@@ -35,16 +37,17 @@ pub fn answered_since(answers: &[Answered], place: u64) -> usize
 }
 
 // Where the answers begin that the entries from a place on gave, wherever that is among them.
-fn halved_since(answers: &[Answered], place: u64) -> usize
-    requires { Rises 0 (map logged answers.now) }
-    ensures within { result ≤ length answers.now }
-    ensures rest { map logged (drop result answers.now) ≡ since place (map logged answers.now) }
+fn halved_since<A: Allocator + Copy>(answers: &AnswerLog<A>, place: u64) -> usize
+    requires { Rises 0 (map logged answers.now.items) }
+    ensures within { result ≤ length answers.now.items }
+    ensures rest { map logged (drop result answers.now.items)
+        ≡ since place (map logged answers.now.items) }
 {
     let mut low = 0;
     let mut high = answers.len();
     while low < high {
         let middle = low + (high - low) / 2;
-        if answers[middle].at < place {
+        if answers.at(middle).at < place {
             low = middle + 1;
         } else {
             high = middle;
@@ -54,41 +57,44 @@ fn halved_since(answers: &[Answered], place: u64) -> usize
 }
 
 // What the first of these answers says that is to the call at a place.
-fn first_outcome(answers: &[Answered], place: u64) -> Option<Outcome>
-    ensures { result ≡ option_map (λ a. a.outcome) (find (λ a. a.place == place) answers.now) }
+fn first_outcome(answers: LoggedAnswers<'_>, place: u64) -> Option<Outcome>
+    ensures { result ≡ option_map (λ a. a.outcome) (find (λ a. a.place == place) answers.entry) }
 {
-    match answers.iter().find(|answer| answer.place == place) {
-        Some(answer) => Some(answer.outcome),
-        None => None,
+    let mut left = answers;
+    while let Some(answer) = left.next() {
+        if answer.place == place {
+            return Some(answer.outcome);
+        }
     }
+    None
 }
 
 /// What the answers since a place say to the call at that place: the first that is to it.
-pub fn outcome_since(answers: &[Answered], place: u64) -> Option<Outcome>
-    requires { Rises 0 (map logged answers.now) }
-    ensures { result ≡ first_said (since place (map logged answers.now)) place }
+pub fn outcome_since<A: Allocator + Copy>(answers: &AnswerLog<A>, place: u64) -> Option<Outcome>
+    requires { Rises 0 (map logged answers.now.items) }
+    ensures { result ≡ first_said (since place (map logged answers.now.items)) place }
 {
     let from = halved_since(answers, place);
-    first_outcome(&answers[from..], place)
+    first_outcome(answers.from(from), place)
 }
 
 /// What the answers since a place say to the call at that place. They are looked for from the end,
 /// so this is for a call of late.
-pub fn recent_outcome(answers: &[Answered], place: u64) -> Option<Outcome>
-    requires { Rises 0 (map logged answers.now) }
-    ensures { result ≡ first_said (since place (map logged answers.now)) place }
+pub fn recent_outcome<A: Allocator + Copy>(answers: &AnswerLog<A>, place: u64) -> Option<Outcome>
+    requires { Rises 0 (map logged answers.now.items) }
+    ensures { result ≡ first_said (since place (map logged answers.now.items)) place }
 {
     let from = answered_since(answers, place);
-    first_outcome(&answers[from..], place)
+    first_outcome(answers.from(from), place)
 }
 
 /// Adds an answer, in room that was made for it.
-pub fn tell<A: Allocator + Copy>(answers: &mut Vec<Answered, A>, answer: Answered)
-    requires { vec_len answers.old < vec_capacity answers.old }
+pub fn tell<A: Allocator + Copy>(answers: &mut AnswerLog<A>, answer: Answered)
+    requires { length answers.old.items < answers.old.capacity }
     ensures told { map logged answers.new.items
         ≡ map logged answers.old.items ++ logged answer ∷ [] }
-    ensures len { vec_len answers.new ≡ vec_len answers.old + 1 }
-    ensures capacity { vec_capacity answers.new ≡ vec_capacity answers.old }
+    ensures len { length answers.new.items ≡ length answers.old.items + 1 }
+    ensures capacity { answers.new.capacity ≡ answers.old.capacity }
 {
-    answers.push_reserved(answer);
+    answers.push(answer);
 }

@@ -13,6 +13,7 @@ ghost use Rattle.pt_model.specs.Answers.{at_barrier, open_calls, told};
 ghost use Rattle.pt_model.specs.Steps.{Follows};
 ghost use Rattle.pt_history.specs.Stored.{past_of};
 
+use crate::answer_log::AnswerLog;
 use crate::answers::Answered;
 use crate::clients::Caller;
 use pt_history::History;
@@ -119,23 +120,23 @@ pub fn trip<Q: WaitList, A: Allocator + Copy>(
     history: &History<A>,
     clients: &mut Clients<Caller, A>,
     queues: &mut Q,
-    answers: &mut Vec<Answered, A>,
+    answers: &mut AnswerLog<A>,
     b: ObjectId,
 )
     requires follows { Follows (past_of history.now) }
     requires callers { AreCallers (past_of history.now) clients.old }
     requires arrived { AreArrivals (past_of history.now) b ((Q.seen queues.old).queue b) }
-    requires room { vec_len answers.old + length (at_barrier b (open_calls (past_of history.now)))
-        ≤ vec_capacity answers.old }
+    requires room { length answers.old.items + length (at_barrier b (open_calls (past_of history.now)))
+        ≤ answers.old.capacity }
     ensures told { let past = past_of history.now in
         map logged answers.new.items
         ≡ map logged answers.old.items ++ told_at (place past) (told past (AnyEntry.Trip b)) }
-    ensures capacity { vec_capacity answers.new ≡ vec_capacity answers.old }
+    ensures capacity { answers.new.capacity ≡ answers.old.capacity }
     ensures closed { RewritesCallers clients.old clients.new
         (closed_at b (map logged answers.new.items)) }
     ensures emptied { Empties b (Q.seen queues.old) (Q.seen queues.new) }
 {
-    let from = answers.len();
-    tell_trip(history, queues, answers, b);
-    close_all(clients, &answers[from..]);
+    let from = answers.recent.len();
+    tell_trip(history, queues, &mut answers.recent, b);
+    close_all(clients, &answers.recent[from..]);
 }

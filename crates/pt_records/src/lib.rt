@@ -2,6 +2,7 @@
 //! what one row says, and loops over all of them.
 #![tactic(auto)]
 
+mod answer_log;
 pub mod answers;
 pub mod barrier;
 pub mod calls;
@@ -11,7 +12,9 @@ pub mod mutex;
 pub mod objects;
 mod owned;
 pub mod rwlock;
+mod short;
 
+pub use answer_log::{AnswerLog, LoggedAnswers};
 pub use answers::Answered;
 pub use clients::{Caller, Open};
 pub use objects::Object;

@@ -1,5 +1,5 @@
 -- Sealed: a state whose history goes on from its seal.
-use Rattle.std.specs.Prelude.{ℕ, ◌≡◌, ◌≤◌, [], vec_len, vec_capacity}
+use Rattle.std.specs.Prelude.{ℕ, ◌≡◌, ◌≤◌, ◌+◌, [], length}
 use Rattle.pt_model.specs.StartRows.{reads_of}
 use Rattle.pt_model.specs.Seals.{seal}
 use Rattle.pt_state.specs.declared.state.State.{State}
@@ -7,7 +7,7 @@ use Rattle.pt_state.specs.Adds.{past}
 use Rattle.pt_state.specs.Reads.{AreTables}
 
 -- the entries and the answers were dropped, and the history begins with the seal of what it was;
--- clients, objects and clocks stay, and so do the limit, the room and the memory for answers
+-- clients, objects and clocks stay, and so do the limit, the room and the room for answers
 pub record Seals {A : Type 0} (old new : State A) : Type 0 where
   pub starts : reads_of new.stored.start ≡ seal (past old)
   pub entries : new.stored.entries ≡ []
@@ -18,15 +18,15 @@ pub record Seals {A : Type 0} (old new : State A) : Type 0 where
   pub objects : new.objects ≡ old.objects
   pub orphans : new.orphans ≡ old.orphans
   pub clocks : new.clocks ≡ old.clocks
-  pub answers : vec_len new.answers ≡ 0
-  pub held : vec_capacity new.answers ≡ vec_capacity old.answers
+  pub answers : length new.answers.items ≡ 0
+  pub held : old.answers.capacity ≤ new.answers.capacity + length old.answers.items
 
 -- nothing changed, but that there may be more memory for answers
 pub record StaysOrGrows {A : Type 0} (old new : State A) : Type 0 where
   pub stored : new.stored ≡ old.stored
   pub read : AreTables new
-  pub told : vec_len new.answers ≡ vec_len old.answers
-  pub held : vec_capacity old.answers ≤ vec_capacity new.answers
+  pub told : length new.answers.items ≡ length old.answers.items
+  pub held : old.answers.capacity ≤ new.answers.capacity
 
 -- the entries and the answers were put aside, and the history begins with the seal of what it was,
 -- with room and memory for so many entries and answers
@@ -36,5 +36,5 @@ pub record SealsWithRoom {A : Type 0} (old new : State A) (n : ℕ) : Type 0 whe
   pub limit : new.stored.limit ≡ old.stored.limit
   pub room : new.stored.room ≡ n
   pub read : AreTables new
-  pub answers : vec_len new.answers ≡ 0
-  pub held : n ≤ vec_capacity new.answers
+  pub answers : length new.answers.items ≡ 0
+  pub held : n ≤ new.answers.capacity

@@ -14,7 +14,7 @@ ghost use Rattle.pt_seal.specs.Sealed.{SealsWithRoom, StaysOrGrows};
 
 use crate::start::start_of;
 use pt_history::History;
-use pt_records::Answered;
+use pt_records::AnswerLog;
 use pt_state::State;
 use pt_types::Refusal;
 use std::alloc::{AllocError, Allocator, Global};
@@ -24,7 +24,7 @@ use std::mem::replace;
 #[derive(Drop)]
 pub struct Unsealed<A: Allocator + Copy = Global> {
     pub stored: History<A>,
-    pub answers: Vec<Answered, A>,
+    pub answers: AnswerLog<A>,
 }
 
 // A history that begins with the seal of a state's history, with room for so many entries. ENOMEM
@@ -68,7 +68,7 @@ pub fn seal_with_room<A: Allocator + Copy>(
     ensures err { OnErr result (state.new ≡ state.old) }
     ensures reason { IfErr result (λ refusal. refusal ≡ Refusal.Enomem) }
 {
-    let Ok(answers) = Vec::with_capacity(state.alloc, room as usize) else {
+    let Ok(answers) = AnswerLog::with_room(state.alloc, room as usize) else {
         return Err(Refusal::Enomem);
     };
     // The rows of the Start are copied from the objects by their indices.
@@ -101,5 +101,5 @@ pub fn take_memory<A: Allocator + Copy>(state: &mut State<A>, unsealed: Unsealed
     ensures { StaysOrGrows state.old state.new }
 {
     state.stored.take_memory(unsealed.stored);
-    pt_history::take_memory(&mut state.answers, unsealed.answers);
+    state.answers.take_memory(unsealed.answers);
 }

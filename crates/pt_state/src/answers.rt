@@ -1,6 +1,6 @@
 //! Answers: their clients, their calls and their outcomes, from any place on.
 
-ghost use Rattle.std.specs.Prelude.{◌<◌, ◌≡◌, map, true, vec_capacity, vec_len};
+ghost use Rattle.std.specs.Prelude.{◌<◌, ◌≡◌, length, map, true};
 ghost use Rattle.pt_records.specs.Logs.{logged};
 ghost use Rattle.pt_table.specs.ClientRows.{has_client};
 ghost use Rattle.pt_state.specs.Forcing.{Answers, told_to};
@@ -11,7 +11,7 @@ ghost use Rattle.pt_model.specs.Queries.{answer_of as answer_in, answers_behind 
 ghost use Rattle.pt_state.specs.Adds.{past};
 
 use crate::state::State;
-use pt_records::Open;
+use pt_records::{LoggedAnswers, Open};
 use pt_records::answers::{Answered, answered_since, outcome_since, recent_outcome, tell};
 use pt_records::calls::close;
 use pt_types::{ClientId, Outcome};
@@ -21,7 +21,7 @@ impl<A: Allocator + Copy> State<A> {
     // The call is open no more, and is answered.
     pub(crate) fn answer(&mut self, found: &Open, outcome: Outcome)
         requires there { has_client self.old.clients found.now.call.client ≡ true }
-        requires spare { vec_len self.old.answers < vec_capacity self.old.answers }
+        requires spare { length self.old.answers.items < self.old.answers.capacity }
         ensures { Answers self.old self.new found.now outcome }
     {
         let call = found.call;
@@ -45,7 +45,7 @@ impl<A: Allocator + Copy> State<A> {
         requires { AreTables self.now }
         ensures { result ≡ said (past self.now) place }
     {
-        match outcome_since(self.answers.as_slice(), place) {
+        match outcome_since(&self.answers, place) {
             Some(outcome) => Some(outcome),
             None => self.stored.start().answer_at(place),
         }
@@ -56,7 +56,7 @@ impl<A: Allocator + Copy> State<A> {
         requires { AreTables self.now }
         ensures { result ≡ said (past self.now) place }
     {
-        match recent_outcome(self.answers.as_slice(), place) {
+        match recent_outcome(&self.answers, place) {
             Some(outcome) => Some(outcome),
             None => self.stored.start().answer_at(place),
         }
@@ -76,12 +76,11 @@ impl<A: Allocator + Copy> State<A> {
     }
 
     /// The answers that the entries from a place on gave, in order.
-    pub fn answers_since(&self, place: u64) -> &[Answered]
+    pub fn answers_since(&self, place: u64) -> LoggedAnswers<'_>
         requires { AreTables self.now }
-        ensures { map (λ a. (logged a).1) result.now ≡ answers_in
+        ensures { map (λ a. (logged a).1) result ≡ answers_in
             (reads_of self.now.stored.start) place self.now.stored.entries }
     {
-        let answers = self.answers.as_slice();
-        &answers[answered_since(answers, place)..]
+        self.answers.from(answered_since(&self.answers, place))
     }
 }

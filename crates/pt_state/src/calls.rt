@@ -76,7 +76,7 @@ impl<A: Allocator + Copy> State<A> {
     {
         let place = self.stored.len();
         note_call(&mut self.clients, c, place, outcome);
-        self.answers.push_reserved(Answered {
+        self.answers.push(Answered {
             at: place,
             client: c,
             place,

@@ -1,45 +1,51 @@
-use Rattle.std.proofs.Common.{◌≡◌, ◌+◌, ◌-◌, ◌/◌, [], suc, subst, refl, arith, length, take, drop}
+use Rattle.std.proofs.Common.{◌≡◌, ◌+◌, ◌-◌, ◌/◌, ◌<◌, ◌≤◌, [], suc, subst, refl, arith, length, take}
+use Rattle.std.proofs.Common.{drop}
 use Rattle.std.proofs.Math.ListN.{drop_of_length-le}
 use Rattle.pt_records.proofs.LogParts.{AllSince, NoneSince, none-since, all-since, since-between}
 use Rattle.pt_records.proofs.answers.halved_since.Goals as goal
 
 pub loop-low-init : goal.loop-low-init
-loop-low-init c =
-    let xs = c.args.answers.now in
+loop-low-init g c =
+    let xs = c.args.answers.now.items in
     let past : drop (length xs) xs ≡ [] = drop_of_length-le xs (omega arith) in
-    record { order = omega arith; within = omega arith; none = refl; all = rw past refl }
+    record {
+      order = omega arith;
+      within = omega (arith, c.len-high.ensures);
+      none = refl;
+      all = rw (c.len-high.ensures, past) refl;
+    }
 
-pub loop-low-preserved-then-answers-middle : goal.loop-low-preserved-then-answers-middle
-loop-low-preserved-then-answers-middle c =
-    let xs = c.args.answers.now in
+pub loop-low-preserved-then-at-place : goal.loop-low-preserved-then-at-place
+loop-low-preserved-then-at-place g c =
+    let xs = c.args.answers.now.items in
     let i = c.loop-low.low + (c.loop-low.high - c.loop-low.low) / 2 in
     let same : suc i ≡ i + 1 = omega arith in
     record {
       order = omega (arith, c.loop-low-test.true);
       within = c.loop-low.invariant.within;
       none = subst (λ k. NoneSince c.args.place (take k xs)) same
-          (none-since c.args.place i xs c.index-answers-middle.result c.requires
+          (none-since c.args.place i xs c.at.result c.requires
           (omega (arith, c.loop-low-test.true, c.loop-low.invariant.within))
-          c.if-answers-middle.true);
+          (subst (λ a. a.at < c.args.place) (c.at.ensures c.at.result) c.if-at-place.true));
       all = c.loop-low.invariant.all;
     }
 
 pub loop-low-preserved : goal.loop-low-preserved
-loop-low-preserved c =
-    let xs = c.args.answers.now in
+loop-low-preserved g c =
+    let xs = c.args.answers.now.items in
     let i = c.loop-low.low + (c.loop-low.high - c.loop-low.low) / 2 in
     record {
       order = omega arith;
       within = omega (arith, c.loop-low-test.true, c.loop-low.invariant.within);
       none = c.loop-low.invariant.none;
-      all = all-since c.args.place i xs c.index-answers-middle.result c.requires
+      all = all-since c.args.place i xs c.at.result c.requires
           (omega (arith, c.loop-low-test.true, c.loop-low.invariant.within))
-          c.if-answers-middle.false;
+          (subst (λ a. c.args.place ≤ a.at) (c.at.ensures c.at.result) c.if-at-place.false);
     }
 
 pub returns-clause-rest : goal.returns-clause-rest
-returns-clause-rest c =
-    let xs = c.args.answers.now in
+returns-clause-rest g c =
+    let xs = c.args.answers.now.items in
     let same : c.loop-low.high ≡ c.loop-low.low
     = omega (arith, c.loop-low-test.false, c.loop-low.invariant.order) in
     since-between c.args.place c.loop-low.low xs c.loop-low.invariant.none

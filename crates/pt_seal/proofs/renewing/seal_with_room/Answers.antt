@@ -1,4 +1,4 @@
-use Rattle.std.proofs.Common.{refl, ap, ◌∙◌, arith, vec_len, vec_capacity}
+use Rattle.std.proofs.Common.{refl, ap, ◌∙◌, arith, length}
 use Rattle.pt_model.specs.StartRows.{reads_of}
 use Rattle.pt_seal.proofs.SealedTables.{tables-sealed}
 use Rattle.pt_seal.proofs.renewing.seal_with_room.Goals as goal
@@ -21,7 +21,7 @@ returns-clause-ok g c =
       limit = ap (λ s. s.limit) there ∙ c.in_ok-stored.ensures.limit;
       room = ap (λ s. s.room) there ∙ c.in_ok-stored.ensures.room;
       read = tables-sealed old new c.requires.read starts entries refl c.pack.ensures refl refl
-          (ap (λ v. v.items) empty ∙ c.in-Ok.ensures.items);
-      answers = ap vec_len empty ∙ c.in-Ok.ensures.len;
-      held = omega (arith, ap vec_capacity empty, c.in-Ok.ensures.capacity);
+          (ap (λ l. l.items) empty ∙ c.in-Ok.ensures.items);
+      answers = ap (λ l. length l.items) empty ∙ ap length c.in-Ok.ensures.items;
+      held = omega (arith, ap (λ l. l.capacity) empty, c.in-Ok.ensures.room);
     }

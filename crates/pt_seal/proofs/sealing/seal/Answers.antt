@@ -1,4 +1,4 @@
-use Rattle.std.proofs.Common.{refl, ap, ◌∙◌}
+use Rattle.std.proofs.Common.{refl, ap, ◌∙◌, length}
 use Rattle.pt_model.specs.StartRows.{reads_of}
 use Rattle.pt_seal.proofs.SealedTables.{tables-sealed}
 use Rattle.pt_seal.proofs.sealing.seal.Goals as goal
@@ -24,6 +24,6 @@ returns-clause-ok g c =
       objects = c.pack.ensures;
       orphans = refl;
       clocks = refl;
-      answers = c.clear.ensures.len;
-      held = c.clear.ensures.capacity;
+      answers = ap length c.clear.ensures.items;
+      held = c.clear.ensures.room;
     }

@@ -1,0 +1,10 @@
+use Rattle.std.proofs.Common.{subst}
+use Rattle.pt_records.specs.AnswerLogs.{AreReadable}
+use Rattle.pt_records.proofs.Shortened.{readable-tail}
+use Rattle.pt_records.proofs.answer_log.LoggedAnswers.next.Goals as goal
+
+pub invariant_of-self : goal.invariant_of-self
+invariant_of-self c =
+    readable-tail c.self.inside.base c.self.inside.wholes.now c.in-Some.first.now c.in-Some.rest.now
+    (subst (λ ss. AreReadable c.self.inside.base c.self.inside.wholes.now ss)
+    c.in-Some.ensures.cases.0 c.self.invariant)

@@ -1,0 +1,50 @@
+-- AnswerLogs: a log of answers, most of which are stored in short.
+use Rattle.std.specs.Prelude.{ℕ, ◌+◌, ◌<◌, ◌≤◌, ◌≡◌, List, ◌++◌, length, map, Vec}
+use Rattle.std.specs.Prelude.{slice_index_or, vec_len, vec_capacity}
+use Rattle.std.specs.List.{All}
+use Rattle.pt_types.specs.Limits.{most_places}
+use Rattle.pt_types.specs.declared.outcome.Outcome.TheVariants.{Done}
+use Rattle.pt_records.specs.declared.answers.Answered.{Answered}
+use Rattle.pt_records.specs.declared.short.Short.{Short}
+use Rattle.pt_records.specs.declared.short.Short.TheVariants.{Near, Whole}
+
+-- what is seen of a log: its answers in order, and how many it holds before it takes memory
+pub record StoredLog : Type 0 where
+  pub items : List Answered
+  pub capacity : ℕ
+
+-- the answer that a short one is, over a base and beside those that are stored whole
+abbrev pub lengthened : ℕ → List Answered → Short → Answered
+lengthened b ws (Near x k c j) =
+    record { at = b + k; client = b + c; place = b + j; outcome = x }
+lengthened b ws (Whole i) =
+    slice_index_or ws i (record { at = 0; client = 0; place = 0; outcome = Done })
+
+-- the answers that short ones are
+abbrev pub lengthened_all : ℕ → List Answered → List Short → List Answered
+lengthened_all b ws shorts = map (lengthened b ws) shorts
+
+-- what a short answer refers to is there
+abbrev pub IsThere : List Answered → Short → Type 0
+IsThere ws (Near x k c j) = Unit {0}
+IsThere ws (Whole i) = i < length ws
+
+-- short answers can be read: the base and 32 bits make a number, and what they refer to is there
+pub record AreReadable (b : ℕ) (ws : List Answered) (shorts : List Short) : Type 0 where
+  pub base : b ≤ most_places
+  pub there : All (IsThere ws) shorts
+
+-- a short answer is this one, whatever else is stored
+pub record ShortensAlone (b : ℕ) (a : Answered) (s : Short) : Type 0 where
+  pub same : (ws : List Answered) → lengthened b ws s ≡ a
+  pub there : (ws : List Answered) → IsThere ws s
+
+-- a short answer is this one, and at most one more answer is stored whole
+pub record Shortens {A : Type 0} (b : ℕ) (a : Answered) (old new : Vec Answered A) (s : Short)
+    : Type 0 where
+  pub same : lengthened b new.items s ≡ a
+  pub there : IsThere new.items s
+  pub more : List Answered
+  pub grown : new.items ≡ old.items ++ more
+  pub len : vec_len new ≤ vec_len old + 1
+  pub capacity : vec_capacity new ≡ vec_capacity old

@@ -1,0 +1,98 @@
+//! Answers in short: their numbers count from a base, in 32 bits.
+
+ghost use Rattle.std.specs.Prelude.{◌≡◌, ◌+◌, ◌<◌, ◌≤◌, ◌++◌, IfSome, length, vec_len, vec_capacity};
+ghost use Rattle.pt_types.specs.Limits.{most_places};
+ghost use Rattle.pt_records.specs.AnswerLogs.{AreReadable, IsThere, Shortens, ShortensAlone};
+ghost use Rattle.pt_records.specs.AnswerLogs.{lengthened, lengthened_all};
+
+use crate::answers::Answered;
+use pt_history::near;
+use pt_types::{ClientId, Outcome};
+use std::alloc::Allocator;
+use std::mem::size_of;
+
+/// An answer in 16 bytes.
+#[derive(Clone, Copy)]
+pub(crate) enum Short {
+    /// The outcome, the place of the entry that gave it, the client, and the place of the call.
+    Near(Outcome, u32, u32, u32),
+    /// The index of an answer that is stored whole, since a number of it doesn't fit.
+    Whole(usize),
+}
+
+const _: () = prove!(size_of::<Short>() == 16);
+
+/// The base for answers of which the first comes at a place: 2^31 before it, if that leaves room
+/// for 32 bits.
+pub(crate) fn base_before(at: u64) -> u64
+    ensures { result ≤ most_places }
+{
+    at.saturating_sub(2_147_483_648).min(4_611_686_018_427_387_904)
+}
+
+// An answer in short, if its numbers fit.
+fn near_answer(base: u64, answer: &Answered) -> Option<Short>
+    ensures { IfSome result (λ s. ShortensAlone base answer.now s) }
+{
+    let at = near(base, answer.at)?;
+    let client = near(base, answer.client.0)?;
+    let place = near(base, answer.place)?;
+    Some(Short::Near(answer.outcome, at, client, place))
+}
+
+// An answer in short. It is stored whole, in room that was made for it, if its numbers don't fit.
+fn shortened<A: Allocator + Copy>(
+    base: u64,
+    wholes: &mut Vec<Answered, A>,
+    answer: &Answered,
+) -> Short
+    requires { vec_len wholes.old < vec_capacity wholes.old }
+    ensures { Shortens base answer.now wholes.old wholes.new result }
+{
+    match near_answer(base, answer) {
+        Some(short) => short,
+        None => {
+            let index = wholes.len();
+            wholes.push_reserved(*answer);
+            Short::Whole(index)
+        }
+    }
+}
+
+/// Appends answers in short, in room that was made for them.
+pub(crate) fn shorten_all<A: Allocator + Copy>(
+    base: u64,
+    shorts: &mut Vec<Short, A>,
+    wholes: &mut Vec<Answered, A>,
+    answers: &[Answered],
+)
+    requires readable { AreReadable base wholes.old.items shorts.old.items }
+    requires room { vec_len shorts.old + length answers.now ≤ vec_capacity shorts.old }
+    requires wholes { vec_len wholes.old + length answers.now ≤ vec_capacity wholes.old }
+    ensures readable { AreReadable base wholes.new.items shorts.new.items }
+    ensures same { lengthened_all base wholes.new.items shorts.new.items
+        ≡ lengthened_all base wholes.old.items shorts.old.items ++ answers.now }
+    ensures len { vec_len shorts.new ≡ vec_len shorts.old + length answers.now }
+{
+    for answer in answers {
+        let short = shortened(base, wholes, answer);
+        shorts.push_reserved(short);
+    }
+}
+
+/// The answer that a short one is.
+pub(crate) fn answer_of(base: u64, wholes: &[Answered], short: Short) -> Answered
+    requires base { base ≤ most_places }
+    requires there { IsThere wholes.now short }
+    ensures { result ≡ lengthened base wholes.now short }
+{
+    match short {
+        Short::Near(outcome, at, client, place) => Answered {
+            at: base + at as u64,
+            client: ClientId(base + client as u64),
+            place: base + place as u64,
+            outcome,
+        },
+        Short::Whole(index) => wholes[index],
+    }
+}
