@@ -13,12 +13,15 @@ pub record StoredLog : Type 0 where
   pub items : List Answered
   pub capacity : ℕ
 
+-- what is read where no answer is
+abbrev pub no_answer : Answered
+no_answer = record { at = 0; client = 0; place = 0; outcome = Done }
+
 -- the answer that a short one is, over a base and beside those that are stored whole
 abbrev pub lengthened : ℕ → List Answered → Short → Answered
 lengthened b ws (Near x k c j) =
     record { at = b + k; client = b + c; place = b + j; outcome = x }
-lengthened b ws (Whole i) =
-    slice_index_or ws i (record { at = 0; client = 0; place = 0; outcome = Done })
+lengthened b ws (Whole i) = slice_index_or ws i no_answer
 
 -- the answers that short ones are
 abbrev pub lengthened_all : ℕ → List Answered → List Short → List Answered

@@ -56,6 +56,7 @@ impl<'a> LoggedAnswers<'a> {
     ghost use Rattle.std.specs.Prelude.{◌≡◌, ◌∷◌, [], MatchOption};
 
     /// The next answer, if one is left.
+    #[inline]
     pub fn next(&mut self) -> Option<Answered>
         ensures { MatchOption result ((self.old ≡ []) × (self.new ≡ []))
             (λ a. self.old ≡ a ∷ self.new) }
@@ -74,7 +75,7 @@ impl<'a> LoggedAnswers<'a> {
 impl<A: Allocator + Copy> AnswerLog<A> {
     ghost use Rattle.std.specs.Prelude.{◌≡◌, ◌+◌, ◌-◌, ◌<◌, ◌≤◌, ◌∷◌, [], ◌++◌, length, drop};
     ghost use Rattle.std.specs.Prelude.{slice_index_or, IfOk, IsOk, OnOk};
-    ghost use Rattle.pt_records.specs.declared.answers.Answered.{Answered as AnAnswer};
+    ghost use Rattle.pt_records.specs.AnswerLogs.{no_answer};
 
     /// No answers. It takes no memory.
     pub fn new(alloc: A) -> AnswerLog<A>
@@ -172,20 +173,22 @@ impl<A: Allocator + Copy> AnswerLog<A> {
         self.shorts.len() + self.recent.len()
     }
 
-    /// The answer at an index.
-    pub fn at(&self, i: usize) -> Answered
+    /// The place of the entry that gave the answer at an index.
+    #[inline]
+    pub fn given_at(&self, i: usize) -> u64
         requires { i < length self.now.items }
-        ensures { (d : AnAnswer) → result ≡ slice_index_or self.now.items i d }
+        ensures { result ≡ (slice_index_or self.now.items i no_answer).at }
     {
         let older = self.shorts.len();
         if i < older {
-            answer_of(self.base, self.wholes.as_slice(), self.shorts[i])
+            answer_of(self.base, self.wholes.as_slice(), self.shorts[i]).at
         } else {
-            self.recent[i - older]
+            self.recent[i - older].at
         }
     }
 
     /// The answers from an index on.
+    #[inline]
     pub fn from(&self, i: usize) -> LoggedAnswers<'_>
         requires { i ≤ length self.now.items }
         ensures { result ≡ drop i self.now.items }

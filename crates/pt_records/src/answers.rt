@@ -28,7 +28,7 @@ pub fn answered_since<A: Allocator + Copy>(answers: &AnswerLog<A>, place: u64) -
 {
     let mut i = answers.len();
     while i > 0 {
-        if answers.at(i - 1).at < place {
+        if answers.given_at(i - 1) < place {
             return i;
         }
         i -= 1;
@@ -47,7 +47,7 @@ fn halved_since<A: Allocator + Copy>(answers: &AnswerLog<A>, place: u64) -> usiz
     let mut high = answers.len();
     while low < high {
         let middle = low + (high - low) / 2;
-        if answers.at(middle).at < place {
+        if answers.given_at(middle) < place {
             low = middle + 1;
         } else {
             high = middle;

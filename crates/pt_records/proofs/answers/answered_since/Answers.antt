@@ -1,12 +1,14 @@
 use Rattle.std.proofs.Common.{◌-◌, ◌<◌, ◌≤◌, arith, subst}
+use Rattle.pt_records.specs.AnswerLogs.{no_answer}
 use Rattle.pt_records.proofs.LogParts.{since-found, all-since}
 use Rattle.pt_records.proofs.answers.answered_since.Goals as goal
 
-pub returns-then-at-place-clause-rest : goal.returns-then-at-place-clause-rest
-returns-then-at-place-clause-rest g c =
-    since-found c.args.place c.loop-i.i c.args.answers.now.items c.at.result c.requires
+pub returns-then-given_at-place-clause-rest : goal.returns-then-given_at-place-clause-rest
+returns-then-given_at-place-clause-rest g c =
+    since-found c.args.place c.loop-i.i c.args.answers.now.items no_answer c.requires
     c.loop-i-test.true c.loop-i.invariant.within
-    (subst (λ a. a.at < c.args.place) (c.at.ensures c.at.result) c.if-at-place.true)
+    (subst (λ k. k < c.args.place) c.given_at.ensures
+          c.if-given_at-place.true)
     c.loop-i.invariant.rest
 
 pub loop-i-preserved : goal.loop-i-preserved
@@ -14,7 +16,8 @@ loop-i-preserved g c =
     let xs = c.args.answers.now.items in
     record {
       within = omega (arith, c.loop-i.invariant.within);
-      rest = all-since c.args.place (c.loop-i.i - 1) xs c.at.result c.requires
+      rest = all-since c.args.place (c.loop-i.i - 1) xs no_answer c.requires
           (omega (arith, c.loop-i-test.true, c.loop-i.invariant.within))
-          (subst (λ a. c.args.place ≤ a.at) (c.at.ensures c.at.result) c.if-at-place.false);
+          (subst (λ k. c.args.place ≤ k) c.given_at.ensures
+          c.if-given_at-place.false);
     }

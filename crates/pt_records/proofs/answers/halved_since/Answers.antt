@@ -1,6 +1,7 @@
 use Rattle.std.proofs.Common.{◌≡◌, ◌+◌, ◌-◌, ◌/◌, ◌<◌, ◌≤◌, [], suc, subst, refl, arith, length, take}
 use Rattle.std.proofs.Common.{drop}
 use Rattle.std.proofs.Math.ListN.{drop_of_length-le}
+use Rattle.pt_records.specs.AnswerLogs.{no_answer}
 use Rattle.pt_records.proofs.LogParts.{AllSince, NoneSince, none-since, all-since, since-between}
 use Rattle.pt_records.proofs.answers.halved_since.Goals as goal
 
@@ -15,8 +16,8 @@ loop-low-init g c =
       all = rw (c.len-high.ensures, past) refl;
     }
 
-pub loop-low-preserved-then-at-place : goal.loop-low-preserved-then-at-place
-loop-low-preserved-then-at-place g c =
+pub loop-low-preserved-then-given_at-place : goal.loop-low-preserved-then-given_at-place
+loop-low-preserved-then-given_at-place g c =
     let xs = c.args.answers.now.items in
     let i = c.loop-low.low + (c.loop-low.high - c.loop-low.low) / 2 in
     let same : suc i ≡ i + 1 = omega arith in
@@ -24,9 +25,10 @@ loop-low-preserved-then-at-place g c =
       order = omega (arith, c.loop-low-test.true);
       within = c.loop-low.invariant.within;
       none = subst (λ k. NoneSince c.args.place (take k xs)) same
-          (none-since c.args.place i xs c.at.result c.requires
+          (none-since c.args.place i xs no_answer c.requires
           (omega (arith, c.loop-low-test.true, c.loop-low.invariant.within))
-          (subst (λ a. a.at < c.args.place) (c.at.ensures c.at.result) c.if-at-place.true));
+          (subst (λ k. k < c.args.place) c.given_at.ensures
+          c.if-given_at-place.true));
       all = c.loop-low.invariant.all;
     }
 
@@ -38,9 +40,10 @@ loop-low-preserved g c =
       order = omega arith;
       within = omega (arith, c.loop-low-test.true, c.loop-low.invariant.within);
       none = c.loop-low.invariant.none;
-      all = all-since c.args.place i xs c.at.result c.requires
+      all = all-since c.args.place i xs no_answer c.requires
           (omega (arith, c.loop-low-test.true, c.loop-low.invariant.within))
-          (subst (λ a. c.args.place ≤ a.at) (c.at.ensures c.at.result) c.if-at-place.false);
+          (subst (λ k. c.args.place ≤ k) c.given_at.ensures
+          c.if-given_at-place.false);
     }
 
 pub returns-clause-rest : goal.returns-clause-rest
