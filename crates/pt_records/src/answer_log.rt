@@ -6,6 +6,9 @@ use pt_history::take_memory;
 use std::alloc::{AllocError, Allocator, Global};
 use std::marker::Model;
 
+// Room is made for so many answers at least, so that recent ones are seldom stored in short.
+const LEAST_ROOM: usize = 64;
+
 /// All answers since the Start, in order.
 ///
 /// Contracts see the answers, and how many there may be before the log takes memory.
@@ -134,7 +137,7 @@ impl<A: Allocator + Copy> AnswerLog<A> {
             return Ok(());
         }
         self.shorten()?;
-        self.recent.reserve(many.max(64))
+        self.recent.reserve(many.max(LEAST_ROOM))
     }
 
     /// Adds an answer, in room that was made for it.

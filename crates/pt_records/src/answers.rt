@@ -57,11 +57,10 @@ fn halved_since<A: Allocator + Copy>(answers: &AnswerLog<A>, place: u64) -> usiz
 }
 
 // What the first of these answers says that is to the call at a place.
-fn first_outcome(answers: LoggedAnswers<'_>, place: u64) -> Option<Outcome>
+fn first_outcome(mut answers: LoggedAnswers<'_>, place: u64) -> Option<Outcome>
     ensures { result ≡ option_map (λ a. a.outcome) (find (λ a. a.place == place) answers.entry) }
 {
-    let mut left = answers;
-    while let Some(answer) = left.next() {
+    while let Some(answer) = answers.next() {
         if answer.place == place {
             return Some(answer.outcome);
         }

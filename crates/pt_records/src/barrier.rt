@@ -126,8 +126,8 @@ pub fn trip<Q: WaitList, A: Allocator + Copy>(
     requires follows { Follows (past_of history.now) }
     requires callers { AreCallers (past_of history.now) clients.old }
     requires arrived { AreArrivals (past_of history.now) b ((Q.seen queues.old).queue b) }
-    requires room { length answers.old.items + length (at_barrier b (open_calls (past_of history.now)))
-        ≤ answers.old.capacity }
+    requires room { length answers.old.items
+        + length (at_barrier b (open_calls (past_of history.now))) ≤ answers.old.capacity }
     ensures told { let past = past_of history.now in
         map logged answers.new.items
         ≡ map logged answers.old.items ++ told_at (place past) (told past (AnyEntry.Trip b)) }

@@ -1,6 +1,7 @@
 //! Answers in short: their numbers count from a base, in 32 bits.
 
-ghost use Rattle.std.specs.Prelude.{◌≡◌, ◌+◌, ◌<◌, ◌≤◌, ◌++◌, IfSome, length, vec_len, vec_capacity};
+ghost use Rattle.std.specs.Prelude.{◌≡◌, ◌+◌, ◌<◌, ◌≤◌, ◌++◌, IfSome, length, vec_len};
+ghost use Rattle.std.specs.Prelude.{vec_capacity};
 ghost use Rattle.pt_types.specs.Limits.{most_places};
 ghost use Rattle.pt_records.specs.AnswerLogs.{AreReadable, IsThere, Shortens, ShortensAlone};
 ghost use Rattle.pt_records.specs.AnswerLogs.{lengthened, lengthened_all};

@@ -1,5 +1,5 @@
-use Rattle.std.proofs.Common.{◌≡◌, ◌+◌, ◌-◌, ◌/◌, ◌<◌, ◌≤◌, [], suc, subst, refl, arith, length, take}
-use Rattle.std.proofs.Common.{drop}
+use Rattle.std.proofs.Common.{◌≡◌, ◌+◌, ◌-◌, ◌/◌, ◌<◌, ◌≤◌, [], suc, subst, refl, arith, length}
+use Rattle.std.proofs.Common.{take, drop}
 use Rattle.std.proofs.Math.ListN.{drop_of_length-le}
 use Rattle.pt_records.specs.AnswerLogs.{no_answer}
 use Rattle.pt_records.proofs.LogParts.{AllSince, NoneSince, none-since, all-since, since-between}

@@ -6,5 +6,6 @@ use Rattle.pt_records.proofs.answers.outcome_since.Goals as goal
 pub returns : goal.returns
 returns g c =
     c.first_outcome.ensures
-    ∙ said-found c.args.place c.from.result (since c.args.place (map logged c.args.answers.now.items))
+    ∙ said-found c.args.place c.from.result
+    (since c.args.place (map logged c.args.answers.now.items))
     (ap (map logged) c.from.ensures ∙ c.halved_since-from.ensures.rest)
