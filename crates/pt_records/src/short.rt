@@ -28,7 +28,8 @@ const _: () = prove!(size_of::<Short>() == 16);
 pub(crate) fn base_before(at: u64) -> u64
     ensures { result ≤ most_places }
 {
-    at.saturating_sub(2_147_483_648).min(4_611_686_018_427_387_904)
+    at.saturating_sub(2_147_483_648)
+        .min(4_611_686_018_427_387_904)
 }
 
 // An answer in short, if its numbers fit.

@@ -11,9 +11,9 @@ ghost use Rattle.pt_model.specs.Queries.{answer_of as answer_in, answers_behind 
 ghost use Rattle.pt_state.specs.Adds.{past};
 
 use crate::state::State;
-use pt_records::{LoggedAnswers, Open};
 use pt_records::answers::{Answered, answered_since, outcome_since, recent_outcome, tell};
 use pt_records::calls::close;
+use pt_records::{LoggedAnswers, Open};
 use pt_types::{ClientId, Outcome};
 use std::alloc::Allocator;
 

@@ -8,7 +8,7 @@ returns-then-given_at-place-clause-rest g c =
     since-found c.args.place c.loop-i.i c.args.answers.now.items no_answer c.requires
     c.loop-i-test.true c.loop-i.invariant.within
     (subst (λ k. k < c.args.place) c.given_at.ensures
-          c.if-given_at-place.true)
+    c.if-given_at-place.true)
     c.loop-i.invariant.rest
 
 pub loop-i-preserved : goal.loop-i-preserved
