@@ -24,8 +24,12 @@ pub struct History<A: Allocator + Copy = Global> {
     memory: u64,
 }
 
-/// For how many entries memory is asked for at least, so that it is asked for once in a while.
+/// For how many more entries than there has to be room for memory is asked, so that it is asked for
+/// once in a while.
 const BATCH: u64 = 64;
+
+/// For how many entries memory is asked at most.
+const MOST_AT_ONCE: u64 = 4_294_967_295;
 
 // Makes memory for so many entries more, whatever they are.
 fn grow<A: Allocator + Copy>(
@@ -114,7 +118,7 @@ impl<A: Allocator + Copy> History<A> {
             return Err(Refusal::Full);
         }
         if room > self.memory {
-            let many = room.max(BATCH);
+            let many = (room + BATCH).min(MOST_AT_ONCE);
             if grow(&mut self.entries, &mut self.records, many).is_err() {
                 return Err(Refusal::Enomem);
             }

@@ -6,8 +6,9 @@ use pt_history::take_memory;
 use std::alloc::{AllocError, Allocator, Global};
 use std::marker::Model;
 
-// Room is made for so many answers at least, so that recent ones are seldom stored in short.
-const LEAST_ROOM: usize = 64;
+// Room is made for so many answers more than are asked for, so that recent ones are seldom stored in
+// short.
+const BATCH: usize = 64;
 
 /// All answers since the Start, in order.
 ///
@@ -137,7 +138,7 @@ impl<A: Allocator + Copy> AnswerLog<A> {
             return Ok(());
         }
         self.shorten()?;
-        self.recent.reserve(many.max(LEAST_ROOM))
+        self.recent.reserve(many.saturating_add(BATCH))
     }
 
     /// Adds an answer, in room that was made for it.
