@@ -6,8 +6,8 @@ use pt_history::take_memory;
 use std::alloc::{AllocError, Allocator, Global};
 use std::marker::Model;
 
-// Room is made for so many answers more than are asked for, so that recent ones are seldom stored in
-// short.
+// Room is made for so many answers more than there has to be, so that recent ones are seldom stored
+// in short.
 const BATCH: usize = 64;
 
 /// All answers since the Start, in order.
