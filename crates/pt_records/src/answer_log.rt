@@ -60,7 +60,7 @@ impl<'a> LoggedAnswers<'a> {
     ghost use Rattle.std.specs.Prelude.{◌≡◌, ◌∷◌, [], MatchOption};
 
     /// The next answer, if one is left.
-    #[inline]
+    #[inline(always)]
     pub fn next(&mut self) -> Option<Answered>
         ensures { MatchOption result ((self.old ≡ []) × (self.new ≡ []))
             (λ a. self.old ≡ a ∷ self.new) }
@@ -178,7 +178,7 @@ impl<A: Allocator + Copy> AnswerLog<A> {
     }
 
     /// The place of the entry that gave the answer at an index.
-    #[inline]
+    #[inline(always)]
     pub fn given_at(&self, i: usize) -> u64
         requires { i < length self.now.items }
         ensures { result ≡ (slice_index_or self.now.items i no_answer).at }
@@ -192,7 +192,7 @@ impl<A: Allocator + Copy> AnswerLog<A> {
     }
 
     /// The answers from an index on.
-    #[inline]
+    #[inline(always)]
     pub fn from(&self, i: usize) -> LoggedAnswers<'_>
         requires { i ≤ length self.now.items }
         ensures { result ≡ drop i self.now.items }
