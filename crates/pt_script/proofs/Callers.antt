@@ -56,7 +56,7 @@ called_here h c call r =
     (ap (λ b. cond b (Some c) (caller h (place h))) same, omega arith)
 
 -- a call that it leaves waiting is its own
-stands_own : (h : History) (c : ℕ) (E : Effect) → Allowed h c E → (w : WaitingCall)
+pub stands_own : (h : History) (c : ℕ) (E : Effect) → Allowed h c E → (w : WaitingCall)
     → In w (left_by E)
     → w.client ≡ c
 stands_own h c (Waits v) a w (inl e) = ap (λ (u : WaitingCall). u.client) (e ∙ a.0)

@@ -20,10 +20,14 @@ mod Answered
 mod Callers
 -- Noted: the line that made a call is noted at its place, and is the line of the call's client
 mod Noted
--- Latest: the answers that one event gives are to the latest calls of their clients
-mod Latest
--- Asked: the line that is stored for a client is that of its latest call, to which it is answered
+-- Later: what holds of the calls that are open after an event's entry holds of those answered later
+mod Later
+-- Waiting: the line of a call that is open is the event's own, or is stored
+mod Waiting
+-- Asked: each answer is under the event's own line, or under the one that is stored for its client
 mod Asked
+-- Alone: an event that no entry follows answers its own call, or none
+mod Alone
 -- Settled: A history goes on by forced entries until nothing is forced
 mod Settled
 -- Unrefused: an event that is not refused where a seal makes room is not refused after it

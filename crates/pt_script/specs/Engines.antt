@@ -4,6 +4,7 @@ use Rattle.std.specs.Prelude.{None, Result, Ok, Err, if◌then◌else◌}
 use Rattle.std.specs.List.{flat_map}
 use Rattle.std.specs.Map.{lookup}
 use Rattle.pt_types.specs.Limits.{most_entries}
+use Rattle.pt_types.specs.declared.outcome.Outcome.{Outcome}
 use Rattle.pt_types.specs.declared.outcome.Outcome.TheVariants.{Done}
 use Rattle.pt_types.specs.declared.outcome.Refusal.{Refusal}
 use Rattle.pt_types.specs.declared.outcome.Refusal.TheVariants.{Nohello}
@@ -17,7 +18,9 @@ use Rattle.pt_model.specs.declared.entry.Event.{Event}
 use Rattle.pt_model.specs.declared.entry.Event.TheVariants as event
 use Rattle.pt_model.specs.Histories.{History, place}
 use Rattle.pt_model.specs.Records.{Told}
-use Rattle.pt_model.specs.Queries.{latest}
+use Rattle.pt_model.specs.declared.waiting_call.WaitingCall.{WaitingCall}
+use Rattle.pt_model.specs.Searches.{In}
+use Rattle.pt_model.specs.Answers.{open_calls}
 use Rattle.pt_model.specs.Legal.{LegalBehind, events_of}
 use Rattle.pt_model.specs.Steps.{IsStart}
 use Rattle.pt_core.specs.Cores.{Kept, Seen, past, shown}
@@ -71,11 +74,11 @@ abbrev pub IsLineOf : List (ℕ × LineId) → List (ℕ × LineId) → ℕ → 
 IsLineOf asked calls c j =
     (line : LineId) × ((latest_line asked c ≡ Some line) × (line_at calls j ≡ Some line))
 
--- after this history the line of each client's latest call is stored, and no call is noted at a
--- place that comes
+-- after this history the line of each open call is stored for its client, and no call is noted at
+-- a place that comes
 pub record AreLines (asked calls : List (ℕ × LineId)) (h : History) : Type 0 where
   pub fresh : IsFresh calls (place h)
-  pub stored : (c j : ℕ) → latest h c ≡ Some j → IsLineOf asked calls c j
+  pub stored : (w : WaitingCall) → In w (open_calls h) → IsLineOf asked calls w.client w.place
 
 -- a core's entries since its Start are the one legal list for their events
 pub record IsLegal (core : Kept) : Type 0 where
@@ -93,10 +96,20 @@ mark_of (event.Join p) = Client
 mark_of (event.Call c call) = Call c
 mark_of _ = Nothing
 
--- of a call that is noted the line is stored for its client
-abbrev pub IsOwn : Mark → LineId → List (ℕ × LineId) → Type 0
-IsOwn (Call c) line asked = latest_line asked c ≡ Some line
-IsOwn _ line asked = Unit {0}
+-- the lines of clients, that of a call which is noted just now before those that are stored
+abbrev pub own_first : Mark → LineId → List (ℕ × LineId) → List (ℕ × LineId)
+own_first (Call c) line asked = (c, line) ∷ asked
+own_first _ line asked = asked
+
+-- the answer of an event's own call, if it has one by then
+abbrev pub own_answers : Mark → ℕ → Option Outcome → List Told
+own_answers (Call c) place (Some x) = record { client = c; place = place; outcome = x } ∷ []
+own_answers _ place x = []
+
+-- the text of that answer
+abbrev pub own_text : Mark → LineId → Option Outcome → List ℕ
+own_text (Call c) line (Some x) = told_line (Some line) x
+own_text _ line x = []
 
 -- the clients after a line of this mark
 abbrev pub clients_marked : Mark → Who → ℕ → List (List ℕ × ℕ) → List (List ℕ × ℕ)
@@ -108,11 +121,12 @@ abbrev pub calls_marked : Mark → LineId → ℕ → List (ℕ × LineId) → L
 calls_marked (Call c) line place rows = rows ++ (place, line) ∷ []
 calls_marked _ line place rows = rows
 
--- after a call this line is stored for its client; else nothing changes
-abbrev pub IsAsked : Mark → LineId → List (ℕ × LineId) → List (ℕ × LineId) → Type 0
-IsAsked (Call c) line old new =
+-- after a call that has no answer yet its line is stored for its client; else nothing changes
+abbrev pub IsAsked : Option Outcome → Mark → LineId → List (ℕ × LineId) → List (ℕ × LineId)
+    → Type 0
+IsAsked None (Call c) line old new =
     (d : ℕ) → latest_line new d ≡ (if nat_eq c d then Some line else latest_line old d)
-IsAsked _ line old new = new ≡ old
+IsAsked _ _ line old new = new ≡ old
 
 -- the greeting that a line is written for
 abbrev pub greeting_marked : Mark → LineId → List ℕ

@@ -4,16 +4,16 @@ ghost use Rattle.pt_core.specs.Cores.{shown};
 ghost use Rattle.indexmap.specs.IndexMap.{spare};
 ghost use Rattle.pt_script.specs.Scripts.{lines_of_who, number_of};
 ghost use Rattle.pt_script.specs.Engines.{mark_of, clients_marked, calls_marked, greeting_marked};
-ghost use Rattle.pt_script.specs.Engines.{client_for, latest_text, IsAsked, IsOwn};
+ghost use Rattle.pt_script.specs.Engines.{client_for, latest_text, own_answers, own_first, IsAsked};
 
 use crate::fault::ScriptFault;
 use crate::line_id::LineId;
 use crate::mark::{Mark, mark_of};
 use crate::names::{CountedLine, Names};
-use crate::text::{Asked, tell, tell_all};
+use crate::text::{Asked, refuse, tell, tell_all, tell_own};
 use http_server::Log;
 use indexmap::IndexMap;
-use pt_core::Core;
+use pt_core::{Applied, Core};
 use pt_lines::{Cutter, ScriptBody, ScriptLine, Who, Word};
 use pt_model::Event;
 use pt_types::{ClientId, Outcome, Priority, Refusal};
@@ -23,29 +23,34 @@ use std::marker::Model;
 // The line that made the call at each place. It is for proofs alone and takes no memory.
 type Calls = Log<u64, LineId>;
 
-// Notes an accepted line, whose entry is at this place.
+// Notes an accepted line, whose event was applied. It is stored for its client if its call waits,
+// since all later answers are to calls that wait.
 fn note<A: Allocator + Copy>(
     names: &mut Names<A>,
     asked: &mut Asked<A>,
     calls: &mut Calls,
     mark: &Mark,
     line: &LineId,
-    place: u64,
+    done: &Applied,
 )
     requires room { 0 < spare asked.old }
     requires counted { 0 < lines_of_who names.old.seen line.now.who }
     requires first { mark.now ≡ Mark.Client → number_of names.old.clients line.now.who ≡ None }
     ensures names { names.new ≡ record names.old {
-      clients = clients_marked mark.now line.now.who place names.old.clients;
+      clients = clients_marked mark.now line.now.who done.now.first names.old.clients;
     } }
-    ensures asked { IsAsked mark.now line.now asked.old.entries asked.new.entries }
-    ensures calls { calls.new.items ≡ calls_marked mark.now line.now place calls.old.items }
+    ensures asked { IsAsked done.now.outcome mark.now line.now
+        asked.old.entries asked.new.entries }
+    ensures calls { calls.new.items
+        ≡ calls_marked mark.now line.now done.now.first calls.old.items }
 {
     match mark {
-        Mark::Client => names.join(&line.who, ClientId(place)),
+        Mark::Client => names.join(&line.who, ClientId(done.first)),
         Mark::Call(client) => {
-            let _ = asked.insert(client.0, line.copied()).unwrap();
-            *calls = calls.and(&place, line);
+            if done.outcome.is_none() {
+                let _ = asked.insert(client.0, line.copied()).unwrap();
+            }
+            *calls = calls.and(&done.first, line);
         }
         Mark::Nothing => {}
     }
@@ -73,30 +78,37 @@ fn greet<A: Allocator + Copy>(
     }
 }
 
-// Appends the answers that the entries from this place on give. The first of them is of this line.
+// Appends the answers that an event gave, whose mark and line these are. If no entry followed its
+// own, it answered its own call alone, or none, and its answers need not be looked for.
+#[tactic(auto, using(crate::proofs::Alone::alone_text))]
 fn tell_from<'a, A: Allocator + Copy>(
     out: &mut Vec<u8, A>,
     core: &'a Core<A>,
     asked: &'a Asked<A>,
     mark: &'a Mark,
     line: &'a LineId,
-    place: u64,
+    done: &'a Applied,
 ) -> Result<(), ScriptFault>
-    requires { IsOwn mark.now line.now asked.now.entries }
+    requires alone { done.now.last ≡ done.now.first
+        → answers_behind (shown core.now).start done.now.first core.now.entries
+        ≡ own_answers mark.now done.now.first done.now.outcome }
     ensures ok { OnOk result (out.new.items ≡ out.old.items
-        ++ latest_text asked.now.entries
-        (answers_behind (shown core.now).start place core.now.entries)) }
+        ++ latest_text (own_first mark.now line.now asked.now.entries)
+        (answers_behind (shown core.now).start done.now.first core.now.entries)) }
     ensures why { IfErr result (λ fault. fault ≡ ScriptFault.Memory) }
 {
-    tell_all(out, asked, mark, line, core.answers_since(place))
+    if done.last == done.first {
+        return tell_own(out, mark, line, done.outcome);
+    }
+    tell_all(out, asked, mark, line, core.answers_since(done.first))
 }
 
 /// All clients of a script, the lines that they sent, and the core that these asked.
 ///
-/// Of each client one line is stored: that of its latest call, since no other can still be
-/// answered. Contracts see what is known after the lines so far, the lines of all calls too. The
-/// history is sealed for an event that needs the room, so the core has never more entries than its
-/// limit, however many lines come.
+/// Of each client one line is stored: that of its latest call that had to wait, since no other can
+/// still be answered. Contracts see what is known after the lines so far, the lines of all calls
+/// too. The history is sealed for an event that needs the room, so the core has never more entries
+/// than its limit, however many lines come.
 #[derive(Drop)]
 pub struct Engine<A: Allocator + Copy = Global> {
     core: Core<A>,
@@ -222,36 +234,35 @@ impl<A: Allocator + Copy> Engine<A> {
     }
 
     // Does what a counted line asks for, and appends its answer.
-    #[tactic(auto, using(crate::proofs::Asked::asked_now))]
-    fn run(&mut self, event: Event, line: LineId, out: &mut Vec<u8, A>) -> Result<(), ScriptFault>
-        requires counted { 0 < lines_of_who self.old.seen line.who }
-        requires first { mark_of event ≡ Mark.Client → number_of self.old.clients line.who ≡ None }
+    fn run(&mut self, event: &Event, line: &LineId, out: &mut Vec<u8, A>) -> Result<(), ScriptFault>
+        requires counted { 0 < lines_of_who self.old.seen line.now.who }
+        requires first { mark_of event.now ≡ Mark.Client
+            → number_of self.old.clients line.now.who ≡ None }
         ensures ok { OnOk result
-            (Adds (SaysOf (known_by self.old) event line (known_by self.new))
+            (Adds (SaysOf (known_by self.old) event.now line.now (known_by self.new))
             out.old.items out.new.items) }
         ensures why { IfErr result (λ fault. fault ≡ ScriptFault.Memory) }
     {
         if self.asked.reserve(1).is_err() {
             return Err(ScriptFault::Memory);
         }
-        let mark = mark_of(&event);
-        match self.core.apply(event) {
+        match self.core.apply_event(event) {
             Ok(done) => {
-                let place = done.first;
+                let mark = mark_of(event);
                 note(
                     &mut self.names,
                     &mut self.asked,
                     &mut self.calls,
                     &mark,
-                    &line,
-                    place,
+                    line,
+                    &done,
                 );
-                greet(out, &mark, &line)?;
-                tell_from(out, &self.core, &self.asked, &mark, &line, place)?;
+                greet(out, &mark, line)?;
+                tell_from(out, &self.core, &self.asked, &mark, line, &done)?;
                 Ok(())
             }
             Err(refusal) => {
-                tell(out, &line, Word::Refusal(refusal))?;
+                refuse(out, line, refusal)?;
                 Ok(())
             }
         }
@@ -272,11 +283,11 @@ impl<A: Allocator + Copy> Engine<A> {
         let line = LineId { who, number };
         match event {
             Ok(event) => {
-                self.run(event, line, out)?;
+                self.run(&event, &line, out)?;
                 Ok(())
             }
             Err(refusal) => {
-                tell(out, &line, Word::Refusal(refusal))?;
+                refuse(out, &line, refusal)?;
                 Ok(())
             }
         }

@@ -2,8 +2,8 @@ ghost use Rattle.std.specs.Prelude.{◌≡◌, ◌<◌, ◌≤◌, ◌+◌, ◌-
 ghost use Rattle.std.specs.Prelude.{vec_capacity, IsOk, OnOk, OnErr, IfOk, IfErr, Some};
 ghost use Rattle.pt_lines.specs.Replies.{reply_line};
 ghost use Rattle.std.specs.Option.{option_copied};
-ghost use Rattle.pt_script.specs.Engines.{latest_line, latest_text, IsOwn};
-ghost use Rattle.pt_script.specs.Scripts.{told_line};
+ghost use Rattle.pt_script.specs.Engines.{latest_line, latest_text, own_first, own_text};
+ghost use Rattle.pt_script.specs.Scripts.{refusal_text, told_line};
 ghost use Rattle.pt_script.specs.Texts.{BreaksOff, IsBroken, IsCutShort, writing};
 
 use crate::fault::ScriptFault;
@@ -13,11 +13,11 @@ use indexmap::IndexMap;
 use pt_core::{Answers, Reply};
 use pt_io::Sink;
 use pt_lines::{Word, write_reply};
-use pt_types::ClientId;
+use pt_types::{ClientId, Outcome, Refusal};
 use std::alloc::Allocator;
 use std::hash::{BuildHasherDefault, FoldHasher};
 
-/// The line that made the latest call of each client, by the client's number.
+/// The line that made the latest call of each client that had to wait, by the client's number.
 pub type Asked<A> = IndexMap<u64, LineId, BuildHasherDefault<FoldHasher>, A>;
 
 /// Appends the answer to a line.
@@ -40,6 +40,18 @@ pub fn tell<A: Allocator + Copy>(
     }
 }
 
+/// Appends the refusal of a line.
+pub fn refuse<A: Allocator + Copy>(
+    out: &mut Vec<u8, A>,
+    line: &LineId,
+    refusal: Refusal,
+) -> Result<(), ScriptFault>
+    ensures ok { OnOk result (out.new.items ≡ out.old.items ++ refusal_text line.now refusal) }
+    ensures why { IfErr result (λ fault. fault ≡ ScriptFault.Memory) }
+{
+    tell(out, line, Word::Refusal(refusal))
+}
+
 // The line that is stored for a client. That of a call that is noted just now is at hand.
 fn line_of<'a, A: Allocator + Copy>(
     asked: &'a Asked<A>,
@@ -47,8 +59,8 @@ fn line_of<'a, A: Allocator + Copy>(
     line: &'a LineId,
     client: ClientId,
 ) -> Option<&'a LineId>
-    requires { IsOwn mark.now line.now asked.now.entries }
-    ensures { option_copied result ≡ latest_line asked.now.entries client }
+    ensures { option_copied result
+        ≡ latest_line (own_first mark.now line.now asked.now.entries) client }
 {
     match mark {
         Mark::Call(caller) if *caller == client => Some(line),
@@ -56,7 +68,7 @@ fn line_of<'a, A: Allocator + Copy>(
     }
 }
 
-// Appends an answer of the core under the line that made its client's latest call.
+// Appends an answer of the core under the line that made the call.
 fn tell_reply<A: Allocator + Copy>(
     out: &mut Vec<u8, A>,
     asked: &Asked<A>,
@@ -64,9 +76,9 @@ fn tell_reply<A: Allocator + Copy>(
     line: &LineId,
     reply: &Reply,
 ) -> Result<(), ScriptFault>
-    requires { IsOwn mark.now line.now asked.now.entries }
     ensures ok { OnOk result (out.new.items ≡ out.old.items
-        ++ told_line (latest_line asked.now.entries reply.now.client) reply.now.outcome) }
+        ++ told_line (latest_line (own_first mark.now line.now asked.now.entries)
+        reply.now.client) reply.now.outcome) }
     ensures why { IfErr result (λ fault. fault ≡ ScriptFault.Memory) }
 {
     match line_of(asked, mark, line, reply.client) {
@@ -75,8 +87,25 @@ fn tell_reply<A: Allocator + Copy>(
     }
 }
 
-/// Appends answers of the core, each under the line that made its client's latest call. The line of
-/// a call that is noted just now is at hand, and is not looked up.
+/// Appends the answer of the event's own call, if it has one.
+pub fn tell_own<A: Allocator + Copy>(
+    out: &mut Vec<u8, A>,
+    mark: &Mark,
+    line: &LineId,
+    outcome: Option<Outcome>,
+) -> Result<(), ScriptFault>
+    ensures ok { OnOk result
+        (out.new.items ≡ out.old.items ++ own_text mark.now line.now outcome) }
+    ensures why { IfErr result (λ fault. fault ≡ ScriptFault.Memory) }
+{
+    match (mark, outcome) {
+        (Mark::Call(_), Some(outcome)) => tell(out, line, Word::Outcome(outcome)),
+        _ => Ok(()),
+    }
+}
+
+/// Appends answers of the core, each under the line that made the call. The line of a call that is
+/// noted just now is at hand, and is not looked up.
 #[tactic(auto, using(crate::proofs::Texts::latest_next))]
 pub fn tell_all<'a, A: Allocator + Copy>(
     out: &mut Vec<u8, A>,
@@ -85,9 +114,8 @@ pub fn tell_all<'a, A: Allocator + Copy>(
     line: &'a LineId,
     mut answers: Answers<'a>,
 ) -> Result<(), ScriptFault>
-    requires { IsOwn mark.now line.now asked.now.entries }
-    ensures ok { OnOk result (out.new.items
-        ≡ out.old.items ++ latest_text asked.now.entries answers.entry) }
+    ensures ok { OnOk result (out.new.items ≡ out.old.items
+        ++ latest_text (own_first mark.now line.now asked.now.entries) answers.entry) }
     ensures why { IfErr result (λ fault. fault ≡ ScriptFault.Memory) }
 {
     while let Some(reply) = answers.next() {

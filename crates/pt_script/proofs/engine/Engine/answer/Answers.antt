@@ -28,8 +28,8 @@ returns-in_ok-run-in-Ok-clause-ok g c =
     ∙ ap (λ (h : Heard). suc (lines_of_who h.seen who)) c.self.view_is)
     c.in-Ok.ensures c.in_ok-run-in-Ok.ensures.ok
 
-pub returns-in_ok-tell-in-Err-clause-ok : goal.returns-in_ok-tell-in-Err-clause-ok
-returns-in_ok-tell-in-Err-clause-ok g c =
+pub returns-in_ok-refuse-in-Err-clause-ok : goal.returns-in_ok-refuse-in-Err-clause-ok
+returns-in_ok-refuse-in-Err-clause-ok g c =
     let i = c.self.inside in
     let who = c.args.line.who in
     let heard : Known → Heard =
@@ -39,13 +39,13 @@ returns-in_ok-tell-in-Err-clause-ok g c =
     ∙ ap (λ (h : Heard). counted (known_by h) who) c.self.view_is in
     says_counted (known_by c.args.self.now) (known_by (heard c.count.new.self))
     (known_by (heard c.count.new.self)) c.args.line c.in_ok-number.field-0.number
-    (Err c.in-Err.refusal) c.args.out.now.items c.tell.new.out.items is
+    (Err c.in-Err.refusal) c.args.out.now.items c.refuse.new.out.items is
     (c.in_ok-number.ensures.number
     ∙ ap (λ (h : Heard). suc (lines_of_who h.seen who)) c.self.view_is)
     c.in-Err.ensures
     (record {
-      text =
-          refusal_text (record { who = who; number = c.in_ok-number.field-0.number }) c.in-Err.refusal;
-      grows = c.in_ok-tell-in-Err.ensures.ok;
+      text = refusal_text
+          (record { who = who; number = c.in_ok-number.field-0.number }) c.in-Err.refusal;
+      grows = c.in_ok-refuse-in-Err.ensures.ok;
       holds = (refl, refl);
     })
