@@ -1,8 +1,7 @@
 -- An event that no entry follows answers its own call, or none.
-use Rattle.std.proofs.Common.{◌≡◌, ℕ, ◌==◌, ◌+◌, true, cond, List, [], ◌∷◌, ◌++◌, length, Option}
-use Rattle.std.proofs.Common.{Some, None, nat_eq, refl, sym, ap, ◌∙◌, subst, arith, eq-eqb, append-nil}
+use Rattle.std.proofs.Common.{◌≡◌, ℕ, ◌+◌, cond, List, [], ◌∷◌, ◌++◌, length, Option}
+use Rattle.std.proofs.Common.{Some, None, refl, sym, ap, ◌∙◌, arith, eq-eqb, append-nil}
 use Rattle.std.specs.Option.{option_or}
-use Rattle.pt_types.specs.declared.call.Call.{Call as Asked}
 use Rattle.pt_types.specs.declared.outcome.Outcome.{Outcome}
 use Rattle.pt_types.specs.Tables.{reply}
 use Rattle.pt_model.specs.declared.entry.Entry.{Entry}
@@ -16,7 +15,7 @@ use Rattle.pt_model.specs.Queries.{answers_behind}
 use Rattle.pt_model.specs.Room.{entry_for}
 use Rattle.pt_model.specs.Steps.{Follows}
 use Rattle.pt_model.specs.Verdicts.{verdict}
-use Rattle.pt_model.proofs.Histories.{follows-part, place-onto}
+use Rattle.pt_model.proofs.Histories.{place-onto}
 use Rattle.pt_model.proofs.Sound.{Fresh-follows}
 use Rattle.pt_core.specs.declared.applied.Applied.{Applied}
 use Rattle.pt_core.specs.Cores.{Kept, past}
@@ -25,10 +24,11 @@ use Rattle.pt_script.specs.declared.line_id.LineId.{LineId}
 use Rattle.pt_script.specs.declared.mark.Mark.{Mark}
 use Rattle.pt_script.specs.declared.mark.Mark.TheVariants as mark
 use Rattle.pt_script.specs.Scripts.{told_line}
-use Rattle.pt_script.specs.Engines.{IsLegal, IsSound, latest_line, latest_text, mark_of, own_answers, own_first}
+use Rattle.pt_script.specs.Engines.{IsLegal, IsSound, latest_line, latest_text, mark_of}
+use Rattle.pt_script.specs.Engines.{own_answers, own_first}
 use Rattle.pt_script.specs.Engines.{own_text}
 use Rattle.pt_script.proofs.Accepted.{answers_are}
-use Rattle.pt_script.proofs.Opened.{legal_follow, legal_next, legal_opened, longer}
+use Rattle.pt_script.proofs.Opened.{legal_follow, legal_opened, longer}
 
 none_left : (es : List Entry) (n : ℕ) → n ≡ n + length es → es ≡ []
 none_left [] n same = refl

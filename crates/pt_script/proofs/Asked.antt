@@ -1,16 +1,14 @@
 -- Each answer of an event is under the event's own line, or under the line that is stored for its
 -- client, since it is to the event's own call or to one that waits.
-use Rattle.std.proofs.Common.{◌≡◌, ℕ, ◌<◌, ◌==◌, Bool, true, false, cond, List, [], ◌∷◌, ◌++◌, Some}
-use Rattle.std.proofs.Common.{None, nat_eq, refl, sym, ap, ◌∙◌, subst, arith, eq-eqb}
+use Rattle.std.proofs.Common.{◌≡◌, ℕ, ◌<◌, List, [], ◌∷◌, ◌++◌}
+use Rattle.std.proofs.Common.{refl, sym, ap, ◌∙◌, subst, arith}
 use Rattle.pt_types.specs.Limits.{most_entries}
 use Rattle.pt_model.specs.declared.entry.Entry.{Entry}
 use Rattle.pt_model.specs.declared.entry.Event.{Event}
-use Rattle.pt_model.specs.declared.entry.Event.TheVariants as event
 use Rattle.pt_model.specs.Searches.{Each}
 use Rattle.pt_model.specs.Starts.{Start, nothing}
 use Rattle.pt_model.specs.Histories.{History, Begin, ◌▷◌, onto, behind, place}
 use Rattle.pt_model.specs.Answers.{replies_from}
-use Rattle.pt_model.specs.Clients.{is_alive}
 use Rattle.pt_model.specs.Queries.{answers_behind}
 use Rattle.pt_model.specs.Legal.{events_of}
 use Rattle.pt_model.specs.Room.{entry_for}
@@ -25,8 +23,7 @@ use Rattle.pt_core.specs.Cores.{Kept, past}
 use Rattle.pt_core.specs.Applying.{IsApplied, IsWritten, opened, told_at_once}
 use Rattle.pt_script.specs.declared.line_id.LineId.{LineId}
 use Rattle.pt_script.specs.declared.mark.Mark.{Mark}
-use Rattle.pt_script.specs.declared.mark.Mark.TheVariants.{Client, Call, Nothing}
-use Rattle.pt_script.specs.Scripts.{line_at, calls_with, told_text}
+use Rattle.pt_script.specs.Scripts.{calls_with, told_text}
 use Rattle.pt_script.specs.Engines.{AreLines, IsAsked, IsLegal, IsLineOf, IsSound, calls_marked}
 use Rattle.pt_script.specs.Engines.{latest_text, mark_of, own_first}
 use Rattle.pt_script.proofs.Accepted.{answers_are, calls_as, fresh_noted, limit_next}

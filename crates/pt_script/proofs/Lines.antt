@@ -1,5 +1,6 @@
 -- What is answered of a line, once it is counted.
-use Rattle.std.proofs.Common.{◌≡◌, ℕ, suc, List, Result, Ok, Err, refl, ap, ◌∙◌, subst}
+use Rattle.std.proofs.Common.{◌≡◌, ℕ, suc, ◌++◌, List, Result, Ok, Err, OnOk, refl, sym, ap, ◌∙◌}
+use Rattle.std.proofs.Common.{subst}
 use Rattle.pt_types.specs.declared.outcome.Refusal.{Refusal}
 use Rattle.pt_lines.specs.declared.client.Who.{Who}
 use Rattle.pt_lines.specs.declared.client.Who.TheVariants.{Named, Star, Unknown}
@@ -7,7 +8,8 @@ use Rattle.pt_lines.specs.declared.script_line.ScriptLine.{ScriptLine}
 use Rattle.pt_lines.specs.declared.script_line.ScriptBody.{ScriptBody}
 use Rattle.pt_lines.specs.declared.script_line.ScriptBody.TheVariants.{Hello, Ask, Die, Tick}
 use Rattle.pt_model.specs.declared.entry.Event.{Event}
-use Rattle.pt_script.specs.Scripts.{Script, event_of_body, line_id, lines_of_who}
+use Rattle.pt_script.specs.declared.line_id.LineId.{LineId}
+use Rattle.pt_script.specs.Scripts.{Script, event_of_body, line_id, lines_of_who, refusal_text}
 use Rattle.pt_script.specs.Says.{Says, SaysTo, counted}
 use Rattle.pt_script.specs.Engines.{Adds}
 
@@ -42,3 +44,26 @@ says_counted s mid next line number asks out told is counts says adds =
     out told) counts
     (subst (λ t. Adds (SaysTo t (record { who = line.who; number = number }) asks next) out told)
     is adds))
+
+-- a line that asks for no event: its refusal was appended
+pub says_refused : (s : Script) (line : LineId) (why : Refusal) (out told : List ℕ)
+    → told ≡ out ++ refusal_text line why → Adds (SaysTo s line (Err why) s) out told
+says_refused s line why out told grows = record {
+  text = refusal_text line why;
+  grows = grows;
+  holds = (refl, refl);
+}
+
+-- what follows where a call succeeds
+pub on_ok : {X E P Q : Type 0} (r : Result X E) → (P → Q) → OnOk r P → OnOk r Q
+on_ok (Ok x) f is = f is
+on_ok (Err e) f is = is
+
+-- the same, of a line whose refusal is this one
+pub refused_as : {X E : Type 0} (r : Result X E) (s : Script) (line : LineId)
+    (asks : Result Event Refusal) (why : Refusal) (out told : List ℕ) → asks ≡ Err why
+    → OnOk r (told ≡ out ++ refusal_text line why) → OnOk r (Adds (SaysTo s line asks s) out told)
+refused_as r s line asks why out told is =
+    on_ok r (λ grows.
+    subst (λ v. Adds (SaysTo s line v s) out told) (sym is)
+    (says_refused s line why out told grows))

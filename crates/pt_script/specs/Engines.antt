@@ -1,13 +1,11 @@
 -- Engines: what the parts of the engine do, one line at a time.
 use Rattle.std.specs.Prelude.{◌≡◌, ℕ, ◌≤◌, ◌++◌, List, [], ◌∷◌, length, map, nat_eq, Option, Some}
-use Rattle.std.specs.Prelude.{None, Result, Ok, Err, if◌then◌else◌}
+use Rattle.std.specs.Prelude.{None, if◌then◌else◌}
 use Rattle.std.specs.List.{flat_map}
 use Rattle.std.specs.Map.{lookup}
 use Rattle.pt_types.specs.Limits.{most_entries}
 use Rattle.pt_types.specs.declared.outcome.Outcome.{Outcome}
 use Rattle.pt_types.specs.declared.outcome.Outcome.TheVariants.{Done}
-use Rattle.pt_types.specs.declared.outcome.Refusal.{Refusal}
-use Rattle.pt_types.specs.declared.outcome.Refusal.TheVariants.{Nohello}
 use Rattle.pt_lines.specs.declared.client.Who.{Who}
 use Rattle.pt_lines.specs.declared.cutter.Cut.{Cut}
 use Rattle.pt_lines.specs.declared.reply.Word.TheVariants as word
@@ -132,11 +130,6 @@ IsAsked _ _ line old new = new ≡ old
 abbrev pub greeting_marked : Mark → LineId → List ℕ
 greeting_marked Client line = reply_line (Some line.who) line.number (word.Outcome Done)
 greeting_marked _ line = []
-
--- the client that a line is of, if hello came first  [profile]
-abbrev pub client_for : Option ℕ → Result ℕ Refusal
-client_for None = Err Nohello
-client_for (Some c) = Ok c
 
 -- these lines were answered, and what may be written for them was appended
 pub record IsAnswered (s : Script) (cuts : List Cut) (old : List ℕ) (last : Script)

@@ -4,7 +4,7 @@ ghost use Rattle.pt_core.specs.Cores.{shown};
 ghost use Rattle.indexmap.specs.IndexMap.{spare};
 ghost use Rattle.pt_script.specs.Scripts.{lines_of_who, number_of};
 ghost use Rattle.pt_script.specs.Engines.{mark_of, clients_marked, calls_marked, greeting_marked};
-ghost use Rattle.pt_script.specs.Engines.{client_for, latest_text, own_answers, own_first, IsAsked};
+ghost use Rattle.pt_script.specs.Engines.{latest_text, own_answers, own_first, IsAsked};
 
 use crate::fault::ScriptFault;
 use crate::line_id::LineId;
@@ -16,7 +16,7 @@ use indexmap::IndexMap;
 use pt_core::{Applied, Core};
 use pt_lines::{Cutter, ScriptBody, ScriptLine, Who, Word};
 use pt_model::Event;
-use pt_types::{ClientId, Outcome, Priority, Refusal};
+use pt_types::{Call, ClientId, Outcome, Priority, Refusal};
 use std::alloc::{Allocator, Global};
 use std::marker::Model;
 
@@ -54,13 +54,6 @@ fn note<A: Allocator + Copy>(
         }
         Mark::Nothing => {}
     }
-}
-
-// The client of a name, if one has joined under it.
-fn joined(client: Option<ClientId>) -> Result<ClientId, Refusal>
-    ensures { result ≡ client_for client }
-{
-    client.ok_or(Refusal::Nohello)
 }
 
 // An accepted hello is answered 0.
@@ -141,9 +134,9 @@ impl<A: Allocator + Copy> Engine<A> {
     ghost use Rattle.pt_model.specs.Clients.{is_alive};
     ghost use Rattle.pt_lines.specs.Lines.{to_come, IsBegun};
     ghost use Rattle.pt_core.specs.Cores.{past};
-    ghost use Rattle.pt_script.specs.Scripts.{begun, core_of, join_for, event_for};
-    ghost use Rattle.pt_script.specs.Scripts.{event_of_body};
-    ghost use Rattle.pt_script.specs.Says.{Says, SaysOf};
+    ghost use Rattle.pt_script.specs.Scripts.{begun, core_of, event_for, join_for, of_client};
+    ghost use Rattle.pt_script.specs.Scripts.{refusal_of_hello};
+    ghost use Rattle.pt_script.specs.Says.{Says, SaysOf, SaysTo};
     ghost use Rattle.pt_script.specs.Engines.{Adds, Answers, IsAnswered, known_by};
 
     /// An engine that has read no line. A refused growth is a fault.
@@ -187,49 +180,14 @@ impl<A: Allocator + Copy> Engine<A> {
         }
     }
 
-    // What a hello asks for under a name with which this client joined, if one did.
-    fn join_for(&self, client: Option<ClientId>, priority: Priority) -> Result<Event, Refusal>
-        ensures { result ≡ join_for (past (core_of (known_by self.now))) priority client }
+    // Why a hello is refused under a name with which this client joined.
+    fn refusal_of_hello(&self, client: ClientId) -> Refusal
+        ensures { result ≡ refusal_of_hello (past (core_of (known_by self.now))) client }
     {
-        match client {
-            None => Ok(Event::Join(priority)),
-            Some(client) if self.lives(client) => Err(Refusal::Nohello),
-            Some(_) => Err(Refusal::Dead),
-        }
-    }
-
-    // What a line says, as an event. The client is the one that joined under the line's name.
-    fn event_for(
-        &self,
-        who: &Who,
-        client: Option<ClientId>,
-        body: ScriptBody,
-    ) -> Result<Event, Refusal>
-        requires { client ≡ number_of self.now.clients who.now }
-        ensures { result ≡ event_for (known_by self.now) who.now body }
-    {
-        match (who, body) {
-            (Who::Named(_), ScriptBody::Hello(priority)) => self.join_for(client, priority),
-            (Who::Named(_), ScriptBody::Ask(call)) => Ok(Event::Call(joined(client)?, call)),
-            (Who::Named(_), ScriptBody::Die) => Ok(Event::Death(joined(client)?)),
-            (Who::Star, ScriptBody::Tick(clock, moment)) => Ok(Event::Moment(clock, moment)),
-            _ => Err(Refusal::Syntax),
-        }
-    }
-
-    // The event that a line asks for, or why it asks for none.
-    fn event_of(
-        &self,
-        who: &Who,
-        client: Option<ClientId>,
-        body: Result<ScriptBody, Refusal>,
-    ) -> Result<Event, Refusal>
-        requires { client ≡ number_of self.now.clients who.now }
-        ensures { result ≡ event_of_body (known_by self.now) who.now body }
-    {
-        match body {
-            Ok(body) => self.event_for(who, client, body),
-            Err(refusal) => Err(refusal),
+        if self.lives(client) {
+            Refusal::Nohello
+        } else {
+            Refusal::Dead
         }
     }
 
@@ -268,6 +226,97 @@ impl<A: Allocator + Copy> Engine<A> {
         }
     }
 
+    // Answers a hello under a name with which this client joined, if one did.
+    #[tactic(auto, using(crate::proofs::Lines::says_refused))]
+    fn hello(
+        &mut self,
+        line: &LineId,
+        client: Option<ClientId>,
+        priority: Priority,
+        out: &mut Vec<u8, A>,
+    ) -> Result<(), ScriptFault>
+        requires counted { 0 < lines_of_who self.old.seen line.now.who }
+        requires client { client ≡ number_of self.old.clients line.now.who }
+        ensures ok { OnOk result (Adds (SaysTo (known_by self.old) line.now
+            (join_for (past (core_of (known_by self.old))) priority client)
+            (known_by self.new)) out.old.items out.new.items) }
+        ensures why { IfErr result (λ fault. fault ≡ ScriptFault.Memory) }
+    {
+        match client {
+            None => self.run(&Event::Join(priority), line, out),
+            Some(client) => refuse(out, line, self.refusal_of_hello(client)),
+        }
+    }
+
+    // Answers a call of the client that joined under the line's name, if one did.
+    #[tactic(auto, using(crate::proofs::Lines::says_refused))]
+    fn ask(
+        &mut self,
+        line: &LineId,
+        client: Option<ClientId>,
+        call: Call,
+        out: &mut Vec<u8, A>,
+    ) -> Result<(), ScriptFault>
+        requires counted { 0 < lines_of_who self.old.seen line.now.who }
+        ensures ok { OnOk result (Adds (SaysTo (known_by self.old) line.now
+            (of_client (λ c. Event.Call c call) client)
+            (known_by self.new)) out.old.items out.new.items) }
+        ensures why { IfErr result (λ fault. fault ≡ ScriptFault.Memory) }
+    {
+        match client {
+            Some(client) => self.run(&Event::Call(client, call), line, out),
+            None => refuse(out, line, Refusal::Nohello),
+        }
+    }
+
+    // Answers the end of the client's process.
+    #[tactic(auto, using(crate::proofs::Lines::says_refused))]
+    fn die(
+        &mut self,
+        line: &LineId,
+        client: Option<ClientId>,
+        out: &mut Vec<u8, A>,
+    ) -> Result<(), ScriptFault>
+        requires counted { 0 < lines_of_who self.old.seen line.now.who }
+        ensures ok { OnOk result (Adds (SaysTo (known_by self.old) line.now
+            (of_client (λ c. Event.Death c) client)
+            (known_by self.new)) out.old.items out.new.items) }
+        ensures why { IfErr result (λ fault. fault ≡ ScriptFault.Memory) }
+    {
+        match client {
+            Some(client) => self.run(&Event::Death(client), line, out),
+            None => refuse(out, line, Refusal::Nohello),
+        }
+    }
+
+    // Does what a counted line says, and appends its answer. The client is the one that joined
+    // under the line's name.
+    #[tactic(auto, using(crate::proofs::Lines::says_refused))]
+    fn answer_body(
+        &mut self,
+        line: &LineId,
+        client: Option<ClientId>,
+        body: ScriptBody,
+        out: &mut Vec<u8, A>,
+    ) -> Result<(), ScriptFault>
+        requires counted { 0 < lines_of_who self.old.seen line.now.who }
+        requires client { client ≡ number_of self.old.clients line.now.who }
+        ensures ok { OnOk result (Adds (SaysTo (known_by self.old) line.now
+            (event_for (known_by self.old) line.now.who body)
+            (known_by self.new)) out.old.items out.new.items) }
+        ensures why { IfErr result (λ fault. fault ≡ ScriptFault.Memory) }
+    {
+        match (&line.who, body) {
+            (Who::Named(_), ScriptBody::Hello(priority)) => self.hello(line, client, priority, out),
+            (Who::Named(_), ScriptBody::Ask(call)) => self.ask(line, client, call, out),
+            (Who::Named(_), ScriptBody::Die) => self.die(line, client, out),
+            (Who::Star, ScriptBody::Tick(clock, moment)) => {
+                self.run(&Event::Moment(clock, moment), line, out)
+            }
+            _ => refuse(out, line, Refusal::Syntax),
+        }
+    }
+
     /// Counts a line, does what it asks for, and appends its answer. A refused growth that
     /// the line is not answered ENOMEM for is a fault.
     pub fn answer(&mut self, line: ScriptLine, out: &mut Vec<u8, A>) -> Result<(), ScriptFault>
@@ -277,19 +326,12 @@ impl<A: Allocator + Copy> Engine<A> {
             out.old.items out.new.items) }
         ensures why { IfErr result (λ fault. fault ≡ ScriptFault.Memory) }
     {
+        let CountedLine { number, client } = self.names.count(&line.who)?;
         let ScriptLine { who, body } = line;
-        let CountedLine { number, client } = self.names.count(&who)?;
-        let event = self.event_of(&who, client, body);
         let line = LineId { who, number };
-        match event {
-            Ok(event) => {
-                self.run(&event, &line, out)?;
-                Ok(())
-            }
-            Err(refusal) => {
-                refuse(out, &line, refusal)?;
-                Ok(())
-            }
+        match body {
+            Ok(body) => self.answer_body(&line, client, body, out),
+            Err(refusal) => refuse(out, &line, refusal),
         }
     }
 

@@ -44,7 +44,8 @@ invariant_of-self-in-Ok g c =
 
 pub tell_from-requires : goal.tell_from-requires
 tell_from-requires g c = record {
-  alone = λ same. answers_alone (shown c.self.inside.core) _ c.args.event.now c.in-Ok.done
+  alone = λ same.
+      answers_alone (shown c.self.inside.core) _ c.args.event.now c.in-Ok.done
       c.mark_of-mark.result c.self.invariant.0 c.in-Ok.ensures.ok c.mark_of-mark.ensures same;
 }
 
