@@ -1,5 +1,4 @@
--- WholeLemmas: what is read of one field alone is read of the whole text, if no text with a space is
--- read.
+-- WholeLemmas: one name or number alone is the whole text, as neither has a space.
 use Rattle.std.proofs.Common.{◌≡◌, ◌∙◌, ◌==◌, ◌&&◌, not, ℕ, Bool, true, false, cond, List, [], ◌∷◌}
 use Rattle.std.proofs.Common.{length, nat_le, refl, ap, sym, subst, Option, None, Some, slice_index}
 use Rattle.std.proofs.Common.{◌||◌}

@@ -53,7 +53,7 @@ fn body_of(who: &Who, line: CallLine) -> Result<ScriptBody, Refusal>
     }
 }
 
-// The verb of a text, and what is behind it.
+// The verb of a text, and what comes after it.
 fn read_verb(rest: &[u8]) -> (Option<Verb>, Option<&[u8]>)
     ensures { line_read rest.now
         ≡ option_and_then (λ verb. line_of verb (fields_left result.1)) result.0 }
