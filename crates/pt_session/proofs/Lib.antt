@@ -3,3 +3,4 @@ pub mod InputLemmas
 pub mod DealingLemmas
 pub mod LabourLemmas
 pub mod OutputLemmas
+pub mod SessionLemmas

@@ -10,6 +10,7 @@ use Rattle.pt_session.specs.declared.ends.ReadEnd.{ReadEnd}
 use Rattle.pt_session.specs.declared.ends.WorkEnd.{WorkEnd}
 use Rattle.pt_session.specs.declared.ends.SessionEnd.{SessionEnd}
 use Rattle.pt_session.specs.declared.worker.Tally.{Tally}
+use Rattle.pt_session.specs.declared.worker.Worked.{Worked}
 use Rattle.pt_session.specs.Readings.{Reading, Input, EndsBy, intake, readings_of}
 use Rattle.pt_session.specs.Transcripts.{Exchange, IsLeftOf, IsTranscript, moments_in}
 use Rattle.pt_session.specs.Outputs.{Labour, Output, IsLabour, StopsBy, labour}
@@ -40,6 +41,12 @@ tallied tally = labour tally.submitted tally.answered
 abbrev pub worked : {W L : Type 0} → (W → Output) → WorkEnd W L → Labour
 worked output end =
     labour end.submitted end.answered end.transcript (received end.ring) (output end.writer)
+
+-- what was done of the lines that were taken from a source
+abbrev pub done : {W S L : Type 0} → (S → List Reading) → (W → Output) → Worked W S L → Labour
+done taken output w =
+    labour w.tally.submitted w.tally.answered w.remains.transcript (taken w.lines)
+    (output w.writer)
 
 -- what the working side of a session did that ended so, if it took these lines; with what is seen
 -- of a writer

@@ -1,6 +1,6 @@
 -- Steps: what one line makes of a client and of a clock, and one piece of the input of the ring.
-use Rattle.std.specs.Prelude.{ℕ, ◌≡◌, ◌<◌, ◌++◌, List, [], ◌∷◌, length, map, Option, Some, None}
-use Rattle.std.specs.Prelude.{Result, Ok, Err}
+use Rattle.std.specs.Prelude.{ℕ, ◌≡◌, ◌<◌, ◌≤◌, ◌++◌, List, [], ◌∷◌, length, map, Option, Some}
+use Rattle.std.specs.Prelude.{None, Result, Ok, Err}
 use mathlib.Core.List.{IsPrefix}
 use Rattle.pt_types.specs.declared.call.Call.{Call}
 use Rattle.pt_types.specs.declared.time.Clock.{Clock}
@@ -16,7 +16,9 @@ use Rattle.pt_session.specs.declared.kinds.ClockMode.{ClockMode}
 use Rattle.pt_session.specs.declared.kinds.EndCause.{EndCause}
 use Rattle.pt_session.specs.declared.kinds.EndCause.TheVariants.{InputEnded, InputFailed, RingFull}
 use Rattle.pt_session.specs.declared.kinds.EndCause.TheVariants.{WriteFailed, GateShut, Memory}
-use Rattle.pt_session.specs.Readings.{Reading, readings_of}
+use Rattle.pt_lines.specs.Lines.{Held}
+use Rattle.pt_session.specs.Readings.{Reading, Input, EndsBy, IsBehind, intake, most_reads}
+use Rattle.pt_session.specs.Readings.{readings_of}
 use Rattle.pt_session.specs.Transcripts.{IsOfEvent, calls_of}
 use Rattle.pt_session.specs.Outputs.{Output, BreaksOff, IsWritten}
 
@@ -73,6 +75,15 @@ StopsPushing mode given pushed Memory = IsPrefix pushed (readings_of mode given)
 StopsPushing mode given pushed InputFailed = ⊥
 StopsPushing mode given pushed WriteFailed = ⊥
 StopsPushing mode given pushed GateShut = ⊥
+
+-- how far a reading side has come that counted so many reads: the lines of what was given are
+-- pushed or still to come; or it ended by a cause
+abbrev pub HasRead : ClockMode → Option EndCause → Input → ℕ → Held → List Reading → Type 0
+HasRead mode None x reads held pushed =
+    IsBehind mode x.given held pushed × (x.failures ≡ 0) × (x.reads ≡ reads)
+    × (reads ≤ most_reads)
+HasRead mode (Some cause) x reads held pushed =
+    IsPrefix pushed (readings_of mode x.given) × EndsBy mode (intake x pushed) cause
 
 -- an answer did not go out whole: nothing of it was written, or the writer broke
 abbrev pub StopsWriting : List ℕ → List ℕ → Output → EndCause → Type 0

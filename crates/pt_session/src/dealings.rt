@@ -5,8 +5,10 @@ ghost use Rattle.pt_session.specs.Transcripts.{IsLeftOf, IsTranscript, all_answe
 
 use crate::client::deal;
 use crate::kinds::Reading;
+use crate::lines::Lines;
 use crate::transcript::Transcript;
 use pt_hub::{ClockPass, Left, Pass, SessionId};
+use pt_io::Source;
 use pt_lines::Word;
 use pt_shared::Shared;
 use std::marker::Model;
@@ -42,10 +44,11 @@ pub(crate) struct Remains<L: Ledger> {
     pub transcript: Transcript,
 }
 
-impl<L: Ledger> Dealings<L> {
+impl<L: Ledger + Send + Sync> Dealings<L> {
     ghost use Rattle.std.specs.Prelude.{◌≡◌, ◌++◌, ◌∷◌, [], true};
     ghost use Rattle.pt_session.specs.Transcripts.{IsLeftOf, IsTranscript, all_answered};
     ghost use Rattle.pt_session.specs.Transcripts.{moments_in};
+    ghost use Rattle.pt_session.specs.Sources.{IsStillAt};
 
     /// No line yet.
     pub fn new(clock: ClockPass<L>) -> Dealings<L>
@@ -60,18 +63,28 @@ impl<L: Ledger> Dealings<L> {
     }
 
     /// Submits a line, and returns its word. `None` if its call is open when the input ends.
-    pub fn submit<T: Wait>(
+    pub fn submit<'s, E, R: Source + Send + Drop + 's, T: Wait + Sync + 's>(
         &mut self,
         rt: &T,
         shared: &Shared<L>,
         session: SessionId,
+        lines: &mut Lines<'_, 's, E, R, L, T>,
         line: Reading,
     ) -> Option<Word>
         requires { all_answered self.old.exchanges ≡ true }
-        ensures { self.new.exchanges ≡ self.old.exchanges ++ (line, result) ∷ [] }
+        ensures exchanges { self.new.exchanges ≡ self.old.exchanges ++ (line, result) ∷ [] }
+        ensures lines { IsStillAt lines.old lines.new }
     {
         let noted = Snapshot::of(&line);
-        let word = deal(rt, shared, session, &mut self.pass, &mut self.clock, line);
+        let word = deal(
+            rt,
+            shared,
+            session,
+            &mut self.pass,
+            &mut self.clock,
+            lines,
+            line,
+        );
         self.transcript = self.transcript.and(&noted, word);
         word
     }

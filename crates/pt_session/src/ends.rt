@@ -3,8 +3,10 @@
 ghost use Rattle.std.specs.Prelude.{◌≡◌};
 ghost use Rattle.pt_session.specs.Ends.{cause_of};
 
+use crate::dealings::Remains;
 use crate::kinds::{EndCause, Reading};
 use crate::transcript::Transcript;
+use crate::worker::Tally;
 use pt_hub::{ClockPass, Left};
 use rtrb::{Consumer, Producer};
 use std::sync::ledger::Ledger;
@@ -62,25 +64,31 @@ impl<R: Drop, W: Drop, L: Ledger> SessionEnd<R, W, L> {
     ghost use Rattle.std.specs.Prelude.{◌≡◌};
     ghost use Rattle.pt_session.specs.Ends.{cause_of};
 
-    // How a session ended whose sides ended so.
-    pub(crate) fn of(read: ReadEnd<R>, work: WorkEnd<W, L>) -> SessionEnd<R, W, L>
+    // How a session ended that was read and worked so.
+    pub(crate) fn of(
+        read: ReadEnd<R>,
+        tally: Tally,
+        remains: Remains<L>,
+        writer: W,
+    ) -> SessionEnd<R, W, L>
         ensures read { (result.read ≡ read.read) × (result.reader ≡ read.reader) }
-        ensures counts { (result.submitted ≡ work.submitted) × (result.answered ≡ work.answered) }
-        ensures left { (result.left ≡ work.left) × (result.clock ≡ work.clock) }
-        ensures transcript { result.transcript ≡ work.transcript }
-        ensures writer { result.writer ≡ work.writer }
-        ensures cause { result.cause ≡ cause_of work.cause read.cause }
+        ensures counts { (result.submitted ≡ tally.submitted)
+            × (result.answered ≡ tally.answered) }
+        ensures left { (result.left ≡ remains.left) × (result.clock ≡ remains.clock) }
+        ensures transcript { result.transcript ≡ remains.transcript }
+        ensures writer { result.writer ≡ writer }
+        ensures cause { result.cause ≡ cause_of tally.cause read.cause }
     {
         SessionEnd {
             read: read.read,
-            submitted: work.submitted,
-            answered: work.answered,
-            left: work.left,
-            clock: work.clock,
-            transcript: work.transcript,
+            submitted: tally.submitted,
+            answered: tally.answered,
+            left: remains.left,
+            clock: remains.clock,
+            transcript: remains.transcript,
             reader: read.reader,
-            writer: work.writer,
-            cause: work.cause.unwrap_or(read.cause),
+            writer,
+            cause: tally.cause.unwrap_or(read.cause),
         }
     }
 }

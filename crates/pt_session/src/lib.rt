@@ -1,4 +1,4 @@
-//! One connection: a thread that reads its lines, and one that submits them and writes the answers.
+//! One connection: its lines are read, submitted, and answered.
 #![tactic(auto)]
 
 mod client;
@@ -7,7 +7,10 @@ mod delivery;
 mod ends;
 mod gates;
 mod kinds;
+mod lines;
+mod pusher;
 mod reader;
+mod reading_side;
 mod transcript;
 mod watch;
 mod whole;
@@ -16,7 +19,8 @@ mod worker;
 pub use ends::{ReadEnd, SessionEnd, WorkEnd};
 pub use gates::{Gate, OpenGate};
 pub use kinds::{ClockMode, EndCause, Reading};
-pub use reader::{MOST_READS, read_side};
+pub use reader::MOST_READS;
+pub use reading_side::read_side;
 pub use transcript::Transcript;
 pub use whole::{MOST_WAITING, session};
 pub use worker::work_side;

@@ -4,28 +4,29 @@ ghost use Rattle.std.specs.Prelude.{◌≡◌, ◌∷◌, ◌++◌, [], MatchOpt
 ghost use Rattle.rtrb.specs.Ring.{received, SameConsumer};
 ghost use Rattle.pt_session.specs.Transcripts.{IsLeftOf, IsTranscript, moments_in};
 ghost use Rattle.pt_session.specs.Outputs.{IsLabour, IsUnwritten, StopsBy, output};
-ghost use Rattle.pt_session.specs.Ends.{tallied, worked};
+ghost use Rattle.pt_session.specs.Ends.{done, tallied, worked};
+ghost use Rattle.pt_session.specs.Sources.{AreSame, Taking};
 
 use crate::dealings::{Dealings, Remains};
 use crate::delivery::answer;
 use crate::ends::WorkEnd;
 use crate::gates::Gate;
 use crate::kinds::{EndCause, Reading};
-use crate::watch::Watch;
+use crate::lines::Lines;
 use pt_hub::{ClockPass, SessionId};
-use pt_io::Sink;
+use pt_io::{Faulty, Sink, Source};
 use pt_shared::Shared;
 use rtrb::Consumer;
 use std::alloc::Global;
 use std::sync::Wait;
 use std::sync::ledger::Ledger;
 
-// How many lines were submitted and answered, and why the work ended before its input did.
+/// How many lines were submitted and answered, and why the work ended before its input did.
 #[derive(Clone, Copy, Debug, PartialEq, Eq)]
-struct Tally {
-    submitted: u64,
-    answered: u64,
-    cause: Option<EndCause>,
+pub(crate) struct Tally {
+    pub submitted: u64,
+    pub answered: u64,
+    pub cause: Option<EndCause>,
 }
 
 impl Tally {
@@ -55,38 +56,45 @@ impl Tally {
     }
 }
 
-// Submits the readings in the ring and writes their words, until the input ends or a cause comes.
-fn work_all<W: Sink, G: Gate, L: Ledger, T: Wait>(
+// Submits the lines and writes their words, until the input ends or a cause comes.
+fn work_all<
+    's,
+    E,
+    W: Sink,
+    G: Gate,
+    R: Source + Send + Drop + 's,
+    L: Ledger + Send + Sync + 's,
+    T: Wait + Sync + 's,
+>(
     rt: &T,
     alloc: Global,
     writer: &mut W,
-    ring: &mut Consumer<Reading>,
+    lines: &mut Lines<'_, 's, E, R, L, T>,
     shared: &Shared<L>,
     session: SessionId,
     dealings: &mut Dealings<L>,
     gate: &G,
 ) -> Tally
-    requires ring { received ring.old ≡ [] }
+    requires lines { received lines.old.ring ≡ [] }
     requires output { (W.taken writer.old ≡ []) × (W.flushed writer.old ≡ [])
         × (W.failures writer.old ≡ 0) }
     requires new { dealings.old.exchanges ≡ [] }
-    ensures ring { SameConsumer ring.old ring.new }
-    ensures labour { IsLabour (tallied result dealings.new.exchanges (received ring.new)
+    ensures lines { AreSame lines.old lines.new }
+    ensures labour { IsLabour (tallied result dealings.new.exchanges (received lines.new.ring)
         (output W.taken W.flushed W.failures W.rejections writer.old writer.new)) }
-    ensures stops { StopsBy (tallied result dealings.new.exchanges (received ring.new)
+    ensures stops { StopsBy (tallied result dealings.new.exchanges (received lines.new.ring)
         (output W.taken W.flushed W.failures W.rejections writer.old writer.new)) result.cause }
 {
     let mut buffer = Vec::new(alloc);
-    let mut watch = Watch::new();
     for answered in 0..u64::MAX {
-        let Some(line) = watch.next(rt, shared, session, ring) else {
+        let Some(line) = lines.next() else {
             return Tally::ended(answered, answered);
         };
         let n = answered + 1;
         if !gate.ask(session, n) {
             return Tally::stopped(answered, answered, EndCause::GateShut);
         }
-        let Some(word) = dealings.submit(rt, shared, session, line) else {
+        let Some(word) = dealings.submit(rt, shared, session, lines, line) else {
             return Tally::ended(n, answered);
         };
         if let Some(cause) = answer(writer, &mut buffer, n, word) {
@@ -96,40 +104,76 @@ fn work_all<W: Sink, G: Gate, L: Ledger, T: Wait>(
     Tally::ended(u64::MAX, u64::MAX)
 }
 
-// How a working side ended that counted so, with what is left of its client and its clock.
-fn end_of<W, L: Ledger>(
-    tally: Tally,
-    remains: Remains<L>,
-    writer: W,
-    ring: Consumer<Reading>,
-) -> WorkEnd<W, L>
-    ensures counts { (result.submitted ≡ tally.submitted) × (result.answered ≡ tally.answered) }
-    ensures cause { result.cause ≡ tally.cause }
-    ensures transcript { result.transcript ≡ remains.transcript }
-    ensures left { (result.left ≡ remains.left) × (result.clock ≡ remains.clock) }
-    ensures ends { (result.writer ≡ writer) × (result.ring ≡ ring) }
+/// What was done of a session's lines, and what is left of its client and its clock.
+#[derive(Drop)]
+pub(crate) struct Worked<W, S, L: Ledger> {
+    pub tally: Tally,
+    pub remains: Remains<L>,
+    pub writer: W,
+    pub lines: S,
+}
+
+/// Takes the lines in order, asks the gate, submits each, waits for its answer and writes it. In
+/// the end the client dies.
+pub(crate) fn work<
+    'a,
+    's,
+    E,
+    W: Sink,
+    G: Gate,
+    R: Source + Send + Drop + 's,
+    L: Ledger + Send + Sync + 's,
+    T: Wait + Sync + 's,
+>(
+    rt: &T,
+    alloc: Global,
+    mut writer: W,
+    mut lines: Lines<'a, 's, E, R, L, T>,
+    shared: &Shared<L>,
+    session: SessionId,
+    clock: ClockPass<L>,
+    gate: &G,
+) -> Worked<W, Lines<'a, 's, E, R, L, T>, L>
+    requires lines { received lines.ring ≡ [] }
+    requires output { IsUnwritten W.taken W.failures writer }
+    requires clock { clock.moments ≡ [] }
+    ensures lines { AreSame lines.entry result.lines }
+    ensures labour { IsLabour (done (λ (l : Taking). received l.ring)
+        (output W.taken W.flushed W.failures W.rejections writer) result) }
+    ensures stops { StopsBy (done (λ (l : Taking). received l.ring)
+        (output W.taken W.flushed W.failures W.rejections writer) result) result.tally.cause }
+    ensures words { IsTranscript result.remains.transcript }
+    ensures left { IsLeftOf result.remains.transcript result.remains.left }
+    ensures clock { result.remains.clock.moments ≡ moments_in result.remains.transcript }
 {
-    WorkEnd {
-        submitted: tally.submitted,
-        answered: tally.answered,
-        left: remains.left,
-        clock: remains.clock,
-        transcript: remains.transcript,
-        cause: tally.cause,
+    let mut dealings = Dealings::new(clock);
+    let tally = work_all(
+        rt,
+        alloc,
+        &mut writer,
+        &mut lines,
+        shared,
+        session,
+        &mut dealings,
+        gate,
+    );
+    Worked {
+        tally,
+        remains: dealings.end(rt, shared),
         writer,
-        ring,
+        lines,
     }
 }
 
 /// Takes the readings out of the ring in order, asks the gate, submits each, waits for its answer
 /// and writes it. Once the input has ended it goes on until the ring is empty or a call is open. In
 /// the end the client dies.  [profile]
-pub fn work_side<W: Sink, G: Gate, L: Ledger, T: Wait>(
-    rt: &T,
+pub fn work_side<'s, W: Sink, G: Gate, L: Ledger + Send + Sync + 's, T: Wait + Sync + 's>(
+    rt: &'s T,
     alloc: Global,
-    mut writer: W,
-    mut ring: Consumer<Reading>,
-    shared: &Shared<L>,
+    writer: W,
+    ring: Consumer<Reading>,
+    shared: &'s Shared<L>,
     session: SessionId,
     clock: ClockPass<L>,
     gate: &G,
@@ -146,16 +190,16 @@ pub fn work_side<W: Sink, G: Gate, L: Ledger, T: Wait>(
     ensures left { IsLeftOf result.transcript result.left }
     ensures clock { result.clock.moments ≡ moments_in result.transcript }
 {
-    let mut dealings = Dealings::new(clock);
-    let tally = work_all(
-        rt,
-        alloc,
-        &mut writer,
-        &mut ring,
-        shared,
-        session,
-        &mut dealings,
-        gate,
-    );
-    end_of(tally, dealings.end(rt, shared), writer, ring)
+    let lines: Lines<'_, '_, (), Faulty, L, T> = Lines::of_ring(rt, shared, session, ring);
+    let work = work(rt, alloc, writer, lines, shared, session, clock, gate);
+    WorkEnd {
+        submitted: work.tally.submitted,
+        answered: work.tally.answered,
+        left: work.remains.left,
+        clock: work.remains.clock,
+        transcript: work.remains.transcript,
+        cause: work.tally.cause,
+        writer: work.writer,
+        ring: work.lines.into_ring(),
+    }
 }

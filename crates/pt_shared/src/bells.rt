@@ -3,6 +3,7 @@
 use std::alloc::Global;
 use std::sync::Wait;
 use std::sync::atomic::{AtomicU64, Ordering};
+use std::time::Duration;
 
 /// How many bells there are. Sessions with the same remainder share one.  [profile]
 const MOST_BELLS: usize = 1024;
@@ -47,6 +48,14 @@ impl Bell {
     pub fn sleep<R: Wait>(&self, rt: &R, rings: u64) {
         self.sleepers.fetch_add(1, Ordering::SeqCst);
         self.rings.park(rt, (rings & 0xffff_ffff) as u32);
+        self.sleepers.fetch_sub(1, Ordering::SeqCst);
+    }
+
+    /// As `sleep`, but for this long at most.
+    pub fn sleep_at_most<R: Wait>(&self, rt: &R, rings: u64, most: Duration) {
+        self.sleepers.fetch_add(1, Ordering::SeqCst);
+        self.rings
+            .park_timeout(rt, (rings & 0xffff_ffff) as u32, most);
         self.sleepers.fetch_sub(1, Ordering::SeqCst);
     }
 

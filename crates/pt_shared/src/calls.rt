@@ -33,14 +33,14 @@ impl<L: Ledger> Shared<L> {
             (refusal_with_seals (kept hub.desk).limit (past (kept hub.desk)) (event.Join priority))
             refusal)) }
     {
-        let mut room = self.room.lock(rt);
+        let mut room = self.enter(rt);
         room.law_fits();
         let place = room.hub.len();
         match room.hub.join(priority) {
             Ok(pass) => {
                 room.law_fits();
                 room.attach(session, pass.client());
-                self.ring_since(&room, place);
+                self.leave(room, place, &None);
                 Ok(pass)
             }
             Err(refusal) => Err(refusal),
@@ -59,13 +59,13 @@ impl<L: Ledger> Shared<L> {
             IsRefusedAs (call_refusal hub.desk pass.old.client call) refusal)) }
         ensures unchanged { OnErr result (pass.new ≡ pass.old) }
     {
-        let mut room = self.room.lock(rt);
+        let mut room = self.enter(rt);
         room.law_fits();
         let place = room.hub.len();
         match room.hub.call(pass, call) {
             Ok(sent) => {
                 room.law_fits();
-                self.ring_since(&room, place);
+                self.leave(room, place, &Some(pass.client()));
                 Ok(sent)
             }
             Err(refusal) => Err(refusal),
@@ -82,7 +82,7 @@ impl<L: Ledger> Shared<L> {
         ensures none { IfNone result (Found (λ hub. takeable hub pass.old ≡ None)) }
         ensures same { IfNone result (pass.new ≡ pass.old) }
     {
-        let mut room = self.room.lock(rt);
+        let mut room = self.enter(rt);
         room.law_fits();
         match room.hub.take(pass) {
             Some(answer) => {
@@ -111,19 +111,22 @@ impl<L: Ledger> Shared<L> {
             IsRefusedAs (call_refusal hub.desk pass.old.client call) refusal)) }
         ensures unchanged { OnErr result (pass.new ≡ pass.old) }
     {
-        let mut room = self.room.lock(rt);
+        let mut room = self.enter(rt);
         room.law_fits();
         let place = room.hub.len();
         match room.hub.call(pass, call) {
             Ok(sent) => {
                 room.law_fits();
-                self.ring_since(&room, place);
                 match room.hub.take(pass) {
                     Some(answer) => {
                         room.law_fits();
+                        self.leave(room, place, &Some(pass.client()));
                         Ok((sent, Some(answer)))
                     }
-                    None => Ok((sent, None)),
+                    None => {
+                        self.leave(room, place, &Some(pass.client()));
+                        Ok((sent, None))
+                    }
                 }
             }
             Err(refusal) => Err(refusal),
@@ -147,7 +150,7 @@ impl<L: Ledger> Shared<L> {
     {
         for _ in rt.forever() {
             let rings = self.rings(session);
-            let mut room = self.room.lock(rt);
+            let mut room = self.enter(rt);
             room.law_fits();
             if let Some(answer) = room.hub.take(pass) {
                 room.law_fits();
@@ -170,13 +173,13 @@ impl<L: Ledger> Shared<L> {
             × (result.receipts ≡ pass.receipts) }
         ensures dies { Made (λ old new. Leaves old new pass result) }
     {
-        let mut room = self.room.lock(rt);
+        let mut room = self.enter(rt);
         room.detach(pass.client());
         room.law_fits();
         let place = room.hub.len();
         let left = room.hub.die(pass);
         room.law_fits();
-        self.ring_since(&room, place);
+        self.leave(room, place, &None);
         left
     }
 
@@ -197,13 +200,13 @@ impl<L: Ledger> Shared<L> {
             refusal)) }
         ensures unchanged { OnErr result (pass.new ≡ pass.old) }
     {
-        let mut room = self.room.lock(rt);
+        let mut room = self.enter(rt);
         room.law_fits();
         let place = room.hub.len();
         match room.hub.moment(pass, clock, moment) {
             Ok(()) => {
                 room.law_fits();
-                self.ring_since(&room, place);
+                self.leave(room, place, &None);
                 Ok(())
             }
             Err(refusal) => Err(refusal),
@@ -215,7 +218,7 @@ impl<L: Ledger> Shared<L> {
         ensures { Found (λ hub. option_map deadline_nanos result
             ≡ least_deadline_in (past (kept hub.desk)) clock) }
     {
-        let room = self.room.lock(rt);
+        let room = self.enter(rt);
         room.law_fits();
         room.hub.least_deadline(clock)
     }

@@ -18,7 +18,7 @@ impl<L: Ledger> Shared<L> {
         ensures ok { IfOk result (λ r. Made (λ old new. Opens old new r.0.0)) }
         ensures err { IfErr result (λ refusal. Found (λ hub. IsNotOpened hub refusal)) }
     {
-        let mut room = self.room.lock(rt);
+        let mut room = self.enter(rt);
         room.law_fits();
         match room.hub.open_session() {
             Ok(opened) => {
@@ -33,7 +33,7 @@ impl<L: Ledger> Shared<L> {
     pub fn end_input<R: Wait>(&self, rt: &R, session: SessionId)
         ensures { Made (λ old new. EndsInput old new session.0) }
     {
-        let mut room = self.room.lock(rt);
+        let mut room = self.enter(rt);
         room.law_fits();
         room.hub.end_input(session);
         room.law_fits();
@@ -44,21 +44,21 @@ impl<L: Ledger> Shared<L> {
     pub fn input_ended<R: Wait>(&self, rt: &R, session: SessionId) -> bool
         ensures { Found (λ hub. result ≡ has_ended hub session.0) }
     {
-        let room = self.room.lock(rt);
+        let room = self.enter(rt);
         room.law_fits();
         room.hub.input_ended(session)
     }
 
     /// Whether a session sleeps until the call of its client is answered.
     pub fn is_waiting<R: Wait>(&self, rt: &R, session: SessionId) -> bool {
-        self.room.lock(rt).is_waiting(session)
+        self.enter(rt).is_waiting(session)
     }
 
     /// A session isn't open any more.
     pub fn close_session<R: Wait>(&self, rt: &R, session: SessionId)
         ensures { Made (λ old new. Closes old new session.0) }
     {
-        let mut room = self.room.lock(rt);
+        let mut room = self.enter(rt);
         room.law_fits();
         room.hub.close_session(session);
         room.law_fits();

@@ -5,8 +5,14 @@ ghost use Rattle.pt_hub.specs.Hubs.{Fits};
 use crate::attached::Attached;
 use crate::bells::{Bell, bells};
 use pt_hub::{Audience, Hub, SessionId};
+use pt_types::ClientId;
 use std::sync::ledger::Ledger;
-use std::sync::{Mutex, Wait};
+use std::sync::{Mutex, MutexGuard, Wait};
+use std::thread;
+use std::time::Duration;
+
+/// How often a thread looks for the lock before it sleeps.  [profile]
+const MOST_LOOKS: u32 = 100;
 
 /// What lies under the lock: the hub, whether the server ends, which ends its clock, and which
 /// session takes whose answers.
@@ -51,6 +57,18 @@ impl<L: Ledger> Shared<L> {
         }
     }
 
+    /// Takes the lock. It is held for some microseconds at most, so the thread looks for it for a
+    /// while before it sleeps.
+    pub(crate) fn enter<R: Wait>(&self, rt: &R) -> MutexGuard<'_, Room<L>> {
+        for _ in 0..MOST_LOOKS {
+            if let Some(room) = self.room.try_lock() {
+                return room;
+            }
+            thread::yield_now();
+        }
+        self.room.lock(rt)
+    }
+
     /// The bell that a session sleeps at.
     pub(crate) fn bell_of(&self, session: SessionId) -> &Bell {
         let number = session.0 as usize;
@@ -73,22 +91,51 @@ impl<L: Ledger> Shared<L> {
         self.bell.ring();
     }
 
-    // Wakes the sessions whose calls the entry at a place answers.
-    fn ring_by(&self, room: &Room<L>, place: u64) {
+    // The session whose call the entry at a place answers. All are woken if it may be anybody's. A
+    // client that makes a call just now waits for none.
+    fn answered_by(
+        &self,
+        room: &Room<L>,
+        place: u64,
+        caller: &Option<ClientId>,
+    ) -> Option<SessionId> {
         match room.hub.audience(place) {
-            Audience::Nobody => {}
-            Audience::Client(client) => match room.session_of(client) {
-                Some(session) => self.ring(session),
-                None => self.ring_all(),
-            },
-            Audience::Everybody => self.ring_all(),
+            Audience::Client(client) if *caller != Some(client) => {
+                let session = room.session_of(client);
+                if session.is_none() {
+                    self.ring_all();
+                }
+                session
+            }
+            Audience::Everybody => {
+                self.ring_all();
+                None
+            }
+            _ => None,
         }
     }
 
-    /// Wakes the sessions whose calls were answered by the entries from this place on.
-    pub(crate) fn ring_since(&self, room: &Room<L>, place: u64) {
+    /// Gives the lock back, and wakes the sessions whose calls were answered by the entries from
+    /// this place on, but for the client that made a call just now. If it is one session, as
+    /// mostly, it finds the lock free.
+    pub(crate) fn leave(
+        &self,
+        room: MutexGuard<'_, Room<L>>,
+        place: u64,
+        caller: &Option<ClientId>,
+    ) {
+        let mut last = None;
         for place in place..room.hub.len() {
-            self.ring_by(room, place);
+            if let Some(session) = self.answered_by(&room, place, caller) {
+                if let Some(earlier) = last {
+                    self.ring(earlier);
+                }
+                last = Some(session);
+            }
+        }
+        drop(room);
+        if let Some(session) = last {
+            self.ring(session);
         }
     }
 
@@ -103,6 +150,11 @@ impl<L: Ledger> Shared<L> {
         self.bell_of(session).sleep(rt, rings);
     }
 
+    /// As `sleep`, but for this long at most.
+    pub fn sleep_at_most<R: Wait>(&self, rt: &R, session: SessionId, rings: u64, most: Duration) {
+        self.bell_of(session).sleep_at_most(rt, rings, most);
+    }
+
     /// How many inputs have ended, of this session and of those that share its bell.
     pub fn ends(&self, session: SessionId) -> u64 {
         self.bell_of(session).ends()
@@ -110,14 +162,14 @@ impl<L: Ledger> Shared<L> {
 
     /// The server ends.
     pub fn finish<R: Wait>(&self, rt: &R) {
-        let mut room = self.room.lock(rt);
+        let mut room = self.enter(rt);
         room.done = true;
         self.ring_all();
     }
 
     /// Whether the server ends.
     pub fn is_done<R: Wait>(&self, rt: &R) -> bool {
-        self.room.lock(rt).done
+        self.enter(rt).done
     }
 
     /// The hub, which is shared no more.

@@ -17,7 +17,7 @@ returns-in_default-clause-labour g c =
     let o : Output =
     output g.W.Sink.taken g.W.Sink.flushed g.W.Sink.failures g.W.Sink.rejections
     c.args.writer.now c.loop-answered.writer in
-    let all = received c.next.new.ring in
+    let all = received c.next.new.self.ring in
     subst (λ (t : Tally). IsLabour (tallied t xs all o)) (sym c.ended.ensures)
     (labour_whole xs c.loop-answered.answered all o
     c.loop-answered.invariant.count (
@@ -33,7 +33,7 @@ returns-then-not-ask-clause-labour g c =
     let o : Output =
     output g.W.Sink.taken g.W.Sink.flushed g.W.Sink.failures g.W.Sink.rejections
     c.args.writer.now c.loop-answered.writer in
-    let all = received c.next.new.ring in
+    let all = received c.next.new.self.ring in
     subst (λ (t : Tally). IsLabour (tallied t xs all o)) (sym c.stopped.ensures)
     (labour_whole xs c.loop-answered.answered all o
     c.loop-answered.invariant.count (
@@ -48,12 +48,13 @@ returns-in_default-submit-clause-labour g c =
     let xs = c.loop-answered.dealings.exchanges in
     let n = c.loop-answered.answered in
     let line = c.in-Some.line in
-    let all = received c.next.new.ring in
+    let all = received c.submit.new.lines.ring in
     let o : Output =
     output g.W.Sink.taken g.W.Sink.flushed g.W.Sink.failures g.W.Sink.rejections
     c.args.writer.now c.loop-answered.writer in
     let lines =
-    c.in-Some.ensures.next
+    c.in_default-submit.ensures.lines.1
+    ∙ c.in-Some.ensures.next
     ∙ ap (λ ls. ls ++ line ∷ []) c.loop-answered.invariant.lines
     ∙ sym (lines_push xs (line, None)) in
     subst
@@ -61,7 +62,7 @@ returns-in_default-submit-clause-labour g c =
     (sym c.ended-in_default-submit.ensures)
     (subst
     (λ ys. IsLabour (labour (n + 1) n ys all o))
-    (sym c.in_default-submit.ensures)
+    (sym c.in_default-submit.ensures.exchanges)
     (labour_part xs (line, None) n all o [] [] c.loop-answered.invariant.count lines refl
     (c.loop-answered.invariant.taken ∙ sym (append-nil (text_of xs)))
     (c.loop-answered.invariant.flushed ∙ c.loop-answered.invariant.taken)))
@@ -71,12 +72,13 @@ returns-in_default-submit-clause-stops g c =
     let xs = c.loop-answered.dealings.exchanges in
     let n = c.loop-answered.answered in
     let line = c.in-Some.line in
-    let all = received c.next.new.ring in
+    let all = received c.submit.new.lines.ring in
     let o : Output =
     output g.W.Sink.taken g.W.Sink.flushed g.W.Sink.failures g.W.Sink.rejections
     c.args.writer.now c.loop-answered.writer in
     let lines =
-    c.in-Some.ensures.next
+    c.in_default-submit.ensures.lines.1
+    ∙ c.in-Some.ensures.next
     ∙ ap (λ ls. ls ++ line ∷ []) c.loop-answered.invariant.lines
     ∙ sym (lines_push xs (line, None)) in
     subst
@@ -84,7 +86,7 @@ returns-in_default-submit-clause-stops g c =
     (sym c.ended-in_default-submit.ensures)
     (subst
     (λ ys. StopsBy (labour (n + 1) n ys all o) None)
-    (sym c.in_default-submit.ensures)
+    (sym c.in_default-submit.ensures.exchanges)
     (stops_open xs line n all o lines (
       sym c.loop-answered.invariant.flushed,
       c.loop-answered.invariant.works,
@@ -97,7 +99,7 @@ returns-in-Some-answer-clause-labour g c =
     let n = c.loop-answered.answered in
     let line = c.in-Some.line in
     let word = c.in-Some-submit.word in
-    let all = received c.next.new.ring in
+    let all = received c.submit.new.lines.ring in
     let o : Output =
     output g.W.Sink.taken g.W.Sink.flushed g.W.Sink.failures g.W.Sink.rejections
     c.args.writer.now c.answer.new.writer in
@@ -105,7 +107,8 @@ returns-in-Some-answer-clause-labour g c =
     output g.W.Sink.taken g.W.Sink.flushed g.W.Sink.failures g.W.Sink.rejections
     c.loop-answered.writer c.answer.new.writer in
     let lines =
-    c.in-Some.ensures.next
+    c.in-Some-submit.ensures.lines.1
+    ∙ c.in-Some.ensures.next
     ∙ ap (λ ls. ls ++ line ∷ []) c.loop-answered.invariant.lines
     ∙ sym (lines_push xs (line, Some word)) in
     subst
@@ -113,7 +116,7 @@ returns-in-Some-answer-clause-labour g c =
     (sym c.stopped-in-Some-answer.ensures)
     (subst
     (λ ys. IsLabour (labour (n + 1) n ys all o))
-    (sym c.in-Some-submit.ensures)
+    (sym c.in-Some-submit.ensures.exchanges)
     (labour_stopped xs (line, Some word) n all o written c.in-Some-answer.cause
     c.loop-answered.invariant.count lines refl refl
     (subst
@@ -128,23 +131,24 @@ loop-answered-preserved g c =
     let word = c.in-Some-submit.word in
     let written = c.in_default-answer.ensures.ok in
     record {
-      ring = search rules;
+      same = search rules;
       lines =
-          c.in-Some.ensures.next
+          c.in-Some-submit.ensures.lines.1
+          ∙ c.in-Some.ensures.next
           ∙ ap (λ ls. ls ++ line ∷ []) c.loop-answered.invariant.lines
           ∙ sym (lines_push xs (line, Some word))
-          ∙ ap lines_of (sym c.in-Some-submit.ensures);
+          ∙ ap lines_of (sym c.in-Some-submit.ensures.exchanges);
       count =
-          ap length c.in-Some-submit.ensures
+          ap length c.in-Some-submit.ensures.exchanges
           ∙ more_counted xs (line, Some word) n c.loop-answered.invariant.count;
       all =
-          ap all_answered c.in-Some-submit.ensures
+          ap all_answered c.in-Some-submit.ensures.exchanges
           ∙ all_push_some xs line word c.loop-answered.invariant.all;
       taken =
           written.taken
           ∙ ap (λ text. text ++ reply_line None (n + 1) word) c.loop-answered.invariant.taken
           ∙ sym (text_more xs (line, Some word) n c.loop-answered.invariant.count)
-          ∙ ap text_of (sym c.in-Some-submit.ensures);
+          ∙ ap text_of (sym c.in-Some-submit.ensures.exchanges);
       flushed = written.flushed ∙ sym written.taken;
       works = written.failures;
       accepted =
@@ -157,7 +161,7 @@ returns-clause-labour g c =
     let o : Output =
     output g.W.Sink.taken g.W.Sink.flushed g.W.Sink.failures g.W.Sink.rejections
     c.args.writer.now c.loop-answered.writer in
-    let all = received c.loop-answered.ring in
+    let all = received c.loop-answered.lines.ring in
     subst (λ (t : Tally). IsLabour (tallied t xs all o)) (sym c.ended-2.ensures)
     (labour_whole xs 18446744073709551615 all o
     (omega (

@@ -15,6 +15,6 @@ invariant_of-self g c =
     let all : all_answered d.exchanges ≡ true = cc in
     let word = c.deal-word.result in
     dealt d c.args.line word c.deal-word.new.pass c.deal-word.new.clock
-    c.and-self-inside.result c.self.invariant all c.deal-word.ensures
+    c.and-self-inside.result c.self.invariant all c.deal-word.ensures.deals
     (c.and-self-inside.ensures
     ∙ ap (λ line. d.exchanges ++ (line, word) ∷ []) c.of-noted.ensures)
