@@ -25,7 +25,7 @@ use Rattle.pt_hub.specs.Desks.{IsAccount, IsDesk, IsDeskOf, Wrote}
 use Rattle.pt_hub.proofs.AppliedLemmas.{starts-applied, legal-applied, outer-applied, place-applied}
 use Rattle.pt_hub.proofs.AppliedLemmas.{within-applied}
 use Rattle.pt_hub.proofs.AccountLemmas.{other-account, joined-account, called-account, died-account}
-use Rattle.pt_hub.proofs.ReadingLemmas.{taken-account}
+use Rattle.pt_hub.proofs.ReadingLemmas.{taken-account, taker-known}
 
 -- the accounts after one was written
 written : (new : Kept) (xs ys : List (ℕ × Account)) (c : ℕ) (o : Option Account)
@@ -139,13 +139,18 @@ module _ (old : Desk) (new : Kept) (ys : List (ℕ × Account)) (d : IsDesk old)
       desk-death (kept old) new old.accounts ys d c a
       (subst (λ n. IsWritten (kept old) (event.Death n) new a) (sym at) ok) w
 
-  pub desk-took : (seen : Desk) → old ≡ seen → IsSome (next_answer seen b) → (w : Account)
-      → Some w ≡ account_of old c → new ≡ kept old
-      → Wrote old.accounts ys c (after_taking (Some w)) → IsDeskOf new ys
-  desk-took seen is s w there same wrote =
-      let s' : IsSome (next_answer old c) = rw (is, at) s in
-      desk-take (kept old) new old.accounts ys d c _ same
-      (taken-account old d c w (sym there) s') wrote
+  pub desk-took : (seen : Desk) → old ≡ seen → IsSome (next_answer seen b) → new ≡ kept old
+      → Wrote old.accounts ys c (after_taking (account_of old c)) → IsDeskOf new ys
+  desk-took seen is s same wrote = go (account_of old c) refl
+    where
+      untaken : IsSome (next_answer old c)
+      untaken = rw (is, at) s
+
+      go : (o : Option Account) → account_of old c ≡ o → IsDeskOf new ys
+      go None e = absurd (taker-known old d c untaken e)
+      go (Some w) e =
+          desk-take (kept old) new old.accounts ys d c _ same (taken-account old d c w e untaken)
+          (subst (λ o. Wrote old.accounts ys c (after_taking o)) e wrote)
 
 -- before the first client
 pub desk-new : (k : Kept) (xs : List (ℕ × Account))

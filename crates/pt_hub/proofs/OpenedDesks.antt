@@ -15,11 +15,11 @@ use Rattle.pt_core.specs.Cores.{Kept, past}
 use Rattle.pt_core.specs.Applying.{IsApplied, IsWritten, opened}
 use Rattle.pt_core.specs.Sealing.{IsSealed, sealed}
 use Rattle.pt_hub.specs.declared.account.Account.{Account}
-use Rattle.pt_hub.specs.Desks.{Desk, kept, account_of, awaiting, call_refusal, fresh}
+use Rattle.pt_hub.specs.Desks.{Desk, kept, account_of, awaiting, call_refusal, fresh, is_blocked}
 use Rattle.pt_hub.specs.Desks.{opened_account, opened_accounts, renewed, renewed_all, renewed_if}
 use Rattle.pt_hub.specs.Desks.{IsDesk, IsDeskOf, Wrote}
 use Rattle.pt_hub.proofs.DeskLemmas.{desk-join, desk-call, desk-moment}
-use Rattle.pt_hub.proofs.ReadingLemmas.{caller-known, caller-idle}
+use Rattle.pt_hub.proofs.ReadingLemmas.{caller-known, caller-idle, unblocked-refusal}
 use Rattle.pt_hub.proofs.SealedDesks.{lookup-renewed, opened-desk, place-opened, sealed-desk}
 
 -- a caller's account, of accounts that may be renewed
@@ -95,10 +95,10 @@ module _ (k new : Kept) (xs made zs ys : List (ℕ × Account)) (p : ℕ) (a : A
       (subst (λ n. Wrote zs ys n (Some fresh))
       (first-opened k new (event.Join p) a ok) wrote)
 
--- a client makes a call that isn't refused
+-- a client that isn't blocked makes a call that isn't refused
 module _ (old seen : Desk) (same : old ≡ seen) (d : IsDesk old) (c b : ℕ)
     (at : c ≡ b) (call said : Asked) (by : said ≡ call)
-    (free : call_refusal seen b call ≡ None) (new : Kept) (a : Applied)
+    (free : is_blocked seen b ≡ false) (new : Kept) (a : Applied)
     (ok : IsApplied (kept old) (event.Call b said) new a) (zs : List (ℕ × Account))
     (is : zs ≡ renewed_if (is_some a.sealed) old.accounts) where
   ok_of : IsApplied (kept old) (event.Call c call) new a
@@ -108,8 +108,8 @@ module _ (old seen : Desk) (same : old ≡ seen) (d : IsDesk old) (c b : ℕ)
 
   free_of : call_refusal old c call ≡ None
   free_of =
-      subst (λ (x : Desk). call_refusal x c call ≡ None) (sym same)
-      (subst (λ n. call_refusal seen n call ≡ None) (sym at) free)
+      let here : is_blocked old c ≡ false = rw (same, at) free in
+      unblocked-refusal old d c call here ∙ ok_of.accepted
 
   idle_of : IsIdle (lookup (nat_eq c) zs)
   idle_of = subst (λ es. IsIdle (lookup (nat_eq c) es)) (sym is) (go (account_of old c) refl)

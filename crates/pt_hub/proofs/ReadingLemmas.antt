@@ -72,6 +72,11 @@ module _ (d : Desk) (k : IsDesk d) (c : ℕ) where
       go true e = absurd cc
       go false e = refl
 
+  -- a client that isn't blocked is refused as the core would refuse it
+  pub unblocked-refusal : (call : Asked) → is_blocked d c ≡ false
+      → call_refusal d c call ≡ refusal_with_seals (kept d).limit h (event.Call c call)
+  unblocked-refusal call b = rw b refl
+
   pub unrefused : (call : Asked) → call_refusal d c call ≡ None
       → refusal_with_seals (kept d).limit h (event.Call c call) ≡ None
   unrefused call e = go (is_blocked d c) e
@@ -183,26 +188,6 @@ module _ (d : Desk) (k : IsDesk d) (c : ℕ) where
       go : (o : Option Account) → account_of d c ≡ o → IsRest (option_map renewed o) o
       go None e = absurd (false≢true (sym (account None e) ∙ lives))
       go (Some a) e = owed-rest (kept d) c a (account (Some a) e)
-
-  -- while its call is open it has none
-  pub next-open : is_some (open_place h c) ≡ true → next_answer d c ≡ None
-  next-open o = go (account_of d c) refl
-    where
-      small : (b : Bool) → one_if b ≤ 1
-      small true = omega arith
-      small false = omega arith
-
-      go : (x : Option Account) → account_of d c ≡ x
-          → cond (is_untaken_in (kept d) c x) (answer_of h c) None ≡ None
-      go None e = refl
-      go (Some a) e =
-          let s = account (Some a) e in
-          let one : open_count h c ≡ 1 = rw o refl in
-          let le : owed (kept d).start c a + got (kept d) c ≤ a.taken =
-          omega (arith, s.whole, one, small a.awaits) in
-          let no : nat_lt a.taken (owed (kept d).start c a + got (kept d) c) ≡ false =
-          grind (arith, nat_tests) in
-          rw no refl
 
   -- an answer that isn't taken
   pub untaken : IsSome (next_answer d c) → is_untaken d c ≡ true

@@ -1,11 +1,11 @@
 -- What was read at a desk, and of a number, that are seen as others of the same value.
 use Rattle.std.proofs.Common.{◌≡◌, ℕ, ◌+◌, ◌≤◌, true, false, nat_eq, Option, Some, None, is_some}
-use Rattle.std.proofs.Common.{sym, ap, ◌∙◌}
-use Rattle.std.specs.Prelude.{IsSome, MatchOption}
+use Rattle.std.proofs.Common.{refl, sym, ap, ◌∙◌, subst}
+use Rattle.std.specs.Prelude.{IsSome, IfSome, MatchOption, unwrap_or}
 use Rattle.std.specs.Map.{lookup}
 use Rattle.pt_types.specs.declared.call.Call.{Call as Asked}
 use Rattle.pt_types.specs.declared.outcome.Refusal.{Refusal}
-use Rattle.pt_types.specs.declared.outcome.Refusal.TheVariants.{Enomem}
+use Rattle.pt_types.specs.declared.outcome.Refusal.TheVariants.{Blocked, Enomem}
 use Rattle.pt_types.specs.Limits.{most_entries, most_places}
 use Rattle.pt_model.specs.declared.entry.Event.{Event}
 use Rattle.pt_model.specs.declared.entry.Event.TheVariants as event
@@ -18,9 +18,8 @@ use Rattle.pt_core.specs.Applying.{IsWantOfMemory}
 use Rattle.pt_hub.specs.declared.account.Account.{Account}
 use Rattle.pt_hub.specs.Desks.{Desk, kept, is_blocked, next_answer, call_refusal, IsRefusedAs}
 use Rattle.pt_hub.specs.Desks.{IsDesk}
-use Rattle.pt_hub.proofs.ReadingLemmas.{awaits_in, blocked-awaits, unrefused, caller-known}
-use Rattle.pt_hub.proofs.ReadingLemmas.{next-blocked, next-free, next-open, taker-known}
-use Rattle.pt_hub.proofs.ReadingLemmas.{taker-small}
+use Rattle.pt_hub.proofs.ReadingLemmas.{awaits_in, blocked-awaits, unblocked-refusal}
+use Rattle.pt_hub.proofs.ReadingLemmas.{next-blocked, next-free, taker-known, taker-small}
 
 -- what refuses an event for which the core has no refusal is lack of memory
 pub wanted : (known : Option Refusal) (r : Refusal) (e : Event)
@@ -28,10 +27,10 @@ pub wanted : (known : Option Refusal) (r : Refusal) (e : Event)
 wanted None r e w = w.0
 wanted (Some x) r e w = w
 
-pub wanted-none : (known : Option Refusal) (r : Refusal) (e : Event) → known ≡ None
-    → MatchOption known (IsWantOfMemory e r) (λ x. r ≡ x) → r ≡ Enomem
-wanted-none None r e n w = w.0
-wanted-none (Some x) r e n w = absurd cc
+-- the refusal that is known, or else lack of memory
+pub known-or : (known : Option Refusal) → IsRefusedAs known (unwrap_or known Enomem)
+known-or None = refl
+known-or (Some x) = refl
 
 module _ (d e : Desk) (k : IsDesk d) (same : d ≡ e) (c b : ℕ) (at : c ≡ b) where
   pub blocked-read : (o : Option Account) → o ≡ lookup (nat_eq c) d.accounts
@@ -49,33 +48,38 @@ module _ (d e : Desk) (k : IsDesk d) (same : d ≡ e) (c b : ℕ) (at : c ≡ b)
       let here : is_blocked d c ≡ false = rw (same, at) t in
       rw (← same, ← at) (sym (next-free d k c here))
 
-  pub next-read-open : is_some (open_place (past (kept d)) c) ≡ true → None ≡ next_answer e b
-  next-read-open o = rw (← same, ← at) (sym (next-open d k c o))
+  pub caller-blocked : (call : Asked) → is_blocked e b ≡ true
+      → IsRefusedAs (call_refusal e b call) Blocked
+  caller-blocked call t = rw t refl
 
-  -- a caller has an account
-  pub caller-read : (call : Asked) → call_refusal e b call ≡ None
-      → None ≡ lookup (nat_eq c) d.accounts → ⊥
-  caller-read call free none =
-      let here : call_refusal d c call ≡ None = rw (same, at) free in
-      caller-known d k c call here (sym none)
-
-  pub caller-wanted : (call : Asked) (r : Refusal) → call_refusal e b call ≡ None
-      → MatchOption (refusal_with_seals (kept d).limit (past (kept d)) (event.Call c call))
-      (IsWantOfMemory (event.Call c call) r) (λ x. r ≡ x)
-      → r ≡ Enomem
-  caller-wanted call r free w =
-      let here : call_refusal d c call ≡ None = rw (same, at) free in
-      wanted-none (refusal_with_seals (kept d).limit (past (kept d)) (event.Call c call)) r
-      (event.Call c call) (unrefused d k c call here) w
+  -- a caller that isn't blocked is refused as by the core
+  pub caller-refused : (call said : Asked) → said ≡ call → (r : Refusal)
+      → is_blocked e b ≡ false
+      → MatchOption (refusal_with_seals (kept d).limit (past (kept d)) (event.Call c said))
+      (IsWantOfMemory (event.Call c said) r) (λ x. r ≡ x)
+      → IsRefusedAs (call_refusal e b call) r
+  caller-refused call said by r free w =
+      let here : is_blocked d c ≡ false = rw (same, at) free in
+      rw (← same, ← at, ← by) (subst (λ o. IsRefusedAs o r)
+      (sym (unblocked-refusal d k c said here)) (wanted _ r (event.Call c said) w))
 
   -- who takes an answer has an account, and took fewer than there are places
   module _ (s : IsSome (next_answer e b)) where
     here : IsSome (next_answer d c)
     here = rw (same, at) s
 
-    pub taker-read : None ≡ lookup (nat_eq c) d.accounts → ⊥
-    taker-read none = taker-known d k c here (sym none)
+    pub taker-there : IsSome (lookup (nat_eq c) d.accounts)
+    taker-there = go (lookup (nat_eq c) d.accounts) refl
+      where
+        go : (o : Option Account) → lookup (nat_eq c) d.accounts ≡ o → IsSome o
+        go None e = absurd (taker-known d k c here e)
+        go (Some a) e = refl
 
-    pub taker-read-small : (a : Account) → Some a ≡ lookup (nat_eq c) d.accounts
-        → a.taken + 1 ≤ most_places + most_entries
-    taker-read-small a there = taker-small d k c a (sym there) here
+    pub taker-few : IfSome (lookup (nat_eq c) d.accounts)
+        (λ (a : Account). a.taken + 1 ≤ most_places + most_entries)
+    taker-few = go (lookup (nat_eq c) d.accounts) refl
+      where
+        go : (o : Option Account) → lookup (nat_eq c) d.accounts ≡ o
+            → IfSome o (λ (a : Account). a.taken + 1 ≤ most_places + most_entries)
+        go None e = absurd (taker-known d k c here e)
+        go (Some a) e = taker-small d k c a e here

@@ -1,7 +1,10 @@
-ghost use Rattle.std.specs.Prelude.{◌≡◌, ◌⊎◌, ◌<◌, ◌≤◌, Some, None, true, IsSome, is_some, nat_eq};
+ghost use Rattle.std.specs.Prelude.{◌≡◌, ◌⊎◌, ◌+◌, ◌<◌, ◌≤◌, Some, None, true, IsSome, IfSome};
+ghost use Rattle.std.specs.Prelude.{is_some, nat_eq};
 ghost use Rattle.std.specs.Map.{lookup};
 ghost use Rattle.indexmap.specs.IndexMap.{spare};
-ghost use Rattle.pt_hub.specs.Desks.{Wrote, awaiting, renewed, renewed_all, renewed_if};
+ghost use Rattle.pt_types.specs.Limits.{most_entries, most_places};
+ghost use Rattle.pt_hub.specs.Desks.{Wrote, after_taking, awaiting, renewed, renewed_all};
+ghost use Rattle.pt_hub.specs.Desks.{renewed_if};
 
 use indexmap::IndexMap;
 use std::alloc::Allocator;
@@ -51,15 +54,20 @@ pub(crate) fn note_call<A: Allocator + Copy>(accounts: &mut Accounts<A>, client:
     ensures { Wrote accounts.old.entries accounts.new.entries client
         (awaiting (lookup (nat_eq client) accounts.old.entries)) }
 {
-    let Some(account) = read(accounts, client) else {
-        unreachable!()
-    };
-    let account = Account {
-        awaited: account.awaited,
-        taken: account.taken,
-        awaits: true,
-    };
-    write(accounts, client, account);
+    accounts.get_mut(&client).unwrap().awaits = true;
+}
+
+/// A client with an account takes an answer. It takes no memory.
+pub(crate) fn note_take<A: Allocator + Copy>(accounts: &mut Accounts<A>, client: u64)
+    requires there { IsSome (lookup (nat_eq client) accounts.old.entries) }
+    requires few { IfSome (lookup (nat_eq client) accounts.old.entries)
+        (λ account. account.taken + 1 ≤ most_places + most_entries) }
+    ensures { Wrote accounts.old.entries accounts.new.entries client
+        (after_taking (lookup (nat_eq client) accounts.old.entries)) }
+{
+    let account = accounts.get_mut(&client).unwrap();
+    account.taken += 1;
+    account.awaits = false;
 }
 
 /// The history is sealed. It takes no memory.

@@ -24,7 +24,9 @@ ghost use Rattle.pt_hub.specs.Desks.{Wrote, IsRefusedAs, kept, account_of, await
 ghost use Rattle.pt_hub.specs.Desks.{fresh, is_blocked, call_refusal, next_answer, opened_account};
 ghost use Rattle.pt_hub.specs.Desks.{opened_accounts, renewed_all, IsOwedTheRest, IsTakenButOne};
 
-use crate::account::{Account, Accounts, erase, note_call, read, renew, renew_if, write};
+use crate::account::{
+    Account, Accounts, erase, note_call, note_take, read, renew, renew_if, write,
+};
 use indexmap::IndexMap;
 use pt_core::{Applied, Core, Reply};
 use pt_model::{Entry, Event};
@@ -127,19 +129,20 @@ impl<A: Allocator + Copy> Desk<A> {
         self.core.would_refuse(&Event::Call(c, call.copied()))
     }
 
-    /// A client makes a call that isn't refused, and awaits its answer. ENOMEM if a growth is
-    /// refused.
+    /// A client makes a call, and awaits its answer.
     pub fn call(&mut self, c: ClientId, call: &Call) -> Result<Applied, Refusal>
-        requires { call_refusal self.old c call.now ≡ None }
         ensures ok { IfOk result (λ applied.
             IsApplied (kept self.old) (event.Call c call.now) (kept self.new) applied) }
         ensures first { IfOk result (λ applied.
             applied.first ≡ place_of (past (kept self.old))) }
         ensures account { OnOk result (Wrote (opened_accounts self.old (event.Call c call.now))
             self.new.accounts c (awaiting (opened_account self.old (event.Call c call.now) c))) }
-        ensures err { IfErr result (λ refusal. refusal ≡ Refusal.Enomem) }
+        ensures err { IfErr result (IsRefusedAs (call_refusal self.old c call.now)) }
         ensures unchanged { OnErr result (self.new ≡ self.old) }
     {
+        if self.is_blocked(c) {
+            return Err(Refusal::Blocked);
+        }
         match self.core.apply(Event::Call(c, call.copied())) {
             Ok(applied) => {
                 renew_if(&mut self.accounts, applied.sealed);
@@ -154,7 +157,7 @@ impl<A: Allocator + Copy> Desk<A> {
     pub fn next_answer(&self, c: ClientId) -> Option<Reply>
         ensures { option_map told_of result ≡ next_answer self.now c }
     {
-        if self.is_blocked(c) && self.core.open_call(c).is_none() {
+        if self.is_blocked(c) {
             self.core.answer_of(c)
         } else {
             None
@@ -168,15 +171,7 @@ impl<A: Allocator + Copy> Desk<A> {
         ensures account { Wrote self.old.accounts self.new.accounts c
             (after_taking (account_of self.old c)) }
     {
-        let Some(account) = read(&self.accounts, c.0) else {
-            unreachable!()
-        };
-        let account = Account {
-            awaited: account.awaited,
-            taken: account.taken + 1,
-            awaits: false,
-        };
-        write(&mut self.accounts, c.0, account);
+        note_take(&mut self.accounts, c.0);
     }
 
     /// A living client dies, for which the history is never sealed. An answer that it hasn't taken

@@ -140,11 +140,9 @@ impl<L: Ledger, A: Allocator + Copy> Hub<L, A> {
     {
         let place = self.desk.len();
         let client = pass.client;
-        if let Some(refusal) = self.desk.call_refusal(client, &call) {
-            return Err(refusal);
-        }
         if pass.receipts.reserve(1).is_err() {
-            return Err(Refusal::Enomem);
+            let known = self.desk.call_refusal(client, &call);
+            return Err(known.unwrap_or(Refusal::Enomem));
         }
         match self.desk.call(client, &call) {
             Ok(applied) => {

@@ -9,7 +9,7 @@ ghost use Rattle.pt_records.specs.Callers.{opens_of};
 ghost use Rattle.pt_state.specs.Serving.{called};
 ghost use Rattle.pt_machine.specs.Queued.{IsQueued};
 ghost use Rattle.pt_types.specs.Operations.{class_of};
-ghost use Rattle.pt_types.specs.declared.operations.ObjectClass.TheVariants.{Barrier as BarrierClass};
+ghost use Rattle.pt_types.specs.declared.operations.ObjectClass.TheVariants as class;
 ghost use Rattle.pt_model.specs.Objects.{kind_of};
 ghost use Rattle.pt_model.specs.Answers.{at_barrier, open_calls};
 ghost use Rattle.pt_state.specs.Reads.{AreTables};
@@ -41,7 +41,7 @@ impl<Q: WaitList, A: Allocator + Copy> Body<Q, A> {
     /// How many calls wait at the barrier.  [XSH pthread_barrier_wait]
     pub(crate) fn arrivals(&self, b: ObjectId) -> usize
         requires read { AreTables self.now }
-        requires barrier { option_map class_of (kind_of (past self.now) b) ≡ Some BarrierClass }
+        requires barrier { option_map class_of (kind_of (past self.now) b) ≡ Some class.Barrier }
         ensures { result ≡ length (at_barrier b (open_calls (past self.now))) }
     {
         self.queues.len(b)

@@ -1,4 +1,4 @@
--- Rows of clients, where what stands in the first ones is rewritten, and in one more.
+-- Rows of clients, where what is in the first ones is rewritten, and in one more.
 use Rattle.std.proofs.Common.{◌≡◌, ℕ, zero, suc, ◌+◌, ◌≤◌, Bool, true, false, cond, nat_eq, List}
 use Rattle.std.proofs.Common.{[], ◌∷◌, map, length, Option, Some, None, option_map, refl, sym, ap}
 use Rattle.std.proofs.Common.{◌∙◌, arith}
@@ -12,11 +12,11 @@ use Rattle.pt_records.proofs.RowLemmas.{Apart, Apart-map, length-map, value-map}
 use Rattle.pt_records.proofs.CallerWrites.{number_in, value_in, apart-once, once-apart}
 
 module _ (g : Caller → Caller) where
-  -- g changes what stands in a row
+  -- g changes what is in a row
   abbrev rewritten : ClientRow Caller → ClientRow Caller
   rewritten row = record row { value = g row.value }
 
-  -- it changed what stands in the first rows
+  -- it changed what is in the first rows
   abbrev pub rewritten_first : List (ClientRow Caller) → ℕ → List (ClientRow Caller)
   rewritten_first [] i = []
   rewritten_first (row ∷ rows) zero = row ∷ rows
@@ -109,7 +109,7 @@ with-none (row ∷ rows) n w e = go (with-none rows n w) (nat_eq n row.number) e
     go ih true e = cc
     go ih false e = ap (λ rs. row ∷ rs) (ih e)
 
--- a number that stands at an index is found there
+-- a number that is at an index is found there
 nth-there : (rows : List (ClientRow Caller)) (i n : ℕ) → nth_number rows i ≡ Some n
     → client_at rows n ≡ None → ⊥
 nth-there [] i n e none = cc
@@ -136,7 +136,7 @@ nth-apart row rows i n none e = go (nat_eq n row.number) refl
         absurd (nth-there rows i n e (ap (client_at rows) same ∙ none))
     go false t = refl
 
--- what is found by the number at an index is what stands there
+-- what is found by the number at an index is what is there
 pub nth-found : (rows : List (ClientRow Caller)) (i n : ℕ) → Apart number_in rows
     → nth_number rows i ≡ Some n → client_value rows n ≡ nth_value rows i
 nth-found [] i n a e = cc
@@ -177,7 +177,7 @@ nth-written g f rows i n v u once e is found same =
     let what : u ≡ v = cc in
     ap (with_client rows n) (ap f what ∙ sym same) ∙ nth-with g rows i n v a e is
 
--- a client whose number stands at an index has a row
+-- a client whose number is at an index has a row
 pub nth-absent : {X : Type 0} (rows : List (ClientRow Caller)) (i n : ℕ) (v : Caller) → Once rows
     → nth_number rows i ≡ Some n → nth_value rows i ≡ Some v
     → ◌≡◌ {A = Option Caller} None (client_value rows n) → X

@@ -21,7 +21,7 @@ number_in row = row.number
 abbrev pub value_in : ClientRow Caller → Caller
 value_in row = row.value
 
--- a number stands in no row exactly if none is found
+-- a number is in no row exactly if none is found
 none-any : (rows : List (ClientRow Caller)) (n : ℕ)
     → list_any (λ other. other.number == n) rows ≡ false → client_at rows n ≡ None
 none-any [] n e = refl

@@ -22,7 +22,7 @@ rises-at n zero (x ∷ xs) d r lt = r.0
 rises-at n (suc i) (x ∷ xs) d r lt =
     omega (arith, r.0, rises-at x.at i xs d r.1 (omega (arith, lt)))
 
--- what stands before one that was given before place k was given before it too
+-- what comes before one that was given before place k was given before it too
 early : (n k i : ℕ) (xs : List Answered) (d : Answered) → Rises n (map logged xs) → i < length xs
     → (get_or xs i d).at < k → since k (map logged (take (suc i) xs)) ≡ []
 early n k i [] d r lt at = absurd (omega (arith, lt))

@@ -31,7 +31,7 @@ row-look (x ∷ rows) once row (inr i) =
     any-false (λ (r : ClientRow Caller). r.number == x.number) rows row once.0 i in
     rw apart (row-look rows once.1 row i)
 
--- what is found of a client stands in a row with its number
+-- what is found of a client is in a row with its number
 pub look-row : (rows : List (ClientRow Caller)) (c : ℕ) (v : Caller) → client_value rows c ≡ Some v
     → (row : ClientRow Caller) × (In row rows × (row.number ≡ c) × (row.value ≡ v))
 look-row [] c v e = absurd cc
@@ -127,7 +127,7 @@ call_in-some (Some v) w e = go v.open refl e
     go None at e = absurd cc
     go (Some o) at e = let same : o.call ≡ w = cc in (v, (o, (refl, at, same)))
 
--- each open call stands in a row
+-- each open call is in a row
 pub found-open : (h : History) (rows : List (ClientRow Caller)) → Follows h → AreCallers h rows
     → (w : WaitingCall) → In w (open_calls h)
     → (o : Open) × (In o (opens_of rows) × (o.call ≡ w))

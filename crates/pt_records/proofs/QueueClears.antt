@@ -29,7 +29,7 @@ first-out (v ∷ vs) w e =
     let own : v.client ≡ w.client = ap (λ (x : Waiter). x.client) same in
     rw (eq-eqb v.client w.client own) (omega (arith, without-length w.client vs))
 
--- the first of one queue stands in no other
+-- the first of one queue is in no other
 pub others-stay :
     (queue : ℕ → List Waiter)
     → ((c q r : ℕ) → stands_in c (queue q) ≡ true → stands_in c (queue r) ≡ true → q ≡ r)

@@ -13,7 +13,7 @@ pub record StoredLog : Type 0 where
   pub items : List Answered
   pub capacity : ℕ
 
--- what is read where no answer is
+-- what is read if there is no answer
 abbrev pub no_answer : Answered
 no_answer = record { at = 0; client = 0; place = 0; outcome = Done }
 

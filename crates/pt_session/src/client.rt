@@ -9,6 +9,7 @@ ghost use Rattle.pt_hub.specs.Hubs.{answered};
 
 use crate::kinds::Reading;
 use crate::lines::Lines;
+use crate::reading_thread::Joins;
 use pt_hub::{Answer, ClockPass, Pass, SessionId};
 use pt_io::Source;
 use pt_lines::{CallLine, Word};
@@ -70,14 +71,21 @@ fn tick<L: Ledger, T: Wait>(
     }
 }
 
-// Waits for the answer to a client's call. While it waits long, another thread reads the
-// connection, so that its end is seen. `None` if the input ends first.
-fn wait<'s, E, R: Source + Send + Drop + 's, L: Ledger + Send + Sync + 's, T: Wait + Sync + 's>(
+// Waits for the answer to a client's call. If it waits long, another thread reads the connection
+// until the answer is there, so that its end is seen. `None` if the input ends first.
+fn wait<
+    's,
+    E,
+    R: Source + Send + Drop + 's,
+    L: Ledger + Send + Sync + 's,
+    T: Wait + Sync + 's,
+    J: Joins + Drop,
+>(
     rt: &T,
     shared: &Shared<L>,
     session: SessionId,
     pass: &mut Pass<L>,
-    lines: &mut Lines<'_, 's, E, R, L, T>,
+    lines: &mut Lines<'_, 's, E, R, L, T, J>,
     rings: u64,
 ) -> Option<Answer>
     ensures pass { IfSome result (λ answer. pass.new
@@ -94,17 +102,26 @@ fn wait<'s, E, R: Source + Send + Drop + 's, L: Ledger + Send + Sync + 's, T: Wa
             return None;
         }
     }
-    shared.wait_for_answer(rt, session, pass)
+    let answer = shared.wait_for_answer(rt, session, pass);
+    lines.rest();
+    answer
 }
 
 // A call of a client, and the wait for its answer. `None` if the input ends first.
 #[tactic(auto, using(crate::proofs::ReceiptLemmas::calls_answered, crate::proofs::ReceiptLemmas::calls_push))]
-fn ask_by<'s, E, R: Source + Send + Drop + 's, L: Ledger + Send + Sync + 's, T: Wait + Sync + 's>(
+fn ask_by<
+    's,
+    E,
+    R: Source + Send + Drop + 's,
+    L: Ledger + Send + Sync + 's,
+    T: Wait + Sync + 's,
+    J: Joins + Drop,
+>(
     rt: &T,
     shared: &Shared<L>,
     session: SessionId,
     pass: &mut Pass<L>,
-    lines: &mut Lines<'_, 's, E, R, L, T>,
+    lines: &mut Lines<'_, 's, E, R, L, T, J>,
     call: Call,
 ) -> Option<Word>
     ensures asks { AsksOf pass.old call result pass.new }
@@ -122,12 +139,19 @@ fn ask_by<'s, E, R: Source + Send + Drop + 's, L: Ledger + Send + Sync + 's, T: 
 }
 
 // A call: hello comes before it.
-fn ask<'s, E, R: Source + Send + Drop + 's, L: Ledger + Send + Sync + 's, T: Wait + Sync + 's>(
+fn ask<
+    's,
+    E,
+    R: Source + Send + Drop + 's,
+    L: Ledger + Send + Sync + 's,
+    T: Wait + Sync + 's,
+    J: Joins + Drop,
+>(
     rt: &T,
     shared: &Shared<L>,
     session: SessionId,
     pass: &mut Option<Pass<L>>,
-    lines: &mut Lines<'_, 's, E, R, L, T>,
+    lines: &mut Lines<'_, 's, E, R, L, T, J>,
     call: Call,
 ) -> Option<Word>
     ensures asks { Asks pass.old call result pass.new }
@@ -147,13 +171,14 @@ fn deal_read<
     R: Source + Send + Drop + 's,
     L: Ledger + Send + Sync + 's,
     T: Wait + Sync + 's,
+    J: Joins + Drop,
 >(
     rt: &T,
     shared: &Shared<L>,
     session: SessionId,
     pass: &mut Option<Pass<L>>,
     clock: &mut ClockPass<L>,
-    lines: &mut Lines<'_, 's, E, R, L, T>,
+    lines: &mut Lines<'_, 's, E, R, L, T, J>,
     line: CallLine,
 ) -> Option<Word>
     ensures deals { Deals pass.old clock.old (Ok line) result pass.new clock.new }
@@ -173,13 +198,14 @@ pub(crate) fn deal<
     R: Source + Send + Drop + 's,
     L: Ledger + Send + Sync + 's,
     T: Wait + Sync + 's,
+    J: Joins + Drop,
 >(
     rt: &T,
     shared: &Shared<L>,
     session: SessionId,
     pass: &mut Option<Pass<L>>,
     clock: &mut ClockPass<L>,
-    lines: &mut Lines<'_, 's, E, R, L, T>,
+    lines: &mut Lines<'_, 's, E, R, L, T, J>,
     line: Reading,
 ) -> Option<Word>
     ensures deals { Deals pass.old clock.old line result pass.new clock.new }

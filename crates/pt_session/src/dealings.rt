@@ -6,6 +6,7 @@ ghost use Rattle.pt_session.specs.Transcripts.{IsLeftOf, IsTranscript, all_answe
 use crate::client::deal;
 use crate::kinds::Reading;
 use crate::lines::Lines;
+use crate::reading_thread::Joins;
 use crate::transcript::Transcript;
 use pt_hub::{ClockPass, Left, Pass, SessionId};
 use pt_io::Source;
@@ -63,12 +64,12 @@ impl<L: Ledger + Send + Sync> Dealings<L> {
     }
 
     /// Submits a line, and returns its word. `None` if its call is open when the input ends.
-    pub fn submit<'s, E, R: Source + Send + Drop + 's, T: Wait + Sync + 's>(
+    pub fn submit<'s, E, R: Source + Send + Drop + 's, T: Wait + Sync + 's, J: Joins + Drop>(
         &mut self,
         rt: &T,
         shared: &Shared<L>,
         session: SessionId,
-        lines: &mut Lines<'_, 's, E, R, L, T>,
+        lines: &mut Lines<'_, 's, E, R, L, T, J>,
         line: Reading,
     ) -> Option<Word>
         requires { all_answered self.old.exchanges ≡ true }

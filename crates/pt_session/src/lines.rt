@@ -2,66 +2,61 @@
 
 ghost use Rattle.std.specs.Prelude.{◌≡◌, ◌∷◌, ◌++◌, [], true, MatchOption};
 ghost use Rattle.rtrb.specs.Ring.{received, IsPair, SameConsumer, SameProducer};
-ghost use Rattle.pt_session.specs.Readings.{input};
-ghost use Rattle.pt_session.specs.Ends.{EndsReading};
 ghost use Rattle.pt_session.specs.Places.{IsReadIn, is_own};
 ghost use Rattle.pt_session.specs.Sources.{RingOut};
 
 use crate::ends::ReadEnd;
 use crate::kinds::{ClockMode, Reading};
 use crate::reading_side::ReadingSide;
+use crate::reading_thread::{Joiner, Joins, Reads};
+use crate::turns::Turns;
 use crate::watch::Watch;
 use pt_hub::SessionId;
 use pt_io::Source;
 use pt_shared::Shared;
-use rtrb::{Consumer, Producer};
+use rtrb::Consumer;
 use std::marker::Model;
 use std::mem;
 use std::snapshot::Snapshot;
 use std::sync::Wait;
-use std::sync::atomic::{AtomicBool, Ordering};
 use std::sync::ledger::Ledger;
-use std::thread::{Promise, PromisedHandle, Scope, SpawnError, Threads};
-
-// What a thread that reads reports of its end.
-#[derive(Drop)]
-pub(crate) struct Reads {
-    ring: Snapshot<Producer<Reading>>,
-    mode: ClockMode,
-}
-
-impl<R: Source> Promise<ReadEnd<R>> for Reads {
-    ghost use Rattle.rtrb.specs.Ring.{SameProducer};
-    ghost use Rattle.pt_session.specs.Readings.{input};
-    ghost use Rattle.pt_session.specs.Ends.{EndsReading};
-
-    ghost kept_by = { λ p r. SameProducer p.ring.value r.ring
-        × EndsReading p.mode (input R.given R.ended R.failures R.reads) r };
-}
+use std::thread::{PromisedHandle, Scope, SpawnError, Threads};
 
 /// Which thread reads the input of a session.
 #[derive(Drop)]
-pub(crate) enum Place<'a, 's, E: 's, R: Source> {
+pub(crate) enum Place<'a, 's, E: 's, R: Source, J> {
     /// One of which nothing is known here.
     Unknown,
     /// The one that takes the lines.
-    Here(Here<'a, 's, E, R>),
+    Here(Here<'a, 's, E, R, J>),
     /// One that the one that takes the lines has started.
-    Elsewhere(PromisedHandle<ReadEnd<R>, Reads>),
-    /// None, as the reading has ended.
-    Nowhere(ReadEnd<R>),
+    Elsewhere(Elsewhere<'a, 's, E, R, J>),
 }
 
-/// A reading side in the thread that takes the lines, and what another thread needs to be started.
+/// What is needed to start a thread that reads the input of a session, and to wait for it.
 #[derive(Drop)]
-pub(crate) struct Here<'a, 's, E: 's, R: Source> {
+pub(crate) struct Means<'a, 's, E: 's, J> {
     pub scope: &'a Scope<'s, E>,
-    pub is_refused: &'s AtomicBool,
+    pub turns: &'s Turns,
+    pub joiner: J,
+}
+
+/// A reading side in the thread that takes the lines.
+#[derive(Drop)]
+pub(crate) struct Here<'a, 's, E: 's, R: Source, J> {
+    pub means: Means<'a, 's, E, J>,
     pub side: ReadingSide<R>,
 }
 
-// Lets a thread of its own read the rest of a connection. If the thread is refused, the reading
-// ends.
+/// A reading side in a thread of its own.
+#[derive(Drop)]
+pub(crate) struct Elsewhere<'a, 's, E: 's, R: Source, J> {
+    means: Means<'a, 's, E, J>,
+    thread: PromisedHandle<ReadingSide<R>, Reads>,
+}
+
+// Lets a thread of its own read the connection while a call waits. If the thread is refused, the
+// reading ends.
 fn start_reading<
     'a,
     's,
@@ -69,37 +64,50 @@ fn start_reading<
     R: Source + Send + Drop + 's,
     L: Ledger + Send + Sync + 's,
     T: Wait + Sync + 's,
->(rt: &'s T, shared: &'s Shared<L>, here: Here<'a, 's, E, R>) -> Place<'a, 's, E, R>
+    J: Drop,
+>(rt: &'s T, shared: &'s Shared<L>, here: Here<'a, 's, E, R, J>) -> Place<'a, 's, E, R, J>
     ensures read { (ring : RingOut) → IsPair here.entry.side.ring ring
-        → IsReadIn here.entry.side.mode (input R.given R.ended R.failures R.reads) result ring }
+        → IsReadIn here.entry.side.mode result ring }
     ensures own { is_own result ≡ true }
 {
-    let Here {
-        scope,
-        is_refused,
-        side,
-    } = here;
+    let Here { means, side } = here;
     let promise = Reads {
         ring: Snapshot::of(side.ring()),
         mode: side.mode(),
     };
-    let reads = move || -> ReadEnd<R>
+    let turns = means.turns;
+    let reads = move || -> ReadingSide<R>
         ensures ring { SameProducer side.ring result.ring }
-        ensures ends { EndsReading side.mode (input R.given R.ended R.failures R.reads) result }
+        ensures mode { result.mode ≡ side.mode }
     {
         let mut side = side;
-        if is_refused.load(Ordering::SeqCst) {
-            side.give_up();
-        }
-        side.read_to_end(rt, shared)
+        side.read_meanwhile(rt, shared, turns);
+        side
     };
-    match scope.spawn_with(promise, reads) {
-        Ok(thread) => Place::Elsewhere(thread),
+    turns.start();
+    match means.scope.spawn_with(promise, reads) {
+        Ok(thread) => Place::Elsewhere(Elsewhere { means, thread }),
         Err(refused) => {
-            is_refused.store(true, Ordering::SeqCst);
+            turns.refuse();
             let SpawnError { value: reads } = refused;
-            Place::Nowhere(reads())
+            let side = reads();
+            Place::Here(Here { means, side })
         }
+    }
+}
+
+// Waits until the other thread has stopped, and takes its reading side.
+fn come_back<'a, 's, E, R: Source, J: Joins + Drop>(
+    away: Elsewhere<'a, 's, E, R, J>,
+) -> Place<'a, 's, E, R, J>
+    ensures read { (ring : RingOut) → IsPair away.entry.thread.promise.ring.value ring
+        → IsReadIn away.entry.thread.promise.mode result ring }
+    ensures own { is_own result ≡ true }
+{
+    let Elsewhere { means, thread } = away;
+    match means.joiner.join(thread) {
+        Ok(side) => Place::Here(Here { means, side }),
+        Err(thread) => Place::Elsewhere(Elsewhere { means, thread }),
     }
 }
 
@@ -130,21 +138,21 @@ fn next_here<R: Source, L: Ledger, T: Wait>(
 
 /// The lines of a session, as the working side takes them.
 ///
-/// The thread that takes them also reads them from the session's input, until it has to wait long
-/// for the answer to a call: from then on another thread reads, which sees the end of the input.
+/// The thread that takes them also reads them from the session's input, but for the time in which
+/// it waits long for the answer to a call: then another thread reads, which sees the end of the
+/// input.
 #[derive(Drop)]
-pub(crate) struct Lines<'a, 's, E: 's, R: Source, L: Ledger, T> {
+pub(crate) struct Lines<'a, 's, E: 's, R: Source, L: Ledger, T, J> {
     rt: &'s T,
     shared: &'s Shared<L>,
     session: SessionId,
     mode: ClockMode,
-    place: Place<'a, 's, E, R>,
+    place: Place<'a, 's, E, R, J>,
     pub ring: Consumer<Reading>,
     watch: Watch,
 }
 
-impl<'a, 's, E: 's, R: Source, L: Ledger, T> Model for Lines<'a, 's, E, R, L, T> {
-    ghost use Rattle.pt_session.specs.Readings.{input};
+impl<'a, 's, E: 's, R: Source, L: Ledger, T, J> Model for Lines<'a, 's, E, R, L, T, J> {
     ghost use Rattle.pt_session.specs.Sources.{Taking};
     ghost use Rattle.pt_session.specs.Places.{IsReadIn, is_own};
 
@@ -152,11 +160,10 @@ impl<'a, 's, E: 's, R: Source, L: Ledger, T> Model for Lines<'a, 's, E, R, L, T>
 
     ghost view = { λ l. record { mode = l.mode; ring = l.ring; own = is_own l.place } };
 
-    ghost invariant = { λ l.
-        IsReadIn l.mode (input R.given R.ended R.failures R.reads) l.place l.ring };
+    ghost invariant = { λ l. IsReadIn l.mode l.place l.ring };
 }
 
-impl<'a, 's, E, R: Source + Drop, L: Ledger, T> Lines<'a, 's, E, R, L, T> {
+impl<'a, 's, E, R: Source + Drop, L: Ledger, T, J: Drop> Lines<'a, 's, E, R, L, T, J> {
     ghost use Rattle.std.specs.Prelude.{◌≡◌, true};
     ghost use Rattle.rtrb.specs.Ring.{IsPair};
 
@@ -166,7 +173,7 @@ impl<'a, 's, E, R: Source + Drop, L: Ledger, T> Lines<'a, 's, E, R, L, T> {
         shared: &'s Shared<L>,
         session: SessionId,
         ring: Consumer<Reading>,
-    ) -> Lines<'a, 's, E, R, L, T>
+    ) -> Lines<'a, 's, E, R, L, T, J>
         ensures { result.ring ≡ ring }
     {
         Lines {
@@ -185,9 +192,9 @@ impl<'a, 's, E, R: Source + Drop, L: Ledger, T> Lines<'a, 's, E, R, L, T> {
         rt: &'s T,
         shared: &'s Shared<L>,
         session: SessionId,
-        here: Here<'a, 's, E, R>,
+        here: Here<'a, 's, E, R, J>,
         ring: Consumer<Reading>,
-    ) -> Lines<'a, 's, E, R, L, T>
+    ) -> Lines<'a, 's, E, R, L, T, J>
         requires { IsPair here.side.ring ring }
         ensures lines { (result.ring ≡ ring) × (result.mode ≡ here.entry.side.mode) }
         ensures own { result.own ≡ true }
@@ -211,16 +218,60 @@ impl<'a, 's, E, R: Source + Drop, L: Ledger, T> Lines<'a, 's, E, R, L, T> {
         ring
     }
 
-    /// Whether the thread that takes the lines reads the input too.
-    pub fn are_read_here(&self) -> bool {
-        matches!(self.place, Place::Here(_))
+    // What is shared with the other thread, if that reads.
+    fn turns(&self) -> Option<&'s Turns> {
+        match &self.place {
+            Place::Elsewhere(away) => Some(away.means.turns),
+            _ => None,
+        }
+    }
+
+    /// No call waits any more: another thread that reads stops after its next step.
+    pub fn rest(&self) {
+        if let Some(turns) = self.turns() {
+            turns.rest();
+        }
     }
 }
 
-impl<'a, 's, E, R: Source, L: Ledger, T: Wait> Lines<'a, 's, E, R, L, T> {
+impl<'a, 's, E, R: Source + Drop, L: Ledger, T: Wait, J: Joins + Drop> Lines<
+    'a,
+    's,
+    E,
+    R,
+    L,
+    T,
+    J,
+> {
     ghost use Rattle.std.specs.Prelude.{◌≡◌, ◌∷◌, ◌++◌, [], MatchOption};
     ghost use Rattle.rtrb.specs.Ring.{received};
-    ghost use Rattle.pt_session.specs.Sources.{AreSame};
+    ghost use Rattle.pt_session.specs.Sources.{AreSame, IsStillAt};
+
+    // From here on this thread reads the input, unless it is not known who does. If another one
+    // reads, it waits until that has stopped.
+    fn read_here(&mut self)
+        ensures { IsStillAt self.old self.new }
+    {
+        let place = mem::replace(&mut self.place, Place::Unknown);
+        self.place = match place {
+            Place::Elsewhere(away) => come_back(away),
+            other => other,
+        };
+    }
+
+    /// Whether this thread is to read the input while a call waits. If another one reads, it is to
+    /// go on, but if it has stopped or is about to, this thread reads.
+    pub fn are_read_here(&mut self) -> bool
+        ensures { IsStillAt self.old self.new }
+    {
+        if let Some(turns) = self.turns() {
+            if turns.take_rest() {
+                return false;
+            }
+            self.read_here();
+        }
+        matches!(self.place, Place::Here(_))
+    }
 
     /// The next line. `None` if the input has ended and there is none left.
     pub fn next(&mut self) -> Option<Reading>
@@ -228,11 +279,24 @@ impl<'a, 's, E, R: Source, L: Ledger, T: Wait> Lines<'a, 's, E, R, L, T> {
         ensures next { MatchOption result (received self.new.ring ≡ received self.old.ring)
             (λ line. received self.new.ring ≡ received self.old.ring ++ line ∷ []) }
     {
+        if let Some(turns) = self.turns() {
+            let line = self.watch.next(
+                self.rt,
+                self.shared,
+                self.session,
+                Some(turns),
+                &mut self.ring,
+            );
+            if line.is_some() {
+                return line;
+            }
+            self.read_here();
+        }
         match &mut self.place {
-            Place::Here(here) => { next_here(self.rt, self.shared, &mut here.side, &mut self.ring) }
+            Place::Here(here) => next_here(self.rt, self.shared, &mut here.side, &mut self.ring),
             _ => self
                 .watch
-                .next(self.rt, self.shared, self.session, &mut self.ring),
+                .next(self.rt, self.shared, self.session, None, &mut self.ring),
         }
     }
 }
@@ -244,12 +308,13 @@ impl<
     R: Source + Send + Drop + 's,
     L: Ledger + Send + Sync + 's,
     T: Wait + Sync + 's,
-> Lines<'a, 's, E, R, L, T> {
+    J: Drop,
+> Lines<'a, 's, E, R, L, T, J> {
     ghost use Rattle.std.specs.Prelude.{◌≡◌};
     ghost use Rattle.pt_session.specs.Sources.{IsStillAt};
 
-    /// From here on another thread reads the input. `false` if the thread is refused: the input has
-    /// ended then.
+    /// While a call waits another thread reads the input. `false` if the thread is refused: the
+    /// input has ended then.
     pub fn read_elsewhere(&mut self) -> bool
         ensures { IsStillAt self.old self.new }
     {
@@ -258,17 +323,17 @@ impl<
             Place::Here(here) => start_reading(self.rt, self.shared, here),
             other => other,
         };
-        !matches!(self.place, Place::Nowhere(_))
+        !matches!(self.place, Place::Here(_))
     }
 }
 
-impl<'a, 's, E, R: Source, L: Ledger, T: Threads + Wait> Lines<'a, 's, E, R, L, T> {
+impl<'a, 's, E, R: Source, L: Ledger, T: Threads + Wait> Lines<'a, 's, E, R, L, T, Joiner<'s, T>> {
     ghost use Rattle.std.specs.Prelude.{◌≡◌, true};
     ghost use Rattle.rtrb.specs.Ring.{IsPair};
     ghost use Rattle.pt_session.specs.Readings.{input};
     ghost use Rattle.pt_session.specs.Ends.{EndsReading};
 
-    /// Reads the rest of the input, or waits until it is read.
+    /// Reads the rest of the input.
     pub fn end(self) -> (ReadEnd<R>, Consumer<Reading>)
         requires { self.own ≡ true }
         ensures ends { EndsReading self.entry.mode (input R.given R.ended R.failures R.reads)
@@ -283,12 +348,11 @@ impl<'a, 's, E, R: Source, L: Ledger, T: Threads + Wait> Lines<'a, 's, E, R, L, 
             ring,
             ..
         } = self;
-        let read = match place {
-            Place::Here(here) => here.side.read_to_end(rt, shared),
-            Place::Elsewhere(thread) => thread.join(rt),
-            Place::Nowhere(read) => read,
+        let side = match place {
+            Place::Here(here) => here.side,
+            Place::Elsewhere(away) => away.thread.join(rt),
             Place::Unknown => unreachable!(),
         };
-        (read, ring)
+        (side.read_to_end(rt, shared), ring)
     }
 }

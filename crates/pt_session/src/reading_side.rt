@@ -9,6 +9,7 @@ use crate::ends::ReadEnd;
 use crate::kinds::{ClockMode, EndCause, Reading};
 use crate::pusher::Pusher;
 use crate::reader::{LineInput, read_on};
+use crate::turns::Turns;
 use pt_hub::SessionId;
 use pt_io::Source;
 use pt_lines::Cutter;
@@ -108,14 +109,44 @@ impl<R: Source> ReadingSide<R> {
         }
     }
 
-    /// The reading ends here for want of memory, if it has not ended.
-    pub fn give_up(&mut self)
+    // The reading ends here for want of memory, if it has not ended.
+    fn give_up(&mut self)
         ensures ring { self.new.ring ≡ self.old.ring }
         ensures mode { self.new.mode ≡ self.old.mode }
     {
         if self.cause.is_none() {
             self.cause = Some(EndCause::Memory);
         }
+    }
+
+    // Reads until the input ends, or a step ends while no call waits.
+    fn read_in_turn<L: Ledger, T: Wait>(&mut self, rt: &T, shared: &Shared<L>, turns: &Turns)
+        ensures ring { SameProducer self.old.ring self.new.ring }
+        ensures mode { self.new.mode ≡ self.old.mode }
+    {
+        for _ in rt.forever() {
+            if self.has_ended() || turns.take_rest() {
+                return;
+            }
+            self.step(rt, shared);
+        }
+        unreachable!()
+    }
+
+    /// Reads while a call waits, for the thread that takes the lines, and wakes it in the end.
+    pub fn read_meanwhile<L: Ledger, T: Wait>(&mut self, rt: &T, shared: &Shared<L>, turns: &Turns)
+        ensures ring { SameProducer self.old.ring self.new.ring }
+        ensures mode { self.new.mode ≡ self.old.mode }
+    {
+        if turns.is_refused() {
+            self.give_up();
+        }
+        self.read_in_turn(rt, shared, turns);
+        if self.has_ended() {
+            shared.end_input(rt, self.session);
+        }
+        turns.stop();
+        shared.ring(self.session);
     }
 
     // Reads to the end of the input.

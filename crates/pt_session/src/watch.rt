@@ -4,6 +4,7 @@ ghost use Rattle.std.specs.Prelude.{◌≡◌, ◌∷◌, ◌++◌, [], MatchOpt
 ghost use Rattle.rtrb.specs.Ring.{received, SameConsumer};
 
 use crate::kinds::Reading;
+use crate::turns::Turns;
 use pt_hub::SessionId;
 use pt_shared::Shared;
 use rtrb::Consumer;
@@ -77,6 +78,20 @@ impl Watch {
         };
     }
 
+    // Whether no other thread pushes readings any more.
+    fn is_over<L: Ledger, T: Wait>(
+        &mut self,
+        rt: &T,
+        shared: &Shared<L>,
+        session: SessionId,
+        turns: Option<&Turns>,
+    ) -> bool {
+        match turns {
+            Some(turns) => turns.has_stopped(),
+            None => self.input_ended(rt, shared, session),
+        }
+    }
+
     // Whether the session's input has ended. The lock is taken only if an input has ended since the
     // last time, of the sessions that share a bell.
     fn input_ended<L: Ledger, T: Wait>(
@@ -93,13 +108,14 @@ impl Watch {
         self.has_ended
     }
 
-    // The next reading: for it the thread sleeps. `None` if the input has ended and the ring is
-    // empty.
+    // The next reading: for it the thread sleeps. `None` if the ring is empty and no other thread
+    // pushes into it any more.
     fn sleep_for<L: Ledger, T: Wait>(
         &mut self,
         rt: &T,
         shared: &Shared<L>,
         session: SessionId,
+        turns: Option<&Turns>,
         ring: &mut Consumer<Reading>,
     ) -> Option<Reading>
         ensures ring { SameConsumer ring.old ring.new }
@@ -108,11 +124,11 @@ impl Watch {
     {
         for _ in rt.forever() {
             let rings = shared.rings(session);
-            let has_ended = self.input_ended(rt, shared, session);
+            let is_over = self.is_over(rt, shared, session, turns);
             if let Ok(line) = ring.pop() {
                 return Some(line);
             }
-            if has_ended {
+            if is_over {
                 return None;
             }
             shared.sleep(rt, session, rings);
@@ -120,12 +136,14 @@ impl Watch {
         unreachable!()
     }
 
-    /// The next reading, or `None` if the input has ended and the ring is empty.
+    /// The next reading. `None` if the ring is empty and no other thread pushes into it any more:
+    /// it has stopped in its turn, or, if these are not given, the session's input has ended.
     pub fn next<L: Ledger, T: Wait>(
         &mut self,
         rt: &T,
         shared: &Shared<L>,
         session: SessionId,
+        turns: Option<&Turns>,
         ring: &mut Consumer<Reading>,
     ) -> Option<Reading>
         ensures ring { SameConsumer ring.old ring.new }
@@ -142,6 +160,6 @@ impl Watch {
                 return Some(line);
             }
         }
-        self.sleep_for(rt, shared, session, ring)
+        self.sleep_for(rt, shared, session, turns, ring)
     }
 }

@@ -12,8 +12,10 @@ ghost use Rattle.pt_session.specs.Ends.{EndsReading, IsSession, IsNewRing};
 use crate::ends::SessionEnd;
 use crate::gates::Gate;
 use crate::kinds::{ClockMode, Reading};
-use crate::lines::{Here, Lines};
+use crate::lines::{Here, Lines, Means};
 use crate::reading_side::ReadingSide;
+use crate::reading_thread::Joiner;
+use crate::turns::Turns;
 use crate::worker::{Worked, work};
 use pt_hub::{ClockPass, SessionId};
 use pt_io::{Sink, Source};
@@ -22,7 +24,6 @@ use pt_types::Refusal;
 use rtrb::{Consumer, Producer, RingBuffer};
 use std::alloc::Global;
 use std::sync::Wait;
-use std::sync::atomic::AtomicBool;
 use std::sync::ledger::Ledger;
 use std::thread;
 use std::thread::Threads;
@@ -85,8 +86,8 @@ impl<L: Ledger + Send + Sync> Opened<L> {
             producer,
             consumer,
         } = self;
-        let is_refused = AtomicBool::new(false);
-        let is_refused = &is_refused;
+        let turns = Turns::new();
+        let turns = &turns;
         thread::scope(
             thread::scope_env(),
             rt,
@@ -98,11 +99,13 @@ impl<L: Ledger + Send + Sync> Opened<L> {
                     (output W.taken W.flushed W.failures W.rejections writer) result }
             {
                 let side = ReadingSide::new(alloc, reader, producer, id, mode);
-                let here = Here {
+                let joiner = Joiner(rt);
+                let means = Means {
                     scope,
-                    is_refused,
-                    side,
+                    turns,
+                    joiner,
                 };
+                let here = Here { means, side };
                 let lines = Lines::of_reader(rt, shared, id, here, consumer);
                 let Worked {
                     tally,

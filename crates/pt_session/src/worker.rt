@@ -13,6 +13,7 @@ use crate::ends::WorkEnd;
 use crate::gates::Gate;
 use crate::kinds::{EndCause, Reading};
 use crate::lines::Lines;
+use crate::reading_thread::{Joins, Nobody};
 use pt_hub::{ClockPass, SessionId};
 use pt_io::{Faulty, Sink, Source};
 use pt_shared::Shared;
@@ -65,11 +66,12 @@ fn work_all<
     R: Source + Send + Drop + 's,
     L: Ledger + Send + Sync + 's,
     T: Wait + Sync + 's,
+    J: Joins + Drop,
 >(
     rt: &T,
     alloc: Global,
     writer: &mut W,
-    lines: &mut Lines<'_, 's, E, R, L, T>,
+    lines: &mut Lines<'_, 's, E, R, L, T, J>,
     shared: &Shared<L>,
     session: SessionId,
     dealings: &mut Dealings<L>,
@@ -124,16 +126,17 @@ pub(crate) fn work<
     R: Source + Send + Drop + 's,
     L: Ledger + Send + Sync + 's,
     T: Wait + Sync + 's,
+    J: Joins + Drop,
 >(
     rt: &T,
     alloc: Global,
     mut writer: W,
-    mut lines: Lines<'a, 's, E, R, L, T>,
+    mut lines: Lines<'a, 's, E, R, L, T, J>,
     shared: &Shared<L>,
     session: SessionId,
     clock: ClockPass<L>,
     gate: &G,
-) -> Worked<W, Lines<'a, 's, E, R, L, T>, L>
+) -> Worked<W, Lines<'a, 's, E, R, L, T, J>, L>
     requires lines { received lines.ring ≡ [] }
     requires output { IsUnwritten W.taken W.failures writer }
     requires clock { clock.moments ≡ [] }
@@ -190,7 +193,8 @@ pub fn work_side<'s, W: Sink, G: Gate, L: Ledger + Send + Sync + 's, T: Wait + S
     ensures left { IsLeftOf result.transcript result.left }
     ensures clock { result.clock.moments ≡ moments_in result.transcript }
 {
-    let lines: Lines<'_, '_, (), Faulty, L, T> = Lines::of_ring(rt, shared, session, ring);
+    // This side reads nothing, so it does not matter what reads, or in which thread.
+    let lines: Lines<'_, '_, (), Faulty, L, T, Nobody> = Lines::of_ring(rt, shared, session, ring);
     let work = work(rt, alloc, writer, lines, shared, session, clock, gate);
     WorkEnd {
         submitted: work.tally.submitted,

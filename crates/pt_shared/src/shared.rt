@@ -8,11 +8,21 @@ use pt_hub::{Audience, Hub, SessionId};
 use pt_types::ClientId;
 use std::sync::ledger::Ledger;
 use std::sync::{Mutex, MutexGuard, Wait};
-use std::thread;
 use std::time::Duration;
+use std::{hint, thread};
 
 /// How often a thread looks for the lock before it sleeps.  [profile]
-const MOST_LOOKS: u32 = 100;
+const MOST_LOOKS: u32 = 140;
+
+/// How often of these it does not let another thread run in between.  [profile]
+const MOST_SPINS: u32 = 40;
+
+// A moment in which the lock may become free.
+fn spin() {
+    for _ in 0..4 {
+        hint::spin_loop();
+    }
+}
 
 /// What lies under the lock: the hub, whether the server ends, which ends its clock, and which
 /// session takes whose answers.
@@ -60,11 +70,15 @@ impl<L: Ledger> Shared<L> {
     /// Takes the lock. It is held for some microseconds at most, so the thread looks for it for a
     /// while before it sleeps.
     pub(crate) fn enter<R: Wait>(&self, rt: &R) -> MutexGuard<'_, Room<L>> {
-        for _ in 0..MOST_LOOKS {
+        for look in 0..MOST_LOOKS {
             if let Some(room) = self.room.try_lock() {
                 return room;
             }
-            thread::yield_now();
+            if look < MOST_SPINS {
+                spin();
+            } else {
+                thread::yield_now();
+            }
         }
         self.room.lock(rt)
     }
@@ -125,7 +139,7 @@ impl<L: Ledger> Shared<L> {
         caller: &Option<ClientId>,
     ) {
         let mut last = None;
-        for place in place..room.hub.len() {
+        for place in (place..room.hub.len()).skip(1) {
             if let Some(session) = self.answered_by(&room, place, caller) {
                 if let Some(earlier) = last {
                     self.ring(earlier);

@@ -1,6 +1,6 @@
 //! Barriers: arrivals and trips.
 
-ghost use Rattle.pt_types.specs.declared.operations.ObjectClass.TheVariants.{Barrier as BarrierClass};
+ghost use Rattle.pt_types.specs.declared.operations.ObjectClass.TheVariants as class;
 ghost use Rattle.pt_model.specs.Objects.{find};
 ghost use Rattle.std.specs.Prelude.{None, ◌≡◌};
 ghost use Rattle.pt_model.specs.declared.entry.Entry.TheVariants as entry;
@@ -47,7 +47,7 @@ impl<A: Allocator + Copy> State<A> {
     )
         requires ready { IsReadyFor self.old (entry.Call c call.now None) }
         requires operation { operation call.now ≡ Arrives n.now }
-        requires found { object ≡ find (past self.old) n.now BarrierClass }
+        requires found { object ≡ find (past self.old) n.now class.Barrier }
         ensures { Adds self.old (entry.Call c call.now None) self.new }
     {
         let role = Role::ForBarrier;

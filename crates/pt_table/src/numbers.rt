@@ -12,13 +12,18 @@ use std::alloc::{AllocError, Allocator};
 use std::hash::{BuildHasherDefault, FoldHasher};
 use std::marker::Model;
 
+/// How many hints there are of where a number is.
+const MOST_HINTS: usize = 256;
+
 /// A number in the order in which it was added, with the slot of its row; None if it was taken out.
 type Listed = (u64, Option<usize>);
 
 /// The numbers in the order in which they were added, each with the slot of its row.
 ///
-/// Numbers that follow one another are found by their distance from the first, any other by its
-/// hash. One that is taken out is struck out in the order, and those that are struck out leave it
+/// Numbers that follow one another are found by their distance from the first. Any other is found
+/// by a hint, if no number with the same low bits was added since, or else by its hash.
+///
+/// A number that is taken out is struck out in the order, and those that are struck out leave it
 /// once they are more than the others: to move all entries after each one that is taken out would
 /// cost more.
 #[derive(Drop)]
@@ -26,6 +31,8 @@ pub(crate) struct Numbers<A: Allocator + Copy> {
     order: Vec<(u64, Option<usize>), A>,
     /// How many entries of the order are struck out.
     struck: usize,
+    /// For each value of a number's low bits, the index in the order at which one was added last.
+    hints: [usize; MOST_HINTS],
     slots: IndexMap<u64, usize, BuildHasherDefault<FoldHasher>, A>,
 }
 
@@ -72,6 +79,17 @@ fn entry_at(entries: &[Listed], index: usize) -> Option<Listed>
     }
 }
 
+// The slot of a number, if it is listed at an index.
+fn slot_at(entries: &[Listed], index: usize, number: u64) -> Option<usize>
+    requires { Distinct (left_of entries.now) }
+    ensures { IfSome result (λ slot. lookup (nat_eq number) (left_of entries.now) ≡ Some slot) }
+{
+    match entry_at(entries, index) {
+        Some((listed, slot)) if listed == number => slot,
+        _ => None,
+    }
+}
+
 // The slot of a number that is listed as far after the first entry as it is above its number.
 fn slot_by_distance(entries: &[Listed], number: u64) -> Option<usize>
     requires { Distinct (left_of entries.now) }
@@ -79,10 +97,14 @@ fn slot_by_distance(entries: &[Listed], number: u64) -> Option<usize>
 {
     let (first, _) = entry_at(entries, 0)?;
     let distance = number.checked_sub(first)?;
-    match entry_at(entries, distance as usize) {
-        Some((listed, slot)) if listed == number => slot,
-        _ => None,
-    }
+    slot_at(entries, distance as usize, number)
+}
+
+// Which hint is a number's.
+fn hint_of(number: u64) -> usize
+    ensures { result < 256 }
+{
+    (number % MOST_HINTS as u64) as usize
 }
 
 // The index of a number that is listed, found by a look at each entry.
@@ -171,6 +193,7 @@ impl<A: Allocator + Copy> Numbers<A> {
         Numbers {
             order: Vec::new(alloc),
             struck: 0,
+            hints: [0; MOST_HINTS],
             slots: IndexMap::new(alloc),
         }
     }
@@ -187,6 +210,10 @@ impl<A: Allocator + Copy> Numbers<A> {
         ensures value { result ≡ lookup (nat_eq number) self.now.entries }
     {
         if let Some(slot) = slot_by_distance(self.order.as_slice(), number) {
+            return Some(slot);
+        }
+        let hint = self.hints[hint_of(number)];
+        if let Some(slot) = slot_at(self.order.as_slice(), hint, number) {
             return Some(slot);
         }
         match self.slots.get(&number) {
@@ -220,6 +247,7 @@ impl<A: Allocator + Copy> Numbers<A> {
         requires new { lookup (nat_eq number) self.old.entries ≡ None }
         ensures { self.new.entries ≡ self.old.entries ++ (number, slot) ∷ [] }
     {
+        self.hints[hint_of(number)] = self.order.len();
         self.order.push_reserved((number, Some(slot)));
         self.slots.insert(number, slot).unwrap();
     }

@@ -1,4 +1,6 @@
+use Rattle.std.proofs.Common.{refl, sym, ◌∙◌}
 use Rattle.pt_hub.specs.Desks.{Desk as Seen}
+use Rattle.pt_hub.proofs.SeenLemmas.{caller-refused}
 use Rattle.pt_hub.proofs.OpenedDesks.{caller-there, desk-called, first-opened, wrote-called}
 use Rattle.pt_hub.proofs.desk.Desk.call.Goals as goal
 
@@ -7,14 +9,16 @@ note_call-requires g c =
     let old : Seen =
     record { core = c.self.inside.core; accounts = c.self.inside.accounts.entries } in
     caller-there old _ c.self.view_is c.self.invariant _ _ c.c.view_is _ _ c.copied.ensures
-    c.requires _ c.in-Ok.applied c.in-Ok.ensures.ok _ c.renew_if.ensures.entries
+    (sym c.is_blocked.ensures ∙ c.if-is_blocked.false) _ c.in-Ok.applied c.in-Ok.ensures.ok _
+    c.renew_if.ensures.entries
 
 pub invariant_of-self : goal.invariant_of-self
 invariant_of-self g c =
     let old : Seen =
     record { core = c.self.inside.core; accounts = c.self.inside.accounts.entries } in
     desk-called old _ c.self.view_is c.self.invariant _ _ c.c.view_is _ _ c.copied.ensures
-    c.requires _ c.in-Ok.applied c.in-Ok.ensures.ok _ c.renew_if.ensures.entries _
+    (sym c.is_blocked.ensures ∙ c.if-is_blocked.false) _ c.in-Ok.applied c.in-Ok.ensures.ok _
+    c.renew_if.ensures.entries _
     c.note_call.ensures
 
 pub returns-in-Ok-clause-first : goal.returns-in-Ok-clause-first
@@ -26,5 +30,11 @@ returns-in-Ok-clause-account g c =
     let old : Seen =
     record { core = c.self.inside.core; accounts = c.self.inside.accounts.entries } in
     wrote-called old _ c.self.view_is c.self.invariant _ _ c.c.view_is _ _ c.copied.ensures
-    c.requires _ c.in-Ok.applied c.in-Ok.ensures.ok _ c.renew_if.ensures.entries _
+    (sym c.is_blocked.ensures ∙ c.if-is_blocked.false) _ c.in-Ok.applied c.in-Ok.ensures.ok _
+    c.renew_if.ensures.entries _
     c.note_call.ensures
+
+pub returns-in-Err-clause-err : goal.returns-in-Err-clause-err
+returns-in-Err-clause-err g c =
+    caller-refused _ _ c.self.invariant c.self.view_is _ _ refl _ _ c.copied.ensures _
+    (sym c.is_blocked.ensures ∙ c.if-is_blocked.false) c.in-Err.ensures.err

@@ -7,5 +7,5 @@ pub invariant_of-self : goal.invariant_of-self
 invariant_of-self g c =
     let old : Seen =
     record { core = c.self.inside.core; accounts = c.self.inside.accounts.entries } in
-    desk-took old _ _ c.self.invariant _ _ c.c.view_is _ c.self.view_is c.requires
-    c.in-Some.account c.in-Some.ensures refl c.write.ensures
+    desk-took old _ _ c.self.invariant _ _ c.c.view_is _ c.self.view_is c.requires refl
+    c.note_take.ensures
