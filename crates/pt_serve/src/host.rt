@@ -2,6 +2,7 @@
 
 use crate::clock::tick;
 use crate::fault::HostFault;
+use crate::polling::{Connections, PolledReader, PolledWriter};
 use crate::remains::{Remain, Remains};
 use pt_hub::ClockPass;
 use pt_io::Counted;
@@ -24,10 +25,14 @@ fn converse<L: Ledger + Send + Sync, R: Threads + Wait + Sync>(
     shared: &Shared<L>,
     mode: ClockMode,
     store: Option<&Mutex<Remains<L>>>,
+    connections: &Connections,
 ) {
-    let reader = Counted::new(&stream);
-    let writer = Counted::new(&stream);
-    let Ok(end) = session(rt, alloc, reader, writer, shared, &OpenGate, mode) else {
+    connections.begin();
+    let reader = Counted::new(PolledReader::new(&stream, connections));
+    let writer = Counted::new(PolledWriter::new(&stream));
+    let ended = session(rt, alloc, reader, writer, shared, &OpenGate, mode);
+    connections.end();
+    let Ok(end) = ended else {
         return;
     };
     if let Some(remains) = store {
@@ -51,6 +56,8 @@ fn accept<L: Ledger + Send + Sync, R: Threads + Wait + Sync>(
 ) -> Result<(), HostFault> {
     // What is left is needed for the close alone.
     let store = if sessions > 0 { Some(remains) } else { None };
+    let connections = Connections::new();
+    let connections = &connections;
     thread::scope(
         thread::scope_env(),
         rt,
@@ -60,7 +67,15 @@ fn accept<L: Ledger + Send + Sync, R: Threads + Wait + Sync>(
                 let Ok(stream) = stream else {
                     return Err(HostFault::Accept);
                 };
-                let thread = scope.spawn(move || converse(rt, alloc, stream, shared, mode, store));
+                let thread = scope.spawn(move || converse(
+                    rt,
+                    alloc,
+                    stream,
+                    shared,
+                    mode,
+                    store,
+                    connections,
+                ));
                 if thread.is_err() {
                     return Err(HostFault::Thread);
                 }

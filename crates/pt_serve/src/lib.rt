@@ -8,6 +8,7 @@ mod clock;
 mod fault;
 mod host;
 mod output;
+mod polling;
 mod remains;
 mod server;
 

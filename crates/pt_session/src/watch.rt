@@ -4,6 +4,7 @@ ghost use Rattle.std.specs.Prelude.{◌≡◌, ◌∷◌, ◌++◌, [], MatchOpt
 ghost use Rattle.rtrb.specs.Ring.{received, SameConsumer};
 
 use crate::kinds::Reading;
+use crate::patience::Patience;
 use crate::turns::Turns;
 use pt_hub::SessionId;
 use pt_shared::Shared;
@@ -15,21 +16,11 @@ use std::sync::ledger::Ledger;
 /// How often the ring is looked at before the thread sleeps: some 30 microseconds.  [profile]
 const LOOKS: u32 = 3000;
 
-/// The most credit there is.  [profile]
-const MOST_CREDIT: u32 = 16;
-
-/// How much credit it costs if no reading came while the ring was looked at.  [profile]
-const COST: u32 = 4;
-
-/// Without credit the ring is looked at once in so many waits.  [profile]
-const TRIES: u32 = 64;
-
-/// Whether it pays to look for the next reading before the thread sleeps, by what that brought of
-/// late, and whether the session's input has ended.
+/// Whether it pays to look for the next reading before the thread sleeps, and whether the session's
+/// input has ended.
 #[derive(Drop)]
 pub(crate) struct Watch {
-    credit: u32,
-    waits: u32,
+    patience: Patience,
     looked_at: Option<u64>,
     has_ended: bool,
 }
@@ -56,26 +47,10 @@ impl Watch {
     /// Nothing is known yet.
     pub fn new() -> Watch {
         Watch {
-            credit: MOST_CREDIT,
-            waits: 0,
+            patience: Patience::new(),
             looked_at: None,
             has_ended: false,
         }
-    }
-
-    // Whether the ring is to be looked at before the thread sleeps.
-    fn pays(&mut self) -> bool {
-        self.waits = self.waits.wrapping_add(1);
-        self.credit >= COST || self.waits % TRIES == 0
-    }
-
-    // Notes whether a reading came.
-    fn note(&mut self, came: bool) {
-        self.credit = if came {
-            self.credit.saturating_add(1).min(MOST_CREDIT)
-        } else {
-            self.credit.saturating_sub(COST)
-        };
     }
 
     // Whether no other thread pushes readings any more.
@@ -153,9 +128,9 @@ impl Watch {
         if let Ok(line) = ring.pop() {
             return Some(line);
         }
-        if self.pays() {
+        if self.patience.pays() {
             let found = look_for(ring);
-            self.note(found.is_some());
+            self.patience.note(found.is_some());
             if let Some(line) = found {
                 return Some(line);
             }

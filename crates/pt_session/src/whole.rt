@@ -125,8 +125,8 @@ impl<L: Ledger + Send + Sync> Opened<L> {
 /// for that, and closes it in the end. An `Err` comes before any line: if no session opens, or if
 /// memory is refused, which is ENOMEM.  [profile]
 ///
-/// While a call waits for its answer, a thread of its own reads the connection, which sees its end.
-/// If that thread is refused, the session ends as for want of memory.  [profile]
+/// While a call waits long for its answer, a thread of its own reads the connection, which sees its
+/// end. If that thread is refused, the session ends as for want of memory.  [profile]
 pub fn session<
     R: Source + Send + Drop,
     W: Sink + Drop,

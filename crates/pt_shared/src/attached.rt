@@ -1,4 +1,4 @@
-//! Which session takes whose answers, and which of them sleep.
+//! Which session takes whose answers, and whose calls wait.
 
 use crate::shared::Room;
 use pt_hub::SessionId;
@@ -36,7 +36,8 @@ impl<L: Ledger> Room<L> {
     /// A client takes no more answers.
     pub(crate) fn detach(&mut self, client: ClientId) {
         if let Some(k) = self.place_of(client) {
-            let _ = self.attached.swap_remove(k);
+            let gone = self.attached.swap_remove(k);
+            self.end_wait(gone.session);
         }
     }
 
@@ -52,6 +53,32 @@ impl<L: Ledger> Room<L> {
         self.attached
             .iter()
             .any(|it| it.session == session && it.waits)
+    }
+
+    // Where a session stands among those whose calls wait.
+    fn turn_of(&self, session: SessionId) -> Option<usize>
+        ensures { IfSome result (λ k. k < vec_len self.now.waiting) }
+    {
+        self.waiting.iter().position(|it| *it == session)
+    }
+
+    /// A client's call waits from here on. It isn't noted if a growth is refused.
+    pub(crate) fn begin_wait(&mut self, client: ClientId) {
+        if let Some(session) = self.session_of(client) {
+            let _ = self.waiting.push(session);
+        }
+    }
+
+    /// The call of a session waits no more.
+    pub(crate) fn end_wait(&mut self, session: SessionId) {
+        if let Some(k) = self.turn_of(session) {
+            let _ = self.waiting.remove(k);
+        }
+    }
+
+    /// The session whose call has waited longest.
+    pub(crate) fn longest_waiting(&self) -> Option<SessionId> {
+        self.waiting.first().copied()
     }
 
     /// The session that takes a client's answers, if it was noted.

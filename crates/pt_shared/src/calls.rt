@@ -124,6 +124,7 @@ impl<L: Ledger> Shared<L> {
                         Ok((sent, Some(answer)))
                     }
                     None => {
+                        room.begin_wait(pass.client());
                         self.leave(room, place, &Some(pass.client()));
                         Ok((sent, None))
                     }

@@ -24,13 +24,14 @@ fn spin() {
     }
 }
 
-/// What lies under the lock: the hub, whether the server ends, which ends its clock, and which
-/// session takes whose answers.
+/// What lies under the lock: the hub, whether the server ends, which ends its clock, which session
+/// takes whose answers, and the sessions whose calls wait, in the order in which they began to.
 #[derive(Drop)]
 pub struct Room<L: Ledger> {
     pub hub: Hub<L>,
     pub done: bool,
     pub(crate) attached: Vec<Attached>,
+    pub(crate) waiting: Vec<SessionId>,
 }
 
 impl<L: Ledger> Room<L> {
@@ -61,6 +62,7 @@ impl<L: Ledger> Shared<L> {
                 hub,
                 done: false,
                 attached: Vec::new(alloc),
+                waiting: Vec::new(alloc),
             }),
             bell: Bell::new(),
             bells: bells(alloc),
@@ -109,19 +111,21 @@ impl<L: Ledger> Shared<L> {
     // client that makes a call just now waits for none.
     fn answered_by(
         &self,
-        room: &Room<L>,
+        room: &mut Room<L>,
         place: u64,
         caller: &Option<ClientId>,
     ) -> Option<SessionId> {
         match room.hub.audience(place) {
             Audience::Client(client) if *caller != Some(client) => {
                 let session = room.session_of(client);
-                if session.is_none() {
-                    self.ring_all();
+                match session {
+                    Some(session) => room.end_wait(session),
+                    None => self.ring_all(),
                 }
                 session
             }
             Audience::Everybody => {
+                room.waiting.clear();
                 self.ring_all();
                 None
             }
@@ -131,25 +135,31 @@ impl<L: Ledger> Shared<L> {
 
     /// Gives the lock back, and wakes the sessions whose calls were answered by the entries from
     /// this place on, but for the client that made a call just now. If it is one session, as
-    /// mostly, it finds the lock free.
+    /// mostly, it finds the lock free. The session that has then waited longest is mostly the next
+    /// one that is answered, so it is warned.
     pub(crate) fn leave(
         &self,
-        room: MutexGuard<'_, Room<L>>,
+        mut room: MutexGuard<'_, Room<L>>,
         place: u64,
         caller: &Option<ClientId>,
     ) {
         let mut last = None;
         for place in (place..room.hub.len()).skip(1) {
-            if let Some(session) = self.answered_by(&room, place, caller) {
+            if let Some(session) = self.answered_by(&mut room, place, caller) {
                 if let Some(earlier) = last {
                     self.ring(earlier);
                 }
                 last = Some(session);
             }
         }
+        let next = room.longest_waiting();
         drop(room);
-        if let Some(session) = last {
-            self.ring(session);
+        let Some(session) = last else {
+            return;
+        };
+        self.ring(session);
+        if let Some(next) = next {
+            self.bell_of(next).warn();
         }
     }
 
