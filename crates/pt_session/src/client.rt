@@ -19,7 +19,8 @@ use std::sync::Wait;
 use std::sync::ledger::Ledger;
 use std::time::Duration;
 
-/// How many milliseconds a call may wait before another thread reads the connection.  [profile]
+/// How many milliseconds a call may wait before another thread reads the connection; twice as many
+/// if its session was warned in vain that the answer is about to come.  [profile]
 const BRIEF_MILLIS: u64 = 10;
 
 // A refusal of an event. The hub refuses no event of a client that it has by a refusal of lines;

@@ -72,8 +72,8 @@ impl Bell {
         false
     }
 
-    /// Wakes all who sleep at it, to look for a ring that is likely to come soon, unless that was in
-    /// vain of late.
+    /// Wakes all who sleep at it, to look for a ring that is likely to come soon. Nobody is woken
+    /// if that was in vain of late.
     pub fn warn(&self) {
         if self.sleepers.load(Ordering::SeqCst) != 0 && self.is_worth_warning() {
             self.warnings.fetch_add(1, Ordering::SeqCst);
