@@ -1,18 +1,25 @@
 -- What a join and a call make of a hub.
 use Rattle.std.proofs.Common.{◌≡◌, ℕ, Bool, List, [], ◌∷◌, ◌++◌, Some, None, is_some, refl, sym, ap}
-use Rattle.std.proofs.Common.{◌∙◌}
+use Rattle.std.proofs.Common.{◌∙◌, subst}
 use Rattle.pt_types.specs.declared.call.Call.{Call as Asked}
 use Rattle.pt_model.specs.declared.entry.Event.{Event}
 use Rattle.pt_model.specs.declared.entry.Event.TheVariants as event
 use Rattle.pt_model.specs.Histories.{place as place_of}
 use Rattle.pt_model.specs.Answers.{outcome}
+use Rattle.pt_model.specs.Queries.{told_if}
 use Rattle.pt_core.specs.declared.applied.Applied.{Applied}
 use Rattle.pt_core.specs.Cores.{Kept, past}
 use Rattle.pt_core.specs.Applying.{Applies, IsApplied}
+use Rattle.pt_types.specs.declared.outcome.Outcome.{Outcome}
+use Rattle.pt_hub.specs.declared.pass.Answer.{Answer}
 use Rattle.pt_hub.specs.declared.pass.Receipt.{Receipt}
+use Rattle.pt_hub.specs.declared.pass.Sent.{Sent}
+use Rattle.pt_hub.specs.Asking.{SendsAndTakes}
 use Rattle.pt_hub.specs.Desks.{Desk, kept, Wrote, awaiting, fresh, opened_account, opened_accounts}
+use Rattle.pt_hub.specs.Desks.{account_of, after_taking, next_answer}
 use Rattle.pt_hub.specs.Passes.{PassView}
-use Rattle.pt_hub.specs.Hubs.{HubView, Joins, Sends, next_place}
+use Rattle.pt_hub.specs.Hubs.{HubView, Joins, Sends, answered, next_place, takeable, takeable_if}
+use Rattle.pt_hub.proofs.ReceiptLemmas.{pending_push}
 
 -- what was applied
 applies : (old new : Kept) (v : Event) (a : Applied) → IsApplied old v new a
@@ -46,7 +53,7 @@ module _ (old : HubView) (before : PassView) (call : Asked) where
   abbrev sent : Event
   sent = event.Call before.client call
 
-  abbrev receipt : ℕ → Receipt
+  abbrev pub receipt : ℕ → Receipt
   receipt j = record { place = j; call = call; answer = None }
 
   module _ (desk : Desk) (booked : ℕ) (a : Applied)
@@ -71,3 +78,42 @@ module _ (old : HubView) (before : PassView) (call : Asked) where
           marks = refl;
           opened = refl;
         }
+
+-- a client's call was sent, and its answer taken at once
+module _ (old between : HubView) (before pending : PassView) (call : Asked) (s : Sent)
+    (x : Outcome) (sends : Sends old before call between pending s)
+    (next : next_answer between.desk before.client ≡ told_if before.client s.place (Some x)) where
+  abbrev answer : Answer
+  answer = record { place = s.place; outcome = x }
+
+  there : takeable between pending
+      ≡ Some (record { client = pending.client; place = s.place; outcome = x })
+  there =
+      subst (λ (p : PassView). takeable between p
+      ≡ Some (record { client = p.client; place = s.place; outcome = x })) (sym sends.its_pass)
+      (ap (takeable_if (before.receipts ++ receipt old before call s.place ∷ [])) next
+      ∙ rw (pending_push before.receipts (receipt old before call s.place) refl) refl)
+
+  pub sends_and_takes : (desk : Desk) → desk.core ≡ between.desk.core
+      → (c : ℕ) → c ≡ before.client
+      → Wrote between.desk.accounts desk.accounts c (after_taking (account_of between.desk c))
+      → (rs : List Receipt) → rs ≡ answered pending.receipts x
+      → SendsAndTakes old before call (record between { desk = desk })
+      (record pending { receipts = rs }) s answer
+  sends_and_takes desk same c is wrote rs grown =
+      let its : c ≡ pending.client = is ∙ sym (ap (λ (p : PassView). p.client) sends.its_pass) in
+      record {
+        between = between;
+        pending = pending;
+        sends = sends;
+        takes =
+            record {
+              there = there;
+              its_pass = ap (λ (xs : List Receipt). record pending { receipts = xs }) grown;
+              same_core = same;
+              account = subst (λ n. Wrote between.desk.accounts desk.accounts n
+                  (after_taking (account_of between.desk n))) its wrote;
+              marks = refl;
+              opened = refl;
+            };
+      }

@@ -24,3 +24,9 @@ pub mod ClaimLemmas
 pub mod AnswerLemmas
 -- ForkLemmas: the places at which the history differs from what clients left
 pub mod ForkLemmas
+-- ReceiptLemmas: the receipts after a call that was made, and after its answer
+pub mod ReceiptLemmas
+-- AccountRows: the accounts once one of them is written
+pub mod AccountRows
+-- AskedAnswers: the answer that a client may take once it has made a call
+pub mod AskedAnswers

@@ -1,6 +1,7 @@
 -- A desk stays one at each event, before which the history is sealed if the event needs that.
 use Rattle.std.proofs.Common.{◌≡◌, ℕ, ◌≤◌, Bool, true, false, cond, nat_eq, List, Option, Some}
-use Rattle.std.proofs.Common.{None, is_some, refl, sym, ap, ◌∙◌, subst}
+use Rattle.std.proofs.Common.{None, is_some, refl, sym, ap, ◌∙◌, subst, ◌==◌, arith}
+use Rattle.std.proofs.lemmas.Bool.Decides.{nat_tests}
 use Rattle.std.specs.Map.{lookup}
 use Rattle.std.specs.Prelude.{IsSome, option_map}
 use Rattle.pt_types.specs.declared.call.Call.{Call as Asked}
@@ -9,15 +10,17 @@ use Rattle.pt_types.specs.Limits.{most_places}
 use Rattle.pt_model.specs.declared.entry.Event.{Event}
 use Rattle.pt_model.specs.declared.entry.Event.TheVariants as event
 use Rattle.pt_model.specs.Histories.{place}
+use Rattle.pt_model.specs.Queries.{told_if}
 use Rattle.pt_model.specs.Room.{needs_seal}
 use Rattle.pt_core.specs.declared.applied.Applied.{Applied}
-use Rattle.pt_core.specs.Cores.{Kept, past}
+use Rattle.pt_core.specs.Cores.{Kept, past, Seen, shown}
 use Rattle.pt_core.specs.Applying.{IsApplied, IsWritten, opened}
 use Rattle.pt_core.specs.Sealing.{IsSealed, sealed}
 use Rattle.pt_hub.specs.declared.account.Account.{Account}
 use Rattle.pt_hub.specs.Desks.{Desk, kept, account_of, awaiting, call_refusal, fresh, is_blocked}
 use Rattle.pt_hub.specs.Desks.{opened_account, opened_accounts, renewed, renewed_all, renewed_if}
-use Rattle.pt_hub.specs.Desks.{IsDesk, IsDeskOf, Wrote}
+use Rattle.pt_hub.specs.Desks.{IsDesk, IsDeskOf, Wrote, awaited_in, next_answer, taken_in}
+use Rattle.pt_hub.proofs.AskedAnswers.{next-asked}
 use Rattle.pt_hub.proofs.DeskLemmas.{desk-join, desk-call, desk-moment}
 use Rattle.pt_hub.proofs.ReadingLemmas.{caller-known, caller-idle, unblocked-refusal}
 use Rattle.pt_hub.proofs.SealedDesks.{lookup-renewed, opened-desk, place-opened, sealed-desk}
@@ -141,6 +144,25 @@ module _ (old seen : Desk) (same : old ≡ seen) (d : IsDesk old) (c b : ℕ)
         (awaiting (opened_account old (event.Call n call) n))) at
         (subst (λ es. Wrote es ys c (awaiting (lookup (nat_eq c) es)))
         (rows-opened (kept old) new old.accounts zs (event.Call c call) a ok_of is) wrote))
+
+    -- the answer that may be taken then is the one to this call
+    pub next-called : (core : Seen) → shown core ≡ new
+        → next_answer (record { core = core; accounts = ys }) b ≡ told_if b a.first a.outcome
+    next-called core e =
+        let wrote_desk : Desk = record { core = core; accounts = ys } in
+        let here : (c == c) ≡ true = grind (arith, nat_tests) in
+        subst (λ n. next_answer wrote_desk n ≡ told_if n a.first a.outcome) at
+        (next-asked (opened (kept old) (event.Call c call)) wrote_desk
+        (subst (λ n. IsDeskOf n ys) (sym e) desk-called) c call a
+        (desk-opened (kept old) new old.accounts zs (event.Call c call) a ok_of is d).starts
+        (subst (λ n. IsWritten (opened (kept old) (event.Call c call)) (event.Call c call) n a)
+        (sym e) ok_of.written)
+        (record {
+          awaited = awaited_in (lookup (nat_eq c) zs);
+          taken = taken_in (lookup (nat_eq c) zs);
+          awaits = true;
+        })
+        (wrote c ∙ rw here refl) refl)
 
 -- a moment is handed in
 module _ (k new : Kept) (xs zs : List (ℕ × Account)) (z : Clock) (t : ℕ) (a : Applied)

@@ -155,6 +155,11 @@ pub record IsDeskOf (k : Kept) (rows : List (ℕ × Account)) : Type 0 where
 abbrev pub IsDesk : Desk → Type 0
 IsDesk d = IsDeskOf (kept d) d.accounts
 
+-- the call of an event; none if it is no call
+abbrev pub called : Event → Option Asked
+called (event.Call c call) = Some call
+called _ = None
+
 -- why a call is refused, for another reason than lack of memory  [profile]
 abbrev pub call_refusal : Desk → ℕ → Asked → Option Refusal
 call_refusal d c call =

@@ -11,6 +11,7 @@ ghost use Rattle.pt_model.specs.Starts.{nothing};
 ghost use Rattle.pt_model.specs.Histories.{place as place_of, outer};
 ghost use Rattle.pt_model.specs.Clients.{is_alive};
 ghost use Rattle.pt_model.specs.Answers.{outcome};
+ghost use Rattle.pt_model.specs.Queries.{answers_behind, told_if};
 ghost use Rattle.pt_model.specs.Queries.{least_deadline as least_deadline_in};
 ghost use Rattle.pt_model.specs.Room.{refusal_with_seals};
 ghost use Rattle.pt_model.specs.Legal.{LegalBehind, events_of};
@@ -23,12 +24,10 @@ ghost use Rattle.pt_core.specs.Replies.{told_of};
 ghost use Rattle.pt_hub.specs.Desks.{Wrote, IsRefusedAs, kept, account_of, awaiting, after_taking};
 ghost use Rattle.pt_hub.specs.Desks.{fresh, is_blocked, call_refusal, next_answer, opened_account};
 ghost use Rattle.pt_hub.specs.Desks.{opened_accounts, renewed_all, IsOwedTheRest, IsTakenButOne};
+ghost use Rattle.pt_hub.specs.Desks.{called};
 
-use crate::account::{
-    Account, Accounts, erase, note_call, note_take, read, renew, renew_if, write,
-};
-use indexmap::IndexMap;
-use pt_core::{Applied, Core, Reply};
+use crate::account::{Account, Accounts};
+use pt_core::{Answers, Applied, Core, Reply};
 use pt_model::{Entry, Event};
 use pt_types::{Call, ClientId, Clock, Deadline, Moment, Outcome, Priority, Refusal};
 use std::alloc::Allocator;
@@ -43,6 +42,17 @@ fn own_event(entry: &Entry, client: ClientId) -> Option<Event>
         Entry::Call(c, call, _) if *c == client => Some(Event::Call(*c, call.copied())),
         Entry::Death(c) if *c == client => Some(Event::Death(*c)),
         _ => None,
+    }
+}
+
+// The call of an event that is one.
+fn call_of(event: Event) -> Call
+    requires { IsSome (called event) }
+    ensures { called event ≡ Some result }
+{
+    match event {
+        Event::Call(_, call) => call,
+        _ => unreachable!(),
     }
 }
 
@@ -73,7 +83,7 @@ impl<A: Allocator + Copy> Desk<A> {
     {
         Ok(Desk {
             core: Core::new(alloc)?,
-            accounts: IndexMap::new(alloc),
+            accounts: Accounts::new(alloc),
         })
     }
 
@@ -91,18 +101,18 @@ impl<A: Allocator + Copy> Desk<A> {
         if let Some(refusal) = self.core.would_refuse(&event) {
             return Err(refusal);
         }
-        if self.accounts.reserve(1).is_err() {
+        if self.accounts.reserve_one().is_err() {
             return Err(Refusal::Enomem);
         }
         match self.core.apply(event) {
             Ok(applied) => {
-                renew_if(&mut self.accounts, applied.sealed);
+                self.accounts.renew_if(applied.sealed);
                 let account = Account {
                     awaited: false,
                     taken: 0,
                     awaits: false,
                 };
-                write(&mut self.accounts, applied.first, account);
+                self.accounts.open(applied.first, account);
                 Ok(applied)
             }
             Err(refusal) => Err(refusal),
@@ -113,7 +123,7 @@ impl<A: Allocator + Copy> Desk<A> {
     pub fn is_blocked(&self, c: ClientId) -> bool
         ensures { result ≡ is_blocked self.now c }
     {
-        match read(&self.accounts, c.0) {
+        match self.accounts.read(c.0) {
             Some(account) => account.awaits,
             None => false,
         }
@@ -129,25 +139,28 @@ impl<A: Allocator + Copy> Desk<A> {
         self.core.would_refuse(&Event::Call(c, call.copied()))
     }
 
-    /// A client makes a call, and awaits its answer.
-    pub fn call(&mut self, c: ClientId, call: &Call) -> Result<Applied, Refusal>
-        ensures ok { IfOk result (λ applied.
-            IsApplied (kept self.old) (event.Call c call.now) (kept self.new) applied) }
-        ensures first { IfOk result (λ applied.
-            applied.first ≡ place_of (past (kept self.old))) }
-        ensures account { OnOk result (Wrote (opened_accounts self.old (event.Call c call.now))
-            self.new.accounts c (awaiting (opened_account self.old (event.Call c call.now) c))) }
-        ensures err { IfErr result (IsRefusedAs (call_refusal self.old c call.now)) }
+    /// A client makes a call, and awaits its answer. The call is given back.
+    pub fn call(&mut self, c: ClientId, call: Call) -> Result<(Applied, Call), Refusal>
+        ensures ok { IfOk result (λ r.
+            IsApplied (kept self.old) (event.Call c call) (kept self.new) r.0) }
+        ensures first { IfOk result (λ r. r.0.first ≡ place_of (past (kept self.old))) }
+        ensures next { IfOk result (λ r.
+            next_answer self.new c ≡ told_if c r.0.first r.0.outcome) }
+        ensures back { IfOk result (λ r. r.1 ≡ call) }
+        ensures account { OnOk result (Wrote (opened_accounts self.old (event.Call c call))
+            self.new.accounts c (awaiting (opened_account self.old (event.Call c call) c))) }
+        ensures err { IfErr result (IsRefusedAs (call_refusal self.old c call)) }
         ensures unchanged { OnErr result (self.new ≡ self.old) }
     {
         if self.is_blocked(c) {
             return Err(Refusal::Blocked);
         }
-        match self.core.apply(Event::Call(c, call.copied())) {
+        let event = Event::Call(c, call);
+        match self.core.apply_event(&event) {
             Ok(applied) => {
-                renew_if(&mut self.accounts, applied.sealed);
-                note_call(&mut self.accounts, c.0);
-                Ok(applied)
+                self.accounts.renew_if(applied.sealed);
+                self.accounts.note_call(c.0);
+                Ok((applied, call_of(event)))
             }
             Err(refusal) => Err(refusal),
         }
@@ -164,6 +177,13 @@ impl<A: Allocator + Copy> Desk<A> {
         }
     }
 
+    /// The answers that the entries from a place on give.
+    pub fn answers_since(&self, place: u64) -> Answers<'_>
+        ensures { result ≡ answers_behind (kept self.now).start place (kept self.now).entries }
+    {
+        self.core.answers_since(place)
+    }
+
     /// A client takes the answer that it hasn't taken.
     pub fn take(&mut self, c: ClientId)
         requires { IsSome (next_answer self.old c) }
@@ -171,7 +191,7 @@ impl<A: Allocator + Copy> Desk<A> {
         ensures account { Wrote self.old.accounts self.new.accounts c
             (after_taking (account_of self.old c)) }
     {
-        note_take(&mut self.accounts, c.0);
+        self.accounts.note_take(c.0);
     }
 
     /// A living client dies, for which the history is never sealed. An answer that it hasn't taken
@@ -186,7 +206,7 @@ impl<A: Allocator + Copy> Desk<A> {
     {
         match self.core.apply(Event::Death(c)) {
             Ok(applied) => {
-                erase(&mut self.accounts, c.0);
+                self.accounts.erase(c.0);
                 Some(applied)
             }
             Err(_) => None,
@@ -206,7 +226,7 @@ impl<A: Allocator + Copy> Desk<A> {
     {
         match self.core.apply(Event::Moment(clock, moment)) {
             Ok(applied) => {
-                renew_if(&mut self.accounts, applied.sealed);
+                self.accounts.renew_if(applied.sealed);
                 Ok(applied)
             }
             Err(refusal) => Err(refusal),
@@ -223,7 +243,7 @@ impl<A: Allocator + Copy> Desk<A> {
     {
         match self.core.seal() {
             Ok(at) => {
-                renew(&mut self.accounts);
+                self.accounts.renew();
                 Ok(at)
             }
             Err(refusal) => Err(refusal),

@@ -10,31 +10,30 @@ ghost use Rattle.pt_model.specs.declared.entry.Event.TheVariants as event;
 ghost use Rattle.pt_model.specs.Searches.{Each};
 ghost use Rattle.pt_model.specs.Starts.{nothing};
 ghost use Rattle.pt_model.specs.Clients.{is_alive};
+ghost use Rattle.pt_model.specs.Queries.{answers_behind};
 ghost use Rattle.pt_model.specs.Queries.{least_deadline as least_deadline_in};
 ghost use Rattle.pt_model.specs.Room.{refusal_with_seals};
 ghost use Rattle.pt_model.specs.Legal.{LegalBehind, events_of};
 ghost use Rattle.pt_core.specs.Cores.{past};
 ghost use Rattle.pt_core.specs.Sealing.{seal_refusal};
-ghost use Rattle.pt_hub.specs.Desks.{IsRefusedAs, kept, call_refusal, one_if};
-ghost use Rattle.pt_hub.specs.Audiences.{audience_at};
-ghost use Rattle.pt_hub.specs.Hubs.{Joins, Sends, Ticks, Seals, Dies, Takes, takeable, next_place};
+ghost use Rattle.pt_hub.specs.Desks.{IsRefusedAs, kept, one_if};
+ghost use Rattle.pt_hub.specs.Hubs.{Joins, Ticks, Seals, Dies, next_place};
 ghost use Rattle.pt_hub.specs.Hubs.{outer_count, has_ended, Opens, IsNotOpened, EndsInput, Closes};
 ghost use Rattle.pt_hub.specs.Hubs.{Fits};
 ghost use Rattle.pt_hub.specs.Passes.{events_found};
 ghost use Rattle.pt_hub.specs.Closing.{Holds, IsCloseFault};
 
-use crate::audience::Audience;
 use crate::closing::{CloseFault, CloseRefused, Closed, clock_events, left_events};
 use crate::desk::Desk;
 use crate::forks::least_fork;
 use crate::marks;
 use crate::marks::Marks;
-use crate::pass::{Answer, ClockPass, Left, Pass, Receipt, Sent, SessionId, Tick};
-use crate::receipts::{answer, is_pending};
+use crate::pass::{ClockPass, Left, Pass, SessionId, Tick};
 use crate::tally::Tally;
 use indexmap::IndexMap;
+use pt_core::Answers;
 use pt_model::Event;
-use pt_types::{Call, ClientId, Clock, Deadline, Moment, Priority, Refusal};
+use pt_types::{ClientId, Clock, Deadline, Moment, Priority, Refusal};
 use std::alloc::{Allocator, Global};
 use std::marker::Model;
 use std::sync::ledger::{Blank, Ledger};
@@ -45,10 +44,10 @@ const MOST_SESSIONS: u64 = 1 << 32;
 /// What the lock keeps: the core, what each client took of its answers, and the open sessions.
 #[derive(Drop)]
 pub struct Hub<L: Ledger, A: Allocator + Copy = Global> {
-    desk: Desk<A>,
+    pub(crate) desk: Desk<A>,
     marks: Marks<A>,
     opened: u64,
-    tally: Tally<L>,
+    pub(crate) tally: Tally<L>,
     alloc: A,
 }
 
@@ -128,58 +127,6 @@ impl<L: Ledger, A: Allocator + Copy> Hub<L, A> {
             }
             Err(refusal) => Err(refusal),
         }
-    }
-
-    /// A client makes a call, which is in its receipts from then on. The history is sealed first if
-    /// the call needs the room.  [profile]
-    pub fn call(&mut self, pass: &mut Pass<L, A>, call: Call) -> Result<Sent, Refusal>
-        ensures ok { IfOk result (λ sent. Sends self.old pass.old call self.new pass.new sent) }
-        ensures err { IfErr result (IsRefusedAs
-            (call_refusal self.old.desk pass.old.client call)) }
-        ensures unchanged { OnErr result ((self.new ≡ self.old) × (pass.new ≡ pass.old)) }
-    {
-        let place = self.desk.len();
-        let client = pass.client;
-        if pass.receipts.reserve(1).is_err() {
-            let known = self.desk.call_refusal(client, &call);
-            return Err(known.unwrap_or(Refusal::Enomem));
-        }
-        match self.desk.call(client, &call) {
-            Ok(applied) => {
-                self.tally.count(&mut pass.share);
-                let receipt = Receipt {
-                    place,
-                    call,
-                    answer: None,
-                };
-                pass.receipts.push_reserved(receipt);
-                Ok(Sent {
-                    place,
-                    ready: applied.outcome.is_some(),
-                })
-            }
-            Err(refusal) => Err(refusal),
-        }
-    }
-
-    /// The client's answer that isn't taken, if its last receipt waits for it. The receipt has it
-    /// from then on.
-    pub fn take(&mut self, pass: &mut Pass<L, A>) -> Option<Answer>
-        ensures some { IfSome result (λ answer. Takes self.old pass.old self.new pass.new answer) }
-        ensures none { IfNone result (takeable self.old pass.old ≡ None) }
-        ensures same { IfNone result ((self.new ≡ self.old) × (pass.new ≡ pass.old)) }
-    {
-        let client = pass.client;
-        let reply = self.desk.next_answer(client)?;
-        if !is_pending(pass.receipts.as_slice(), reply.place) {
-            return None;
-        }
-        answer(&mut pass.receipts, reply.outcome);
-        self.desk.take(client);
-        Some(Answer {
-            place: reply.place,
-            outcome: reply.outcome,
-        })
     }
 
     /// A client dies.
@@ -326,11 +273,13 @@ impl<L: Ledger, A: Allocator + Copy> Hub<L, A> {
         self.desk.len()
     }
 
-    /// Whose calls the entry at a place answers.
-    pub fn audience(&self, place: u64) -> Audience
-        ensures { result ≡ audience_at (kept self.now.desk) place }
+    /// The answers that the entries from a place on give, in the order of the entries; of one Trip
+    /// in order of the calls' places.  [profile]
+    pub fn answers_since(&self, place: u64) -> Answers<'_>
+        ensures { result ≡ answers_behind (kept self.now.desk).start place
+            (kept self.now.desk).entries }
     {
-        self.desk.audience(place)
+        self.desk.answers_since(place)
     }
 
     /// The allocator that the hub was made with.

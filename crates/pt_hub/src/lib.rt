@@ -6,7 +6,7 @@
 #![tactic(auto)]
 
 mod account;
-mod audience;
+mod calls;
 mod claims;
 mod closing;
 mod desk;
@@ -18,7 +18,7 @@ mod receipts;
 mod tally;
 
 pub use account::Account;
-pub use audience::Audience;
 pub use closing::{CloseFault, CloseRefused, Closed};
 pub use hub::Hub;
 pub use pass::{Answer, ClockPass, Left, Pass, Receipt, Sent, SessionId, Tick};
+pub use pt_core::{Answers, Reply};

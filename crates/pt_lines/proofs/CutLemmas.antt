@@ -1,7 +1,7 @@
 -- CutLemmas: lines by the bytes that they begin with.
 use Rattle.std.proofs.Common.{◌≡◌, ◌≢◌, ◌<◌, ◌≤◌, ◌+◌, ◌∙◌, ◌==◌, ℕ, suc, Bool, true, false, cond}
 use Rattle.std.proofs.Common.{nat_le, nat_lt, List, [], ◌∷◌, ◌++◌, length, take, drop, get_or, refl}
-use Rattle.std.proofs.Common.{map}
+use Rattle.std.proofs.Common.{map, Result}
 use Rattle.std.proofs.Common.{Option, None, Some, length-append, ap, sym, drop-cons, add-one, arith}
 use Rattle.std.proofs.Common.{append_assoc}
 use Rattle.std.proofs.lemmas.Grind.{common_steps}
@@ -9,11 +9,14 @@ use Rattle.std.proofs.lemmas.List.{take-append-drop, append-nil, get_or-take}
 use Rattle.std.proofs.lemmas.Bool.{eq-eqb, eqb-true}
 use Rattle.std.specs.Option.{IfSome}
 use Rattle.memchr.specs.Find.{IsFirstByte, is_byte}
+use Rattle.pt_types.specs.declared.outcome.Refusal.{Refusal}
+use Rattle.pt_lines.specs.declared.call_line.CallLine.{CallLine}
 use Rattle.pt_lines.specs.declared.cutter.Cut.{Cut}
 use Rattle.pt_lines.specs.declared.cutter.Cut.TheVariants.{Line, Long}
 use Rattle.pt_lines.specs.Cuts.{cut_of}
 use Rattle.pt_lines.specs.Lines.{lines_after, lines, lines_past_newline, NoNewline, Held, IsBegun}
 use Rattle.pt_lines.specs.Lines.{to_come, last_of, joined, AllTexts, IsFront, past_line}
+use Rattle.pt_lines.specs.Reading.{call_of, call_read, IsNextCallLine}
 use Rattle.pt_lines.specs.declared.script_line.ScriptLine.{ScriptLine}
 use Rattle.pt_lines.specs.Script.{script_of, script_read, short_read, long_line, IsNextScriptLine}
 
@@ -202,26 +205,47 @@ front_of held n (Some i) keeps few h =
 abbrev held_of : List ℕ → Bool → Held
 held_of rest dropping = record { rest = rest; dropping = dropping }
 
--- a line that is read where it lies
+-- what is given of a line that is read where it lies
+given_in_place :
+    (old : Held) (rest : List ℕ) (dropping : Bool) (end : ℕ) → IsFront old end
+    → rest ≡ drop (end + 1) old.rest → dropping ≡ old.dropping → (more : List ℕ)
+    → to_come old more ≡ cut_of (take end old.rest) ∷ to_come (held_of rest dropping) more
+given_in_place old rest dropping end front past same more =
+    let after : held_of rest dropping ≡ past_line old end =
+    ap (λ xs. held_of xs dropping) past
+    ∙ ap (λ d. held_of (drop (end + 1) old.rest) d) same in
+    front.given more ∙ ap (λ h. cut_of (take end old.rest) ∷ to_come h more) (sym after)
+
+-- that line is given as its text
+cut_in_place :
+    (old : Held) (end : ℕ) → IsFront old end
+    → cut_of (take end old.rest) ≡ Line (record { items = take end old.rest })
+cut_in_place old end front =
+    cut_of-short (take end old.rest) (take_short end old.rest front.short)
+
+-- a line of a script that is read where it lies
 pub read_in_place :
     (old : Held) (rest : List ℕ) (dropping : Bool) (end : ℕ) (line : ScriptLine)
     → IsFront old end → line ≡ script_read (take end old.rest) → rest ≡ drop (end + 1) old.rest
     → dropping ≡ old.dropping
     → IsNextScriptLine old line (record { rest = rest; dropping = dropping })
-read_in_place old rest dropping end line front is past same =
-    let after : held_of rest dropping ≡ past_line old end =
-    ap (λ xs. held_of xs dropping) past
-    ∙ ap (λ d. held_of (drop (end + 1) old.rest) d) same in
-    record {
-      cut = cut_of (take end old.rest);
-      read =
-          is
-          ∙ sym (ap script_of (cut_of-short (take end old.rest)
-          (take_short end old.rest front.short)));
-      given = λ more.
-          front.given more
-          ∙ ap (λ h. cut_of (take end old.rest) ∷ to_come h more) (sym after);
-    }
+read_in_place old rest dropping end line front is past same = record {
+  cut = cut_of (take end old.rest);
+  read = is ∙ sym (ap script_of (cut_in_place old end front));
+  given = given_in_place old rest dropping end front past same;
+}
+
+-- a line of a connection that is read where it lies
+pub called_in_place :
+    (old : Held) (rest : List ℕ) (dropping : Bool) (end : ℕ) (reading : Result CallLine Refusal)
+    → IsFront old end → reading ≡ call_read (take end old.rest)
+    → rest ≡ drop (end + 1) old.rest → dropping ≡ old.dropping
+    → IsNextCallLine old reading (record { rest = rest; dropping = dropping })
+called_in_place old rest dropping end reading front is past same = record {
+  cut = cut_of (take end old.rest);
+  read = is ∙ sym (ap call_of (cut_in_place old end front));
+  given = given_in_place old rest dropping end front past same;
+}
 
 -- a line that is not too long is read as a short one
 pub short_is_read :

@@ -15,6 +15,7 @@ use Rattle.pt_lines.specs.declared.verb.Verb.TheVariants.{Hello, Moment, MutexIn
 use Rattle.pt_lines.specs.declared.verb.Verb.TheVariants.{Wait, Timedwait, Clockwait, Named, Timed}
 use Rattle.pt_lines.specs.declared.verb.Verb.TheVariants.{Clocked}
 use Rattle.pt_lines.specs.Verbs.{verb_of, call_until, call_by_clock}
+use Rattle.pt_lines.specs.Lines.{Held, to_come}
 use Rattle.pt_lines.specs.Fields.{fields}
 use Rattle.pt_lines.specs.Grammar.{Spells}
 use Rattle.pt_lines.specs.Numbers.{number_of}
@@ -77,3 +78,10 @@ IsCallReadOf cut.Long read = read ≡ Err Long
 abbrev pub call_of : Cut → Result CallLine Refusal
 call_of (cut.Line text) = call_read text.items
 call_of cut.Long = Err Long
+
+-- the next line to come is read as this one of a connection
+pub record IsNextCallLine (old : Held) (reading : Result CallLine Refusal)
+    (new : Held) : Type 0 where
+  pub cut : Cut
+  pub read : reading ≡ call_of cut
+  pub given : (more : List ℕ) → to_come old more ≡ cut ∷ to_come new more

@@ -7,6 +7,7 @@ ghost use Rattle.pt_lines.specs.Cuts.{is_long};
 ghost use Rattle.pt_lines.specs.Lines.{lines, lines_past_newline, to_come, NoNewline, IsBegun};
 ghost use Rattle.pt_lines.specs.Lines.{LinesOfTexts};
 
+use crate::call_line::{CallLine, read_call};
 use crate::script_line::{ScriptLine, read_short};
 use arrayvec::ArrayVec;
 use bytes::BytesMut;
@@ -101,6 +102,7 @@ fn take_line<A: Allocator + Copy>(held: &mut BytesMut<A>) -> Option<Cut>
 
 impl<A: Allocator + Copy> Cutter<A> {
     ghost use Rattle.pt_lines.specs.Lines.{IsFront};
+    ghost use Rattle.pt_lines.specs.Reading.{IsNextCallLine};
     ghost use Rattle.pt_lines.specs.Script.{IsNextScriptLine};
 
     /// A cutter that was fed nothing. It takes no memory.
@@ -187,6 +189,25 @@ impl<A: Allocator + Copy> Cutter<A> {
         let line = read_short(&text[..end]);
         self.held.advance(end + 1);
         Some(line)
+    }
+
+    /// What is read of the next line as one of a connection, as soon as `next_line` would return
+    /// it. A whole line is not copied. It takes no memory.
+    pub fn next_call_line(&mut self) -> Option<Result<CallLine, Refusal>>
+        ensures some { IfSome result (λ reading. IsNextCallLine self.old reading self.new) }
+        ensures none { IfNone result (IsBegun self.new) }
+        ensures same { IfNone result
+            ((more : List ℕ) → to_come self.old more ≡ to_come self.new more) }
+        ensures fewer { OnSome result (length self.new.rest < length self.old.rest) }
+    {
+        let Some(end) = self.front() else {
+            let cut = self.next_line()?;
+            return Some(CallLine::of(&cut));
+        };
+        let text = self.held.as_slice();
+        let reading = read_call(&text[..end]);
+        self.held.advance(end + 1);
+        Some(reading)
     }
 
     /// The last line, which no newline ended; None if nothing is left of the input, or a line

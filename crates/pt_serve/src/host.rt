@@ -9,6 +9,8 @@ use pt_io::Counted;
 use pt_session::{ClockMode, OpenGate, session};
 use pt_shared::Shared;
 use std::alloc::Global;
+use std::net::TcpStream;
+use std::os::fd::OwnedFd;
 use std::os::unix::net::{UnixListener, UnixStream};
 use std::sync::ledger::Ledger;
 use std::sync::{Mutex, Wait};
@@ -27,6 +29,7 @@ fn converse<L: Ledger + Send + Sync, R: Threads + Wait + Sync>(
     store: Option<&Mutex<Remains<L>>>,
     connections: &Connections,
 ) {
+    let stream = TcpStream::from(OwnedFd::from(stream));
     connections.begin();
     let reader = Counted::new(PolledReader::new(&stream, connections));
     let writer = Counted::new(PolledWriter::new(&stream));
@@ -35,6 +38,7 @@ fn converse<L: Ledger + Send + Sync, R: Threads + Wait + Sync>(
     let Ok(end) = ended else {
         return;
     };
+    end.reader.into_inner().finish();
     if let Some(remains) = store {
         remains.lock(rt).add(Remain {
             left: end.left,

@@ -1,14 +1,19 @@
-//! The socket of a connection, which is polled for a while before a read of it sleeps.
+//! The socket of a connection, which is polled for a while before a read of it sleeps, and whose
+//! lines are taken out of it only after they are answered.
 //!
 //! A client often sends its next line as soon as it has an answer. To poll until the line is there
-//! takes less time than to sleep and be woken.
+//! takes less time than to sleep and be woken. As bytes are taken out of a socket the system wakes
+//! the client if it waits, since it could write again. A client that waits for an answer is woken
+//! for nothing by that, so its line stays in the socket until it has the answer.
+//!
+//! The sockets are handled as `TcpStream`s, since a `UnixStream` has no `peek`.
 
 ghost use Rattle.std.specs.Prelude.{IfSome};
 ghost use Rattle.std.specs.Io.{ReadsAtMost, WritesAtMost};
 
 use pt_session::Patience;
 use std::io::{ErrorKind, Read, Write};
-use std::os::unix::net::UnixStream;
+use std::net::TcpStream;
 use std::sync::atomic::{AtomicU64, Ordering};
 use std::{io, thread};
 
@@ -18,9 +23,12 @@ const MOST_POLLS: u32 = 40;
 /// How often a write that finds the socket polled is tried again.  [profile]
 const MOST_TRIES: u32 = 64;
 
-/// If there are more connections than these none is polled, as they may keep all processors
-/// busy.  [profile]
+/// If there are more connections than these none is polled, as they may keep all processors busy,
+/// and lines are taken out of a socket as they are read.  [profile]
 const MOST_POLLED: u64 = 16;
+
+/// How many bytes are taken out of a socket at once when its session has ended.
+const REST: usize = 256;
 
 /// How many connections there are.
 #[derive(Drop)]
@@ -54,38 +62,55 @@ impl Connections {
 /// The input of a connection.
 #[derive(Drop)]
 pub(crate) struct PolledReader<'a> {
-    stream: &'a UnixStream,
+    stream: &'a TcpStream,
     connections: &'a Connections,
     patience: Patience,
+    /// How many bytes were read that are still in the socket.
+    seen: usize,
 }
 
 impl<'a> PolledReader<'a> {
-    pub fn new(stream: &'a UnixStream, connections: &'a Connections) -> PolledReader<'a> {
+    pub fn new(stream: &'a TcpStream, connections: &'a Connections) -> PolledReader<'a> {
         PolledReader {
             stream,
             connections,
             patience: Patience::new(),
+            seen: 0,
         }
     }
 
-    // What a read gives while the socket does not block. `None` if nothing comes.
-    fn poll(&mut self, buf: &mut [u8]) -> Option<io::Result<usize>>
+    // Takes the bytes that were read out of the socket. Each read takes one at least.
+    fn take_seen(&mut self, buf: &mut [u8]) -> io::Result<()> {
+        for _ in 0..self.seen {
+            let most = self.seen.min(buf.len());
+            let taken = self.stream.read(&mut buf[..most])?;
+            self.seen = self.seen.saturating_sub(taken);
+            if self.seen == 0 {
+                break;
+            }
+        }
+        Ok(())
+    }
+
+    // The bytes in the socket while it does not block. `None` if none come.
+    fn poll(&self, buf: &mut [u8]) -> Option<io::Result<usize>>
         ensures { IfSome result (λ found. ReadsAtMost found buf.new) }
     {
         for _ in 0..MOST_POLLS {
-            match self.stream.read(buf) {
+            match self.stream.peek(buf) {
                 Err(error) if error.kind() == ErrorKind::WouldBlock => thread::yield_now(),
                 found => return Some(found),
             }
         }
         None
     }
-}
 
-impl<'a> Read for PolledReader<'a> {
-    fn read(&mut self, buf: &mut [u8]) -> io::Result<usize> {
-        if !self.connections.are_few() || !self.patience.pays() {
-            return self.stream.read(buf);
+    // The bytes in the socket, once there are any.
+    fn look(&mut self, buf: &mut [u8]) -> io::Result<usize>
+        ensures { ReadsAtMost result buf.new }
+    {
+        if !self.patience.pays() {
+            return self.stream.peek(buf);
         }
         self.stream.set_nonblocking(true)?;
         let found = self.poll(buf);
@@ -93,19 +118,38 @@ impl<'a> Read for PolledReader<'a> {
         self.patience.note(found.is_some());
         match found {
             Some(found) => found,
-            None => self.stream.read(buf),
+            None => self.stream.peek(buf),
         }
+    }
+
+    /// Takes what was read out of the socket, since a client of a socket that is closed with bytes
+    /// in it gets an error.
+    pub fn finish(mut self) {
+        let mut rest = [0u8; REST];
+        let _ = self.take_seen(&mut rest);
+    }
+}
+
+impl<'a> Read for PolledReader<'a> {
+    fn read(&mut self, buf: &mut [u8]) -> io::Result<usize> {
+        self.take_seen(buf)?;
+        if !self.connections.are_few() {
+            return self.stream.read(buf);
+        }
+        let found = self.look(buf)?;
+        self.seen = found;
+        Ok(found)
     }
 }
 
 /// The output of a connection, whose input another thread may poll.
 #[derive(Drop)]
 pub(crate) struct PolledWriter<'a> {
-    stream: &'a UnixStream,
+    stream: &'a TcpStream,
 }
 
 impl<'a> PolledWriter<'a> {
-    pub fn new(stream: &'a UnixStream) -> PolledWriter<'a> {
+    pub fn new(stream: &'a TcpStream) -> PolledWriter<'a> {
         PolledWriter { stream }
     }
 }

@@ -7,12 +7,13 @@ use mathlib.Core.List.{IsPrefix}
 use Rattle.pt_lines.specs.declared.cutter.Cut.{Cut}
 use Rattle.pt_io.specs.Devices.{moves_none}
 use Rattle.pt_lines.specs.Lines.{Held, IsBegun, lines, lines_past_newline, to_come}
+use Rattle.pt_lines.specs.Reading.{IsNextCallLine}
 use Rattle.pt_session.specs.declared.kinds.ClockMode.{ClockMode}
 use Rattle.pt_session.specs.declared.kinds.EndCause.{EndCause}
 use Rattle.pt_session.specs.declared.kinds.EndCause.TheVariants.{InputEnded, InputFailed, RingFull}
 use Rattle.pt_session.specs.declared.kinds.EndCause.TheVariants.{WriteFailed, GateShut, Memory}
 use Rattle.pt_session.specs.Readings.{Reading, Intake, EndsBy, IsBehind, reading_of, readings}
-use Rattle.pt_session.specs.Readings.{readings_of}
+use Rattle.pt_session.specs.Readings.{reading_by, readings_of}
 use Rattle.pt_session.specs.Steps.{StopsPushing}
 
 fed_more : (held : Held) (piece more : List ℕ)
@@ -30,15 +31,15 @@ behind_fed mode given piece held pushed h = λ more.
     ∙ h (piece ++ more)
     ∙ ap (λ cuts. pushed ++ readings mode cuts) (sym (fed_more held piece more))
 
--- a line was cut and pushed
+-- a line was read and pushed
 pub behind_line : (mode : ClockMode) (given : List ℕ) (held next : Held) (pushed : List Reading)
-    (cut : Cut) → IsBehind mode given held pushed
-    → ((more : List ℕ) → to_come held more ≡ cut ∷ to_come next more)
-    → IsBehind mode given next (pushed ++ reading_of mode cut ∷ [])
-behind_line mode given held next pushed cut h gives = λ more.
+    (line : Reading) → IsBehind mode given held pushed → IsNextCallLine held line next
+    → IsBehind mode given next (pushed ++ reading_by mode line ∷ [])
+behind_line mode given held next pushed line h is = λ more.
     h more
-    ∙ ap (λ cuts. pushed ++ readings mode cuts) (gives more)
-    ∙ sym (append_assoc pushed (reading_of mode cut ∷ []) (readings mode (to_come next more)))
+    ∙ ap (λ cuts. pushed ++ readings mode cuts) (is.given more)
+    ∙ ap (λ r. pushed ++ reading_by mode r ∷ readings mode (to_come next more)) (sym is.read)
+    ∙ sym (append_assoc pushed (reading_by mode line ∷ []) (readings mode (to_come next more)))
 
 -- what is pushed and what is to come are all
 pub behind_all : (mode : ClockMode) (given : List ℕ) (held : Held) (pushed : List Reading)
@@ -92,13 +93,13 @@ ends_by mode x WriteFailed stops ended works = absurd stops
 ends_by mode x GateShut stops ended works = absurd stops
 
 -- a read of no byte into a buffer that has room reports the end
-pub tells_end_now : (n : ℕ) (buf : List ℕ) (before after : Bool) → n ≡ 0 → length buf ≡ 4096
+pub tells_end_now : (n : ℕ) (buf : List ℕ) (before after : Bool) → n ≡ 0 → length buf ≡ 1024
     → after ≡ (before || moves_none n buf) → after ≡ true
 tells_end_now n buf before after e room says =
     says ∙ (ap (λ k. before || moves_none k buf) e
     ∙ (ap (λ k. before || nat_lt 0 k) room ∙ by before))
   where
-    by : (b : Bool) → (b || nat_lt 0 4096) ≡ true
+    by : (b : Bool) → (b || nat_lt 0 1024) ≡ true
     by true = refl
     by false = refl
 

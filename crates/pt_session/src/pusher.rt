@@ -30,12 +30,14 @@ fn nap<T: Wait>(rt: &T) {
     word.park_timeout(rt, 0, Duration::from_millis(LOOK_MILLIS));
 }
 
-/// The end of a session's ring that readings go into, and how many went.
+/// The end of a session's ring that readings go into, how many went, and whether another thread
+/// takes them out, which may sleep until then.
 #[derive(Drop)]
 pub(crate) struct Pusher {
     session: SessionId,
     pub ring: Producer<Reading>,
     pub read: u64,
+    pub wakes: bool,
     ghost counted: { read ≡ length (sent ring) },
 }
 
@@ -44,7 +46,7 @@ impl Pusher {
     ghost use Rattle.std.specs.Prelude.{IsTrue, IfSome, IfNone};
     ghost use Rattle.rtrb.specs.Ring.{sent, SameProducer};
 
-    /// Nothing was pushed yet.
+    /// Nothing was pushed yet, and this thread takes what is pushed.
     pub fn new(session: SessionId, ring: Producer<Reading>) -> Pusher
         requires { sent ring ≡ [] }
         ensures { result.ring ≡ ring }
@@ -53,6 +55,7 @@ impl Pusher {
             session,
             ring,
             read: 0,
+            wakes: false,
         }
     }
 
@@ -77,7 +80,7 @@ impl Pusher {
         }
     }
 
-    /// Pushes a reading, and wakes the working side. `false` if the ring has no room, or if no more
+    /// Pushes a reading, and wakes the thread that takes it, if that is another. `false` if the ring has no room, or if no more
     /// can be counted, which no input comes to within its reads.
     pub fn push<L: Ledger, T: Wait>(&mut self, rt: &T, shared: &Shared<L>, reading: Reading) -> bool
         ensures ring { SameProducer self.old.ring self.new.ring }
@@ -92,6 +95,8 @@ impl Pusher {
         let is_pushed = self.ring.push(reading).is_ok();
         if is_pushed {
             self.read = read;
+        }
+        if self.wakes {
             shared.ring(self.session);
         }
         is_pushed

@@ -3,7 +3,7 @@
 ghost use Rattle.std.specs.Prelude.{◌≡◌, ◌++◌, ℕ, List, None};
 ghost use Rattle.rtrb.specs.Ring.{sent, SameProducer};
 ghost use Rattle.pt_lines.specs.Lines.{IsBegun};
-ghost use Rattle.pt_session.specs.Readings.{IsBehind, input, reading_of};
+ghost use Rattle.pt_session.specs.Readings.{IsBehind, input, reading_by, reading_of};
 ghost use Rattle.pt_session.specs.Steps.{HasRead, StopsPushing};
 
 use crate::kinds::{ClockMode, EndCause, Reading};
@@ -21,7 +21,7 @@ use std::sync::ledger::Ledger;
 pub const MOST_READS: u64 = 1 << 40;
 
 /// How many bytes are read at once, at most.  [profile]
-const PIECE: usize = 4096;
+const PIECE: usize = 1024;
 
 /// A reader, how often it was read, and what of its bytes is not pushed yet.
 #[derive(Drop)]
@@ -32,14 +32,21 @@ pub(crate) struct LineInput<R> {
     pub alloc: Global,
 }
 
+// What is read of a line that says this: a moment is SYNTAX if the clock is the system's.
+fn in_mode(mode: ClockMode, line: Result<CallLine, Refusal>) -> Reading
+    ensures { result ≡ reading_by mode line }
+{
+    match (mode, line) {
+        (ClockMode::System, Ok(CallLine::Tick(_, _))) => Err(Refusal::Syntax),
+        (_, reading) => reading,
+    }
+}
+
 // What is read of a line.
 fn reading_of(mode: ClockMode, cut: &Cut) -> Reading
     ensures { result ≡ reading_of mode cut.now }
 {
-    match (mode, CallLine::of(cut)) {
-        (ClockMode::System, Ok(CallLine::Tick(_, _))) => Err(Refusal::Syntax),
-        (_, reading) => reading,
-    }
+    in_mode(mode, CallLine::of(cut))
 }
 
 // Pushes what is read of the last line, which no newline ended, if there is one.
@@ -114,10 +121,10 @@ pub(crate) fn read_on<R: Source, L: Ledger, T: Wait>(
     ensures read { HasRead mode result (input R.given R.ended R.failures R.reads from.new.reader)
         from.new.reads from.new.cutter (sent pusher.new.ring) }
 {
-    let Some(cut) = from.cutter.next_line() else {
+    let Some(line) = from.cutter.next_call_line() else {
         return read_piece(rt, shared, mode, from, pusher);
     };
-    if pusher.push(rt, shared, reading_of(mode, &cut)) {
+    if pusher.push(rt, shared, in_mode(mode, line)) {
         None
     } else {
         Some(EndCause::RingFull)

@@ -51,7 +51,7 @@ impl<R: Source> ReadingSide<R> {
     ghost use Rattle.pt_session.specs.Readings.{IsUnread, input};
     ghost use Rattle.pt_session.specs.Ends.{EndsReading};
 
-    /// Nothing was read yet.
+    /// Nothing was read yet, and this thread takes the lines that are read.
     pub fn new(
         alloc: Global,
         reader: R,
@@ -141,7 +141,9 @@ impl<R: Source> ReadingSide<R> {
         if turns.is_refused() {
             self.give_up();
         }
+        self.pusher.wakes = true;
         self.read_in_turn(rt, shared, turns);
+        self.pusher.wakes = false;
         if self.has_ended() {
             shared.end_input(rt, self.session);
         }
@@ -204,5 +206,7 @@ pub fn read_side<R: Source, L: Ledger, T: Wait>(
     ensures ends { EndsBy mode (intake (input R.given R.ended R.failures R.reads result.reader)
         (sent result.ring)) result.cause }
 {
-    ReadingSide::new(alloc, reader, ring, session, mode).read_to_end(rt, shared)
+    let mut side = ReadingSide::new(alloc, reader, ring, session, mode);
+    side.pusher.wakes = true;
+    side.read_to_end(rt, shared)
 }

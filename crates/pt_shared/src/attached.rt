@@ -1,9 +1,8 @@
 //! Which session takes whose answers, and whose calls wait.
 
-use crate::shared::Room;
 use pt_hub::SessionId;
 use pt_types::ClientId;
-use std::sync::ledger::Ledger;
+use std::alloc::Global;
 
 /// The session that takes a client's answers.
 #[derive(Clone, Copy, Debug, PartialEq, Eq)]
@@ -14,8 +13,24 @@ pub(crate) struct Attached {
     waits: bool,
 }
 
-impl<L: Ledger> Room<L> {
+/// Which session takes whose answers, and the sessions whose calls wait, in the order in which they
+/// began to.
+#[derive(Drop)]
+pub(crate) struct Attendance {
+    attached: Vec<Attached>,
+    waiting: Vec<SessionId>,
+}
+
+impl Attendance {
     ghost use Rattle.std.specs.Prelude.{◌<◌, IfSome, vec_len};
+
+    /// Nobody is there yet.
+    pub(crate) fn new(alloc: Global) -> Attendance {
+        Attendance {
+            attached: Vec::new(alloc),
+            waiting: Vec::new(alloc),
+        }
+    }
 
     /// A client's answers are taken by this session. It isn't noted if a growth is refused.
     pub(crate) fn attach(&mut self, session: SessionId, client: ClientId) {
@@ -74,6 +89,13 @@ impl<L: Ledger> Room<L> {
         if let Some(k) = self.turn_of(session) {
             let _ = self.waiting.remove(k);
         }
+    }
+
+    /// The session whose client's call was answered, if it was noted. It waits no more.
+    pub(crate) fn answered(&mut self, client: ClientId) -> Option<SessionId> {
+        let session = self.session_of(client)?;
+        self.end_wait(session);
+        Some(session)
     }
 
     /// The session whose call has waited longest.

@@ -10,7 +10,7 @@ ghost use Rattle.pt_core.specs.Cores.{past};
 ghost use Rattle.pt_hub.specs.Desks.{kept, IsRefusedAs, call_refusal};
 ghost use Rattle.pt_hub.specs.Hubs.{Joins, Leaves, Sends, Takes, Ticks, answered, has_ended};
 ghost use Rattle.pt_hub.specs.Hubs.{takeable};
-ghost use Rattle.pt_shared.specs.Asking.{Asks, asked_receipts};
+ghost use Rattle.pt_hub.specs.Asking.{Asks, asked_receipts};
 ghost use Rattle.pt_shared.specs.Stays.{Found, Made};
 
 use crate::shared::Shared;
@@ -39,7 +39,7 @@ impl<L: Ledger> Shared<L> {
         match room.hub.join(priority) {
             Ok(pass) => {
                 room.law_fits();
-                room.attach(session, pass.client());
+                room.attendance.attach(session, pass.client());
                 self.leave(room, place, &None);
                 Ok(pass)
             }
@@ -114,21 +114,11 @@ impl<L: Ledger> Shared<L> {
         let mut room = self.enter(rt);
         room.law_fits();
         let place = room.hub.len();
-        match room.hub.call(pass, call) {
-            Ok(sent) => {
+        match room.hub.ask(pass, call) {
+            Ok(asked) => {
                 room.law_fits();
-                match room.hub.take(pass) {
-                    Some(answer) => {
-                        room.law_fits();
-                        self.leave(room, place, &Some(pass.client()));
-                        Ok((sent, Some(answer)))
-                    }
-                    None => {
-                        room.begin_wait(pass.client());
-                        self.leave(room, place, &Some(pass.client()));
-                        Ok((sent, None))
-                    }
-                }
+                self.leave_asked(room, place, pass.client(), asked.1.is_none());
+                Ok(asked)
             }
             Err(refusal) => Err(refusal),
         }
@@ -155,13 +145,13 @@ impl<L: Ledger> Shared<L> {
             room.law_fits();
             if let Some(answer) = room.hub.take(pass) {
                 room.law_fits();
-                room.note_wait(pass.client(), false);
+                room.attendance.note_wait(pass.client(), false);
                 return Some(answer);
             }
             if room.hub.input_ended(session) {
                 return None;
             }
-            room.note_wait(pass.client(), true);
+            room.attendance.note_wait(pass.client(), true);
             drop(room);
             self.sleep(rt, session, rings);
         }
@@ -175,7 +165,7 @@ impl<L: Ledger> Shared<L> {
         ensures dies { Made (λ old new. Leaves old new pass result) }
     {
         let mut room = self.enter(rt);
-        room.detach(pass.client());
+        room.attendance.detach(pass.client());
         room.law_fits();
         let place = room.hub.len();
         let left = room.hub.die(pass);

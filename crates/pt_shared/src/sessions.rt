@@ -51,7 +51,7 @@ impl<L: Ledger> Shared<L> {
 
     /// Whether a session sleeps until the call of its client is answered.
     pub fn is_waiting<R: Wait>(&self, rt: &R, session: SessionId) -> bool {
-        self.enter(rt).is_waiting(session)
+        self.enter(rt).attendance.is_waiting(session)
     }
 
     /// A session isn't open any more.

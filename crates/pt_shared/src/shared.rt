@@ -2,9 +2,9 @@
 
 ghost use Rattle.pt_hub.specs.Hubs.{Fits};
 
-use crate::attached::Attached;
+use crate::attached::Attendance;
 use crate::bells::{Bell, bells};
-use pt_hub::{Audience, Hub, SessionId};
+use pt_hub::{Hub, SessionId};
 use pt_types::ClientId;
 use std::sync::ledger::Ledger;
 use std::sync::{Mutex, MutexGuard, Wait};
@@ -30,8 +30,7 @@ fn spin() {
 pub struct Room<L: Ledger> {
     pub hub: Hub<L>,
     pub done: bool,
-    pub(crate) attached: Vec<Attached>,
-    pub(crate) waiting: Vec<SessionId>,
+    pub(crate) attendance: Attendance,
 }
 
 impl<L: Ledger> Room<L> {
@@ -61,8 +60,7 @@ impl<L: Ledger> Shared<L> {
             room: Mutex::new(Room {
                 hub,
                 done: false,
-                attached: Vec::new(alloc),
-                waiting: Vec::new(alloc),
+                attendance: Attendance::new(alloc),
             }),
             bell: Bell::new(),
             bells: bells(alloc),
@@ -107,30 +105,36 @@ impl<L: Ledger> Shared<L> {
         self.bell.ring();
     }
 
-    // The session whose call the entry at a place answers. All are woken if it may be anybody's. A
-    // client that makes a call just now waits for none.
-    fn answered_by(
+    // Wakes the sessions whose calls were answered by the entries from this place on, but for the
+    // client that made a call just now and for the session that is returned, which is the last of
+    // them.
+    fn ring_answered(
         &self,
         room: &mut Room<L>,
         place: u64,
         caller: &Option<ClientId>,
     ) -> Option<SessionId> {
-        match room.hub.audience(place) {
-            Audience::Client(client) if *caller != Some(client) => {
-                let session = room.session_of(client);
-                match session {
-                    Some(session) => room.end_wait(session),
-                    None => self.ring_all(),
-                }
-                session
-            }
-            Audience::Everybody => {
-                room.waiting.clear();
-                self.ring_all();
-                None
-            }
-            _ => None,
+        // An event's own entry answers nobody but its caller.
+        if room.hub.len().saturating_sub(place) < 2 {
+            return None;
         }
+        let mut last = None;
+        let mut answers = room.hub.answers_since(place);
+        while let Some(reply) = answers.next() {
+            if *caller == Some(reply.client) {
+                continue;
+            }
+            match room.attendance.answered(reply.client) {
+                Some(session) => {
+                    if let Some(earlier) = last {
+                        self.ring(earlier);
+                    }
+                    last = Some(session);
+                }
+                None => self.ring_all(),
+            }
+        }
+        last
     }
 
     /// Gives the lock back, and wakes the sessions whose calls were answered by the entries from
@@ -143,16 +147,8 @@ impl<L: Ledger> Shared<L> {
         place: u64,
         caller: &Option<ClientId>,
     ) {
-        let mut last = None;
-        for place in (place..room.hub.len()).skip(1) {
-            if let Some(session) = self.answered_by(&mut room, place, caller) {
-                if let Some(earlier) = last {
-                    self.ring(earlier);
-                }
-                last = Some(session);
-            }
-        }
-        let next = room.longest_waiting();
+        let last = self.ring_answered(&mut room, place, caller);
+        let next = room.attendance.longest_waiting();
         drop(room);
         let Some(session) = last else {
             return;
@@ -161,6 +157,20 @@ impl<L: Ledger> Shared<L> {
         if let Some(next) = next {
             self.bell_of(next).warn();
         }
+    }
+
+    /// As `leave`, after a client's call. If it waits, that is noted.
+    pub(crate) fn leave_asked(
+        &self,
+        mut room: MutexGuard<'_, Room<L>>,
+        place: u64,
+        client: ClientId,
+        waits: bool,
+    ) {
+        if waits {
+            room.attendance.begin_wait(client);
+        }
+        self.leave(room, place, &Some(client));
     }
 
     /// How often a session's bell was rung.

@@ -3,9 +3,7 @@
 ghost use Rattle.std.specs.Prelude.{◌≡◌, ◌^◌};
 
 use super::{Word, call};
-use pt_hub::{
-    Answer, Audience, ClockPass, CloseFault, CloseRefused, Closed, Hub, Left, Pass, Receipt, Sent,
-};
+use pt_hub::{Answer, ClockPass, CloseFault, CloseRefused, Closed, Hub, Left, Pass, Receipt, Sent};
 use pt_types::{ClientId, Clock, Deadline, Moment, Outcome, Priority, Refusal};
 use std::alloc::Global;
 use std::marker::Brand;
@@ -29,7 +27,7 @@ pub(super) enum Step {
     Moments(u64),
     // The least deadline, in seconds.
     LeastDeadline(u64),
-    // The entry at a place answers a call of this client, or nobody's if it was dropped by a seal.
+    // The entries from a place on answer a call of this client first; none if a seal dropped them.
     Answers(u64, Option<u64>),
     // The history is sealed, and goes on at this place.
     Seals(u64),
@@ -97,11 +95,10 @@ fn advances_often<L: Ledger>(hub: &mut Hub<L>, clock: &mut ClockPass<L>, count: 
     true
 }
 
-fn audience(client: Option<u64>) -> Audience {
-    match client {
-        Some(client) => Audience::Client(ClientId(client)),
-        None => Audience::Nobody,
-    }
+// Whose call the entries from a place on answer first.
+fn first_answered<L: Ledger>(hub: &Hub<L>, place: u64) -> Option<u64> {
+    let reply = hub.answers_since(place).next()?;
+    Some(reply.client.0)
 }
 
 // Whether what a client does comes out as it must.
@@ -138,7 +135,7 @@ fn plays<L: Ledger>(
         Step::Moment(sec, nsec) => advances(hub, clock, sec, nsec),
         Step::Moments(count) => advances_often(hub, clock, count),
         Step::LeastDeadline(sec) => hub.least_deadline(Clock::Real) == Deadline::new(sec, 0),
-        Step::Answers(place, client) => hub.audience(place) == audience(client),
+        Step::Answers(place, client) => first_answered(hub, place) == client,
         Step::Seals(at) => hub.seal() == Ok(at),
     }
 }

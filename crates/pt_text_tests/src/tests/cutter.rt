@@ -2,7 +2,8 @@ ghost use Rattle.std.specs.Prelude.{◌≤◌};
 
 use super::lend;
 use linked_list_allocator::LocalHeap;
-use pt_lines::{Cut, Cutter, cut_all};
+use pt_lines::{CallLine, Cut, Cutter, cut_all};
+use pt_types::{Call, Name, Refusal};
 use std::alloc::{Allocator, Global};
 use std::test::Fail;
 
@@ -162,6 +163,45 @@ fn long_comes_once_with_the_129th_byte(rt: HostRuntime) -> Result<(), Fail> {
             && lend(Cutter::new(alloc), is_long_told_once)?
             && is_nothing_left(alloc)?
     );
+    Ok(())
+}
+
+// Whether the next line of a connection is there, and is read as this.
+fn is_next_call_line(cutter: &mut Cutter, expected: Result<CallLine, Refusal>) -> bool {
+    cutter.next_call_line() == Some(expected)
+}
+
+// Whether a whole line, a line that spells nothing and a line that is too long are read in turn.
+fn are_whole_lines_read(cutter: &mut Cutter) -> Result<bool, Fail> {
+    let call = Call::Lock(Name::new(b"m").ok_or("name")?);
+    cutter.feed(b"lock m\nlokc m\n")?;
+    cutter.feed(&[b'x'; 129])?;
+    Ok(
+        is_next_call_line(cutter, Ok(CallLine::Ask(call)))
+            && is_next_call_line(cutter, Err(Refusal::Syntax))
+            && is_next_call_line(cutter, Err(Refusal::Long))
+            && cutter.next_call_line().is_none(),
+    )
+}
+
+// Whether a line that comes in two pieces, the first of which ends a line that was too long, is
+// read with the second.
+fn is_line_in_two_pieces_read(cutter: &mut Cutter) -> Result<bool, Fail> {
+    let call = Call::Unlock(Name::new(b"m").ok_or("name")?);
+    cutter.feed(b"xx\nunlo")?;
+    let early = cutter.next_call_line();
+    cutter.feed(b"ck m\n")?;
+    Ok(early.is_none() && is_next_call_line(cutter, Ok(CallLine::Ask(call))))
+}
+
+// Whether lines of a connection are read where they lie, and those that are not whole are not.
+fn are_call_lines_read(cutter: &mut Cutter) -> Result<bool, Fail> {
+    Ok(are_whole_lines_read(cutter)? && is_line_in_two_pieces_read(cutter)?)
+}
+
+#[test]
+fn lines_of_a_connection_are_read(rt: HostRuntime) -> Result<(), Fail> {
+    assert!(rt; lend(Cutter::new(rt.alloc()), are_call_lines_read)?);
     Ok(())
 }
 

@@ -14,6 +14,6 @@ returns-else-push-clause-read g c =
     let stops =
     subst (λ pushed. StopsPushing c.args.mode given pushed RingFull)
     (sym (c.if-push.ensures.full refl))
-    (behind_full c.args.mode given from.cutter pushed c.in-Some.cut
-    (to_come c.next_line.new.self []) c.requires.0 (c.in-Some.ensures.given [])) in
+    (behind_full c.args.mode given from.cutter pushed c.in-Some.ensures.some.cut
+    (to_come c.next_call_line.new.self []) c.requires.0 (c.in-Some.ensures.some.given [])) in
     (stops.0, (stops.1, c.requires.1))

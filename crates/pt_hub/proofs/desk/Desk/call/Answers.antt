@@ -1,14 +1,15 @@
 use Rattle.std.proofs.Common.{refl, sym, ◌∙◌}
 use Rattle.pt_hub.specs.Desks.{Desk as Seen}
 use Rattle.pt_hub.proofs.SeenLemmas.{caller-refused}
-use Rattle.pt_hub.proofs.OpenedDesks.{caller-there, desk-called, first-opened, wrote-called}
+use Rattle.pt_hub.proofs.OpenedDesks.{caller-there, desk-called, first-opened, next-called}
+use Rattle.pt_hub.proofs.OpenedDesks.{wrote-called}
 use Rattle.pt_hub.proofs.desk.Desk.call.Goals as goal
 
 pub note_call-requires : goal.note_call-requires
 note_call-requires g c =
     let old : Seen =
     record { core = c.self.inside.core; accounts = c.self.inside.accounts.entries } in
-    caller-there old _ c.self.view_is c.self.invariant _ _ c.c.view_is _ _ c.copied.ensures
+    caller-there old _ c.self.view_is c.self.invariant _ _ c.c.view_is _ _ refl
     (sym c.is_blocked.ensures ∙ c.if-is_blocked.false) _ c.in-Ok.applied c.in-Ok.ensures.ok _
     c.renew_if.ensures.entries
 
@@ -16,7 +17,7 @@ pub invariant_of-self : goal.invariant_of-self
 invariant_of-self g c =
     let old : Seen =
     record { core = c.self.inside.core; accounts = c.self.inside.accounts.entries } in
-    desk-called old _ c.self.view_is c.self.invariant _ _ c.c.view_is _ _ c.copied.ensures
+    desk-called old _ c.self.view_is c.self.invariant _ _ c.c.view_is _ _ refl
     (sym c.is_blocked.ensures ∙ c.if-is_blocked.false) _ c.in-Ok.applied c.in-Ok.ensures.ok _
     c.renew_if.ensures.entries _
     c.note_call.ensures
@@ -29,12 +30,22 @@ pub returns-in-Ok-clause-account : goal.returns-in-Ok-clause-account
 returns-in-Ok-clause-account g c =
     let old : Seen =
     record { core = c.self.inside.core; accounts = c.self.inside.accounts.entries } in
-    wrote-called old _ c.self.view_is c.self.invariant _ _ c.c.view_is _ _ c.copied.ensures
+    wrote-called old _ c.self.view_is c.self.invariant _ _ c.c.view_is _ _ refl
     (sym c.is_blocked.ensures ∙ c.if-is_blocked.false) _ c.in-Ok.applied c.in-Ok.ensures.ok _
     c.renew_if.ensures.entries _
     c.note_call.ensures
 
 pub returns-in-Err-clause-err : goal.returns-in-Err-clause-err
 returns-in-Err-clause-err g c =
-    caller-refused _ _ c.self.invariant c.self.view_is _ _ refl _ _ c.copied.ensures _
+    caller-refused _ _ c.self.invariant c.self.view_is _ _ refl c.args.call c.args.call refl _
     (sym c.is_blocked.ensures ∙ c.if-is_blocked.false) c.in-Err.ensures.err
+
+-- the account awaits an answer, which is the one to the latest call
+pub returns-in-Ok-clause-next : goal.returns-in-Ok-clause-next
+returns-in-Ok-clause-next g c =
+    let old : Seen =
+    record { core = c.self.inside.core; accounts = c.self.inside.accounts.entries } in
+    next-called old _ c.self.view_is c.self.invariant _ _ c.c.view_is _ _ refl
+    (sym c.is_blocked.ensures ∙ c.if-is_blocked.false) _ c.in-Ok.applied c.in-Ok.ensures.ok _
+    c.renew_if.ensures.entries _
+    c.note_call.ensures _ refl

@@ -1,9 +1,10 @@
-use Rattle.std.proofs.Common.{arith, refl}
+use Rattle.std.proofs.Common.{◌++◌, ◌∷◌, [], None, arith, refl, ap, ◌∙◌}
+use Rattle.pt_types.specs.declared.call.Call.{Call as Asked}
 use Rattle.pt_hub.specs.Passes.{PassView}
 use Rattle.pt_hub.specs.Hubs.{HubView}
 use Rattle.pt_hub.proofs.HubEvents.{sends}
 use Rattle.pt_hub.proofs.HubLemmas.{hub-more}
-use Rattle.pt_hub.proofs.hub.Hub.call.Goals as goal
+use Rattle.pt_hub.proofs.hub.Hub.send.Goals as goal
 
 pub invariant_of-self : goal.invariant_of-self
 invariant_of-self g c =
@@ -46,5 +47,9 @@ returns-in-Ok-clause-ok g c =
     rw (← c.self.view_is, ← c.pass.view_is)
     (sends old before c.args.call c.call.new.self c.count.new.self.total c.in-Ok.applied
     c.in-Ok.ensures.ok c.in-Ok.ensures.first c.in-Ok.ensures.account c.len-place.result
-    c.len-place.ensures.value c.is_some.result c.is_some.ensures c.reserve.new.self.items
-    c.reserve.ensures.items c.push_reserved.new.self.items c.push_reserved.ensures.items)
+    c.len-place.ensures.value c.is_some-ready.result c.is_some-ready.ensures
+    c.reserve.new.self.items c.reserve.ensures.items c.push_reserved.new.self.items
+    (c.push_reserved.ensures.items
+    ∙ ap (λ (x : Asked). c.reserve.new.self.items
+    ++ record { place = c.len-place.result; call = x; answer = None } ∷ [])
+    c.in-Ok.ensures.back))

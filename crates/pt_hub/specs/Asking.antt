@@ -1,4 +1,4 @@
--- Asking: a call, and its answer if it is there at once, in one stay under the lock.
+-- Asking: a call, and its answer if it is there at once.
 use Rattle.std.specs.Prelude.{◌≡◌, List, Option, Some, None}
 use Rattle.pt_types.specs.declared.call.Call.{Call as Asked}
 use Rattle.pt_hub.specs.declared.pass.Receipt.{Receipt}
@@ -20,8 +20,14 @@ pub record SendsAndTakes (old : HubView) (before : PassView) (call : Asked) (new
   pub sends : Sends old before call between pending s
   pub takes : Takes between pending new after a
 
--- a client's call was sent, and its answer was taken if there was one
-abbrev pub Asks : HubView → PassView → Asked → HubView → PassView → Sent → Option Answer → Type 0
-Asks old before call new after s None =
+-- a client's call was sent, and its answer was taken; or it was sent, and there is none to take
+abbrev pub AsksAs : HubView → PassView → Asked → HubView → PassView → Sent → Option Answer
+    → Type 0
+AsksAs old before call new after s None =
     Sends old before call new after s × (takeable new after ≡ None)
-Asks old before call new after s (Some a) = SendsAndTakes old before call new after s a
+AsksAs old before call new after s (Some a) = SendsAndTakes old before call new after s a
+
+-- a client's call was sent, and its answer was taken if there was one
+pub record Asks (old : HubView) (before : PassView) (call : Asked) (new : HubView)
+    (after : PassView) (s : Sent) (o : Option Answer) : Type 0 where
+  pub so : AsksAs old before call new after s o

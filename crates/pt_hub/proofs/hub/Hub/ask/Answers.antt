@@ -1,0 +1,44 @@
+use Rattle.std.proofs.Common.{◌≡◌, Some, sym, ap, ◌∙◌, subst}
+use Rattle.pt_model.specs.Queries.{told_if}
+use Rattle.pt_hub.specs.Desks.{next_answer}
+use Rattle.pt_hub.specs.Hubs.{HubView, Sends}
+use Rattle.pt_hub.specs.Passes.{PassView}
+use Rattle.pt_hub.proofs.HubEvents.{sends_and_takes}
+use Rattle.pt_hub.proofs.hub.Hub.ask.Goals as goal
+
+pub returns-in-Ok-default-Some-clause-ok : goal.returns-in-Ok-default-Some-clause-ok
+returns-in-Ok-default-Some-clause-ok g c =
+    let between : HubView =
+    record {
+      desk = c.self.inside.desk;
+      marks = c.self.inside.marks.entries;
+      opened = c.self.inside.opened;
+      booked = c.self.inside.tally.total;
+    } in
+    let pending : PassView =
+    record {
+      client = c.pass-2.inside.client;
+      priority = c.pass-2.inside.priority;
+      receipts = c.pass-2.inside.receipts.items;
+    } in
+    let sends : Sends c.args.self.now c.args.pass.now c.args.call between pending
+    c.in-Ok-default-Some.sent =
+    subst (λ (h : HubView). Sends c.args.self.now c.args.pass.now c.args.call h pending
+    c.in-Ok-default-Some.sent) (sym c.self.view_is)
+    (subst (λ (p : PassView). Sends c.args.self.now c.args.pass.now c.args.call c.send.new.self p
+    c.in-Ok-default-Some.sent) (sym c.pass-2.view_is) c.in-Ok-default-Some.ensures.ok) in
+    let next : next_answer between.desk c.args.pass.now.client
+    ≡ told_if c.args.pass.now.client c.in-Ok-default-Some.sent.place
+    (Some c.in-Ok-default-Some.outcome) =
+    subst (λ (h : HubView). next_answer h.desk c.args.pass.now.client
+    ≡ told_if c.args.pass.now.client c.in-Ok-default-Some.sent.place
+    (Some c.in-Ok-default-Some.outcome)) (sym c.self.view_is)
+    (c.in-Ok-default-Some.ensures.next
+    ∙ ap (told_if c.args.pass.now.client c.in-Ok-default-Some.sent.place)
+    c.in-Ok-default-Some.field-0-1-is) in
+    record {
+      so = sends_and_takes c.args.self.now between c.args.pass.now pending c.args.call
+          c.in-Ok-default-Some.sent c.in-Ok-default-Some.outcome sends next c.take.new.self
+          c.take.ensures.kept c.pass.inside.client (ap (λ (p : PassView). p.client) c.pass.view_is)
+          c.take.ensures.account _ c.answer.ensures.items;
+    }
