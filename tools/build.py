@@ -4,23 +4,45 @@
     tools/build.py pt_server
 
 Each crate is proved as soon as those that it uses are, and several at once where none uses another.
-The toolchain locks a crate with all that it uses, so each library is proved in a copy of its own,
-which hands its folder `out` back. Standard error gets a line for each crate. The toolchain's own
-output goes to a file, which is named if a crate fails.
+A crate on the longest way to the program shares its check out among all processors, and the others
+yield to it. What is built of a crate is kept beside a stamp, the sum of all that it was made from,
+and is made anew only once that is another. Standard error gets a line for each crate that is
+proved. The toolchain's own output goes to a file, which is named if a crate fails.
 """
+import fcntl
+import functools
+import hashlib
 import os
 import shutil
+import signal
 import subprocess
 import sys
 import tempfile
+import time
 from concurrent.futures import FIRST_COMPLETED, ThreadPoolExecutor, wait
 
 TOP = os.path.dirname(os.path.dirname(os.path.abspath(__file__)))
 PROCESSORS = len(os.sched_getaffinity(0))
-# A check takes up to this much memory, and seldom keeps more than two processors busy.
+# A check takes up to this much memory.
 BYTES_A_CHECK = 2_500_000_000
+# In a crate's folder: rt lets built libraries lie in out/rlib alone, and rt ci puts that back.
+KEPT = "out/rlib/build"
 
 
+@functools.cache
+def find_kit():
+    """The folder of the toolchain, which holds the page that `rt doc` names."""
+    said = subprocess.run(["rt", "doc"], check=True, stdout=subprocess.PIPE, text=True)
+    return os.path.dirname(said.stdout.strip())
+
+
+@functools.cache
+def kit_identity():
+    with open(f"{find_kit()}/KIT-ID", encoding="utf-8") as file:
+        return file.read()
+
+
+@functools.cache
 def read_lines():
     """The lines of crates.txt that name a crate, by its name."""
     with open(f"{TOP}/crates.txt", encoding="utf-8") as file:
@@ -28,40 +50,143 @@ def read_lines():
     return {line.split()[0].rstrip(":"): line for line in lines if line}
 
 
-def read_crates():
-    """The crates of crates.txt, each with those of them that it uses."""
-    lines = read_lines()
-    uses = {name: line.split(":")[1].split() for name, line in lines.items()}
-    return {name: [use for use in uses[name] if use in lines] for name in lines}
+def uses(name):
+    """The libraries that a crate's line names, of this repository and of the toolchain."""
+    return read_lines()[name].split(":")[1].split()
 
 
-def below(name, crates):
+def crates_of(name):
+    """The crates of this repository that a crate uses."""
+    return [it for it in uses(name) if it in read_lines()]
+
+
+@functools.cache
+def below(name):
     """All crates that a crate uses, each after those that it uses itself."""
     ordered = []
-    for use in crates[name]:
-        ordered += [it for it in [*below(use, crates), use] if it not in ordered]
+    for use in crates_of(name):
+        ordered += [it for it in [*below(use), use] if it not in ordered]
     return ordered
 
 
-def source_bytes(name):
-    """How many bytes the sources and the proofs of a crate have."""
+def files_of(name):
+    """The paths of a crate's sources, definitions and proofs."""
     parts = [f"{TOP}/crates/{name}/{part}" for part in ("src", "specs", "proofs")]
-    files = [f"{at}/{file}" for part in parts for at, _, names in os.walk(part) for file in names]
-    return sum(map(os.path.getsize, files))
+    return sorted(f"{at}/{it}" for part in parts for at, _, names in os.walk(part) for it in names)
 
 
-def weights(names, crates):
+def weights(names):
     """For each crate the bytes that are proved one after another from it up to the program."""
     found = {}
     for name in reversed(names):
-        above = [found[it] for it in found if name in crates[it]]
-        found[name] = source_bytes(name) + max(above, default=0)
+        above = [found[it] for it in found if name in crates_of(it)]
+        found[name] = sum(map(os.path.getsize, files_of(name))) + max(above, default=0)
     return found
 
 
-def niceness(name, others, weight):
-    """A check beside the longest way to the program leaves the processors to those on it."""
-    return 10 if any(weight[it] > weight[name] for it in others) else 0
+def is_program(name):
+    return os.path.exists(f"{TOP}/crates/{name}/src/main.rt")
+
+
+def built(name):
+    """Where it is kept what is built of a crate: a library, or the object file of a program."""
+    return f"{TOP}/crates/{name}/{KEPT}/{name}{'.o' if is_program(name) else '.rlib'}"
+
+
+def stamp_file(name):
+    return f"{TOP}/crates/{name}/{KEPT}/stamp"
+
+
+def stamp_of(name, stamps):
+    """The sum of all that a crate is built from, the stamps of the crates that it uses included."""
+    parts = [kit_identity(), read_lines()[name], *[stamps[it] for it in crates_of(name)]]
+    for path in files_of(name):
+        with open(path, "rb") as file:
+            parts += [os.path.relpath(path, TOP), hashlib.sha256(file.read()).hexdigest()]
+    return hashlib.sha256(repr(parts).encode()).hexdigest()
+
+
+def is_kept(name, stamp):
+    """Whether what is kept of a crate was built from what this stamp sums up."""
+    if not os.path.exists(stamp_file(name)) or not os.path.exists(built(name)):
+        return False
+    with open(stamp_file(name), encoding="utf-8") as file:
+        return file.read() == stamp
+
+
+def keep(name, new, stamp):
+    """Keeps what was built of a crate. No moment has a stamp beside what it does not stand for."""
+    if os.path.exists(stamp_file(name)):
+        os.remove(stamp_file(name))
+    shutil.rmtree(built(name), ignore_errors=True)
+    os.replace(new, built(name))
+    with open(stamp_file(name), "w", encoding="utf-8") as file:
+        file.write(stamp)
+
+
+def library_words(name):
+    """The words by which a check finds the libraries that a crate uses."""
+    crates, kit = crates_of(name), f"{find_kit()}/rlibs"
+    of_kit = ["std", *[it for it in uses(name) if it not in crates]]
+    found = {it: f"{kit}/{it}.rlib" for it in of_kit} | {it: built(it) for it in crates}
+    folders = [kit, *[os.path.dirname(built(it)) for it in below(name)]]
+    externs = [word for it in found for word in ("--extern", f"{it}={found[it]}")]
+    return externs + [word for it in folders for word in ("-L", f"dependency={it}")]
+
+
+def proof_words(name, jobs, to):
+    """The command that proves a crate and builds it. It keeps no proofs, which would slow it."""
+    kit = find_kit()
+    by_llvm = ["--toolchain", f"{kit}/toolchain", "--backend", "llvm"]
+    return [
+        *(f"{kit}/bin/rattle", "build", "--crate-name", name),
+        *("src/main.rt" if is_program(name) else "src/lib.rt", *library_words(name)),
+        *("--antt-project", f"{kit}/rattle/logic/antt-project.json"),
+        *("--logic-built", f"{kit}/logic_built", "--jobs", str(jobs), "--links", f"{name}="),
+        *(by_llvm if is_program(name) else ["--statements"]),
+        *("-o", to),
+    ]
+
+
+def link_words(name, to):
+    """The command that links a program."""
+    kit = find_kit()
+    return [
+        *(f"{kit}/bin/rattle-link", "--target", "x86_64-unknown-linux-gnu"),
+        *("--toolchain", f"{kit}/toolchain", "-o", to),
+        *(built(name), f"{kit}/c/libos_c.a", f"{kit}/c/liblibc_c.a"),
+    ]
+
+
+def run(words, name, log, nice=0):
+    """The status of a command of the toolchain in a crate's folder."""
+    with open(log, "ab") as out:
+        done = subprocess.run(
+            ["nice", "-n", str(nice), *words],
+            cwd=f"{TOP}/crates/{name}",
+            stdin=subprocess.DEVNULL,
+            stdout=out,
+            stderr=subprocess.STDOUT,
+        )
+    return done.returncode
+
+
+def prove(name, stamps, log, jobs, nice):
+    """What went wrong as a crate was proved, or None: then what was built of it is kept."""
+    stamp, new = stamp_of(name, stamps), f"{built(name)}.new"
+    shutil.rmtree(new, ignore_errors=True)
+    os.makedirs(os.path.dirname(new), exist_ok=True)
+    status = run(proof_words(name, jobs, new), name, log, nice)
+    if status == -signal.SIGKILL and jobs > 1:
+        # Most likely for memory, and one job takes less.
+        status = run(proof_words(name, 1, new), name, log, nice)
+    if status != 0:
+        return f"{name} could not be proved: see {log}"
+    if stamp_of(name, stamps) != stamp:
+        return f"{name} changed while it was proved: run this again"
+    keep(name, new, stamp)
+    stamps[name] = stamp
+    return None
 
 
 def checks_at_once():
@@ -70,62 +195,74 @@ def checks_at_once():
     return max(1, min((PROCESSORS + 2) // 2, free // BYTES_A_CHECK))
 
 
-def run(words, folder, log, nice=0):
-    """Whether a command of the toolchain succeeded."""
-    with open(log, "ab") as out:
-        done = subprocess.run(
-            ["nice", "-n", str(nice), *words],
-            cwd=folder,
-            stdin=subprocess.DEVNULL,
-            stdout=out,
-            stderr=subprocess.STDOUT,
-        )
-    return done.returncode == 0
+def choose(waiting, running, at_once):
+    """The crates that can be begun: all that they use is there."""
+    to_do = {*waiting, *running}
+    ready = [it for it in waiting if to_do.isdisjoint(crates_of(it))]
+    return ready[: at_once - len(running)]
 
 
-def link_crate(crate, copy):
-    """Copies what is needed of a proved library: nothing writes to its files, so links will do."""
-    unneeded = shutil.ignore_patterns("incremental")
-    shutil.copytree(crate, copy, ignore=unneeded, copy_function=os.link)
+def share(name, to_do, weight):
+    """The jobs and the niceness of a check: all goes to those on the longest way to the program."""
+    part = weight[name] / max(weight[it] for it in to_do)
+    return PROCESSORS if part > 1 / 2 else 1, round(19 * (1 - part))
 
 
-def prove_library(name, uses, scratch, nice):
-    """Whether a library was proved, in a copy of it and of all that it uses."""
-    copy, lines = f"{scratch}/{name}", read_lines()
-    shutil.copytree(f"{TOP}/crates/{name}", f"{copy}/crates/{name}")
-    for it in uses:
-        link_crate(f"{TOP}/crates/{it}", f"{copy}/crates/{it}")
-    with open(f"{copy}/crates.txt", "w", encoding="utf-8") as file:
-        file.writelines(f"{lines[it]}\n" for it in [*uses, name])
-    words = ["rt", "lib", "--jobs", str(PROCESSORS)]
-    proved = run(words, f"{copy}/crates/{name}", f"{scratch}/{name}.log", nice)
-    if proved:
-        shutil.rmtree(f"{TOP}/crates/{name}/out", ignore_errors=True)
-        os.rename(f"{copy}/crates/{name}/out", f"{TOP}/crates/{name}/out")
-    shutil.rmtree(copy)
-    return proved
-
-
-def prove_libraries(names, crates, scratch):
-    """The first library that could not be proved, or None."""
-    weight = weights(names, crates)
+def prove_all(names, stamps, scratch):
+    """Whether all crates were proved. After one that was not, no more are begun."""
+    weight, running, at_once, is_well = weights(names), {}, checks_at_once(), True
     waiting = sorted(names, key=lambda it: -weight[it])
-    at_once, proved, running = checks_at_once(), set(), {}
     with ThreadPoolExecutor(at_once) as pool:
         while waiting or running:
-            ready = [it for it in waiting if proved.issuperset(crates[it])]
-            for name in ready[: at_once - len(running)]:
+            for name in choose(waiting, running.values(), at_once):
                 waiting.remove(name)
-                say(f"proving {len(names) - len(waiting)} of {len(names) + 1}: {name}")
-                nice = niceness(name, running.values(), weight)
-                task = pool.submit(prove_library, name, below(name, crates), scratch, nice)
+                say(f"proving {len(names) - len(waiting)} of {len(names)}: {name}")
+                jobs, nice = share(name, [name, *waiting, *running.values()], weight)
+                task = pool.submit(prove, name, stamps, f"{scratch}/{name}.log", jobs, nice)
                 running[task] = name
             for ended in wait(running, return_when=FIRST_COMPLETED).done:
-                name = running.pop(ended)
-                if not ended.result():
-                    return name
-                proved.add(name)
-    return None
+                del running[ended]
+                if ended.result():
+                    say(ended.result())
+                    waiting, is_well = [], False
+    return is_well
+
+
+def prove_changed(names, scratch):
+    """Whether all crates are proved: those of which nothing is kept that still serves are now."""
+    stamps = {}
+    for name in names:
+        stamps[name] = stamp_of(name, stamps)
+    return prove_all([it for it in names if not is_kept(it, stamps[it])], stamps, scratch)
+
+
+def link(program, began, scratch):
+    """Whether the program was linked. It is as old as the build, and so older than later edits."""
+    made, log = f"{TOP}/crates/{program}/out/{program}", f"{scratch}/{program}.log"
+    if run(link_words(program, f"{made}.new"), program, log) != 0:
+        say(f"{program} could not be linked: see {log}")
+        return False
+    os.utime(f"{made}.new", (began, began))
+    os.replace(f"{made}.new", made)
+    return True
+
+
+def take_turn(names):
+    """Waits for the locks of these crates, which rt takes too, and holds them until the end."""
+    held = [os.open(f"{TOP}/crates/{name}", os.O_RDONLY) for name in sorted(names)]
+    if not all(map(lock, held)):
+        say("waiting for another build or another command of rt in these crates to end")
+    for folder in held:
+        fcntl.flock(folder, fcntl.LOCK_EX)
+
+
+def lock(folder):
+    """Whether a folder is locked now: nothing else has its lock."""
+    try:
+        fcntl.flock(folder, fcntl.LOCK_EX | fcntl.LOCK_NB)
+    except BlockingIOError:
+        return False
+    return True
 
 
 def say(text):
@@ -133,20 +270,18 @@ def say(text):
 
 
 def main():
-    program, crates = sys.argv[1], read_crates()
-    names = below(program, crates)
-    scratch = tempfile.mkdtemp(prefix=".build-", dir=TOP)
-    failed = prove_libraries(names, crates, scratch)
-    if not failed:
-        say(f"proving {len(names) + 1} of {len(names) + 1}: {program}")
-        words = ["rt", "run", "--jobs", str(PROCESSORS), "--", "--version"]
-        if not run(words, f"{TOP}/crates/{program}", f"{scratch}/{program}.log"):
-            failed = program
-    if failed:
-        say(f"{failed} could not be proved: see {scratch}/{failed}.log")
-        return 1
-    shutil.rmtree(scratch)
-    return 0
+    program = sys.argv[1]
+    names = [*below(program), program]
+    take_turn(names)
+    began, scratch = time.time(), tempfile.mkdtemp(prefix=".build-", dir=TOP)
+    try:
+        is_well = prove_changed(names, scratch) and link(program, began, scratch)
+    except KeyboardInterrupt:
+        shutil.rmtree(scratch)
+        raise
+    if is_well:
+        shutil.rmtree(scratch)
+    return 0 if is_well else 1
 
 
 if __name__ == "__main__":
