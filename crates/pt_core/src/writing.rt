@@ -30,7 +30,7 @@ pub fn told<Q: WaitList, A: Allocator + Copy>(
 {
     match event {
         Event::Join(_) => Some(Outcome::Done),
-        Event::Call(..) => body.recent_outcome(first),
+        Event::Call(c, _) => body.outcome_of(*c, first),
         Event::Death(_) | Event::Moment(..) => None,
     }
 }

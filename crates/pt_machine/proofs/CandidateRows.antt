@@ -21,7 +21,7 @@ use Rattle.pt_model.specs.declared.waiting_call.Role.{Role}
 use Rattle.pt_model.specs.declared.waiting_call.Role.TheVariants.{ForMutex, ForRead, ForWrite}
 use Rattle.pt_model.specs.declared.waiting_call.Role.TheVariants.{ForBarrier, ForCond}
 use Rattle.pt_model.specs.WaitingCall.{is_wait, is_write}
-use Rattle.pt_model.specs.Moves.{moved, object_by, at_object}
+use Rattle.pt_model.specs.Moves.{moved, is_moved, object_by, at_object}
 use Rattle.pt_model.specs.Mutexes.{owner, consistency, mutex_view}
 use Rattle.pt_model.specs.Rwlocks.{reads, writer, reader}
 use Rattle.pt_model.specs.Steps.{Follows}
@@ -97,15 +97,38 @@ module _ {A : Type 0} (h : History) (clients : List (ClientRow Caller))
         && (is_recursive (mutex_kind (kind_of h m)) && (is_wait (called o).role && is_some v)))
         ((are-open h clients f a).known o i).1)
 
+    -- if a relock does not count there, none is served
+    pub mutex-plain : may_lock x.seen true ≡ false → is_recursive x.seen.kind ≡ false
+        → None ≡ mutex_candidate h m
+    mutex-plain n plain =
+        none (open_call_if h (owner h m))
+        ∙ ap (λ b. cond b (first_at h m) (if_passes (comes_back h m) (open_call_if h (owner h m))))
+        (sym n ∙ free)
+      where
+        no : (a b : Bool) (w : WaitingCall) → b ≡ false
+            → None ≡ cond (a && (b && (is_wait w.role && is_moved h w))) (Some w) None
+        no true false w e = refl
+        no false false w e = refl
+        no a true w e = absurd cc
+
+        none : (o : Option WaitingCall) → None ≡ if_passes (comes_back h m) o
+        none None = refl
+        none (Some w) =
+            no (at_object h w == m) (is_recursive (mutex_kind (kind_of h m))) w
+            (sym (ap (λ (v : MutexView). is_recursive v.kind) seen) ∙ plain)
+
     -- what is served where its owner has an open call
-    pub mutex-served : (c : ℕ) → may_lock x.seen true ≡ false → x.seen.owner ≡ Some c
-        → (o : Open) → Some o ≡ open_in (client_value clients c)
-        → (b : Bool) → b ≡ ((object_of o == m)
-        && (is_recursive x.seen.kind && (is_wait (called o).role && is_some (move_of o))))
+    pub mutex-served : (c : ℕ) → may_lock x.seen true ≡ false → is_recursive x.seen.kind ≡ true
+        → x.seen.owner ≡ Some c → (o : Open) → Some o ≡ open_in (client_value clients c)
+        → (b : Bool)
+        → b ≡ ((object_of o == m) && (is_wait (called o).role && is_some (move_of o)))
         → cond b (Some (called o)) None ≡ mutex_candidate h m
-    mutex-served c n own o e b test =
+    mutex-served c n counts own o e b test =
         ap (λ y. cond y (Some (called o)) None)
-        (test ∙ back o (found-known clients c (Some o) e))
+        (test
+        ∙ (ap (λ r. (object_of o == m)
+        && (r && (is_wait (called o).role && is_some (move_of o)))) (sym counts)
+        ∙ back o (found-known clients c (Some o) e)))
         ∙ (ap (if_passes (comes_back h m)) (row-call h clients f a c (Some o) e) ∙ owned c n own)
 
     -- and if it has none

@@ -12,6 +12,10 @@ pub mod PlaceTakes
 pub mod OpenRowCalls
 -- CandidateRows: the candidate of an object, by the rows of objects and of clients
 pub mod CandidateRows
+-- GrantsAtOnce: a call for a free lock for which nobody waits is granted as it comes
+pub mod GrantsAtOnce
+-- GrantedStates: the tables after a call that is granted as it comes, and after its Grant
+pub mod GrantedStates
 -- LastTouches: what is touched, and whose call came last, as entries are pushed
 pub mod LastTouches
 -- TableViews: what the tables answer, of the body that has them

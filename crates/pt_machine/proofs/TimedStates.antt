@@ -32,7 +32,7 @@ use Rattle.pt_machine.proofs.TimedCalls.{set-arrival, set-trip, set-left}
 use Rattle.pt_history.proofs.Places.{place_of_next}
 
 -- where nothing is set at a place, nothing changes as that is cancelled
-unset : (set : ℕ → Option (Clock × ℕ)) (j : ℕ) → set j ≡ None → (p : ℕ)
+pub unset : (set : ℕ → Option (Clock × ℕ)) (j : ℕ) → set j ≡ None → (p : ℕ)
     → cond (j == p) None (set p) ≡ set p
 unset set j e p = go (j == p) refl
   where

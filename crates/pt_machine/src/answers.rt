@@ -56,12 +56,13 @@ impl<Q: WaitList, A: Allocator + Copy> Body<Q, A> {
         self.state.outcome(place)
     }
 
-    /// The answer to the call at a place, which is looked for from the end.  [XSH, the call's page]
-    pub fn recent_outcome(&self, place: u64) -> Option<Outcome>
+    /// The answer to the call at a place, which is likely the latest call of this client.
+    /// [XSH, the call's page]
+    pub fn outcome_of(&self, c: ClientId, place: u64) -> Option<Outcome>
         requires { AreTables self.now }
         ensures { result ≡ said (past self.now) place }
     {
-        self.state.recent_outcome(place)
+        self.state.outcome_of(c, place)
     }
 
     /// The answer to a living client's latest call, with the place of the call.

@@ -32,16 +32,21 @@ use pt_types::{MutexKind, ObjectId};
 use pt_waitq::WaitList;
 use std::alloc::Allocator;
 
-// Whether a call is a wait that has come back to its mutex, and a relock counts there.
+// Whether a mutex is RECURSIVE.
+fn is_recursive(mutex: &MutexObj) -> bool
+    ensures { result ≡ is_recursive mutex.now.seen.kind }
+{
+    mutex.kind() == MutexKind::Recursive
+}
+
+// Whether a call is a wait that has come back to this mutex.
 // [XSH pthread_cond_wait, pthread_mutex_lock RECURSIVE]
-fn comes_back(m: ObjectId, mutex: &MutexObj, open: &Open) -> bool
+fn comes_back(m: ObjectId, open: &Open) -> bool
     ensures { result
         ≡ (object_of «open».now == m)
-        && (is_recursive mutex.now.seen.kind
-        && (is_wait_role (called «open».now).role && is_some (move_of «open».now))) }
+        && (is_wait_role (called «open».now).role && is_some (move_of «open».now)) }
 {
-    let back = is_wait(open.call.role) && is_moved(open);
-    at_object(open) == m && mutex.kind() == MutexKind::Recursive && back
+    at_object(open) == m && is_wait(open.call.role) && is_moved(open)
 }
 
 // Whether a call at the lock is for a read lock, and its client holds one there already.
@@ -77,7 +82,7 @@ impl<Q: WaitList, A: Allocator + Copy> Body<Q, A> {
     }
 
     // The call that is served at a mutex: the first, if nobody owns it or it is lost, and
-    // otherwise a wait of its owner that has come back.
+    // otherwise a wait of its owner that has come back, if a relock counts there.
     // [XSH pthread_mutex_unlock, pthread_cond_wait]
     fn mutex_candidate(&self, m: ObjectId, mutex: &MutexObj) -> Option<Open>
         requires read { AreTables self.now }
@@ -88,8 +93,11 @@ impl<Q: WaitList, A: Allocator + Copy> Body<Q, A> {
         if may_lock(mutex) {
             return self.first_at(m);
         }
+        if !is_recursive(mutex) {
+            return None;
+        }
         let wait = self.state.open_of(mutex.owner()?)?;
-        if comes_back(m, mutex, &wait) {
+        if comes_back(m, &wait) {
             Some(wait)
         } else {
             None

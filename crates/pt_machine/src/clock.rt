@@ -55,7 +55,7 @@ fn push_moment<Q: WaitList, A: Allocator + Copy>(
 }
 
 // The deadline of an operation, if it is a time.  [XSH pthread_mutex_timedlock, EINVAL]
-fn good_deadline(operation: &Operation<'_>) -> Option<Deadline>
+pub(crate) fn good_deadline(operation: &Operation<'_>) -> Option<Deadline>
     ensures { result ≡ good_of (asked (shown_operation operation.now)) }
 {
     let deadline = match operation {

@@ -23,11 +23,39 @@ use pt_model::Event;
 use pt_model::waiting_call::{is_arrival, is_wait, mutex_of};
 use pt_records::Open;
 use pt_records::calls::reserved_by;
-use pt_state::Forced;
+use pt_state::{Forced, State};
 use pt_types::Refusal;
 use pt_types::views::is_acquired;
 use pt_waitq::WaitList;
 use std::alloc::Allocator;
+
+// Whether the Grant of a call gives an owner to a robust mutex: one is reserved for its Yield.
+fn gives_owner<A: Allocator + Copy>(state: &State<A>, open: &Open) -> bool
+    requires read { AreTables state.now }
+    requires known { In «open».now (opens_of state.now.clients) }
+    ensures { let w = called «open».now in
+        result ≡ gives_owner (past state.now) w (mutex_of w.role w.object) }
+{
+    match mutex_of(&open.call) {
+        Some(m) => state.is_robust_free(m) && is_acquired(state.grant_outcome(open)),
+        None => false,
+    }
+}
+
+/// The entries that are no longer reserved as a call is granted.
+pub(crate) fn used_by_grant<A: Allocator + Copy>(state: &State<A>, open: &Open) -> u64
+    requires read { AreTables state.now }
+    requires known { In «open».now (opens_of state.now.clients) }
+    ensures { let w = called «open».now in
+        result + one_if (gives_owner (past state.now) w (mutex_of w.role w.object))
+        ≡ reserved_for (past state.now) w }
+{
+    if gives_owner(state, open) {
+        reserved_by(Some(*open)) - 1
+    } else {
+        reserved_by(Some(*open))
+    }
+}
 
 impl<Q: WaitList, A: Allocator + Copy> Body<Q, A> {
     /// How many more entries have room.
@@ -85,34 +113,6 @@ impl<Q: WaitList, A: Allocator + Copy> Body<Q, A> {
         self.state.refusal(event)
     }
 
-    // Whether the Grant of a call gives an owner to a robust mutex: one is reserved for its Yield.
-    fn gives_owner(&self, open: &Open) -> bool
-        requires read { AreTables self.now }
-        requires known { In «open».now (opens_of self.now.clients) }
-        ensures { let w = called «open».now in
-            result ≡ gives_owner (past self.now) w (mutex_of w.role w.object) }
-    {
-        match mutex_of(&open.call) {
-            Some(m) => self.state.is_robust_free(m) && is_acquired(self.state.grant_outcome(open)),
-            None => false,
-        }
-    }
-
-    // The entries that are no longer reserved as a call is granted.
-    fn used_by_grant(&self, open: &Open) -> u64
-        requires read { AreTables self.now }
-        requires known { In «open».now (opens_of self.now.clients) }
-        ensures { let w = called «open».now in
-            result + one_if (gives_owner (past self.now) w (mutex_of w.role w.object))
-            ≡ reserved_for (past self.now) w }
-    {
-        if self.gives_owner(open) {
-            reserved_by(Some(*open)) - 1
-        } else {
-            reserved_by(Some(*open))
-        }
-    }
-
     // The entries that are no longer reserved as a full barrier trips, or a call is granted.
     fn used_by_service(&self, open: &Open) -> u64
         requires read { AreTables self.now }
@@ -124,7 +124,7 @@ impl<Q: WaitList, A: Allocator + Copy> Body<Q, A> {
         if is_arrival(open.call.role) {
             3 * self.arrivals(open.call.object) as u64
         } else {
-            self.used_by_grant(open)
+            used_by_grant(&self.state, open)
         }
     }
 

@@ -1,6 +1,7 @@
 //! Answers: their clients, their calls and their outcomes, from any place on.
 
-ghost use Rattle.std.specs.Prelude.{◌<◌, ◌≡◌, length, map, true};
+ghost use Rattle.std.specs.Prelude.{◌<◌, ◌≡◌, length, map, true, Some};
+ghost use Rattle.std.specs.Bool.{OnTrue};
 ghost use Rattle.pt_records.specs.Logs.{logged};
 ghost use Rattle.pt_table.specs.ClientRows.{has_client};
 ghost use Rattle.pt_state.specs.Forcing.{Answers, told_to};
@@ -13,9 +14,19 @@ ghost use Rattle.pt_state.specs.Adds.{past};
 use crate::state::State;
 use pt_records::answers::{Answered, answered_since, outcome_since, recent_outcome, tell};
 use pt_records::calls::close;
-use pt_records::{LoggedAnswers, Open};
+use pt_records::{Caller, LoggedAnswers, Open};
 use pt_types::{ClientId, Outcome};
 use std::alloc::Allocator;
+
+// Whether the client's latest call came at this place.
+fn is_latest(caller: &Caller, place: u64) -> bool
+    ensures { OnTrue result (caller.now.latest ≡ Some place) }
+{
+    match caller.latest {
+        Some(latest) => latest == place,
+        None => false,
+    }
+}
 
 impl<A: Allocator + Copy> State<A> {
     // The call is open no more, and is answered.
@@ -59,6 +70,18 @@ impl<A: Allocator + Copy> State<A> {
         match recent_outcome(&self.answers, place) {
             Some(outcome) => Some(outcome),
             None => self.stored.start().answer_at(place),
+        }
+    }
+
+    /// The answer to the call at a place. The client's row has it if that is its latest call.
+    /// [XSH, the call's page]
+    pub fn outcome_of(&self, c: ClientId, place: u64) -> Option<Outcome>
+        requires { AreTables self.now }
+        ensures { result ≡ said (past self.now) place }
+    {
+        match self.clients.at(c.0) {
+            Some(caller) if is_latest(caller, place) => caller.answer,
+            _ => self.recent_outcome(place),
         }
     }
 

@@ -1,7 +1,8 @@
 //! Room: how many entries are reserved for a call, and which events are refused.
 
-ghost use Rattle.std.specs.Prelude.{None, ◌≡◌, ◌≤◌};
-ghost use Rattle.pt_model.specs.Room.{refusal as refusal_in};
+ghost use Rattle.std.specs.Prelude.{None, Some, is_some, if◌then◌else◌, ◌≡◌, ◌≤◌};
+ghost use Rattle.pt_model.specs.Answers.{open_place};
+ghost use Rattle.pt_model.specs.Room.{refusal as refusal_in, unless_alive};
 ghost use Rattle.pt_model.specs.Room.{refusal_of_stranger as refusal_of_stranger_in};
 ghost use Rattle.pt_state.specs.Reads.{AreTables};
 ghost use Rattle.pt_table.specs.ClientRows.{client_value};
@@ -39,6 +40,19 @@ impl<A: Allocator + Copy> State<A> {
         }
     }
 
+    // Why a client's call is refused: the client doesn't live, or has an open call; or none.
+    fn refusal_of_call(&self, c: ClientId) -> Option<Refusal>
+        requires { AreTables self.now }
+        ensures { let h = past self.now in result
+            ≡ unless_alive h c (if is_some (open_place h c) then Some Refusal.Blocked else None) }
+    {
+        match self.clients.at(c.0) {
+            Some(caller) if caller.open.is_some() => Some(Refusal::Blocked),
+            Some(_) => None,
+            None => Some(self.refusal_of_stranger(c)),
+        }
+    }
+
     /// Why an event is refused for its sender, or at 1,024 living clients; or none.
     pub fn refusal(&self, event: &Event) -> Option<Refusal>
         requires { AreTables self.now }
@@ -46,8 +60,7 @@ impl<A: Allocator + Copy> State<A> {
     {
         match event {
             Event::Join(_) if self.living() >= MOST_CLIENTS => Some(Refusal::Limit),
-            Event::Call(c, _) if !self.is_alive(*c) => Some(self.refusal_of_stranger(*c)),
-            Event::Call(c, _) if self.open_place(*c).is_some() => Some(Refusal::Blocked),
+            Event::Call(c, _) => self.refusal_of_call(*c),
             Event::Death(c) if !self.is_alive(*c) => Some(self.refusal_of_stranger(*c)),
             _ => None,
         }

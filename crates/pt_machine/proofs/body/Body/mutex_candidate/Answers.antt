@@ -5,6 +5,7 @@ use Rattle.pt_state.specs.Adds.{past}
 use Rattle.pt_state.specs.Serving.{called}
 use Rattle.pt_machine.proofs.QueueFirsts.{found-known}
 use Rattle.pt_machine.proofs.CandidateRows.{if_left, if_taken, mutex-served, mutex-idle}
+use Rattle.pt_machine.proofs.CandidateRows.{mutex-plain}
 use Rattle.pt_machine.proofs.body.Body.mutex_candidate.Goals as goal
 
 pub returns-then-comes_back-clause-value : goal.returns-then-comes_back-clause-value
@@ -17,8 +18,9 @@ returns-then-comes_back-clause-value g c =
     if_taken c.comes_back.result (called wait) _ c.if-comes_back.true
     (mutex-served (past s) s.clients s.objects read.follows read.callers read.object_rows.look
     c.args.m c.args.mutex.now c.requires.stored c.in_ok-owner.field-0
-    (sym c.may_lock.ensures ∙ c.if-may_lock.false) (sym c.owner.ensures ∙ c.in_ok-owner.was) wait
-    found c.comes_back.result c.comes_back.ensures)
+    (sym c.may_lock.ensures ∙ c.if-may_lock.false)
+    (sym c.is_recursive.ensures ∙ c.if-not-is_recursive.false)
+    (sym c.owner.ensures ∙ c.in_ok-owner.was) wait found c.comes_back.result c.comes_back.ensures)
 
 pub returns-then-comes_back-clause-known : goal.returns-then-comes_back-clause-known
 returns-then-comes_back-clause-known g c =
@@ -37,8 +39,9 @@ returns-else-comes_back-clause-value g c =
     if_left c.comes_back.result (called wait) _ c.if-comes_back.false
     (mutex-served (past s) s.clients s.objects read.follows read.callers read.object_rows.look
     c.args.m c.args.mutex.now c.requires.stored c.in_ok-owner.field-0
-    (sym c.may_lock.ensures ∙ c.if-may_lock.false) (sym c.owner.ensures ∙ c.in_ok-owner.was) wait
-    found c.comes_back.result c.comes_back.ensures)
+    (sym c.may_lock.ensures ∙ c.if-may_lock.false)
+    (sym c.is_recursive.ensures ∙ c.if-not-is_recursive.false)
+    (sym c.owner.ensures ∙ c.in_ok-owner.was) wait found c.comes_back.result c.comes_back.ensures)
 
 pub returns-in_err-wait-clause-value : goal.returns-in_err-wait-clause-value
 returns-in_err-wait-clause-value g c =
@@ -50,3 +53,12 @@ returns-in_err-wait-clause-value g c =
     ∙ mutex-idle (past s) s.clients s.objects read.follows read.callers read.object_rows.look
     c.args.m c.args.mutex.now c.requires.stored c.in_ok-owner.field-0
     (sym c.may_lock.ensures ∙ c.if-may_lock.false) (sym c.owner.ensures ∙ c.in_ok-owner.was) found
+
+pub returns-then-not-is_recursive-clause-value : goal.returns-then-not-is_recursive-clause-value
+returns-then-not-is_recursive-clause-value g c =
+    let s = c.args.self.now in
+    let read = c.requires.read in
+    mutex-plain (past s) s.clients s.objects read.follows read.callers read.object_rows.look
+    c.args.m c.args.mutex.now c.requires.stored
+    (sym c.may_lock.ensures ∙ c.if-may_lock.false)
+    (sym c.is_recursive.ensures ∙ c.if-not-is_recursive.true)

@@ -1,0 +1,177 @@
+-- GrantedStates: the tables after a call that is granted as it comes, and after its Grant.
+use Rattle.std.proofs.Common.{◌≡◌, ℕ, ◌+◌, ◌-◌, Bool, true, false, not, List, Option, Some, None}
+use Rattle.std.proofs.Common.{is_none, refl, sym, ap, ◌∙◌, subst}
+use Rattle.std.proofs.lemmas.Bool.{and_parts}
+use Rattle.std.specs.Prelude.{IsSome, option_map, unwrap_or}
+use Rattle.pt_types.specs.declared.call.Call.{Call as Asked}
+use Rattle.pt_types.specs.declared.time.Clock.{Clock}
+use Rattle.pt_types.specs.declared.operations.LockKind.{LockKind}
+use Rattle.pt_types.specs.declared.operations.LockKind.TheVariants.{MutexLock, ReadLock, WriteLock}
+use Rattle.pt_rwlock.specs.RwlockState.{RwlockState, is_read as is_read_by, nobody_holds}
+use Rattle.pt_table.specs.ClientRows.{client_value}
+use Rattle.pt_waitq.specs.Queues.{QueuesView}
+use Rattle.pt_model.specs.declared.entry.Entry.{Entry}
+use Rattle.pt_model.specs.declared.entry.Entry.TheVariants.{Call, Grant}
+use Rattle.pt_model.specs.declared.entry.Event.TheVariants as event
+use Rattle.pt_model.specs.declared.waiting_call.WaitingCall.{WaitingCall}
+use Rattle.pt_model.specs.Histories.{History, ◌▷◌, place}
+use Rattle.pt_model.specs.Searches.{In}
+use Rattle.pt_model.specs.WaitingCall.{is_arrival, mutex_of}
+use Rattle.pt_model.specs.Answers.{open_calls}
+use Rattle.pt_model.specs.Forced.{forced, service}
+use Rattle.pt_model.specs.Grants.{grant_outcome}
+use Rattle.pt_model.specs.Room.{need, reserved_for}
+use Rattle.pt_model.specs.Steps.{Step, Follows}
+use Rattle.pt_records.specs.declared.clients.Open.{Open}
+use Rattle.pt_records.specs.Callers.{call_of, open_in}
+use Rattle.pt_records.specs.Counts.{one_if}
+use Rattle.pt_records.specs.Objects.{IsRwlock}
+use Rattle.pt_state.specs.declared.state.State.{State}
+use Rattle.pt_state.specs.Adds.{Adds, IsReadyFor, past}
+use Rattle.pt_state.specs.Serving.{called}
+use Rattle.pt_state.proofs.CallerFinds.{call_of-open}
+use Rattle.pt_state.proofs.GrantLemmas.{read-same}
+use Rattle.pt_touched.specs.Touched.{touched_by}
+use Rattle.pt_machine.specs.declared.planning.Plan.{Plan}
+use Rattle.pt_machine.specs.GrantedAtOnce.{IsFree, IsFreeLock, IsGrantedAtOnce}
+use Rattle.pt_machine.specs.LastTouched.{IsTouched}
+use Rattle.pt_machine.specs.Planned.{IsPlanned}
+use Rattle.pt_machine.specs.Queued.{IsQueued}
+use Rattle.pt_machine.specs.Reserved.{IsReserved, gives_owner}
+use Rattle.pt_machine.specs.Timed.{AreTimed}
+use Rattle.pt_machine.proofs.GrantsAtOnce.{after, comes, comes-open, comes-stays, granted, grants}
+use Rattle.pt_machine.proofs.GrantsAtOnce.{queued, serves, timed}
+use Rattle.pt_machine.proofs.NeedSteps.{reserved-forced, reserved-outer}
+use Rattle.pt_machine.proofs.NeedUses.{uses-grant}
+use Rattle.pt_machine.proofs.QueuedSame.{past-adds}
+
+-- a lock is free if its row says so
+pub free-lock : (h : History) (k : LockKind) (r : ℕ) (x : RwlockState) → Follows h
+    → IsRwlock h r x → IsFreeLock k x → IsFree h k r
+free-lock h MutexLock r x f kept e = absurd e
+free-lock h ReadLock r x f kept e = sym kept.writer ∙ e
+free-lock h WriteLock r x f kept e =
+    let parts = and_parts (is_none x.writer) (not (is_read_by x)) e in
+    (sym kept.writer ∙ nobody x.writer parts.0, sym (read-same h r x f kept) ∙ no parts.1)
+  where
+    nobody : (w : Option ℕ) → is_none w ≡ true → w ≡ None
+    nobody None e = refl
+    nobody (Some c) e = absurd cc
+
+    no : {b : Bool} → not b ≡ true → b ≡ false
+    no {b = false} e = refl
+    no {b = true} e = absurd cc
+
+-- what is found of something is there
+there : {X Y : Type 0} (f : X → Y) (x : Option X) (y : Y) → option_map f x ≡ Some y → IsSome x
+there f None y e = absurd cc
+there f (Some x) y e = refl
+
+module _ {A : Type 0} (old mid : State A) (c : ℕ) (call : Asked)
+    (ready : IsReadyFor old (Call c call None)) (had : IsGrantedAtOnce (past old) c call)
+    (a : Adds old (Call c call None) mid)
+  where
+    -- the history with the call, and the call as it waits
+    abbrev h : History
+    h = past old
+
+    abbrev g : History
+    g = after h ready.read.follows c call had ready.step
+
+    abbrev its : WaitingCall
+    its = comes h ready.read.follows c call had ready.step
+
+    same : past mid ≡ g
+    same = past-adds old mid (Call c call None) a
+
+    -- its client's row has it
+    in_row : (found : Option Open) → found ≡ open_in (client_value mid.clients c)
+        → option_map called found ≡ Some its
+    in_row found e =
+        ap (option_map called) e
+        ∙ (a.read.callers.look.calls c
+        ∙ (ap (λ x. call_of (open_calls x) c) same
+        ∙ call_of-open g (ready.read.follows, ready.step) its
+        (comes-open h ready.read.follows c call had ready.step)))
+
+    pub row-found : (found : Option Open) → found ≡ open_in (client_value mid.clients c)
+        → IsSome found
+    row-found found e = there called found its (in_row found e)
+
+    module _ (o : Open) (found : Some o ≡ open_in (client_value mid.clients c)) where
+      is_it : called o ≡ its
+      is_it = ap (λ x. unwrap_or x its) (in_row (Some o) found)
+
+      -- it is no arrival
+      pub no-arrival : is_arrival (called o).role ≡ false
+      no-arrival =
+          ap (λ (w : WaitingCall). is_arrival w.role) is_it
+          ∙ comes-stays h ready.read.follows c call had ready.step
+
+      -- it is open
+      is_open : In (called o) (open_calls (past mid))
+      is_open =
+          subst (λ (w : WaitingCall). In w (open_calls (past mid))) (sym is_it)
+          (subst (λ (x : History). In its (open_calls x)) (sym same)
+          (comes-open h ready.read.follows c call had ready.step))
+
+      serves_it : service (past mid) (called o) ≡ service g its
+      serves_it = ap (λ x. service x (called o)) same ∙ ap (service g) is_it
+
+      -- it must be granted
+      pub must-follow : forced (past mid) ≡ Some (service (past mid) (called o))
+      must-follow =
+          ap forced same
+          ∙ (serves h ready.read.follows c call had ready.step ∙ ap Some (sym serves_it))
+
+      -- what is used of what was reserved
+      pub uses : IsReadyFor mid (service (past mid) (called o)) → (used : ℕ)
+          → used + one_if (gives_owner (past mid) (called o) (mutex_of (called o).role
+          (called o).object))
+          ≡ reserved_for (past mid) (called o)
+          → need (past mid ▷ service (past mid) (called o)) + used ≡ need (past mid)
+      uses next used e =
+          uses-grant (past mid) (called o) a.read.follows is_open no-arrival next.step used e
+
+      -- as much is reserved after the call as its plan says
+      pub reserves : (plan : Plan) → IsPlanned h (event.Call c call) plan
+          → IsReserved (past mid) plan.need
+      reserves plan planned =
+          reserved-outer old mid (Call c call None) a plan.need
+          (planned.needs ∙ ap (λ e. need (h ▷ e)) had.waits)
+
+      module _ (new : State A) (next : Adds mid (service (past mid) (called o)) new) where
+        abbrev x : History
+        x =
+            granted h ready.read.follows c call had ready.step (grant_outcome g its)
+
+        ends : past new ≡ x
+        ends =
+            past-adds mid new (service (past mid) (called o)) next
+            ∙ (ap (λ e. past mid ▷ e)
+            (serves_it ∙ grants h ready.read.follows c call had ready.step)
+            ∙ ap (λ y. y ▷ Grant (place h) (grant_outcome g its)) same)
+
+        -- the queues stay
+        pub queued-granted : (v : QueuesView) → IsQueued h v → IsQueued (past new) v
+        queued-granted v k =
+            subst (λ (y : History). IsQueued y v) (sym ends)
+            (queued h ready.read.follows c call had ready.step (grant_outcome g its) v k)
+
+        -- the deadlines that are set stay
+        pub timed-granted : (timers : List (ℕ × (Clock × ℕ))) → AreTimed h timers
+            → AreTimed (past new) timers
+        timed-granted timers t =
+            subst (λ (y : History). AreTimed y timers) (sym ends)
+            (λ p. t p
+            ∙ sym (timed h ready.read.follows c call had ready.step (grant_outcome g its) p))
+
+        -- what is touched is what the call touched
+        pub touched-granted : (plan : Plan) → IsPlanned h (event.Call c call) plan
+            → IsTouched (past new) plan.touched (Some c)
+        touched-granted plan planned =
+            subst (λ (y : History). IsTouched y plan.touched (Some c)) (sym ends)
+            (record {
+              touches = planned.touches ∙ ap (touched_by h) had.waits;
+              enters = refl;
+            })

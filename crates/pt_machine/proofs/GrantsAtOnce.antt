@@ -1,0 +1,272 @@
+-- GrantsAtOnce: a call for a free lock for which nobody waits is granted as it comes.
+use Rattle.std.proofs.Common.{◌≡◌, ℕ, ◌<◌, Bool, true, false, cond, not, ◌||◌, ◌==◌, nat_lt, List, []}
+use Rattle.std.proofs.Common.{◌∷◌, ◌++◌, Option, Some, None, is_some, is_none, filter, refl, sym, ap}
+use Rattle.std.proofs.Common.{◌∙◌, ◌+◌, ◌-◌, ◌&&◌, suc, subst, arith, append-nil, eq-eqb, inl}
+use Rattle.std.proofs.lemmas.Bool.Decides.{nat_tests}
+use Rattle.std.proofs.lemmas.List.Elements.{filter-append}
+use Rattle.std.specs.Prelude.{option_map, unwrap_or}
+use Rattle.std.specs.Option.{option_or}
+use Rattle.std.specs.List.{list_any}
+use Rattle.pt_types.specs.declared.call.Call.{Call as Asked}
+use Rattle.pt_types.specs.declared.call.ObjectKind.{ObjectKind}
+use Rattle.pt_types.specs.declared.call.ObjectKind.TheVariants as kind_is
+use Rattle.pt_types.specs.declared.operations.LockKind.{LockKind}
+use Rattle.pt_types.specs.declared.operations.LockKind.TheVariants.{MutexLock, ReadLock, WriteLock}
+use Rattle.pt_types.specs.declared.outcome.Outcome.{Outcome}
+use Rattle.pt_types.specs.MutexTable.{after_release, is_lost}
+use Rattle.pt_types.specs.Times.{deadline_nanos}
+use Rattle.pt_types.specs.Operations.{Operation, class_needed, class_of, clock_of, deadline_of}
+use Rattle.pt_types.specs.Operations.{operation}
+use Rattle.pt_waitq.specs.Members.{Members}
+use Rattle.pt_waitq.specs.Queues.{QueuesView}
+use Rattle.pt_model.specs.declared.entry.Entry.TheVariants.{Call, Grant, Trip}
+use Rattle.pt_model.specs.Searches.{In, least}
+use Rattle.pt_model.specs.Histories.{History, ◌▷◌, place}
+use Rattle.pt_model.specs.Objects.{kind_of}
+use Rattle.pt_model.specs.declared.waiting_call.WaitingCall.{WaitingCall}
+use Rattle.pt_model.specs.WaitingCall.{entered, is_arrival, is_write, role_needed}
+use Rattle.pt_model.specs.Answers.{open_calls}
+use Rattle.pt_model.specs.Moves.{at_object, precedes, waiting_at}
+use Rattle.pt_model.specs.Mutexes.{consistency, count, frees, gained, lost, owner, unlocks_to_wait}
+use Rattle.pt_model.specs.Rwlocks.{reader}
+use Rattle.pt_model.specs.Forced.{forced, forced_expire, forced_yield, service, service_if}
+use Rattle.pt_model.specs.Grants.{grant_outcome}
+use Rattle.pt_model.specs.Steps.{Step, Follows}
+use Rattle.pt_model.proofs.Allowances.{allowed}
+use Rattle.pt_model.proofs.Changes.{left_by}
+use Rattle.pt_model.proofs.Effects.{Allowed, effect, stays}
+use Rattle.pt_model.proofs.Holders.{owner-same}
+use Rattle.pt_model.proofs.Lists.{In-append_right, filter-all}
+use Rattle.pt_model.proofs.Opens.{open-call, open-grant}
+use Rattle.pt_model.proofs.Sound.{Fresh-follows, below_open}
+use Rattle.pt_records.proofs.LockViews.{class-found}
+use Rattle.pt_state.proofs.StepLemmas.{called as known_call}
+use Rattle.pt_touched.specs.Candidates.{candidate, candidate_by, candidate_if, comes_back, entering}
+use Rattle.pt_touched.specs.Candidates.{first_at, if_passes, is_write_if, open_call_if}
+use Rattle.pt_touched.specs.Candidates.{reads_again_at}
+use Rattle.pt_touched.specs.Touched.{goal_of_operation, touched}
+use Rattle.pt_touched.proofs.Candidates.{serves_touched}
+use Rattle.pt_touched.proofs.Unchanged.{reader-same, writer-same}
+use Rattle.pt_machine.specs.GrantedAtOnce.{IsFree, IsGrantedAtOnce}
+use Rattle.pt_machine.specs.Queued.{IsQueued, waiter}
+use Rattle.pt_machine.specs.Timed.{set_at}
+use Rattle.pt_machine.proofs.TimedCalls.{set-left}
+use Rattle.pt_machine.proofs.TimedStates.{unset}
+use Rattle.pt_machine.proofs.TimedSteps.{set-grant, set-new}
+
+-- if none passes, none is left
+filter_none : {X : Type 0} (p : X → Bool) (xs : List X) → list_any p xs ≡ false
+    → filter p xs ≡ []
+filter_none p [] e = refl
+filter_none p (x ∷ xs) e = go (p x) e (filter_none p xs)
+  where
+    go : (b : Bool) → (b || list_any p xs) ≡ false
+        → (list_any p xs ≡ false → filter p xs ≡ [])
+        → cond b (x ∷ filter p xs) (filter p xs) ≡ []
+    go true e ih = absurd cc
+    go false e ih = ih e
+
+module _ (h : History) (f : Follows h) (c : ℕ) (call : Asked) (had : IsGrantedAtOnce h c call)
+    (s : Step h (Call c call None)) where
+  -- after the call
+  abbrev pub after : History
+  after = h ▷ Call c call None
+
+  follows : Follows after
+  follows = (f, s)
+
+  -- the call, as it waits
+  abbrev pub comes : WaitingCall
+  comes =
+      entered h c had.object (role_needed had.kind) (clock_of call) (deadline_of had.how)
+
+  opens : open_calls after ≡ open_calls h ++ comes ∷ []
+  opens =
+      let known = known_call h c call None s in
+      let may = subst (λ (r : Option Outcome). Allowed h c (effect h c call r)) (sym known.told)
+      (allowed h c call) in
+      open-call h c call None (Fresh-follows h f) known.alive may
+      ∙ (ap (λ (d : Operation). open_calls h ++ left_by (stays h c (clock_of call) d)) had.asks
+      ∙ ap (λ o. open_calls h ++ entered h c (unwrap_or o 0) (role_needed had.kind) (clock_of call)
+      (deadline_of had.how) ∷ []) had.found)
+
+  -- it is open
+  pub comes-open : In comes (open_calls after)
+  comes-open =
+      subst (λ (ws : List WaitingCall). In comes ws) (sym opens)
+      (In-append_right comes (open_calls h) (comes ∷ []) (inl refl))
+
+  -- it is no arrival
+  pub comes-stays : is_arrival comes.role ≡ false
+  comes-stays = go had.kind
+    where
+      go : (k : LockKind) → is_arrival (role_needed k) ≡ false
+      go MutexLock = refl
+      go ReadLock = refl
+      go WriteLock = refl
+
+  -- it waits at the lock
+  at : at_object after comes ≡ had.object
+  at = go had.kind
+    where
+      go : (k : LockKind)
+          → at_object after (entered h c had.object (role_needed k) (clock_of call)
+          (deadline_of had.how)) ≡ had.object
+      go MutexLock = refl
+      go ReadLock = refl
+      go WriteLock = refl
+
+  -- and alone
+  abbrev here : WaitingCall → Bool
+  here w = at_object after w == had.object
+
+  waits : waiting_at after had.object ≡ comes ∷ []
+  waits =
+      let there = eq-eqb (at_object after comes) had.object at in
+      ap (filter here) opens
+      ∙ (filter-append here (open_calls h) (comes ∷ [])
+      ∙ (ap (λ ws. ws ++ filter here (comes ∷ [])) (filter_none here (open_calls h) had.alone)
+      ∙ ap (λ b. cond b (comes ∷ []) []) there))
+
+  first : first_at after had.object ≡ Some comes
+  first = ap (least (precedes after)) waits
+
+  -- nobody's lock on it has changed
+  stays_locked : unlocks_to_wait h (operation call) had.object ≡ false
+  stays_locked = ap (λ (d : Operation). unlocks_to_wait h d had.object) had.asks
+
+  counted : (d : ℕ) → count after had.object d ≡ count h had.object d
+  counted d =
+      ap (λ b. gained h had.object d
+      - cond (b && (c == d)) (suc (lost h had.object d)) (lost h had.object d)) stays_locked
+
+  freed : (k : LockKind) → IsFree h k had.object → IsFree after k had.object
+  freed MutexLock e =
+      ap (λ b. is_lost (cond (frees h had.object c b) (after_release (consistency h had.object))
+      (consistency h had.object)) || is_none (owner after had.object)) stays_locked
+      ∙ (ap (λ o. is_lost (consistency h had.object) || is_none o)
+      (owner-same h (Call c call None) had.object f (λ d. ap (nat_lt 0) (counted d)))
+      ∙ e)
+  freed ReadLock e =
+      writer-same h (Call c call None) had.object f (λ d. refl) ∙ e
+  freed WriteLock e = (
+    writer-same h (Call c call None) had.object f (λ d. refl) ∙ e.0,
+    ap is_some (reader-same h (Call c call None) had.object f (λ d. refl)) ∙ e.1,
+  )
+
+  -- so it is the call that is served there
+  no_writer : (b : Bool) → (b && false) ≡ false
+  no_writer true = refl
+  no_writer false = refl
+
+  abbrev again : Option WaitingCall
+  again = if_passes (reads_again_at after had.object) (open_call_if after (entering after))
+
+  candidate_is : candidate after had.object ≡ Some comes
+  candidate_is =
+      go had.kind refl (freed had.kind had.free) (kind_of h had.object)
+      (class-found h f had.name (class_needed had.kind) had.object had.found)
+    where
+      go : (k : LockKind) → had.kind ≡ k → IsFree after k had.object → (o : Option ObjectKind)
+          → option_map class_of o ≡ Some (class_needed k)
+          → candidate_by after had.object o ≡ Some comes
+      go MutexLock e free (Some (kind_is.Mutex q r)) t =
+          ap (λ b. cond b (first_at after had.object) (if_passes (comes_back after had.object)
+          (open_call_if after (owner after had.object)))) free
+          ∙ first
+      go ReadLock e free (Some kind_is.Rwlock) t =
+          let reads : is_write_if (first_at after had.object) ≡ false =
+          ap is_write_if first ∙ ap (λ (x : LockKind). is_write (role_needed x)) e in
+          ap (λ w. cond (is_some w) None (cond (is_some (reader after had.object)
+          && is_write_if (first_at after had.object)) again (first_at after had.object))) free
+          ∙ (ap (λ b. cond (is_some (reader after had.object) && b) again
+          (first_at after had.object)) reads
+          ∙ (ap (λ b. cond b again (first_at after had.object))
+          (no_writer (is_some (reader after had.object)))
+          ∙ first))
+      go WriteLock e free (Some kind_is.Rwlock) t =
+          ap (λ w. cond (is_some w) None (cond (is_some (reader after had.object)
+          && is_write_if (first_at after had.object)) again (first_at after had.object))) free.0
+          ∙ (ap (λ b. cond (b && is_write_if (first_at after had.object)) again
+          (first_at after had.object)) free.1
+          ∙ first)
+      go MutexLock e free None t = absurd cc
+      go ReadLock e free None t = absurd cc
+      go WriteLock e free None t = absurd cc
+      go MutexLock e free (Some kind_is.Rwlock) t = absurd cc
+      go MutexLock e free (Some kind_is.Cond) t = absurd cc
+      go MutexLock e free (Some (kind_is.Barrier n)) t = absurd cc
+      go ReadLock e free (Some (kind_is.Mutex q r)) t = absurd cc
+      go ReadLock e free (Some kind_is.Cond) t = absurd cc
+      go ReadLock e free (Some (kind_is.Barrier n)) t = absurd cc
+      go WriteLock e free (Some (kind_is.Mutex q r)) t = absurd cc
+      go WriteLock e free (Some kind_is.Cond) t = absurd cc
+      go WriteLock e free (Some (kind_is.Barrier n)) t = absurd cc
+
+  -- what is touched is the lock
+  touches : touched after ≡ Some had.object
+  touches =
+      ap (goal_of_operation h) had.asks ∙ ap (λ o. Some (unwrap_or o 0)) had.found
+
+  -- so it must be granted
+  pub serves : forced after ≡ Some (service after comes)
+  serves =
+      ap (λ o. option_or o (option_or (forced_yield after) (forced_expire after)))
+      (serves_touched after follows
+      ∙ ap (service_if after) (ap (candidate_if after) touches ∙ candidate_is))
+
+  -- and is granted
+  pub grants : service after comes ≡ Grant (place h) (grant_outcome after comes)
+  grants =
+      ap (λ b. cond b (Trip comes.object) (Grant comes.place (grant_outcome after comes)))
+      comes-stays
+
+  module _ (x : Outcome) where
+    -- after its Grant
+    abbrev pub granted : History
+    granted = after ▷ Grant (place h) x
+
+    abbrev remains : WaitingCall → Bool
+    remains w = not (w.place == place h)
+
+    -- the open calls are those before it came
+    same_open : open_calls granted ≡ open_calls h
+    same_open =
+        open-grant after (place h) x
+        ∙ (ap (filter remains) opens
+        ∙ (filter-append remains (open_calls h) (comes ∷ [])
+        ∙ (ap (λ ws. ws ++ filter remains (comes ∷ []))
+        (filter-all remains (open_calls h) older)
+        ∙ (ap (λ b. open_calls h ++ cond (not b) (comes ∷ []) [])
+        (eq-eqb (place h) (place h) refl)
+        ∙ append-nil (open_calls h)))))
+      where
+        older : (w : WaitingCall) → In w (open_calls h) → remains w ≡ true
+        older w i =
+            let lt : w.place < place h = (below_open h w (Fresh-follows h f) i).0 in
+            let apart : (w.place == place h) ≡ false = grind (arith, nat_tests) in
+            ap not apart
+
+    -- the queues stay
+    pub queued : (v : QueuesView) → IsQueued h v → IsQueued granted v
+    queued v k =
+        record {
+          members = subst (λ ws. Members (at_object granted) (waiter granted) ws v.queue)
+              (sym same_open) k.members;
+          admits = k.admits;
+          makes = k.makes;
+        }
+
+    -- and so do the deadlines that are set
+    pub timed : (p : ℕ) → set_at granted p ≡ set_at h p
+    timed p =
+        set-grant after (place h) x follows p
+        ∙ (ap (cond (place h == p) None)
+        (set-left h f c call s p
+        ∙ ap (λ d. cond (place h == p) (option_map (λ t. (clock_of call, deadline_nanos t)) d)
+        (set_at h p)) had.untimed)
+        ∙ (twice (place h == p) ∙ unset (set_at h) (place h) (set-new h f) p))
+      where
+        twice : (b : Bool) → cond b None (cond b None (set_at h p)) ≡ cond b None (set_at h p)
+        twice true = refl
+        twice false = refl

@@ -1,0 +1,64 @@
+-- GrantedAtOnce: a call for a lock that is granted as it comes, and its entry with its Grant.
+use Rattle.std.specs.Prelude.{ℕ, ◌≡◌, ◌||◌, true, false, List, Some, None, is_some, is_none}
+use Rattle.pt_types.specs.declared.call.Call.{Call as Asked}
+use Rattle.pt_types.specs.declared.call.How.{How}
+use Rattle.pt_types.specs.declared.operations.LockKind.{LockKind}
+use Rattle.pt_types.specs.declared.operations.LockKind.TheVariants.{MutexLock, ReadLock, WriteLock}
+use Rattle.pt_types.specs.MutexTable.{is_lost}
+use Rattle.pt_types.specs.Operations.{Acquires, class_needed, operation}
+use Rattle.pt_rwlock.specs.RwlockState.{RwlockState, nobody_holds}
+use Rattle.pt_model.specs.declared.entry.Entry.{Entry}
+use Rattle.pt_model.specs.declared.entry.Entry.TheVariants.{Call}
+use Rattle.pt_model.specs.declared.entry.Event.TheVariants as event
+use Rattle.pt_model.specs.Histories.{History}
+use Rattle.pt_model.specs.Objects.{find}
+use Rattle.pt_model.specs.Mutexes.{consistency, owner}
+use Rattle.pt_model.specs.Rwlocks.{reader, writer}
+use Rattle.pt_model.specs.Verdicts.{is_awaited}
+use Rattle.pt_model.specs.Room.{entry_for}
+use Rattle.pt_model.specs.Forced.{forced}
+use Rattle.pt_state.specs.declared.state.State.{State}
+use Rattle.pt_state.specs.Adds.{Adds, IsReadyFor, past}
+use Rattle.pt_machine.specs.Timed.{asked, good_of}
+
+-- nobody's lock keeps a call for this lock from it  [XSH pthread_mutex_lock, pthread_rwlock_rdlock]
+abbrev pub IsFree : History → LockKind → ℕ → Type 0
+IsFree h MutexLock o = (is_lost (consistency h o) || is_none (owner h o)) ≡ true
+IsFree h ReadLock o = writer h o ≡ None
+IsFree h WriteLock o = (writer h o ≡ None) × (is_some (reader h o) ≡ false)
+
+-- nobody's lock keeps a call for a read-write lock from it, by its row
+-- [XSH pthread_rwlock_rdlock, pthread_rwlock_wrlock]
+abbrev pub IsFreeLock : LockKind → RwlockState → Type 0
+IsFreeLock MutexLock x = ⊥
+IsFreeLock ReadLock x = x.writer ≡ None
+IsFreeLock WriteLock x = nobody_holds x ≡ true
+
+-- a call for a lock that is free and for which nobody waits, without a deadline
+-- [XSH pthread_mutex_lock, pthread_rwlock_rdlock, pthread_rwlock_wrlock]
+pub record IsGrantedAtOnce (h : History) (c : ℕ) (call : Asked) : Type 0 where
+  pub name : List ℕ
+  pub kind : LockKind
+  pub how : How
+  pub object : ℕ
+  pub asks : operation call ≡ Acquires name kind how
+  pub waits : entry_for h (event.Call c call) ≡ Call c call None
+  pub untimed : good_of (asked (operation call)) ≡ None
+  pub found : find h name (class_needed kind) ≡ Some object
+  pub free : IsFree h kind object
+  pub alone : is_awaited h object ≡ false
+
+module _ {A : Type 0} where
+  -- once the entry was added, there is room for the one that must follow
+  abbrev pub IsReadyAfter : State A → Entry → Type 0
+  IsReadyAfter old e =
+      (mid : State A) → Adds old e mid → (f : Entry) → forced (past mid) ≡ Some f
+      → IsReadyFor mid f
+
+  -- an entry was added, and the one that must follow it
+  pub record AddsBoth (old : State A) (e : Entry) (new : State A) : Type 0 where
+    pub mid : State A
+    pub first : Adds old e mid
+    pub next : Entry
+    pub follows : forced (past mid) ≡ Some next
+    pub second : Adds mid next new

@@ -1,0 +1,104 @@
+//! Calls for a lock that is free: each is pushed with its Grant, and stands in no queue.
+
+ghost use Rattle.std.specs.Prelude.{IfErr, IsOk, OnErr, OnOk, Some, false, ◌≡◌};
+ghost use Rattle.std.specs.Bool.{OnTrue};
+ghost use Rattle.pt_types.specs.Operations.{class_needed, operation};
+ghost use Rattle.pt_model.specs.declared.entry.Event.TheVariants as event_is;
+ghost use Rattle.pt_model.specs.declared.entry.Entry.TheVariants as entry_is;
+ghost use Rattle.pt_model.specs.Objects.{find};
+ghost use Rattle.pt_state.specs.Adds.{IsReadyFor, Stays, past};
+ghost use Rattle.pt_state.specs.Reads.{AreTables};
+ghost use Rattle.pt_machine.specs.GrantedAtOnce.{AddsBoth, IsFree, IsFreeLock};
+ghost use Rattle.pt_machine.specs.GrantedAtOnce.{IsGrantedAtOnce, IsReadyAfter};
+ghost use Rattle.pt_machine.specs.Memory.{needs_memory};
+ghost use Rattle.pt_machine.specs.Planned.{IsPlanned};
+
+use crate::body::Body;
+use crate::clock::good_deadline;
+use crate::planning::Plan;
+use crate::room::used_by_grant;
+use pt_records::Object;
+use pt_records::mutex::may_lock;
+use pt_rwlock::RwObj;
+use pt_state::State;
+use pt_types::operations::{LockKind, Operation};
+use pt_types::{Call, ClientId, ObjectId, Refusal};
+use pt_waitq::WaitList;
+use std::alloc::Allocator;
+
+// Whether nobody's lock keeps a call for a read-write lock from it.
+// [XSH pthread_rwlock_rdlock, pthread_rwlock_wrlock]
+fn is_free_lock<A: Allocator + Copy>(kind: LockKind, lock: &RwObj<A>) -> bool
+    ensures { OnTrue result (IsFreeLock kind lock.now) }
+{
+    match kind {
+        LockKind::MutexLock => false,
+        LockKind::ReadLock => lock.writer().is_none(),
+        LockKind::WriteLock => lock.is_free(),
+    }
+}
+
+// Whether nobody's lock keeps a call for this lock from it.
+// [XSH pthread_mutex_lock, pthread_rwlock_rdlock, pthread_rwlock_wrlock]
+fn is_free<A: Allocator + Copy>(state: &State<A>, kind: LockKind, o: ObjectId) -> bool
+    requires { AreTables state.now }
+    ensures { OnTrue result (IsFree (past state.now) kind o) }
+{
+    match state.objects.at(o.0) {
+        Some(Object::Mutex(mutex)) => matches!(kind, LockKind::MutexLock) && may_lock(mutex),
+        Some(Object::Rwlock(lock)) => is_free_lock(kind, lock),
+        _ => false,
+    }
+}
+
+impl<Q: WaitList, A: Allocator + Copy> Body<Q, A> {
+    /// Whether a call is one for a lock that is granted as it comes: the lock is free, no call
+    /// waits for it, and the call has no deadline that could pass.
+    /// [XSH pthread_mutex_lock, pthread_rwlock_rdlock, pthread_rwlock_wrlock]
+    pub fn is_granted_at_once(&self, c: ClientId, call: &Call, plan: &Plan<'_>) -> bool
+        requires read { AreTables self.now }
+        requires planned { IsPlanned (past self.now) (event_is.Call c call.now) plan.now }
+        ensures { OnTrue result (IsGrantedAtOnce (past self.now) c call.now) }
+    {
+        let request = plan.request.as_ref().unwrap();
+        match (&request.operation, request.object) {
+            (Operation::Acquires(_, kind, _), Some(o)) => {
+                plan.answer.is_none()
+                    && good_deadline(&request.operation).is_none()
+                    && is_free(&self.state, *kind, o)
+                    && !self.is_awaited(o)
+            }
+            _ => false,
+        }
+    }
+
+    /// The entry of a call that is granted as it comes, and its Grant. ENOMEM if there is no memory
+    /// for its row in a read-write lock: then nothing is pushed.
+    /// [XSH pthread_mutex_lock, pthread_rwlock_rdlock, pthread_rwlock_wrlock]
+    pub fn push_granted_at_once(
+        &mut self,
+        c: ClientId,
+        call: &Call,
+        plan: &Plan<'_>,
+    ) -> Result<(), Refusal>
+        requires ready { IsReadyFor self.old (entry_is.Call c call.now None) }
+        requires next { IsReadyAfter self.old (entry_is.Call c call.now None) }
+        requires granted { IsGrantedAtOnce (past self.old) c call.now }
+        requires planned { IsPlanned (past self.old) (event_is.Call c call.now) plan.now }
+        ensures ok { OnOk result
+            (AddsBoth self.old (entry_is.Call c call.now None) self.new) }
+        ensures err { OnErr result (Stays self.old self.new) }
+        ensures reason { IfErr result (λ refusal. refusal ≡ Refusal.Enomem) }
+        ensures enough { needs_memory (entry_is.Call c call.now None) ≡ false → IsOk result }
+    {
+        self.state
+            .push_left(c, call, plan.request.as_ref().unwrap())?;
+        let open = self.state.open_of(c).unwrap();
+        let used = used_by_grant(&self.state, &open);
+        self.state.push_granted(&open);
+        self.touched = plan.touched;
+        self.entering = Some(c);
+        self.need = plan.need - used;
+        Ok(())
+    }
+}
