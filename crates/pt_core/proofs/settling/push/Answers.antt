@@ -1,6 +1,44 @@
-use Rattle.std.proofs.Common.{◌≡◌, None, sym, subst}
+use Rattle.std.proofs.Common.{◌≡◌, None, sym, ap, ◌∙◌, subst}
+use Rattle.pt_model.specs.declared.entry.Entry.{Entry}
+use Rattle.pt_model.specs.declared.entry.Entry.TheVariants.{Call}
+use Rattle.pt_model.specs.Room.{entry_for}
+use Rattle.pt_state.specs.Adds.{IsReadyFor, past}
+use Rattle.pt_machine.specs.GrantedAtOnce.{AddsBoth, IsReadyAfter}
 use Rattle.pt_core.proofs.WholeLemmas.{ready-outer, ready-after, begins-outer, begins-both}
 use Rattle.pt_core.proofs.settling.push.Goals as goal
+
+pub push_granted_at_once-requires-clause-ready : goal.push_granted_at_once-requires-clause-ready
+push_granted_at_once-requires-clause-ready g c =
+    let s = c.args.body.now in
+    let known : entry_for (past s) c.args.event.now ≡ Call c.in-Call.c c.in-Call.call None =
+    ap (entry_for (past s)) c.in-Call.is ∙ c.if-is_granted_at_once.ensures.waits in
+    subst (λ (e : Entry). IsReadyFor s e) known
+    (ready-outer s c.args.event.now c.requires.open c.requires.accepted)
+
+pub push_granted_at_once-requires-clause-next : goal.push_granted_at_once-requires-clause-next
+push_granted_at_once-requires-clause-next g c =
+    let s = c.args.body.now in
+    let known : entry_for (past s) c.args.event.now ≡ Call c.in-Call.c c.in-Call.call None =
+    ap (entry_for (past s)) c.in-Call.is ∙ c.if-is_granted_at_once.ensures.waits in
+    subst (λ (e : Entry). IsReadyAfter s e) known
+    (ready-after s c.args.event.now c.requires.open c.requires.accepted)
+
+pub returns-in_ok-push_granted_at_once-in-Call-clause-ok :
+    goal.returns-in_ok-push_granted_at_once-in-Call-clause-ok
+returns-in_ok-push_granted_at_once-in-Call-clause-ok g c =
+    let s = c.args.body.now in
+    let new = c.push_granted_at_once.new.self in
+    let known : entry_for (past s) c.args.event.now ≡ Call c.in-Call.c c.in-Call.call None =
+    ap (entry_for (past s)) c.in-Call.is ∙ c.if-is_granted_at_once.ensures.waits in
+    begins-both s c.args.event.now c.requires.open c.requires.accepted new
+    (subst (λ (e : Entry). AddsBoth s e new) (sym known)
+    c.in_ok-push_granted_at_once-in-Call.ensures.ok)
+
+pub returns-in_ok-push_outer-in_default-clause-ok :
+    goal.returns-in_ok-push_outer-in_default-clause-ok
+returns-in_ok-push_outer-in_default-clause-ok g c =
+    begins-outer c.args.body.now c.args.event.now c.requires.open c.requires.accepted
+    c.push_outer.new.self c.in_ok-push_outer-in_default.ensures.ok
 
 pub push_outer-requires-clause-ready : goal.push_outer-requires-clause-ready
 push_outer-requires-clause-ready g c =

@@ -1,7 +1,11 @@
-use Rattle.std.proofs.Common.{sym, ◌∙◌, arith}
+use Rattle.std.proofs.Common.{◌≡◌, ◌+◌, sym, ◌∙◌, arith}
+use Rattle.pt_model.specs.WaitingCall.{mutex_of}
+use Rattle.pt_model.specs.Room.{reserved_for}
+use Rattle.pt_records.specs.Counts.{one_if}
 use Rattle.pt_state.specs.Adds.{past}
 use Rattle.pt_state.specs.Serving.{called}
 use Rattle.pt_state.proofs.ForceCallers.{known-open}
+use Rattle.pt_machine.specs.Reserved.{gives_owner}
 use Rattle.pt_machine.proofs.NeedUses.{arrival-barrier, uses-grant, uses-trip}
 use Rattle.pt_machine.proofs.QueueCounts.{open-most}
 use Rattle.pt_model.proofs.Opens.{stands_at_barrier}
@@ -36,7 +40,9 @@ returns-else-is_arrival g c =
     let s = c.args.self.now in
     let o = c.args.open.now in
     let read = c.requires.read in
+    let used : c.used_by_grant.result
+    + one_if (gives_owner (past s) (called o) (mutex_of (called o).role (called o).object))
+    ≡ reserved_for (past s) (called o) = rw (← c.self.view_is) c.used_by_grant.ensures in
     uses-grant (past s) (called o) read.follows
     (known-open (past s) s.clients read.follows read.callers o c.requires.known)
-    (sym c.is_arrival.ensures ∙ c.if-is_arrival.false) c.requires.step c.used_by_grant.result
-    c.used_by_grant.ensures
+    (sym c.is_arrival.ensures ∙ c.if-is_arrival.false) c.requires.step c.used_by_grant.result used
