@@ -1,11 +1,9 @@
 //! Calls for a lock that is free: each is pushed with its Grant, and stands in no queue.
 
-ghost use Rattle.std.specs.Prelude.{IfErr, IsOk, OnErr, OnOk, Some, false, ◌≡◌};
+ghost use Rattle.std.specs.Prelude.{IfErr, IsOk, None, OnErr, OnOk, false, ◌≡◌};
 ghost use Rattle.std.specs.Bool.{OnTrue};
-ghost use Rattle.pt_types.specs.Operations.{class_needed, operation};
 ghost use Rattle.pt_model.specs.declared.entry.Event.TheVariants as event_is;
 ghost use Rattle.pt_model.specs.declared.entry.Entry.TheVariants as entry_is;
-ghost use Rattle.pt_model.specs.Objects.{find};
 ghost use Rattle.pt_state.specs.Adds.{IsReadyFor, Stays, past};
 ghost use Rattle.pt_state.specs.Reads.{AreTables};
 ghost use Rattle.pt_machine.specs.GrantedAtOnce.{AddsBoth, IsFree, IsFreeLock};
