@@ -35,6 +35,22 @@ impl<T> ClientRow<T> {
     }
 }
 
+// The slot of a number, if it has one. Its row is looked for in the slot of its hint first.
+fn slot_in<T, A: Allocator + Copy>(
+    rows: &Slab<ClientRow<T>, A>,
+    numbers: &Numbers<A>,
+    number: u64,
+) -> Option<usize>
+    requires { IsNumbered (λ row. row.number) rows.now.slots numbers.now.entries most_clients }
+    ensures { result ≡ lookup (nat_eq number) numbers.now.entries }
+{
+    let hint = numbers.hint(number);
+    match rows.get(hint) {
+        Some(row) if row.number == number => Some(hint),
+        _ => numbers.get(number),
+    }
+}
+
 // The slot of a client's row, which is looked for in this slot first.
 fn slot_by<T, A: Allocator + Copy>(
     rows: &Slab<ClientRow<T>, A>,
@@ -99,7 +115,7 @@ impl<T, A: Allocator + Copy> Clients<T, A> {
     pub fn at(&self, number: u64) -> Option<&T>
         ensures { option_copied result ≡ client_value self.now number }
     {
-        match row_in(&self.rows, self.numbers.get(number)) {
+        match row_in(&self.rows, slot_in(&self.rows, &self.numbers, number)) {
             Some(row) => Some(&row.value),
             None => None,
         }
@@ -137,7 +153,7 @@ impl<T, A: Allocator + Copy> Clients<T, A> {
     fn slot_if(&self, number: u64) -> Option<usize>
         ensures { is_some result ≡ has_client self.now number }
     {
-        self.numbers.get(number)
+        slot_in(&self.rows, &self.numbers, number)
     }
 
     // The slot of a client's row, if there is such a client. It is looked for at this index first.

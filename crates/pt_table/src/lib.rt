@@ -10,6 +10,7 @@
 mod chains;
 mod clients;
 mod fault;
+mod hints;
 mod link;
 mod numbers;
 mod objects;

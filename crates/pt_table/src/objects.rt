@@ -113,6 +113,22 @@ fn put_named<T, A: Allocator + Copy>(
     slot
 }
 
+// The slot of a number, if it has one. Its row is looked for in the slot of its hint first.
+fn slot_in<T, A: Allocator + Copy>(
+    rows: &Slab<ObjectRow<T>, A>,
+    numbers: &Numbers<A>,
+    number: u64,
+) -> Option<usize>
+    requires { IsNumbered (λ row. row.number) rows.now.slots numbers.now.entries most_objects }
+    ensures { result ≡ lookup (nat_eq number) numbers.now.entries }
+{
+    let hint = numbers.hint(number);
+    match rows.get(hint) {
+        Some(row) if row.number == number => Some(hint),
+        _ => numbers.get(number),
+    }
+}
+
 // The slot of an object's row, which is looked for in this slot first.
 fn slot_by<T, A: Allocator + Copy>(
     rows: &Slab<ObjectRow<T>, A>,
@@ -163,7 +179,7 @@ impl<T, A: Allocator + Copy> Objects<T, A> {
     pub fn at(&self, number: u64) -> Option<&T>
         ensures { option_copied result ≡ object_value self.now number }
     {
-        match row_in(&self.rows, self.numbers.get(number)) {
+        match row_in(&self.rows, slot_in(&self.rows, &self.numbers, number)) {
             Some(row) => Some(&row.value),
             None => None,
         }
@@ -228,7 +244,7 @@ impl<T, A: Allocator + Copy> Objects<T, A> {
     fn slot_if(&self, number: u64) -> Option<usize>
         ensures { is_some result ≡ has_object self.now number }
     {
-        self.numbers.get(number)
+        slot_in(&self.rows, &self.numbers, number)
     }
 
     // The value of an object, whose row is looked for in this slot first.
@@ -256,7 +272,7 @@ impl<T, A: Allocator + Copy> Objects<T, A> {
 
     // The slot of an object's row, or any if there is no such object.
     pub(crate) fn slot_near(&self, number: u64) -> usize {
-        match self.numbers.get(number) {
+        match self.slot_if(number) {
             Some(slot) => slot,
             None => 0,
         }
@@ -275,7 +291,7 @@ impl<T, A: Allocator + Copy> Objects<T, A> {
     pub(crate) fn link_of(&self, number: u64) -> Option<Link>
         ensures { result ≡ link_of self.now number }
     {
-        match row_in(&self.rows, self.numbers.get(number)) {
+        match row_in(&self.rows, slot_in(&self.rows, &self.numbers, number)) {
             Some(row) => Some(row.link),
             None => None,
         }

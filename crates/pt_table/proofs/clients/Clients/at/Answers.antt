@@ -7,10 +7,10 @@ pub returns-in-Some : goal.returns-in-Some
 returns-in-Some g c =
     ap (option_map (λ row. row.value))
     (found_at c.self.invariant c.args.self.now c.self.view_is c.args.number _ _
-    c.get.ensures.value c.in-Some.ensures)
+    c.slot_in.ensures c.in-Some.ensures)
 
 pub returns-in-None : goal.returns-in-None
 returns-in-None g c =
     ap (option_map (λ row. row.value))
     (found_at c.self.invariant c.args.self.now c.self.view_is c.args.number _ _
-    c.get.ensures.value c.in-None.ensures)
+    c.slot_in.ensures c.in-None.ensures)

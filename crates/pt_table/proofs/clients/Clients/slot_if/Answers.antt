@@ -4,5 +4,5 @@ use Rattle.pt_table.proofs.clients.Clients.slot_if.Goals as goal
 
 pub returns : goal.returns
 returns g c =
-    ap is_some c.get.ensures.value
+    ap is_some c.slot_in.ensures
     ∙ slot_if_row c.self.invariant c.args.self.now c.self.view_is c.args.number
