@@ -30,11 +30,9 @@ impl<A: Allocator + Copy> Hints<A> {
     }
 
     /// The slot in which the row with a key is looked for first.
-    pub(crate) fn get(&self, key: u64) -> usize {
-        match self.slots.get(self.index_of(key)) {
-            Some(slot) => *slot as usize,
-            None => 0,
-        }
+    pub(crate) fn get(&self, key: u64) -> Option<usize> {
+        let slot = self.slots.get(self.index_of(key))?;
+        Some(*slot as usize)
     }
 
     /// Notes the slot of the row that was added last with a key.

@@ -217,7 +217,7 @@ impl<A: Allocator + Copy> Numbers<A> {
     }
 
     /// The slot in which the row of a number is looked for first. It may be another's.
-    pub(crate) fn hint(&self, number: u64) -> usize {
+    pub(crate) fn hint(&self, number: u64) -> Option<usize> {
         self.hints.get(number)
     }
 

@@ -1,5 +1,5 @@
 ghost use Rattle.std.specs.Prelude.{◌≡◌, ◌↔◌, ◌≤◌, ◌<◌, ◌++◌, [], ◌∷◌, Some, None, IsSome, IfSome};
-ghost use Rattle.std.specs.Prelude.{IfErr, OnOk, OnErr, IsTrue, is_some, nat_eq, length, slice_get};
+ghost use Rattle.std.specs.Prelude.{IfErr, OnOk, OnErr, OnSome, IsTrue, is_some, nat_eq, length, slice_get};
 ghost use Rattle.std.specs.Option.{option_map, option_copied, option_copied_mut};
 ghost use Rattle.std.specs.Borrow.{sem};
 ghost use Rattle.std.specs.Map.{lookup};
@@ -11,13 +11,14 @@ ghost use Rattle.pt_table.specs.Faults.{IsFault};
 ghost use Rattle.pt_table.specs.ObjectRows.{object_at, object_value, link_of, has_object};
 ghost use Rattle.pt_table.specs.ObjectRows.{number_of, is_taken, nth_number, nth_value, and_object};
 ghost use Rattle.pt_table.specs.ObjectRows.{with_link, without_object, IsFullFor};
-ghost use Rattle.pt_table.specs.Slots.{row_in_slot, HasRow, IsNumbered, SameBut};
+ghost use Rattle.pt_table.specs.Slots.{row_in_any, row_in_slot, HasRow, IsNumbered};
+ghost use Rattle.pt_table.specs.Slots.{SameBut};
 ghost use Rattle.pt_table.specs.NameSlots.{IsForgotten};
 
 use crate::fault::TableFault;
 use crate::link::Link;
 use crate::numbers::Numbers;
-use crate::rows::{make_room, nth_row, put, row_in, slot_of, take_out};
+use crate::rows::{make_room, nth_row, put, row_by_number, row_in, slot_of, take_out};
 use indexmap::IndexMap;
 use pt_types::{MOST_OBJECTS, Name};
 use slab::Slab;
@@ -113,19 +114,35 @@ fn put_named<T, A: Allocator + Copy>(
     slot
 }
 
-// The slot of a number, if it has one. Its row is looked for in the slot of its hint first.
-fn slot_in<T, A: Allocator + Copy>(
+// The slot of a number's row, if the number's hint is right.
+fn slot_by_hint<T, A: Allocator + Copy>(
     rows: &Slab<ObjectRow<T>, A>,
     numbers: &Numbers<A>,
     number: u64,
 ) -> Option<usize>
     requires { IsNumbered (λ row. row.number) rows.now.slots numbers.now.entries most_objects }
-    ensures { result ≡ lookup (nat_eq number) numbers.now.entries }
+    ensures { IfSome result (λ slot. lookup (nat_eq number) numbers.now.entries ≡ Some slot) }
 {
-    let hint = numbers.hint(number);
+    let hint = numbers.hint(number)?;
     match rows.get(hint) {
         Some(row) if row.number == number => Some(hint),
-        _ => numbers.get(number),
+        _ => None,
+    }
+}
+
+// The row of a number, which is looked for by the number's hint first.
+fn row_of<'a, T, A: Allocator + Copy>(
+    rows: &'a Slab<ObjectRow<T>, A>,
+    numbers: &Numbers<A>,
+    number: u64,
+) -> Option<&'a ObjectRow<T>>
+    requires { IsNumbered (λ row. row.number) rows.now.slots numbers.now.entries most_objects }
+    ensures { option_copied result
+        ≡ row_in_any rows.now.slots (lookup (nat_eq number) numbers.now.entries) }
+{
+    match slot_by_hint(rows, numbers, number) {
+        Some(slot) => rows.get(slot),
+        None => row_by_number(rows, numbers, number),
     }
 }
 
@@ -179,7 +196,7 @@ impl<T, A: Allocator + Copy> Objects<T, A> {
     pub fn at(&self, number: u64) -> Option<&T>
         ensures { option_copied result ≡ object_value self.now number }
     {
-        match row_in(&self.rows, slot_in(&self.rows, &self.numbers, number)) {
+        match row_of(&self.rows, &self.numbers, number) {
             Some(row) => Some(&row.value),
             None => None,
         }
@@ -244,7 +261,10 @@ impl<T, A: Allocator + Copy> Objects<T, A> {
     fn slot_if(&self, number: u64) -> Option<usize>
         ensures { is_some result ≡ has_object self.now number }
     {
-        slot_in(&self.rows, &self.numbers, number)
+        match slot_by_hint(&self.rows, &self.numbers, number) {
+            Some(slot) => Some(slot),
+            None => self.numbers.get(number),
+        }
     }
 
     // The value of an object, whose row is looked for in this slot first.
@@ -259,8 +279,10 @@ impl<T, A: Allocator + Copy> Objects<T, A> {
 
     ghost use Rattle.pt_table.specs.ObjectLends.{lends_if_at};
 
-    /// The value of the object with this number, to be changed.
-    pub fn at_mut(&mut self, number: u64) -> Option<&mut T>
+    // The value of an object whose number's hint is of no use.
+    #[cold]
+    #[inline(never)]
+    fn at_mut_by_number(&mut self, number: u64) -> Option<&mut T>
         ensures* lends { sem 𝓛 (lends_if_at T.row A.row A.Allocator self.entry number result) }
         ensures value { option_copied_mut result ≡ object_value self.old number }
     {
@@ -270,6 +292,23 @@ impl<T, A: Allocator + Copy> Objects<T, A> {
         }
     }
 
+    // The slot of an object's row, if its number's hint is right.
+    fn hinted(&self, number: u64) -> Option<usize>
+        ensures { OnSome result (IsSome (object_at self.now number)) }
+    {
+        slot_by_hint(&self.rows, &self.numbers, number)
+    }
+
+    /// The value of the object with this number, to be changed.
+    pub fn at_mut(&mut self, number: u64) -> Option<&mut T>
+        ensures* lends { sem 𝓛 (lends_if_at T.row A.row A.Allocator self.entry number result) }
+        ensures value { option_copied_mut result ≡ object_value self.old number }
+    {
+        match self.hinted(number) {
+            Some(slot) => Some(self.value_mut(slot, number)),
+            None => self.at_mut_by_number(number),
+        }
+    }
     // The slot of an object's row, or any if there is no such object.
     pub(crate) fn slot_near(&self, number: u64) -> usize {
         match self.slot_if(number) {
@@ -291,7 +330,7 @@ impl<T, A: Allocator + Copy> Objects<T, A> {
     pub(crate) fn link_of(&self, number: u64) -> Option<Link>
         ensures { result ≡ link_of self.now number }
     {
-        match row_in(&self.rows, slot_in(&self.rows, &self.numbers, number)) {
+        match row_of(&self.rows, &self.numbers, number) {
             Some(row) => Some(row.link),
             None => None,
         }
