@@ -12,6 +12,7 @@ mod clients;
 mod fault;
 mod hints;
 mod link;
+mod names;
 mod numbers;
 mod objects;
 mod rows;

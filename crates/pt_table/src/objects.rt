@@ -4,7 +4,6 @@ ghost use Rattle.std.specs.Option.{option_map, option_copied, option_copied_mut}
 ghost use Rattle.std.specs.Borrow.{sem};
 ghost use Rattle.std.specs.Map.{lookup};
 ghost use Rattle.slab.specs.Slab.{HasRoomFor};
-ghost use Rattle.indexmap.specs.IndexMap.{spare};
 ghost use Rattle.pt_types.specs.Limits.{most_objects};
 ghost use Rattle.pt_types.specs.Names.{same_name};
 ghost use Rattle.pt_table.specs.Faults.{IsFault};
@@ -13,17 +12,16 @@ ghost use Rattle.pt_table.specs.ObjectRows.{number_of, is_taken, nth_number, nth
 ghost use Rattle.pt_table.specs.ObjectRows.{with_link, without_object, IsFullFor};
 ghost use Rattle.pt_table.specs.Slots.{row_in_any, row_in_slot, HasRow, IsNumbered};
 ghost use Rattle.pt_table.specs.Slots.{SameBut};
-ghost use Rattle.pt_table.specs.NameSlots.{IsForgotten};
+ghost use Rattle.pt_table.specs.NameSlots.{IsNamed};
 
 use crate::fault::TableFault;
 use crate::link::Link;
+use crate::names::Names;
 use crate::numbers::Numbers;
 use crate::rows::{make_room, nth_row, put, row_by_number, row_in, slot_of, take_out};
-use indexmap::IndexMap;
 use pt_types::{MOST_OBJECTS, Name};
 use slab::Slab;
 use std::alloc::{AllocError, Allocator, Global};
-use std::hash::{BuildHasherDefault, FoldHasher};
 use std::marker::Model;
 
 /// A row of the table of objects, as its contracts see it.
@@ -45,9 +43,6 @@ impl<T> ObjectRow<T> {
         &mut self.value
     }
 }
-
-// The slot of each name.
-type Names<A> = IndexMap<Name, usize, BuildHasherDefault<FoldHasher>, A>;
 
 /// The objects, each found by its number and by its name.
 ///
@@ -84,10 +79,10 @@ fn make_room_named<T, A: Allocator + Copy>(
     ensures names { names.new.entries ≡ names.old.entries }
     ensures row_room { OnOk result (HasRoomFor rows.new 1) }
     ensures number_room { OnOk result (0 < numbers.new.room) }
-    ensures name_room { OnOk result (0 < spare names.new) }
+    ensures name_room { OnOk result (0 < names.new.room) }
 {
     make_room(rows, numbers)?;
-    names.reserve(1)
+    names.reserve_one()
 }
 
 // Puts a row with a new number and a new name in, if there is room, and returns its slot.
@@ -99,7 +94,7 @@ fn put_named<T, A: Allocator + Copy>(
 ) -> usize
     requires row_room { HasRoomFor rows.old 1 }
     requires number_room { 0 < numbers.old.room }
-    requires name_room { 0 < spare names.old }
+    requires name_room { 0 < names.old.room }
     requires number_new { lookup (nat_eq row.number) numbers.old.entries ≡ None }
     requires name_new { lookup (same_name row.name) names.old.entries ≡ None }
     ensures vacant { row_in_slot rows.old.slots result ≡ None }
@@ -110,7 +105,7 @@ fn put_named<T, A: Allocator + Copy>(
 {
     let name = row.name.copied();
     let slot = put(rows, numbers, row.number, row);
-    names.insert(name, slot).unwrap();
+    names.insert(name, slot);
     slot
 }
 
@@ -146,6 +141,52 @@ fn row_of<'a, T, A: Allocator + Copy>(
     }
 }
 
+// The slot of a name's row, if the name's hint is right.
+fn slot_by_name_hint<T, A: Allocator + Copy>(
+    rows: &Slab<ObjectRow<T>, A>,
+    names: &Names<A>,
+    name: &Name,
+) -> Option<usize>
+    requires { IsNamed rows.now.slots names.now.entries }
+    ensures { IfSome result (λ slot. lookup (same_name name.now) names.now.entries ≡ Some slot) }
+{
+    let hint = names.hint(name)?;
+    match rows.get(hint) {
+        Some(row) if row.name == *name => Some(hint),
+        _ => None,
+    }
+}
+
+// The row of a name whose hint is of no use.
+#[cold]
+#[inline(never)]
+fn row_by_name<'a, T, A: Allocator + Copy>(
+    rows: &'a Slab<ObjectRow<T>, A>,
+    names: &Names<A>,
+    name: &Name,
+) -> Option<&'a ObjectRow<T>>
+    ensures { option_copied result
+        ≡ row_in_any rows.now.slots (lookup (same_name name.now) names.now.entries) }
+{
+    row_in(rows, names.get(name))
+}
+
+// The row of a name, which is looked for by the name's hint first.
+fn row_named<'a, T, A: Allocator + Copy>(
+    rows: &'a Slab<ObjectRow<T>, A>,
+    names: &Names<A>,
+    name: &Name,
+) -> Option<&'a ObjectRow<T>>
+    requires { IsNamed rows.now.slots names.now.entries }
+    ensures { option_copied result
+        ≡ row_in_any rows.now.slots (lookup (same_name name.now) names.now.entries) }
+{
+    match slot_by_name_hint(rows, names, name) {
+        Some(slot) => rows.get(slot),
+        None => row_by_name(rows, names, name),
+    }
+}
+
 // The slot of an object's row, which is looked for in this slot first.
 fn slot_by<T, A: Allocator + Copy>(
     rows: &Slab<ObjectRow<T>, A>,
@@ -165,13 +206,6 @@ fn slot_by<T, A: Allocator + Copy>(
     }
 }
 
-// Takes a name out.
-fn forget<A: Allocator + Copy>(names: &mut Names<A>, name: &Name)
-    ensures { IsForgotten names.old.entries name.now names.new.entries }
-{
-    let _ = names.swap_remove(name);
-}
-
 impl<T, A: Allocator + Copy> Objects<T, A> {
     /// A table with no object. It takes no memory.
     pub fn new(alloc: A) -> Self
@@ -180,7 +214,7 @@ impl<T, A: Allocator + Copy> Objects<T, A> {
         Objects {
             rows: Slab::new(alloc),
             numbers: Numbers::new(alloc),
-            names: IndexMap::new(alloc),
+            names: Names::new(alloc),
         }
     }
 
@@ -206,7 +240,7 @@ impl<T, A: Allocator + Copy> Objects<T, A> {
     pub fn find(&self, name: &Name) -> Option<u64>
         ensures { result ≡ number_of self.now name.now }
     {
-        match row_in(&self.rows, self.names.get(name).copied()) {
+        match row_named(&self.rows, &self.names, name) {
             Some(row) => Some(row.number),
             None => None,
         }
@@ -217,7 +251,7 @@ impl<T, A: Allocator + Copy> Objects<T, A> {
         ensures number { option_map (λ p. p.0) result ≡ number_of self.now name.now }
         ensures value { IfSome result (λ p. object_value self.now p.0 ≡ Some p.1.now) }
     {
-        match row_in(&self.rows, self.names.get(name).copied()) {
+        match row_named(&self.rows, &self.names, name) {
             Some(row) => Some((row.number, &row.value)),
             None => None,
         }
@@ -351,7 +385,7 @@ impl<T, A: Allocator + Copy> Objects<T, A> {
         ensures rows { self.new ≡ without_object self.old number }
     {
         let row = take_out(&mut self.rows, &mut self.numbers, number)?;
-        forget(&mut self.names, &row.name);
+        self.names.forget(&row.name);
         let ObjectRow {
             number: _,
             name: _,
