@@ -14,6 +14,7 @@ mod hints;
 mod link;
 mod names;
 mod numbers;
+mod object_slots;
 mod objects;
 mod rows;
 mod sorting;

@@ -271,10 +271,9 @@ impl<A: Allocator + Copy> Numbers<A> {
         ensures kept { IfNone result (self.new.entries ≡ self.old.entries) }
         ensures left { OnSome result (self.new.entries ≡ without_number self.old.entries number) }
     {
-        let slot = self.get(number)?;
+        let slot = self.slots.swap_remove(&number)?;
         strike(&mut self.order, number);
         self.struck = pack_if_sparse(&mut self.order, self.struck + 1);
-        let _ = self.slots.swap_remove(&number);
         Some(slot)
     }
 

@@ -1,6 +1,6 @@
 use Rattle.std.proofs.Common.{◌∙◌, ap, sym, Some}
 use Rattle.std.specs.Option.{option_map}
-use Rattle.pt_table.proofs.objects.slot_by_hint.Goals as goal
+use Rattle.pt_table.proofs.object_slots.slot_by_hint.Goals as goal
 
 pub returns-in-Some : goal.returns-in-Some
 returns-in-Some g c =

@@ -1,6 +1,6 @@
 use Rattle.std.proofs.Common.{◌∙◌, ap, sym}
 use Rattle.pt_table.specs.Slots.{row_in_any}
-use Rattle.pt_table.proofs.objects.row_of.Goals as goal
+use Rattle.pt_table.proofs.object_slots.row_named.Goals as goal
 
 pub returns-in-Some : goal.returns-in-Some
 returns-in-Some g c =
