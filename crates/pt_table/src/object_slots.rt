@@ -64,10 +64,10 @@ fn slot_by_name_hint<T, A: Allocator + Copy>(
     }
 }
 
-// The row of a name whose hint is of no use.
+// The row of a name, which is looked for by the map alone.
 #[cold]
 #[inline(never)]
-fn row_by_name<'a, T, A: Allocator + Copy>(
+pub(crate) fn row_by_name<'a, T, A: Allocator + Copy>(
     rows: &'a Slab<ObjectRow<T>, A>,
     names: &Names<A>,
     name: &Name,

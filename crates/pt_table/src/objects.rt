@@ -17,7 +17,7 @@ use crate::fault::TableFault;
 use crate::link::Link;
 use crate::names::Names;
 use crate::numbers::Numbers;
-use crate::object_slots::{row_named, row_of, slot_by, slot_by_hint};
+use crate::object_slots::{row_by_name, row_named, row_of, slot_by, slot_by_hint};
 use crate::rows::{make_room, nth_row, put, take_out};
 use pt_types::{MOST_OBJECTS, Name};
 use slab::Slab;
@@ -143,7 +143,7 @@ impl<T, A: Allocator + Copy> Objects<T, A> {
     pub fn find(&self, name: &Name) -> Option<u64>
         ensures { result ≡ number_of self.now name.now }
     {
-        match row_named(&self.rows, &self.names, name) {
+        match row_by_name(&self.rows, &self.names, name) {
             Some(row) => Some(row.number),
             None => None,
         }
@@ -180,10 +180,11 @@ impl<T, A: Allocator + Copy> Objects<T, A> {
         nth_row(&self.rows, &self.numbers, index)
     }
 
+    // Who asks expects that there is none, so no hint is of use.
     fn has(&self, number: u64) -> bool
         ensures { result ≡ has_object self.now number }
     {
-        self.at(number).is_some()
+        self.numbers.get(number).is_some()
     }
 
     fn is_taken(&self, number: u64, name: &Name) -> bool
