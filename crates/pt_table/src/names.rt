@@ -15,9 +15,9 @@ use std::marker::Model;
 /// The slot of each name.
 type NameMap<A> = IndexMap<Name, usize, BuildHasherDefault<FoldHasher>, A>;
 
-/// The product of four bytes and this has, from bit 24 on, about the decimal number whose digits
-/// they are.
-const DIGITS: u64 = 1 + (10 << 8) + (100 << 16) + (1000 << 24);
+/// How far names that differ in their length alone lie apart, so that as many may end in
+/// consecutive numbers.
+const APART: u64 = 1237;
 
 /// The names, each with the slot of its row.
 ///
@@ -37,22 +37,24 @@ impl<A: Allocator + Copy> Model for Names<A> {
     ghost view = { λ n. record { entries = n.slots.entries; room = spare n.slots } };
 }
 
-// The key of a name of fewer than four bytes.
-fn short_key(bytes: &[u8]) -> u64 {
-    let mut key = 0u64;
+// The sum of these bytes, each times the power of ten that a digit in its place stands for.
+#[inline(always)]
+fn as_digits(bytes: &[u8]) -> u64 {
+    let mut sum = 0u64;
     for byte in bytes {
-        key = key.wrapping_mul(10).wrapping_add(*byte as u64);
+        sum = sum.wrapping_mul(10).wrapping_add(*byte as u64);
     }
-    key
+    sum
 }
 
-// The key of a name among the hints. Names that end in consecutive numbers have different keys.
+// The key of a name among the hints. Names that end in consecutive numbers have consecutive keys.
 fn key_of(name: &Name) -> u64 {
     let bytes = name.as_bytes();
-    match bytes.last_chunk::<4>() {
-        Some(last) => (u32::from_le_bytes(*last) as u64).wrapping_mul(DIGITS) >> 24,
-        None => short_key(bytes),
-    }
+    let end = match bytes.last_chunk::<4>() {
+        Some(last) => as_digits(last),
+        None => as_digits(bytes),
+    };
+    end.wrapping_add(APART.wrapping_mul(bytes.len() as u64))
 }
 
 // Notes the slot of each name.
