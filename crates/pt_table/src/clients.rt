@@ -157,23 +157,19 @@ impl<T, A: Allocator + Copy> Clients<T, A> {
         nth_row(&self.rows, &self.numbers, index)
     }
 
-    // Who asks expects that there is none, so no hint is of use.
     fn has(&self, number: u64) -> bool
         ensures { result ≡ has_client self.now number }
     {
-        self.numbers.get(number).is_some()
+        self.slot_if(number).is_some()
     }
 
     ghost use Rattle.pt_table.specs.ClientLends.{lends_at};
 
-    // The slot of a client's row, if there is such a client.
+    // The slot of a client's row, if there is such a client, found with no hint.
     fn slot_if(&self, number: u64) -> Option<usize>
         ensures { is_some result ≡ has_client self.now number }
     {
-        match slot_by_hint(&self.rows, &self.numbers, number) {
-            Some(slot) => Some(slot),
-            None => self.numbers.get(number),
-        }
+        self.numbers.get(number)
     }
 
     // The slot of a client's row, if there is such a client. It is looked for at this index first.

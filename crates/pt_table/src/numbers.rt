@@ -18,9 +18,8 @@ type Listed = (u64, Option<usize>);
 
 /// The numbers in the order in which they were added, each with the slot of its row.
 ///
-/// A number's row is first looked for in the slot that its hint gives, if the rows are at hand. Else
-/// numbers that follow one another are found by their distance from the first, and any other by its
-/// hash.
+/// A number's row is first looked for in the slot that its hint gives. Else numbers that follow one
+/// another are found by their distance from the first, and any other by its hash.
 ///
 /// A number that is taken out is struck out in the order, and those that are struck out leave it
 /// once they are more than the others: to move all entries after each one that is taken out would

@@ -180,11 +180,10 @@ impl<T, A: Allocator + Copy> Objects<T, A> {
         nth_row(&self.rows, &self.numbers, index)
     }
 
-    // Who asks expects that there is none, so no hint is of use.
     fn has(&self, number: u64) -> bool
         ensures { result ≡ has_object self.now number }
     {
-        self.numbers.get(number).is_some()
+        self.slot_if(number).is_some()
     }
 
     fn is_taken(&self, number: u64, name: &Name) -> bool
@@ -195,14 +194,11 @@ impl<T, A: Allocator + Copy> Objects<T, A> {
 
     ghost use Rattle.pt_table.specs.ObjectLends.{lends_at};
 
-    // The slot of an object's row, if there is such an object.
+    // The slot of an object's row, if there is such an object, found with no hint.
     fn slot_if(&self, number: u64) -> Option<usize>
         ensures { is_some result ≡ has_object self.now number }
     {
-        match slot_by_hint(&self.rows, &self.numbers, number) {
-            Some(slot) => Some(slot),
-            None => self.numbers.get(number),
-        }
+        self.numbers.get(number)
     }
 
     // The value of an object, whose row is looked for in this slot first.
@@ -249,9 +245,9 @@ impl<T, A: Allocator + Copy> Objects<T, A> {
     }
     // The slot of an object's row, or any if there is no such object.
     pub(crate) fn slot_near(&self, number: u64) -> usize {
-        match self.slot_if(number) {
+        match self.hinted(number) {
             Some(slot) => slot,
-            None => 0,
+            None => self.slot_if(number).unwrap_or(0),
         }
     }
 
