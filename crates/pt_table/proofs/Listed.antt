@@ -2,7 +2,7 @@
 use Rattle.std.proofs.Common.{◌≡◌, ◌<◌, ◌+◌, ◌∙◌, ℕ, zero, suc, Bool, true, false, cond, nat_eq}
 use Rattle.std.proofs.Common.{List, [], ◌∷◌, length, refl, ap, sym, subst, arith, Option, None}
 use Rattle.std.proofs.Common.{Some, add-one, is_some, IsSome}
-use Rattle.std.specs.Prelude.{slice_get}
+use Rattle.std.specs.Prelude.{slice_get, IfSome, OnSome}
 use Rattle.std.specs.List.{cons_option}
 use Rattle.std.specs.Option.{option_map, option_and_then}
 use Rattle.std.specs.Map.{lookup}
@@ -168,6 +168,13 @@ module _ {R : Type 0} {number : R → ℕ} {slots : List (Option R)} {numbers : 
             let there = listed_lookup number slots numbers n s h.listed e in
             let r = row_of_number number (row_in_slot slots s) n there in
             sym (ap is_some (row_there n s r.0 e r.1))
+
+    -- a number whose hint is right has a row
+    pub hinted_row : (n : ℕ) (hint : Option ℕ)
+        → IfSome hint (λ slot. lookup (nat_eq n) numbers ≡ Some slot)
+        → OnSome hint (IsSome (row_at number rows n))
+    hinted_row n None right = tt
+    hinted_row n (Some slot) right = sym (slot_if_row n) ∙ ap is_some right
 
     -- the row in a slot is the one of its number
     pub row_of_any : (slot : Option ℕ) (row : R) → Some row ≡ row_in_any slots slot

@@ -23,7 +23,7 @@ use Rattle.pt_table.proofs.Removed.{kept, other_slot}
 same-true : (t u : List ℕ) → t ≡ u → same_name t u ≡ true
 same-true t u e = (bytes_eq-Decides t u).1 e
 
-true-same : (t u : List ℕ) → same_name t u ≡ true → t ≡ u
+pub true-same : (t u : List ℕ) → same_name t u ≡ true → t ≡ u
 true-same t u e = (bytes_eq-Decides t u).0 e
 
 or_left : (a b : Bool) → (a || b) ≡ false → a ≡ false

@@ -12,6 +12,11 @@ IsForgotten old name new =
     (t : List ℕ) → lookup (same_name t) new
     ≡ (if same_name name t then None else lookup (same_name t) old)
 
+-- the names with their slots, and for how many more there is room
+pub record Naming : Type 0 where
+  pub entries : List (List ℕ × ℕ)
+  pub room : ℕ
+
 module _ {T : Type 0} where
   -- the name of the row in a slot
   abbrev pub name_in : List (Option (ObjectRow T)) → ℕ → Option (List ℕ)

@@ -1,17 +1,17 @@
-ghost use Rattle.std.specs.Prelude.{◌≡◌, ◌↔◌, ◌≤◌, [], Some, IsSome, IfErr, OnOk, OnErr, IsTrue};
-ghost use Rattle.std.specs.Prelude.{is_some, length, nat_eq, slice_get};
+ghost use Rattle.std.specs.Prelude.{◌≡◌, ◌↔◌, ◌≤◌, [], Some, IsSome, IfErr, IfSome, OnOk, OnErr};
+ghost use Rattle.std.specs.Prelude.{OnSome, IsTrue, is_some, length, nat_eq, slice_get};
 ghost use Rattle.std.specs.Option.{option_map, option_copied, option_copied_mut};
 ghost use Rattle.std.specs.Borrow.{sem};
 ghost use Rattle.pt_types.specs.Limits.{most_clients};
 ghost use Rattle.pt_table.specs.ClientRows.{client_at, client_value, has_client, nth_number};
 ghost use Rattle.pt_table.specs.ClientRows.{nth_value, and_client, without_client, IsFullFor};
 ghost use Rattle.pt_table.specs.Faults.{IsFault};
-ghost use Rattle.pt_table.specs.Slots.{row_in_slot, HasRow, IsNumbered};
+ghost use Rattle.pt_table.specs.Slots.{row_in_any, row_in_slot, HasRow, IsNumbered};
 ghost use Rattle.std.specs.Map.{lookup};
 
 use crate::fault::TableFault;
 use crate::numbers::Numbers;
-use crate::rows::{make_room, nth_row, put, row_in, slot_of, take_out};
+use crate::rows::{make_room, nth_row, put, row_by_number, slot_of, take_out};
 use pt_types::MOST_CLIENTS;
 use slab::Slab;
 use std::alloc::{Allocator, Global};
@@ -32,6 +32,38 @@ impl<T> ClientRow<T> {
         ensures value { result.now ≡ self.old.value }
     {
         &mut self.value
+    }
+}
+
+// The slot of a number's row, if the number's hint is right.
+fn slot_by_hint<T, A: Allocator + Copy>(
+    rows: &Slab<ClientRow<T>, A>,
+    numbers: &Numbers<A>,
+    number: u64,
+) -> Option<usize>
+    requires { IsNumbered (λ row. row.number) rows.now.slots numbers.now.entries most_clients }
+    ensures { IfSome result (λ slot. lookup (nat_eq number) numbers.now.entries ≡ Some slot) }
+{
+    let hint = numbers.hint(number)?;
+    match rows.get(hint) {
+        Some(row) if row.number == number => Some(hint),
+        _ => None,
+    }
+}
+
+// The row of a number, which is looked for by the number's hint first.
+fn row_of<'a, T, A: Allocator + Copy>(
+    rows: &'a Slab<ClientRow<T>, A>,
+    numbers: &Numbers<A>,
+    number: u64,
+) -> Option<&'a ClientRow<T>>
+    requires { IsNumbered (λ row. row.number) rows.now.slots numbers.now.entries most_clients }
+    ensures { option_copied result
+        ≡ row_in_any rows.now.slots (lookup (nat_eq number) numbers.now.entries) }
+{
+    match slot_by_hint(rows, numbers, number) {
+        Some(slot) => rows.get(slot),
+        None => row_by_number(rows, numbers, number),
     }
 }
 
@@ -99,7 +131,7 @@ impl<T, A: Allocator + Copy> Clients<T, A> {
     pub fn at(&self, number: u64) -> Option<&T>
         ensures { option_copied result ≡ client_value self.now number }
     {
-        match row_in(&self.rows, self.numbers.get(number)) {
+        match row_of(&self.rows, &self.numbers, number) {
             Some(row) => Some(&row.value),
             None => None,
         }
@@ -128,12 +160,12 @@ impl<T, A: Allocator + Copy> Clients<T, A> {
     fn has(&self, number: u64) -> bool
         ensures { result ≡ has_client self.now number }
     {
-        self.at(number).is_some()
+        self.slot_if(number).is_some()
     }
 
     ghost use Rattle.pt_table.specs.ClientLends.{lends_at};
 
-    // The slot of a client's row, if there is such a client.
+    // The slot of a client's row, if there is such a client, found with no hint.
     fn slot_if(&self, number: u64) -> Option<usize>
         ensures { is_some result ≡ has_client self.now number }
     {
@@ -162,8 +194,10 @@ impl<T, A: Allocator + Copy> Clients<T, A> {
 
     ghost use Rattle.pt_table.specs.ClientLends.{lends_if_at};
 
-    /// The value of the client with this number, to be changed.
-    pub fn at_mut(&mut self, number: u64) -> Option<&mut T>
+    // The value of a client whose number's hint is of no use.
+    #[cold]
+    #[inline(never)]
+    fn at_mut_by_number(&mut self, number: u64) -> Option<&mut T>
         ensures* lends { sem 𝓛 (lends_if_at T.row A.row A.Allocator self.entry number result) }
         ensures value { option_copied_mut result ≡ client_value self.old number }
     {
@@ -173,6 +207,23 @@ impl<T, A: Allocator + Copy> Clients<T, A> {
         }
     }
 
+    // The slot of a client's row, if its number's hint is right.
+    fn hinted(&self, number: u64) -> Option<usize>
+        ensures { OnSome result (IsSome (client_at self.now number)) }
+    {
+        slot_by_hint(&self.rows, &self.numbers, number)
+    }
+
+    /// The value of the client with this number, to be changed.
+    pub fn at_mut(&mut self, number: u64) -> Option<&mut T>
+        ensures* lends { sem 𝓛 (lends_if_at T.row A.row A.Allocator self.entry number result) }
+        ensures value { option_copied_mut result ≡ client_value self.old number }
+    {
+        match self.hinted(number) {
+            Some(slot) => Some(self.value_mut(slot, number)),
+            None => self.at_mut_by_number(number),
+        }
+    }
     /// The value of the client with this number, to be changed. The client is looked for at this
     /// index first, and need not be there.
     pub fn at_mut_near(&mut self, index: usize, number: u64) -> Option<&mut T>

@@ -10,8 +10,11 @@
 mod chains;
 mod clients;
 mod fault;
+mod hints;
 mod link;
+mod names;
 mod numbers;
+mod object_slots;
 mod objects;
 mod rows;
 mod sorting;

@@ -7,21 +7,19 @@ ghost use Rattle.std.specs.Option.{option_and_then};
 ghost use Rattle.std.specs.Map.{lookup};
 ghost use Rattle.pt_table.specs.Slots.{left_of, with_slot, without_number, Distinct, IsLeftAt};
 
+use crate::hints::Hints;
 use indexmap::IndexMap;
 use std::alloc::{AllocError, Allocator};
 use std::hash::{BuildHasherDefault, FoldHasher};
 use std::marker::Model;
-
-/// How many hints there are of where a number is.
-const MOST_HINTS: usize = 256;
 
 /// A number in the order in which it was added, with the slot of its row; None if it was taken out.
 type Listed = (u64, Option<usize>);
 
 /// The numbers in the order in which they were added, each with the slot of its row.
 ///
-/// Numbers that follow one another are found by their distance from the first. Any other is found
-/// by a hint, if no number with the same low bits was added since, or else by its hash.
+/// A number's row is first looked for in the slot that its hint gives. Else numbers that follow one
+/// another are found by their distance from the first, and any other by its hash.
 ///
 /// A number that is taken out is struck out in the order, and those that are struck out leave it
 /// once they are more than the others: to move all entries after each one that is taken out would
@@ -31,8 +29,7 @@ pub(crate) struct Numbers<A: Allocator + Copy> {
     order: Vec<(u64, Option<usize>), A>,
     /// How many entries of the order are struck out.
     struck: usize,
-    /// For each value of a number's low bits, the index in the order at which one was added last.
-    hints: [usize; MOST_HINTS],
+    hints: Hints<A>,
     slots: IndexMap<u64, usize, BuildHasherDefault<FoldHasher>, A>,
 }
 
@@ -100,11 +97,24 @@ fn slot_by_distance(entries: &[Listed], number: u64) -> Option<usize>
     slot_at(entries, distance as usize, number)
 }
 
-// Which hint is a number's.
-fn hint_of(number: u64) -> usize
-    ensures { result < 256 }
-{
-    (number % MOST_HINTS as u64) as usize
+// Notes the slot of each number that is not struck out.
+fn note_all<A: Allocator + Copy>(hints: &mut Hints<A>, entries: &[Listed]) {
+    for i in 0..entries.len() {
+        let (number, slot) = entries[i];
+        if let Some(slot) = slot {
+            hints.set(number, slot);
+        }
+    }
+}
+
+// Makes more hints if there are as many numbers as hints.
+fn grow<A: Allocator + Copy>(hints: &mut Hints<A>, entries: &[Listed]) -> Result<(), AllocError> {
+    if hints.suffice(entries.len()) {
+        return Ok(());
+    }
+    hints.grow()?;
+    note_all(hints, entries);
+    Ok(())
 }
 
 // The index of a number that is listed, found by a look at each entry.
@@ -193,7 +203,7 @@ impl<A: Allocator + Copy> Numbers<A> {
         Numbers {
             order: Vec::new(alloc),
             struck: 0,
-            hints: [0; MOST_HINTS],
+            hints: Hints::new(alloc),
             slots: IndexMap::new(alloc),
         }
     }
@@ -205,15 +215,16 @@ impl<A: Allocator + Copy> Numbers<A> {
         self.order.len() - self.struck
     }
 
+    /// The slot in which the row of a number is looked for first. It may be another's.
+    pub(crate) fn hint(&self, number: u64) -> Option<usize> {
+        self.hints.get(number)
+    }
+
     /// The slot of a number.
     pub(crate) fn get(&self, number: u64) -> Option<usize>
         ensures value { result ≡ lookup (nat_eq number) self.now.entries }
     {
         if let Some(slot) = slot_by_distance(self.order.as_slice(), number) {
-            return Some(slot);
-        }
-        let hint = self.hints[hint_of(number)];
-        if let Some(slot) = slot_at(self.order.as_slice(), hint, number) {
             return Some(slot);
         }
         match self.slots.get(&number) {
@@ -238,7 +249,8 @@ impl<A: Allocator + Copy> Numbers<A> {
         ensures room { OnOk result (0 < self.new.room) }
     {
         self.order.reserve(1)?;
-        self.slots.reserve(1)
+        self.slots.reserve(1)?;
+        grow(&mut self.hints, self.order.as_slice())
     }
 
     /// Adds a new number with its slot, if there is room.
@@ -247,7 +259,7 @@ impl<A: Allocator + Copy> Numbers<A> {
         requires new { lookup (nat_eq number) self.old.entries ≡ None }
         ensures { self.new.entries ≡ self.old.entries ++ (number, slot) ∷ [] }
     {
-        self.hints[hint_of(number)] = self.order.len();
+        self.hints.set(number, slot);
         self.order.push_reserved((number, Some(slot)));
         self.slots.insert(number, slot).unwrap();
     }
@@ -258,10 +270,9 @@ impl<A: Allocator + Copy> Numbers<A> {
         ensures kept { IfNone result (self.new.entries ≡ self.old.entries) }
         ensures left { OnSome result (self.new.entries ≡ without_number self.old.entries number) }
     {
-        let slot = self.get(number)?;
+        let slot = self.slots.swap_remove(&number)?;
         strike(&mut self.order, number);
         self.struck = pack_if_sparse(&mut self.order, self.struck + 1);
-        let _ = self.slots.swap_remove(&number);
         Some(slot)
     }
 

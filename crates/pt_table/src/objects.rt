@@ -1,28 +1,27 @@
 ghost use Rattle.std.specs.Prelude.{◌≡◌, ◌↔◌, ◌≤◌, ◌<◌, ◌++◌, [], ◌∷◌, Some, None, IsSome, IfSome};
-ghost use Rattle.std.specs.Prelude.{IfErr, OnOk, OnErr, IsTrue, is_some, nat_eq, length, slice_get};
+ghost use Rattle.std.specs.Prelude.{IfErr, OnOk, OnErr, OnSome, IsTrue, is_some, nat_eq, length};
+ghost use Rattle.std.specs.Prelude.{slice_get};
 ghost use Rattle.std.specs.Option.{option_map, option_copied, option_copied_mut};
 ghost use Rattle.std.specs.Borrow.{sem};
 ghost use Rattle.std.specs.Map.{lookup};
 ghost use Rattle.slab.specs.Slab.{HasRoomFor};
-ghost use Rattle.indexmap.specs.IndexMap.{spare};
 ghost use Rattle.pt_types.specs.Limits.{most_objects};
 ghost use Rattle.pt_types.specs.Names.{same_name};
 ghost use Rattle.pt_table.specs.Faults.{IsFault};
 ghost use Rattle.pt_table.specs.ObjectRows.{object_at, object_value, link_of, has_object};
 ghost use Rattle.pt_table.specs.ObjectRows.{number_of, is_taken, nth_number, nth_value, and_object};
 ghost use Rattle.pt_table.specs.ObjectRows.{with_link, without_object, IsFullFor};
-ghost use Rattle.pt_table.specs.Slots.{row_in_slot, HasRow, IsNumbered, SameBut};
-ghost use Rattle.pt_table.specs.NameSlots.{IsForgotten};
+ghost use Rattle.pt_table.specs.Slots.{row_in_slot, SameBut};
 
 use crate::fault::TableFault;
 use crate::link::Link;
+use crate::names::Names;
 use crate::numbers::Numbers;
-use crate::rows::{make_room, nth_row, put, row_in, slot_of, take_out};
-use indexmap::IndexMap;
+use crate::object_slots::{row_by_name, row_named, row_of, slot_by, slot_by_hint};
+use crate::rows::{make_room, nth_row, put, take_out};
 use pt_types::{MOST_OBJECTS, Name};
 use slab::Slab;
 use std::alloc::{AllocError, Allocator, Global};
-use std::hash::{BuildHasherDefault, FoldHasher};
 use std::marker::Model;
 
 /// A row of the table of objects, as its contracts see it.
@@ -44,9 +43,6 @@ impl<T> ObjectRow<T> {
         &mut self.value
     }
 }
-
-// The slot of each name.
-type Names<A> = IndexMap<Name, usize, BuildHasherDefault<FoldHasher>, A>;
 
 /// The objects, each found by its number and by its name.
 ///
@@ -83,10 +79,10 @@ fn make_room_named<T, A: Allocator + Copy>(
     ensures names { names.new.entries ≡ names.old.entries }
     ensures row_room { OnOk result (HasRoomFor rows.new 1) }
     ensures number_room { OnOk result (0 < numbers.new.room) }
-    ensures name_room { OnOk result (0 < spare names.new) }
+    ensures name_room { OnOk result (0 < names.new.room) }
 {
     make_room(rows, numbers)?;
-    names.reserve(1)
+    names.reserve_one()
 }
 
 // Puts a row with a new number and a new name in, if there is room, and returns its slot.
@@ -98,7 +94,7 @@ fn put_named<T, A: Allocator + Copy>(
 ) -> usize
     requires row_room { HasRoomFor rows.old 1 }
     requires number_room { 0 < numbers.old.room }
-    requires name_room { 0 < spare names.old }
+    requires name_room { 0 < names.old.room }
     requires number_new { lookup (nat_eq row.number) numbers.old.entries ≡ None }
     requires name_new { lookup (same_name row.name) names.old.entries ≡ None }
     ensures vacant { row_in_slot rows.old.slots result ≡ None }
@@ -109,34 +105,8 @@ fn put_named<T, A: Allocator + Copy>(
 {
     let name = row.name.copied();
     let slot = put(rows, numbers, row.number, row);
-    names.insert(name, slot).unwrap();
+    names.insert(name, slot);
     slot
-}
-
-// The slot of an object's row, which is looked for in this slot first.
-fn slot_by<T, A: Allocator + Copy>(
-    rows: &Slab<ObjectRow<T>, A>,
-    numbers: &Numbers<A>,
-    slot: usize,
-    number: u64,
-) -> usize
-    requires numbered { IsNumbered (λ row. row.number)
-        rows.now.slots numbers.now.entries most_objects }
-    requires listed { HasRow rows.now.slots numbers.now.entries number }
-    ensures slot { lookup (nat_eq number) numbers.now.entries ≡ Some result }
-    ensures there { IsSome (row_in_slot rows.now.slots result) }
-{
-    match rows.get(slot) {
-        Some(row) if row.number == number => slot,
-        _ => slot_of(rows, numbers, number),
-    }
-}
-
-// Takes a name out.
-fn forget<A: Allocator + Copy>(names: &mut Names<A>, name: &Name)
-    ensures { IsForgotten names.old.entries name.now names.new.entries }
-{
-    let _ = names.swap_remove(name);
 }
 
 impl<T, A: Allocator + Copy> Objects<T, A> {
@@ -147,7 +117,7 @@ impl<T, A: Allocator + Copy> Objects<T, A> {
         Objects {
             rows: Slab::new(alloc),
             numbers: Numbers::new(alloc),
-            names: IndexMap::new(alloc),
+            names: Names::new(alloc),
         }
     }
 
@@ -163,7 +133,7 @@ impl<T, A: Allocator + Copy> Objects<T, A> {
     pub fn at(&self, number: u64) -> Option<&T>
         ensures { option_copied result ≡ object_value self.now number }
     {
-        match row_in(&self.rows, self.numbers.get(number)) {
+        match row_of(&self.rows, &self.numbers, number) {
             Some(row) => Some(&row.value),
             None => None,
         }
@@ -173,7 +143,7 @@ impl<T, A: Allocator + Copy> Objects<T, A> {
     pub fn find(&self, name: &Name) -> Option<u64>
         ensures { result ≡ number_of self.now name.now }
     {
-        match row_in(&self.rows, self.names.get(name).copied()) {
+        match row_by_name(&self.rows, &self.names, name) {
             Some(row) => Some(row.number),
             None => None,
         }
@@ -184,7 +154,7 @@ impl<T, A: Allocator + Copy> Objects<T, A> {
         ensures number { option_map (λ p. p.0) result ≡ number_of self.now name.now }
         ensures value { IfSome result (λ p. object_value self.now p.0 ≡ Some p.1.now) }
     {
-        match row_in(&self.rows, self.names.get(name).copied()) {
+        match row_named(&self.rows, &self.names, name) {
             Some(row) => Some((row.number, &row.value)),
             None => None,
         }
@@ -213,7 +183,7 @@ impl<T, A: Allocator + Copy> Objects<T, A> {
     fn has(&self, number: u64) -> bool
         ensures { result ≡ has_object self.now number }
     {
-        self.at(number).is_some()
+        self.slot_if(number).is_some()
     }
 
     fn is_taken(&self, number: u64, name: &Name) -> bool
@@ -224,7 +194,7 @@ impl<T, A: Allocator + Copy> Objects<T, A> {
 
     ghost use Rattle.pt_table.specs.ObjectLends.{lends_at};
 
-    // The slot of an object's row, if there is such an object.
+    // The slot of an object's row, if there is such an object, found with no hint.
     fn slot_if(&self, number: u64) -> Option<usize>
         ensures { is_some result ≡ has_object self.now number }
     {
@@ -243,8 +213,10 @@ impl<T, A: Allocator + Copy> Objects<T, A> {
 
     ghost use Rattle.pt_table.specs.ObjectLends.{lends_if_at};
 
-    /// The value of the object with this number, to be changed.
-    pub fn at_mut(&mut self, number: u64) -> Option<&mut T>
+    // The value of an object whose number's hint is of no use.
+    #[cold]
+    #[inline(never)]
+    fn at_mut_by_number(&mut self, number: u64) -> Option<&mut T>
         ensures* lends { sem 𝓛 (lends_if_at T.row A.row A.Allocator self.entry number result) }
         ensures value { option_copied_mut result ≡ object_value self.old number }
     {
@@ -254,11 +226,28 @@ impl<T, A: Allocator + Copy> Objects<T, A> {
         }
     }
 
+    // The slot of an object's row, if its number's hint is right.
+    fn hinted(&self, number: u64) -> Option<usize>
+        ensures { OnSome result (IsSome (object_at self.now number)) }
+    {
+        slot_by_hint(&self.rows, &self.numbers, number)
+    }
+
+    /// The value of the object with this number, to be changed.
+    pub fn at_mut(&mut self, number: u64) -> Option<&mut T>
+        ensures* lends { sem 𝓛 (lends_if_at T.row A.row A.Allocator self.entry number result) }
+        ensures value { option_copied_mut result ≡ object_value self.old number }
+    {
+        match self.hinted(number) {
+            Some(slot) => Some(self.value_mut(slot, number)),
+            None => self.at_mut_by_number(number),
+        }
+    }
     // The slot of an object's row, or any if there is no such object.
     pub(crate) fn slot_near(&self, number: u64) -> usize {
-        match self.numbers.get(number) {
+        match self.hinted(number) {
             Some(slot) => slot,
-            None => 0,
+            None => self.slot_if(number).unwrap_or(0),
         }
     }
 
@@ -275,7 +264,7 @@ impl<T, A: Allocator + Copy> Objects<T, A> {
     pub(crate) fn link_of(&self, number: u64) -> Option<Link>
         ensures { result ≡ link_of self.now number }
     {
-        match row_in(&self.rows, self.numbers.get(number)) {
+        match row_of(&self.rows, &self.numbers, number) {
             Some(row) => Some(row.link),
             None => None,
         }
@@ -296,7 +285,7 @@ impl<T, A: Allocator + Copy> Objects<T, A> {
         ensures rows { self.new ≡ without_object self.old number }
     {
         let row = take_out(&mut self.rows, &mut self.numbers, number)?;
-        forget(&mut self.names, &row.name);
+        self.names.forget(&row.name);
         let ObjectRow {
             number: _,
             name: _,

@@ -23,6 +23,20 @@ pub(crate) fn row_in<'a, R, A: Allocator + Copy>(
     }
 }
 
+// The row of a number whose hint is of no use.
+#[cold]
+#[inline(never)]
+pub(crate) fn row_by_number<'a, R, A: Allocator + Copy>(
+    rows: &'a Slab<R, A>,
+    numbers: &Numbers<A>,
+    number: u64,
+) -> Option<&'a R>
+    ensures { option_copied result
+        ≡ row_in_any rows.now.slots (lookup (nat_eq number) numbers.now.entries) }
+{
+    row_in(rows, numbers.get(number))
+}
+
 // The row of the number at this index.
 pub(crate) fn nth_row<'a, R, A: Allocator + Copy>(
     rows: &'a Slab<R, A>,

@@ -1,4 +1,4 @@
-use Rattle.std.proofs.Common.{ap}
+use Rattle.std.proofs.Common.{ap, refl}
 use Rattle.std.specs.Option.{option_map}
 use Rattle.pt_table.proofs.Listed.{found_at}
 use Rattle.pt_table.proofs.objects.Objects.at.Goals as goal
@@ -7,10 +7,10 @@ pub returns-in-Some : goal.returns-in-Some
 returns-in-Some g c =
     ap (option_map (λ row. row.value))
     (found_at c.self.invariant.0 c.args.self.now c.self.view_is c.args.number _ _
-    c.get.ensures.value c.in-Some.ensures)
+    refl c.in-Some.ensures)
 
 pub returns-in-None : goal.returns-in-None
 returns-in-None g c =
     ap (option_map (λ row. row.value))
     (found_at c.self.invariant.0 c.args.self.now c.self.view_is c.args.number _ _
-    c.get.ensures.value c.in-None.ensures)
+    refl c.in-None.ensures)

@@ -27,7 +27,7 @@ invariant_of-self-2 g c = (
       c.take_out.new.rows.slots c.take_out.new.numbers.entries c.in_ok-row.row
       c.in_ok-row.ensures.row c.in_ok-row.ensures.left,
   named_removed c.self.invariant.0 c.self.invariant.1 c.args.number c.take_out.new.rows.slots
-      c.in_ok-row.row c.in_ok-row.ensures.row c.forget.new.names.entries c.forget.ensures,
+      c.in_ok-row.row c.in_ok-row.ensures.row c.forget.new.self.entries c.forget.ensures,
 )
 
 pub returns-clause-value : goal.returns-clause-value
