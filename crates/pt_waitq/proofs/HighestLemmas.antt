@@ -7,7 +7,7 @@ use Rattle.std.proofs.lemmas.Bool.Decides.{nat_tests}
 use Rattle.pt_types.specs.Limits.{most_priority}
 use Rattle.pt_waitq.specs.declared.sides.Side.{Side}
 use Rattle.pt_waitq.specs.declared.sides.Queue.{Queue}
-use Rattle.pt_waitq.specs.Chains.{side_of}
+use Rattle.pt_waitq.specs.Chains.{side_of, HasNone}
 use Rattle.pt_waitq.specs.Highest.{IsBound, IsHighestChain}
 
 -- the highest index after one more at p
@@ -115,3 +115,8 @@ take-bound true old new p w r within step a =
     lowered-bound old.writers.counts new.writers.counts p _ within step w (omega arith) a.0
 take-bound false old new p w r within step a =
     lowered-bound old.readers.counts new.readers.counts p _ within step r (omega arith) a.1
+
+-- no one waits
+pub none-highest : (q : Queue) → HasNone q
+    → IsHighestChain q.writers.counts None × IsHighestChain q.readers.counts None
+none-highest q h = (λ p lt. h.counts true p lt, λ p lt. h.counts false p lt)

@@ -70,7 +70,7 @@ lookup-more {X} c d x (e ∷ es) h =
     go true false false p q r h ih = refl
     go false false u p q r h ih = ih h ∙ ap (λ b. cond b (Some x) (lookup (nat_eq d) es)) r
 
-length-more : {X : Type 0} (es : List X) (e : X) → length (es ++ e ∷ []) ≡ length es + 1
+pub length-more : {X : Type 0} (es : List X) (e : X) → length (es ++ e ∷ []) ≡ length es + 1
 length-more [] e = refl
 length-more (x ∷ es) e = let h = length-more es e in omega (arith, h)
 

@@ -97,7 +97,7 @@ still m n (k ∷ ks) a h = go (k == n) (k == m) refl refl h (still m n ks a)
     go false false p q h ih = ap (λ b. b || is_listed m rest) q ∙ ih h
 
 -- different numbers, each one of these, are no more than these
-no-more : (ns ks : List ℕ) → Unique ns
+pub no-more : (ns ks : List ℕ) → Unique ns
     → ((n : ℕ) → is_listed n ns ≡ true → is_listed n ks ≡ true) → length ns ≤ length ks
 no-more [] ks u f = omega arith
 no-more (n ∷ ns) ks u f =
@@ -125,7 +125,7 @@ length-clients : (es : List (ℕ × Waiter)) → length (nodes_of (λ n. n) es) 
 length-clients [] = refl
 length-clients (e ∷ es) = let h = length-clients es in omega (arith, h)
 
-length-numbers : {X : Type 0} (es : List (ℕ × X)) → length (numbers es) ≡ length es
+pub length-numbers : {X : Type 0} (es : List (ℕ × X)) → length (numbers es) ≡ length es
 length-numbers [] = refl
 length-numbers (e ∷ es) = let h = length-numbers es in omega (arith, h)
 
@@ -165,12 +165,14 @@ module _ (homes : List (ℕ × ℕ)) (nodes : List (Option Node)) (queues : List
           let d = home-there homes nodes queues es a r.0 r.1 in
           ap (λ k. is_listed k (numbers homes)) (sym same) ∙ homed r.0.1.client d.0 d.1
 
-  room : length es + 1 < 2 ^ 32
-  room =
+  pub waiters-few : length es + 1 ≤ length homes
+  waiters-few =
       let most = no-more (c ∷ nodes_of (λ k. k) es) (numbers homes)
       (listed-clients c es ∙ none, unique-clients es a.stand.once) all-homed in
-      let few = a.homed.few in
-      omega (arith, most, few, length-clients es, length-numbers homes)
+      omega (arith, most, length-clients es, length-numbers homes)
+
+  room : length es + 1 < 2 ^ 32
+  room = let few = a.homed.few in omega (arith, few, waiters-few)
 
   pub chain-room : (f : ℕ → ℕ) (o : ℕ) (k : Bool) (p : ℕ)
       → length (nodes_of f (chain_of o k p es)) + 1 < 2 ^ 32

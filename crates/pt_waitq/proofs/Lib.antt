@@ -36,3 +36,9 @@ mod ReadLemmas
 mod HighestLemmas
 -- PlaceLemmas: an entry of a map that is found at its index
 mod PlaceLemmas
+-- BusyLemmas: how many queues have a waiter
+mod BusyLemmas
+-- BoxLemmas: enough boxes for all that wait
+mod BoxLemmas
+-- EmptiedLemmas: a queue whose last waiter is taken out gives its box back
+mod EmptiedLemmas

@@ -26,10 +26,17 @@ chain-none : (o : ℕ) (k : Bool) (p : ℕ) (es : List (ℕ × Waiter))
 chain-none o k p [] a = refl
 chain-none o k p (e ∷ es) a = rw a.0 (chain-none o k p es a.1)
 
--- a queue is made, or there is no memory for it
+-- a queue that isn't made has no entry
+pub made-absent : (homes : List (ℕ × ℕ)) (nodes : List (Option Node)) (queues : List (ℕ × Queue))
+    (es : List (ℕ × Waiter)) (o : ℕ) → AreChains homes nodes queues es
+    → lookup (nat_eq o) queues ≡ None → Each (λ e. (e.0 == o) ≡ false) es
+made-absent homes nodes queues es o a none =
+    unmade-none o (numbers queues) es a.stand.made (listed-lookup o queues ∙ ap is_some none)
+
+-- a queue is made, or there is no memory for it, or it gives its box back
 module _ (homes : List (ℕ × ℕ)) (nodes : List (Option Node)) (queues queues' : List (ℕ × Queue))
     (es : List (ℕ × Waiter)) (o : ℕ) (b : Bool) (a : AreChains homes nodes queues es)
-    (none : lookup (nat_eq o) queues ≡ None)
+    (absent : Each (λ e. (e.0 == o) ≡ false) es)
     (listed : numbers queues' ≡ cond b (numbers queues ++ o ∷ []) (numbers queues))
     (others : (x : ℕ) → (o == x) ≡ false
     → lookup (nat_eq x) queues' ≡ lookup (nat_eq x) queues)
@@ -41,10 +48,6 @@ module _ (homes : List (ℕ × ℕ)) (nodes : List (Option Node)) (queues queues
           → AllStand (numbers queues') es
       go true e = stand-more (numbers queues) (numbers queues') o es a.stand e
       go false e = subst (λ os. AllStand os es) (sym e) a.stand
-
-  absent : Each (λ e. (e.0 == o) ≡ false) es
-  absent =
-      unmade-none o (numbers queues) es a.stand.made (listed-lookup o queues ∙ ap is_some none)
 
   made-len : (x : ℕ) (q : Queue) (t : Bool) → (o == x) ≡ t → lookup (nat_eq x) queues' ≡ Some q
       → q.len ≡ length (queue_of x es)

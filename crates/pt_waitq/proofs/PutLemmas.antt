@@ -240,9 +240,7 @@ module _ (homes : List (ℕ × ℕ)) (nodes nodes' : List (Option Node))
       subst (λ b. Whole o b q1 r) (sym e)
       (other o r (not w.writer) (side_of (not w.writer) q0) (side_of (not w.writer) q1)
       (other-kind o p (r + 1) w)
-      (ap (λ (s : Side). slice_index s.counts r) put.other)
-      (ap (λ (s : Side). slice_index_or s.tails r None) put.other)
-      (ap (λ (s : Side). slice_index_or s.heads r None) put.other)
+      (put.other r lt).count (put.other r lt).tail (put.other r lt).head
       (a.chains o q0 at (not w.writer) r lt))
 
   -- all chains after a waiter is put in

@@ -132,10 +132,17 @@ pub record AreChains (homes : List (ℕ × ℕ)) (nodes : List (Option Node))
       → IsChain (next_in nodes) (before_in nodes) (side_of k q) p
       (nodes_of (index_of homes) (chain_of o k (p + 1) es))
 
+-- a chain has the count and the ends that it had
+pub record IsSameChain (old new : Side) (p : ℕ) : Type 0 where
+  pub count : slice_index new.counts p ≡ slice_index old.counts p
+  pub tail : slice_index_or new.tails p None ≡ slice_index_or old.tails p None
+  pub head : slice_index_or new.heads p None ≡ slice_index_or old.heads p None
+
 -- a node was made the tail of a chain
 pub record IsPut (k : Bool) (p node : ℕ) (tail : Option ℕ) (old new : Queue) : Type 0 where
   pub len : new.len ≡ old.len + 1
-  pub other : side_of (not k) new ≡ side_of (not k) old
+  pub other : (i : ℕ) → i < most_priority
+      → IsSameChain (side_of (not k) old) (side_of (not k) new) i
   pub last : tail ≡ slice_index_or (side_of k old).tails p None
   pub counts : (i : ℕ) → i < most_priority → slice_index (side_of k new).counts i
       ≡ (if p == i then slice_index (side_of k old).counts p + 1 else slice_index

@@ -15,3 +15,5 @@ pub mod WaitingLemmas
 pub mod Chains
 -- Highest: the highest chain of one kind that isn't empty
 pub mod Highest
+-- Boxes: which queues have a box, and how many boxes there are
+pub mod Boxes

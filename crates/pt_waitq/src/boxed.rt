@@ -1,115 +1,122 @@
-//! Queues on the heap, each with its highest chain of each kind.
+//! Queues that have a box only while one waits in them.
 
-ghost use Rattle.std.specs.Prelude.{◌≡◌, ◌↔◌, ◌+◌, ◌<◌, ◌≤◌, ◌^◌, Some, max, slice_index};
-ghost use Rattle.std.specs.Prelude.{IsTrue, IfOk, MatchOption};
+ghost use Rattle.std.specs.Prelude.{◌≡◌, ◌≢◌, ◌↔◌, ◌+◌, ◌<◌, ◌≤◌, ◌^◌, ◌==◌, IfSome};
+ghost use Rattle.std.specs.Prelude.{IsTrue, None, unwrap_or, slice_index, if◌then◌else◌};
+ghost use Rattle.std.specs.Prelude.{vec_len, vec_capacity};
+ghost use Rattle.std.specs.List.{AllByRecursion as Each};
+ghost use Rattle.std.specs.Option.{option_map};
 ghost use Rattle.pt_types.specs.Limits.{most_priority};
 ghost use Rattle.pt_waitq.specs.declared.sides.Queue.{Queue};
-ghost use Rattle.pt_waitq.specs.Chains.{side_of, HasNone, IsPut, IsTaken};
+ghost use Rattle.pt_waitq.specs.Boxes.{no_queue, IsOpened, IsEmptied};
+ghost use Rattle.pt_waitq.specs.Chains.{side_of, HasNone, IsPut};
 ghost use Rattle.pt_waitq.specs.Chains.{IsFirst, IsFirstWriter, HasWriterFrom};
-ghost use Rattle.pt_waitq.specs.Highest.{IsBound, IsHighestChain};
 
 use crate::link::{Link, NodeIndex};
-use crate::sides::{self, Queue};
-use pt_lanes::highest;
-use pt_types::MOST_PRIORITY;
-use std::alloc::{AllocError, Allocator};
+use crate::marked::MarkedQueue;
+use crate::spares::Spares;
+use std::alloc::Allocator;
 use std::marker::Model;
 
-/// A queue on the heap, so that the map of queues moves a few words and not 2 kB.
-///
-/// It also stores its highest chains, so that its first waiter is found without a search.
+/// A queue. Its chains take 2.4 kB, so it has a box for them only while one waits there.
 #[derive(Drop)]
 pub(crate) struct BoxedQueue<A: Allocator> {
-    queue: Box<Queue, A>,
-    /// The index of the highest chain of writers that isn't empty.
-    writer: Option<usize>,
-    /// The index of the highest chain of readers that isn't empty.
-    reader: Option<usize>,
+    boxed: Option<Box<MarkedQueue, A>>,
 }
 
 impl<A: Allocator> Model for BoxedQueue<A> {
+    ghost use Rattle.std.specs.Prelude.{◌≢◌, IfSome, unwrap_or};
+    ghost use Rattle.std.specs.Option.{option_map};
+    ghost use Rattle.pt_waitq.specs.declared.sides.Queue.{Queue};
+    ghost use Rattle.pt_waitq.specs.Boxes.{no_queue};
+
     ghost Value = { Queue };
 
-    ghost view = { λ b. b.queue.value };
+    ghost view = { λ q. unwrap_or (option_map (λ b. b.value) q.boxed) no_queue };
 
-    ghost invariant = { λ b. IsHighestChain b.queue.value.writers.counts b.writer
-        × IsHighestChain b.queue.value.readers.counts b.reader };
+    ghost invariant = { λ q. IfSome q.boxed (λ b. b.value.len ≢ 0) };
 }
 
-// The index of the highest chain, after a waiter was put into the chain of index `p`.
-fn raised(before: Option<usize>, p: usize) -> Option<usize>
-    ensures { MatchOption before (result ≡ Some p) (λ i. result ≡ Some (max i p)) }
-{
-    match before {
-        Some(i) => Some(i.max(p)),
-        None => Some(p),
-    }
-}
-
-// The index of the highest chain, after a waiter was taken out; it was `before` until then.
-fn lowered(counts: &[u32; MOST_PRIORITY], before: Option<usize>) -> Option<usize>
-    requires { IsBound counts.now before }
-    ensures { IsHighestChain counts.now result }
-{
-    match before {
-        Some(i) if counts[i] == 0 => highest(&counts[..i]),
-        _ => before,
-    }
-}
-
-impl<A: Allocator> BoxedQueue<A> {
-    /// A new queue with no waiter.
-    pub(crate) fn new(alloc: A) -> Result<Self, AllocError>
-        ensures { IfOk result HasNone }
+impl<A: Allocator + Copy> BoxedQueue<A> {
+    /// A queue with no waiter. It takes no memory.
+    pub(crate) fn new() -> Self
+        ensures { result ≡ no_queue }
     {
-        let queue = Queue {
-            writers: sides::no_side(),
-            readers: sides::no_side(),
-            len: 0,
-        };
-        let queue = Box::new(alloc, queue)?;
-        Ok(BoxedQueue {
-            queue,
-            writer: None,
-            reader: None,
-        })
+        BoxedQueue { boxed: None }
     }
 
     /// How many wait in it.
     pub(crate) fn len(&self) -> usize
         ensures { result ≡ self.now.len }
     {
-        self.queue.len
+        match &self.boxed {
+            Some(queue) => queue.len(),
+            None => 0,
+        }
+    }
+
+    // Its box, or a spare one if it has none.
+    fn open(&mut self, spares: &mut Spares<A>) -> Box<MarkedQueue, A>
+        requires spare { self.old.len ≡ 0 → 0 < vec_len spares.old }
+        requires empty { Each (λ b. HasNone b.value) spares.old.items }
+        ensures opened { IsOpened self.old result.value }
+        ensures len { vec_len spares.new + (if self.old.len == 0 then 1 else 0)
+            ≡ vec_len spares.old }
+        ensures capacity { vec_capacity spares.new ≡ vec_capacity spares.old }
+        ensures empty { Each (λ b. HasNone b.value) spares.new.items }
+    {
+        match self.boxed.take() {
+            Some(queue) => queue,
+            None => spares.pop().unwrap(),
+        }
     }
 
     /// Makes a node the tail of one of its chains, and returns the previous tail.
-    pub(crate) fn put_in(&mut self, writer: bool, p: usize, node: NodeIndex) -> Link
+    pub(crate) fn put_in(
+        &mut self,
+        spares: &mut Spares<A>,
+        writer: bool,
+        p: usize,
+        node: NodeIndex,
+    ) -> Link
         requires index { p < most_priority }
         requires room { slice_index (side_of writer self.old).counts p + 1 < 2 ^ 32 }
         requires len { self.old.len + 1 < 2 ^ 64 }
-        ensures { IsPut writer p node result self.old self.new }
+        requires spare { self.old.len ≡ 0 → 0 < vec_len spares.old }
+        requires empty { Each (λ b. HasNone b.value) spares.old.items }
+        ensures put { IsPut writer p node result self.old self.new }
+        ensures len { vec_len spares.new + (if self.old.len == 0 then 1 else 0)
+            ≡ vec_len spares.old }
+        ensures capacity { vec_capacity spares.new ≡ vec_capacity spares.old }
+        ensures empty { Each (λ b. HasNone b.value) spares.new.items }
     {
-        if writer {
-            self.writer = raised(self.writer, p);
-        } else {
-            self.reader = raised(self.reader, p);
-        }
-        sides::put_in(&mut self.queue, writer, p, node)
+        let mut queue = self.open(spares);
+        let tail = queue.put_in(writer, p, node);
+        self.boxed = Some(queue);
+        tail
     }
 
-    /// Takes a node, which is between these two, out of one of its chains.
-    pub(crate) fn take_out(&mut self, writer: bool, p: usize, before: Link, next: Link)
+    /// Takes a node, which is between these two, out of one of its chains. Returns its box if no
+    /// one waits any more.
+    pub(crate) fn take_out(
+        &mut self,
+        writer: bool,
+        p: usize,
+        before: Link,
+        next: Link,
+    ) -> Option<Box<MarkedQueue, A>>
         requires index { p < most_priority }
         requires stands { 1 ≤ slice_index (side_of writer self.old).counts p }
         requires len { 1 ≤ self.old.len }
-        ensures { IsTaken writer p before next self.old self.new }
+        ensures { IsEmptied writer p before next self.old self.new
+            (option_map (λ b. b.value) result) }
     {
-        sides::take_out(&mut self.queue, writer, p, before, next);
-        if writer {
-            self.writer = lowered(&self.queue.writers.counts, self.writer);
-        } else {
-            self.reader = lowered(&self.queue.readers.counts, self.reader);
+        let mut queue = self.boxed.take()?;
+        queue.take_out(writer, p, before, next);
+        if queue.len() == 0 {
+            return Some(queue);
         }
+        self.boxed = Some(queue);
+        None
     }
 
     /// The first waiter's node: of the highest chain, writers first.
@@ -117,11 +124,9 @@ impl<A: Allocator> BoxedQueue<A> {
     pub(crate) fn first(&self) -> Option<NodeIndex>
         ensures { IsFirst self.now result }
     {
-        match (self.writer, self.reader) {
-            (Some(w), Some(r)) if w < r => self.queue.readers.heads[r].get(),
-            (Some(w), _) => self.queue.writers.heads[w].get(),
-            (None, Some(r)) => self.queue.readers.heads[r].get(),
-            (None, None) => None,
+        match &self.boxed {
+            Some(queue) => queue.first(),
+            None => None,
         }
     }
 
@@ -129,7 +134,10 @@ impl<A: Allocator> BoxedQueue<A> {
     pub(crate) fn first_writer(&self) -> Option<NodeIndex>
         ensures { IsFirstWriter self.now result }
     {
-        self.queue.writers.heads[self.writer?].get()
+        match &self.boxed {
+            Some(queue) => queue.first_writer(),
+            None => None,
+        }
     }
 
     /// Whether there is a writer of the priority with this index or of a higher one.
@@ -137,6 +145,9 @@ impl<A: Allocator> BoxedQueue<A> {
     pub(crate) fn has_writer_from(&self, p: usize) -> bool
         ensures { IsTrue result ↔ HasWriterFrom self.now p }
     {
-        self.writer.is_some_and(|w| p <= w)
+        match &self.boxed {
+            Some(queue) => queue.has_writer_from(p),
+            None => false,
+        }
     }
 }

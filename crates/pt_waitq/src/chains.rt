@@ -7,7 +7,7 @@ use crate::link::NodeIndex;
 use crate::nodes::{self, Node};
 use crate::rows::Rows;
 use crate::sides;
-use crate::spares::Spares;
+use crate::spares::{self, Spares};
 use crate::wait_list::WaitList;
 use crate::waiter::Waiter;
 use http_server::Log;
@@ -25,14 +25,21 @@ pub struct Chains<A: Allocator + Copy = Global> {
     homes: Rows<NodeIndex, A>,
     nodes: Slab<Node, A>,
     queues: Rows<BoxedQueue<A>, A>,
+    /// The boxes of no queue.
     spares: Spares<A>,
+    /// How many boxes there are in all: as many as queues may have a waiter at once, which are no
+    /// more than the clients and no more than the queues.
+    boxes: usize,
     /// What was put in and taken out. Only proofs read it.
     log: Log<Option<u64>, Waiter>,
 }
 
 impl<A: Allocator + Copy> Model for Chains<A> {
     ghost use Rattle.pt_waitq.specs.Waits.{Waits, waits_of};
-    ghost use Rattle.pt_waitq.specs.Chains.{numbers, waiting_by, AreChains};
+    ghost use Rattle.std.specs.Prelude.{length, vec_len, vec_capacity};
+    ghost use Rattle.std.specs.List.{AllByRecursion as Each};
+    ghost use Rattle.pt_waitq.specs.Boxes.{AreBoxes};
+    ghost use Rattle.pt_waitq.specs.Chains.{numbers, waiting_by, AreChains, HasNone};
 
     ghost Value = { Waits };
 
@@ -40,7 +47,10 @@ impl<A: Allocator + Copy> Model for Chains<A> {
         (waiting_by p.log.items) };
 
     ghost invariant = { λ p. AreChains p.homes.entries p.nodes.slots p.queues.entries
-        (waiting_by p.log.items) };
+        (waiting_by p.log.items)
+        × AreBoxes (length p.homes.entries) (length (numbers p.queues.entries))
+        (waiting_by p.log.items) (vec_len p.spares) (vec_capacity p.spares) p.boxes
+        × Each (λ b. HasNone b.value) p.spares.items };
 }
 
 impl<A: Allocator + Copy> Chains<A> {
@@ -52,7 +62,8 @@ impl<A: Allocator + Copy> Chains<A> {
             homes: IndexMap::new(alloc),
             nodes: Slab::new(alloc),
             queues: IndexMap::new(alloc),
-            spares: Spares::new(alloc),
+            spares: Vec::new(alloc),
+            boxes: 0,
             log: Log::new(),
         }
     }
@@ -75,13 +86,16 @@ impl<A: Allocator + Copy> WaitList for Chains<A> {
     ghost makes = { makes };
 
     fn admit(&mut self, client: ClientId) -> Result<(), Refusal> {
-        match nodes::make_room(&mut self.homes, &mut self.nodes) {
-            Ok(()) => {
-                nodes::admit(&mut self.homes, &mut self.nodes, client.0);
-                Ok(())
-            }
-            Err(_) => Err(Refusal::Enomem),
-        }
+        let Ok(()) = nodes::make_room(&mut self.homes, &mut self.nodes) else {
+            return Err(Refusal::Enomem);
+        };
+        let wanted = self.queues.len().min(self.homes.len() + 1);
+        let Ok(boxes) = spares::grow(&mut self.spares, self.boxes, wanted) else {
+            return Err(Refusal::Enomem);
+        };
+        self.boxes = boxes;
+        nodes::admit(&mut self.homes, &mut self.nodes, client.0);
+        Ok(())
     }
 
     fn dismiss(&mut self, client: ClientId) {
@@ -89,7 +103,12 @@ impl<A: Allocator + Copy> WaitList for Chains<A> {
     }
 
     fn make(&mut self, object: ObjectId) -> Result<(), Refusal> {
-        if sides::make(&mut self.queues, &mut self.spares, object.0) {
+        let wanted = self.homes.len().min(self.queues.len() + 1);
+        let Ok(boxes) = spares::grow(&mut self.spares, self.boxes, wanted) else {
+            return Err(Refusal::Enomem);
+        };
+        self.boxes = boxes;
+        if sides::make(&mut self.queues, object.0) {
             Ok(())
         } else {
             Err(Refusal::Enomem)
@@ -97,14 +116,21 @@ impl<A: Allocator + Copy> WaitList for Chains<A> {
     }
 
     fn discard(&mut self, object: ObjectId) {
-        sides::discard(&mut self.queues, &mut self.spares, object.0);
+        sides::discard(&mut self.queues, object.0);
     }
 
     fn insert(&mut self, object: ObjectId, waiter: Waiter) {
         let client = waiter.client;
         let node = nodes::home_of(&self.homes, client.0);
         let p = waiter.prio.level() as usize - 1;
-        let last = sides::insert(&mut self.queues, object.0, waiter.writer, p, node);
+        let last = sides::insert(
+            &mut self.queues,
+            &mut self.spares,
+            object.0,
+            waiter.writer,
+            p,
+            node,
+        );
         nodes::insert(&mut self.nodes, last, node, (object.0, waiter));
         self.log = self.log.and(&Some(object.0), &waiter);
     }
@@ -113,7 +139,7 @@ impl<A: Allocator + Copy> WaitList for Chains<A> {
         let place = nodes::place_of(&self.homes, &self.nodes, client.0)?;
         let waiter = place.waiter;
         let p = waiter.prio.level() as usize - 1;
-        sides::remove(
+        let emptied = sides::remove(
             &mut self.queues,
             place.object,
             waiter.writer,
@@ -122,6 +148,7 @@ impl<A: Allocator + Copy> WaitList for Chains<A> {
             place.next,
         );
         nodes::remove(&mut self.nodes, place.node, place.before, place.next);
+        spares::put_back(&mut self.spares, emptied);
         self.log = self.log.and(&None, &waiter);
         Some((ObjectId(place.object), waiter))
     }

@@ -10,6 +10,7 @@ mod chains;
 mod changes;
 mod entries;
 mod link;
+mod marked;
 mod nodes;
 mod plain_list;
 mod rows;

@@ -3,16 +3,19 @@
 ghost use Rattle.std.specs.Prelude.{◌≡◌, ◌↔◌, ◌+◌, ◌++◌, ◌∷◌, [], false, IsTrue, ◌-◌, ◌<◌, ◌≤◌};
 ghost use Rattle.std.specs.Prelude.{◌^◌, ◌==◌, ◌&&◌, Some, None, IsSome, IfSome, unwrap_or};
 ghost use Rattle.std.specs.Prelude.{slice_index, slice_index_or, is_some, if◌then◌else◌, ℕ};
-ghost use Rattle.std.specs.Prelude.{not, nat_eq};
+ghost use Rattle.std.specs.Prelude.{not, nat_eq, vec_len, vec_capacity, length};
+ghost use Rattle.std.specs.List.{AllByRecursion as Each};
 ghost use Rattle.std.specs.Map.{lookup};
 ghost use Rattle.std.specs.Option.{option_map};
 ghost use Rattle.pt_types.specs.Limits.{most_priority};
 ghost use Rattle.pt_waitq.specs.declared.sides.Queue.{Queue};
-ghost use Rattle.pt_waitq.specs.Chains.{numbers, side_of, IsPut, IsTaken, HasNone};
+ghost use Rattle.pt_waitq.specs.Boxes.{no_queue, IsEmptied};
+ghost use Rattle.pt_waitq.specs.Chains.{numbers, side_of, HasNone, IsPut};
 ghost use Rattle.pt_waitq.specs.Chains.{IsFirst, IsFirstWriter, HasWriterFrom};
 
 use crate::boxed::BoxedQueue;
 use crate::link::{Link, NodeIndex};
+use crate::marked::MarkedQueue;
 use crate::rows::{Rows, index_by_distance, row_of};
 use crate::spares::Spares;
 use pt_types::MOST_PRIORITY;
@@ -186,9 +189,11 @@ pub(crate) fn len_of<A: Allocator + Copy>(queues: &Rows<BoxedQueue<A>, A>, objec
     }
 }
 
-/// Makes a node the tail of a chain of a queue that there is, and returns the tail before.
+/// Makes a node the tail of a chain of a queue that there is, and returns the tail before. A queue
+/// with no waiter takes a spare box.
 pub(crate) fn insert<A: Allocator + Copy>(
     queues: &mut Rows<BoxedQueue<A>, A>,
+    spares: &mut Spares<A>,
     object: u64,
     writer: bool,
     p: usize,
@@ -199,6 +204,9 @@ pub(crate) fn insert<A: Allocator + Copy>(
     requires room { IfSome (lookup (nat_eq object) queues.old.entries) (λ q.
         slice_index (side_of writer q).counts p + 1 < 2 ^ 32) }
     requires len { IfSome (lookup (nat_eq object) queues.old.entries) (λ q. q.len + 1 < 2 ^ 64) }
+    requires spare { IfSome (lookup (nat_eq object) queues.old.entries) (λ q.
+        q.len ≡ 0 → 0 < vec_len spares.old) }
+    requires empty { Each (λ b. HasNone b.value) spares.old.items }
     ensures numbers { numbers queues.new.entries ≡ numbers queues.old.entries }
     ensures others { (x : ℕ)
         → (object == x) ≡ false
@@ -207,14 +215,26 @@ pub(crate) fn insert<A: Allocator + Copy>(
         → lookup (nat_eq object) queues.old.entries ≡ Some old
         → lookup (nat_eq object) queues.new.entries ≡ Some new
         → IsPut writer p node result old new }
+    ensures spares { (old : Queue)
+        → lookup (nat_eq object) queues.old.entries ≡ Some old
+        → vec_len spares.new + (if old.len == 0 then 1 else 0) ≡ vec_len spares.old }
+    ensures capacity { vec_capacity spares.new ≡ vec_capacity spares.old }
+    ensures empty { Each (λ b. HasNone b.value) spares.new.items }
 {
     match index_by_distance(queues, object) {
-        Some(index) => queues.get_index_mut(index).unwrap().put_in(writer, p, node),
-        None => queues.get_mut(&object).unwrap().put_in(writer, p, node),
+        Some(index) => queues
+            .get_index_mut(index)
+            .unwrap()
+            .put_in(spares, writer, p, node),
+        None => queues
+            .get_mut(&object)
+            .unwrap()
+            .put_in(spares, writer, p, node),
     }
 }
 
-/// Takes a node out of a chain of a queue that there is, if it was between these two.
+/// Takes a node out of a chain of a queue that there is, if it was between these two. Returns the
+/// queue's box if no one waits there any more.
 pub(crate) fn remove<A: Allocator + Copy>(
     queues: &mut Rows<BoxedQueue<A>, A>,
     object: u64,
@@ -222,7 +242,7 @@ pub(crate) fn remove<A: Allocator + Copy>(
     p: usize,
     before: Link,
     next: Link,
-)
+) -> Option<Box<MarkedQueue, A>>
     requires index { p < most_priority }
     requires there { IsSome (lookup (nat_eq object) queues.old.entries) }
     requires stands { IfSome (lookup (nat_eq object) queues.old.entries) (λ q.
@@ -235,7 +255,7 @@ pub(crate) fn remove<A: Allocator + Copy>(
     ensures queue { (old new : Queue)
         → lookup (nat_eq object) queues.old.entries ≡ Some old
         → lookup (nat_eq object) queues.new.entries ≡ Some new
-        → IsTaken writer p before next old new }
+        → IsEmptied writer p before next old new (option_map (λ b. b.value) result) }
 {
     match index_by_distance(queues, object) {
         Some(index) => queues
@@ -250,11 +270,7 @@ pub(crate) fn remove<A: Allocator + Copy>(
 }
 
 /// Adds an empty queue, and returns whether there was memory.
-pub(crate) fn make<A: Allocator + Copy>(
-    queues: &mut Rows<BoxedQueue<A>, A>,
-    spares: &mut Spares<A>,
-    object: u64,
-) -> bool
+pub(crate) fn make<A: Allocator + Copy>(queues: &mut Rows<BoxedQueue<A>, A>, object: u64) -> bool
     requires { lookup (nat_eq object) queues.old.entries ≡ None }
     ensures numbers { numbers queues.new.entries
         ≡ (if result
@@ -265,33 +281,22 @@ pub(crate) fn make<A: Allocator + Copy>(
         → lookup (nat_eq x) queues.new.entries ≡ lookup (nat_eq x) queues.old.entries }
     ensures queue { (new : Queue)
         → lookup (nat_eq object) queues.new.entries ≡ Some new
-        → HasNone new }
+        → new ≡ no_queue }
 {
-    let Ok(queue) = spares.take(queues.capacity()) else {
-        return false;
-    };
-    match queues.insert(object, queue) {
+    match queues.insert(object, BoxedQueue::new()) {
         Ok(_) => true,
         Err(_) => false,
     }
 }
 
-/// Takes a queue away that has no waiter, if it is there.
-pub(crate) fn discard<A: Allocator + Copy>(
-    queues: &mut Rows<BoxedQueue<A>, A>,
-    spares: &mut Spares<A>,
-    object: u64,
-)
-    requires { (queue : Queue)
-        → lookup (nat_eq object) queues.old.entries ≡ Some queue
-        → HasNone queue }
-    ensures { (x : ℕ)
+/// Takes a queue away, if it is there.
+pub(crate) fn discard<A: Allocator + Copy>(queues: &mut Rows<BoxedQueue<A>, A>, object: u64)
+    ensures queues { (x : ℕ)
         → lookup (nat_eq x) queues.new.entries
         ≡ (if object == x then None else lookup (nat_eq x) queues.old.entries) }
+    ensures len { length queues.new.entries ≤ length queues.old.entries }
 {
-    if let Some(queue) = queues.swap_remove(&object) {
-        spares.put(queue);
-    }
+    queues.swap_remove(&object);
 }
 
 /// The node of the first of a queue.

@@ -1,4 +1,5 @@
-use Rattle.std.proofs.Common.{◌≡◌, ◌+◌, ◌<◌, ◌^◌, Some, sym, ap, ◌∙◌, subst, slice_index}
+use Rattle.std.proofs.Common.{◌≡◌, ◌+◌, ◌<◌, ◌^◌, ◌==◌, cond, vec_len, sym, ap, ◌∙◌, subst}
+use Rattle.std.proofs.Common.{slice_index}
 use Rattle.std.specs.Prelude.{IfSome, unwrap_or}
 use Rattle.std.specs.Option.{option_copied_mut}
 use Rattle.pt_waitq.specs.Chains.{IsPut, side_of}
@@ -20,6 +21,14 @@ put_in-requires-clause-len g c =
     let lent = sym c.get_index_mut.ensures.value ∙ ap option_copied_mut c.unwrap.ensures in
     subst (λ o. IfSome o (λ q. q.len + 1 < 2 ^ 64)) (at ∙ lent) c.requires.len
 
+pub put_in-requires-clause-spare : goal.put_in-requires-clause-spare
+put_in-requires-clause-spare g c =
+    let at = found-at c.args.queues.now.entries c.in-Some.index c.args.object
+    c.get_index_mut.ensures.unique c.in-Some.ensures in
+    let lent = sym c.get_index_mut.ensures.value ∙ ap option_copied_mut c.unwrap.ensures in
+    subst (λ o. IfSome o (λ q. q.len ≡ 0 → 0 < vec_len c.args.spares.now)) (at ∙ lent)
+    c.requires.spare
+
 pub returns-in-Some-clause-numbers : goal.returns-in-Some-clause-numbers
 returns-in-Some-clause-numbers g c =
     numbers-set c.args.queues.now.entries c.in-Some.index c.put_in.new.self
@@ -40,4 +49,13 @@ returns-in-Some-clause-queue g c = λ old new was is.
     let after : c.put_in.new.self ≡ new = ap (λ q. unwrap_or q new) (sym set ∙ is) in
     subst (λ q. IsPut c.args.writer c.args.p c.args.node c.put_in.result q new) before
     (subst (λ q. IsPut c.args.writer c.args.p c.args.node c.put_in.result c.unwrap.result.now q)
-    after c.put_in.ensures)
+    after c.put_in.ensures.put)
+
+pub returns-in-Some-clause-spares : goal.returns-in-Some-clause-spares
+returns-in-Some-clause-spares g c = λ old was.
+    let at = found-at c.args.queues.now.entries c.in-Some.index c.args.object
+    c.get_index_mut.ensures.unique c.in-Some.ensures in
+    let lent = sym c.get_index_mut.ensures.value ∙ ap option_copied_mut c.unwrap.ensures in
+    let before : c.unwrap.result.now ≡ old = ap (λ q. unwrap_or q old) (sym (at ∙ lent) ∙ was) in
+    subst (λ q. vec_len c.put_in.new.spares + cond (q.len == 0) 1 0 ≡ vec_len c.args.spares.now)
+    before c.put_in.ensures.len

@@ -4,8 +4,8 @@ use Rattle.pt_waitq.specs.Chains.{numbers}
 use Rattle.pt_waitq.proofs.HomeLemmas.{numbers-more}
 use Rattle.pt_waitq.proofs.sides.make.Goals as goal
 
-pub returns-in-Ok-insert-clause-numbers : goal.returns-in-Ok-insert-clause-numbers
-returns-in-Ok-insert-clause-numbers g c =
-    ap numbers (c.in-Ok-insert.ensures.entries
+pub returns-in-Ok-clause-numbers : goal.returns-in-Ok-clause-numbers
+returns-in-Ok-clause-numbers g c =
+    ap numbers (c.in-Ok.ensures.entries
     ∙ insert_entry-new nat_eq c.args.queues.now c.args.object _ c.requires)
     ∙ numbers-more c.args.queues.now.entries _

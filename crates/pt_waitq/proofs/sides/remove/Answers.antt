@@ -1,7 +1,8 @@
-use Rattle.std.proofs.Common.{◌≡◌, ◌≤◌, Some, sym, ap, ◌∙◌, subst, slice_index}
+use Rattle.std.proofs.Common.{◌≡◌, ◌≤◌, sym, ap, ◌∙◌, subst, slice_index}
 use Rattle.std.specs.Prelude.{IfSome, unwrap_or}
-use Rattle.std.specs.Option.{option_copied_mut}
-use Rattle.pt_waitq.specs.Chains.{IsTaken, side_of}
+use Rattle.std.specs.Option.{option_copied_mut, option_map}
+use Rattle.pt_waitq.specs.Chains.{side_of}
+use Rattle.pt_waitq.specs.Boxes.{IsEmptied}
 use Rattle.pt_waitq.proofs.PlaceLemmas.{numbers-set, found-at, found-set, others-set}
 use Rattle.pt_waitq.proofs.sides.remove.Goals as goal
 
@@ -37,7 +38,8 @@ returns-in-Some-clause-queue g c = λ old new was is.
     let set = found-set c.args.queues.now.entries c.in-Some.index c.args.object c.take_out.new.self
     c.get_index_mut.ensures.unique c.in-Some.ensures in
     let before : c.unwrap.result.now ≡ old = ap (λ q. unwrap_or q old) (sym (at ∙ lent) ∙ was) in
+    let box = option_map (λ b. b.value) c.take_out.result in
     let after : c.take_out.new.self ≡ new = ap (λ q. unwrap_or q new) (sym set ∙ is) in
-    subst (λ q. IsTaken c.args.writer c.args.p c.args.before c.args.next q new) before
-    (subst (λ q. IsTaken c.args.writer c.args.p c.args.before c.args.next c.unwrap.result.now q)
-    after c.take_out.ensures)
+    subst (λ q. IsEmptied c.args.writer c.args.p c.args.before c.args.next q new box) before
+    (subst (λ q. IsEmptied c.args.writer c.args.p c.args.before c.args.next c.unwrap.result.now q
+    box) after c.take_out.ensures)

@@ -1,35 +1,18 @@
-use Rattle.std.proofs.Common.{refl, sym, subst}
+use Rattle.std.proofs.Common.{◌≡◌, sym, subst}
 use Rattle.pt_waitq.specs.declared.sides.Queue.{Queue}
-use Rattle.pt_waitq.specs.Highest.{IsHighestChain}
-use Rattle.pt_waitq.proofs.HighestLemmas.{AreRaised, put-highest}
+use Rattle.pt_waitq.specs.Chains.{HasNone, IsPut}
+use Rattle.pt_waitq.proofs.BoxLemmas.{opened-empty, put-opened}
 use Rattle.pt_waitq.proofs.boxed.BoxedQueue.put_in.Goals as goal
-use Rattle.pt_waitq.proofs.boxed.BoxedQueue.put_in.Goals.{then-writer, else-writer}
 
-pub invariant_of-self : goal.invariant_of-self
-invariant_of-self g c =
-    let p = c.args.p in
-    let w = c.self.inside.writer in
-    let r = c.self.inside.reader in
-    let old = c.deref_mut.result.now in
-    let new = c.put_in.new.queue in
-    let done = c.put_in.ensures in
-    elim c.if-writer.branch [
-      | then-writer v ↦
-          let up = v.raised-self-inside.result in
-          let same = rw v.self-inside-is at c.deref_mut.ensures.value in
-          rw v.self-inside-is
-          (put-highest c.args.writer old new p w r up r c.requires.index done.other done.counts
-          (subst (λ k. AreRaised k p w r up r) (sym v.if-writer.true)
-          (v.raised-self-inside.ensures, refl))
-          (subst (λ (q : Queue). IsHighestChain q.writers.counts w
-          × IsHighestChain q.readers.counts r) (sym same) c.self.invariant))
-      | else-writer v ↦
-          let up = v.raised-self-inside-else-writer.result in
-          let same = rw v.self-inside-is at c.deref_mut.ensures.value in
-          rw v.self-inside-is
-          (put-highest c.args.writer old new p w r w up c.requires.index done.other done.counts
-          (subst (λ k. AreRaised k p w r w up) (sym v.if-writer.false)
-          (v.raised-self-inside-else-writer.ensures, refl))
-          (subst (λ (q : Queue). IsHighestChain q.writers.counts w
-          × IsHighestChain q.readers.counts r) (sym same) c.self.invariant))
-    ]
+pub put_in-tail-requires-clause-empty : goal.put_in-tail-requires-clause-empty
+put_in-tail-requires-clause-empty g c =
+    subst (λ (q : Queue). q.len ≡ 0 → HasNone q) (sym c.deref_mut.ensures.value)
+    (opened-empty c.args.self.now c.open-queue.result.value c.open-queue.ensures.opened)
+
+pub returns-clause-put : goal.returns-clause-put
+returns-clause-put g c =
+    let new = c.put_in-tail.new.self in
+    put-opened c.args.writer c.args.p c.args.node c.put_in-tail.result c.args.self.now
+    c.open-queue.result.value new c.requires.index c.open-queue.ensures.opened
+    (subst (λ q. IsPut c.args.writer c.args.p c.args.node c.put_in-tail.result q new)
+    c.deref_mut.ensures.value c.put_in-tail.ensures)

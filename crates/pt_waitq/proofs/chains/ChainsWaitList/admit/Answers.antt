@@ -1,9 +1,11 @@
-use Rattle.std.proofs.Common.{ap, ◌∙◌}
+use Rattle.std.proofs.Common.{◌≤◌, min, [], ◌∷◌, ◌++◌, length, ap, ◌∙◌, arith}
 use Rattle.pt_waitq.specs.Waits.{is_admitted, is_listed, has_waiter}
 use Rattle.pt_waitq.specs.Chains.{numbers, waiting_by, home_of}
 use Rattle.pt_waitq.proofs.ChainLemmas.{not-listed}
 use Rattle.pt_waitq.proofs.LinkLemmas.{or_parts}
-use Rattle.pt_waitq.proofs.HomeLemmas.{chains-joined}
+use Rattle.pt_waitq.proofs.BoxLemmas.{boxes-grown}
+use Rattle.pt_waitq.proofs.HomeLemmas.{length-more, chains-joined}
+use Rattle.pt_waitq.proofs.InsertLemmas.{length-numbers}
 use Rattle.pt_waitq.proofs.chains.ChainsWaitList.admit.Goals as goal
 
 pub admit-requires-clause-new : goal.admit-requires-clause-new
@@ -17,8 +19,8 @@ admit-requires-clause-new g c =
     (or_parts (is_listed k (numbers homes))
     (has_waiter k (waiting_by c.self.inside.log.items)) out).0
 
-pub invariant_of-self : goal.invariant_of-self
-invariant_of-self g c =
+pub invariant_of-self-2 : goal.invariant_of-self-2
+invariant_of-self-2 g c =
     let homes = c.self.inside.homes.entries in
     let k = c.client.inside.0 in
     let es = waiting_by c.self.inside.log.items in
@@ -28,7 +30,27 @@ invariant_of-self g c =
     (has_waiter k es) out).0 in
     let room = c.make_room.ensures in
     let done = c.admit.ensures in
-    chains-joined homes c.make_room.new.homes.entries c.admit.new.homes.entries
-    c.self.inside.nodes.slots c.make_room.new.nodes.slots c.admit.new.nodes.slots
-    c.self.inside.queues.entries es k c.admit.result c.self.invariant none c.in-Ok.ensures.few
-    room.homes room.nodes done.homes done.vacant done.node done.others
+    let grown = c.in-Ok-grow.ensures in
+    let queues = c.self.inside.queues.entries in
+    let longer = ap length (done.homes ∙ ap (λ hs. hs ++ (k, c.admit.result) ∷ []) room.homes)
+    ∙ length-more homes (k, c.admit.result) in
+    let enough : min (length c.admit.new.homes.entries) (length (numbers queues))
+    ≤ c.in-Ok-grow.boxes =
+    omega (
+      arith,
+      grown.enough,
+      c.min-wanted.ensures,
+      c.len.ensures.len,
+      c.len-2.ensures.len,
+      ap length room.homes,
+      longer,
+      length-numbers queues,
+    ) in (
+      chains-joined homes c.make_room.new.homes.entries c.admit.new.homes.entries
+          c.self.inside.nodes.slots c.make_room.new.nodes.slots c.admit.new.nodes.slots queues es
+          k c.admit.result c.self.invariant.0 none c.in-Ok.ensures.few room.homes room.nodes
+          done.homes done.vacant done.node done.others,
+      boxes-grown (length homes) _ (length (numbers queues)) _ es _ _ _ _ c.self.inside.boxes
+          c.self.invariant.1 c.in-Ok-grow.boxes enough grown.len grown.room,
+      c.grow.ensures.empty,
+    )

@@ -15,12 +15,12 @@ returns-in_err-place-clause-nowhere g c =
     let homes = c.self.inside.homes.entries in
     let nodes = c.self.inside.nodes.slots in
     let is = sym c.in_err-place.ensures.none
-    ∙ (ap (entry_of homes nodes) c.client.view_is ∙ c.self.invariant.own client) in
+    ∙ (ap (entry_of homes nodes) c.client.view_is ∙ c.self.invariant.0.own client) in
     let none = entry-nowhere client es None is in
     subst (λ o. IfNone o ((q : ℕ) → stands_in client (queue_in c.args.self.now q) ≡ false))
     (sym c.from_residual.ensures)
     (nowhere-in client _ (queue_in c.args.self.now) None
-    (read-as _ _ es es _ c.self.view_is c.self.invariant.stand refl)
+    (read-as _ _ es es _ c.self.view_is c.self.invariant.0.stand refl)
     (found-nowhere client es None none))
 
 pub returns-clause-found : goal.returns-clause-found
@@ -33,9 +33,9 @@ returns-clause-found g c =
     let there = place-entry homes nodes c.client.inside.0 place.node _
     c.in_ok-place.ensures.home c.in_ok-place.ensures.node in
     let is = sym there
-    ∙ (ap (entry_of homes nodes) c.client.view_is ∙ c.self.invariant.own client) in
+    ∙ (ap (entry_of homes nodes) c.client.view_is ∙ c.self.invariant.0.own client) in
     let found = entry-there client es (Some (place.object, place.waiter)) is in
     let only = found-only client es (Some (place.object, place.waiter))
-    c.self.invariant.stand.once found in
+    c.self.invariant.0.stand.once found in
     found-in client _ (queue_in c.args.self.now) (Some (place.object, place.waiter))
-    (read-as _ _ es es _ c.self.view_is c.self.invariant.stand refl) only
+    (read-as _ _ es es _ c.self.view_is c.self.invariant.0.stand refl) only

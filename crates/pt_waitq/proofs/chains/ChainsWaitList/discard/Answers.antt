@@ -1,35 +1,39 @@
-use Rattle.std.proofs.Common.{◌==◌, not, ◌&&◌, refl, ap, ◌∙◌}
+use Rattle.std.proofs.Common.{◌==◌, not, ◌&&◌, length, refl, ap, ◌∙◌, arith}
 use Rattle.pt_waitq.specs.Waits.{queue_of, is_made, is_listed}
 use Rattle.pt_waitq.specs.Chains.{numbers, waiting_by}
 use Rattle.pt_waitq.proofs.ChangeLemmas.{queue-change, read-as}
-use Rattle.pt_waitq.proofs.MadeLemmas.{empty-none, discard-made, discard-stand, chains-discarded}
+use Rattle.pt_waitq.proofs.InsertLemmas.{length-numbers}
+use Rattle.pt_waitq.proofs.BoxLemmas.{boxes-kept}
+use Rattle.pt_waitq.proofs.MadeLemmas.{discard-made, discard-stand, chains-discarded}
 use Rattle.pt_waitq.proofs.chains.ChainsWaitList.discard.Goals as goal
-
-pub discard-requires : goal.discard-requires
-discard-requires g c =
-    let es = waiting_by c.self.inside.log.items in
-    let empty = ap (λ o. queue_of o es) c.object.view_is
-    ∙ (read-as _ _ es es _ c.self.view_is c.self.invariant.stand refl c.args.object
-    ∙ c.requires.empty) in
-    empty-none _ _ c.self.inside.queues.entries es c.self.invariant c.object.inside.0 empty
 
 pub invariant_of-self : goal.invariant_of-self
 invariant_of-self g c =
     let es = waiting_by c.self.inside.log.items in
     let empty = ap (λ o. queue_of o es) c.object.view_is
-    ∙ (read-as _ _ es es _ c.self.view_is c.self.invariant.stand refl c.args.object
-    ∙ c.requires.empty) in
-    chains-discarded _ _ c.self.inside.queues.entries _ es c.object.inside.0 c.self.invariant
-    c.discard.ensures empty
+    ∙ (read-as _ _ es es _ c.self.view_is c.self.invariant.0.stand refl c.args.object
+    ∙ c.requires.empty) in (
+      chains-discarded _ _ c.self.inside.queues.entries _ es c.object.inside.0
+          c.self.invariant.0 c.discard.ensures.queues empty,
+      boxes-kept _ _ (length (numbers c.self.inside.queues.entries)) _ es _ _ _ _
+          c.self.inside.boxes c.self.invariant.1 (omega arith)
+          (omega (
+            arith,
+            c.discard.ensures.len,
+            length-numbers c.self.inside.queues.entries,
+            length-numbers c.discard.new.queues.entries,
+          )) refl (omega arith),
+      c.self.invariant.2,
+    )
 
 pub returns-clause-made : goal.returns-clause-made
 returns-clause-made g c = λ q.
     let es = waiting_by c.self.inside.log.items in
     let empty = ap (λ o. queue_of o es) c.object.view_is
-    ∙ (read-as _ _ es es _ c.self.view_is c.self.invariant.stand refl c.args.object
+    ∙ (read-as _ _ es es _ c.self.view_is c.self.invariant.0.stand refl c.args.object
     ∙ c.requires.empty) in
-    discard-made _ _ c.self.inside.queues.entries _ es c.object.inside.0 c.self.invariant
-    c.discard.ensures empty q
+    discard-made _ _ c.self.inside.queues.entries _ es c.object.inside.0 c.self.invariant.0
+    c.discard.ensures.queues empty q
     ∙ (ap (λ o. not (o == q) && is_listed q (numbers c.self.inside.queues.entries))
     c.object.view_is
     ∙ ap (λ w. not (c.args.object == q) && is_made w q) c.self.view_is)
@@ -37,9 +41,9 @@ returns-clause-made g c = λ q.
 pub returns-clause-queues : goal.returns-clause-queues
 returns-clause-queues g c = λ q.
     let es = waiting_by c.self.inside.log.items in
-    let stand = c.self.invariant.stand in
+    let stand = c.self.invariant.0.stand in
     let empty = ap (λ o. queue_of o es) c.object.view_is
     ∙ (read-as _ _ es es _ c.self.view_is stand refl c.args.object ∙ c.requires.empty) in
     let now = discard-stand _ _ c.self.inside.queues.entries _ es c.object.inside.0
-    c.self.invariant c.discard.ensures empty in
+    c.self.invariant.0 c.discard.ensures.queues empty in
     queue-change _ _ _ es es _ c.self.view_is stand now (λ ws. ws) q refl

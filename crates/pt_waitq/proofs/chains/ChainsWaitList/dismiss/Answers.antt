@@ -1,29 +1,34 @@
-use Rattle.std.proofs.Common.{◌==◌, not, ◌&&◌, ◌||◌, ap, ◌∙◌}
+use Rattle.std.proofs.Common.{◌==◌, not, ◌&&◌, ◌||◌, length, refl, ap, ◌∙◌, arith}
 use Rattle.pt_waitq.specs.Waits.{is_admitted, is_listed, has_waiter}
 use Rattle.pt_waitq.specs.Chains.{waiting_by, numbers}
 use Rattle.pt_waitq.proofs.ChangeLemmas.{none-stands}
+use Rattle.pt_waitq.proofs.BoxLemmas.{boxes-kept}
 use Rattle.pt_waitq.proofs.HomeLemmas.{chains-dismissed, dismissed-admits}
 use Rattle.pt_waitq.proofs.chains.ChainsWaitList.dismiss.Goals as goal
 
 pub invariant_of-self : goal.invariant_of-self
 invariant_of-self g c =
     let es = waiting_by c.self.inside.log.items in
-    let stand = c.self.invariant.stand in
+    let stand = c.self.invariant.0.stand in
     let none = none-stands _ _ es _ c.args.client c.self.view_is stand c.requires.nowhere in
-    let gone = c.dismiss.ensures in
-    chains-dismissed c.self.inside.homes.entries _ c.self.inside.nodes.slots _
-    c.self.inside.queues.entries es c.client.inside.0 c.self.invariant gone.homes gone.nodes
-    gone.len (ap (λ n. has_waiter n es) c.client.view_is ∙ none)
+    let gone = c.dismiss.ensures in (
+      chains-dismissed c.self.inside.homes.entries _ c.self.inside.nodes.slots _
+          c.self.inside.queues.entries es c.client.inside.0 c.self.invariant.0 gone.homes
+          gone.nodes gone.len (ap (λ n. has_waiter n es) c.client.view_is ∙ none),
+      boxes-kept (length c.self.inside.homes.entries) _ _ _ es _ _ _ _ c.self.inside.boxes
+          c.self.invariant.1 gone.len (omega arith) refl (omega arith),
+      c.self.invariant.2,
+    )
 
 pub returns-clause-admitted : goal.returns-clause-admitted
 returns-clause-admitted g c = λ d.
     let es = waiting_by c.self.inside.log.items in
-    let stand = c.self.invariant.stand in
+    let stand = c.self.invariant.0.stand in
     let none = none-stands _ _ es _ c.args.client c.self.view_is stand c.requires.nowhere in
     let gone = c.dismiss.ensures in
     let homes = c.self.inside.homes.entries in
     dismissed-admits homes _ c.self.inside.nodes.slots _ c.self.inside.queues.entries es
-    c.client.inside.0 c.self.invariant gone.homes gone.nodes gone.len
+    c.client.inside.0 c.self.invariant.0 gone.homes gone.nodes gone.len
     (ap (λ n. has_waiter n es) c.client.view_is ∙ none) d
     ∙ (ap (λ n. not (n == d) && (is_listed d (numbers homes) || has_waiter d es))
     c.client.view_is

@@ -12,6 +12,6 @@ returns g c =
     let found = c.first_of.ensures in
     c.waiter_of.ensures
     ∙ (first-told c.self.inside.homes.entries c.self.inside.nodes.slots
-    c.self.inside.queues.entries es c.self.invariant c.object.inside.0 _ found.none found.queue
+    c.self.inside.queues.entries es c.self.invariant.0 c.object.inside.0 _ found.none found.queue
     ∙ (ap (λ o. head_of (queue_of o es)) c.object.view_is
-    ∙ ap head_of (read-as _ _ es es _ c.self.view_is c.self.invariant.stand refl c.args.object)))
+    ∙ ap head_of (read-as _ _ es es _ c.self.view_is c.self.invariant.0.stand refl c.args.object)))

@@ -12,7 +12,7 @@ returns g c =
     let found = c.first_writer_of.ensures in
     c.waiter_of.ensures
     ∙ (writer-told c.self.inside.homes.entries c.self.inside.nodes.slots
-    c.self.inside.queues.entries es c.self.invariant c.object.inside.0 _ found.none found.queue
+    c.self.inside.queues.entries es c.self.invariant.0 c.object.inside.0 _ found.none found.queue
     ∙ (ap (λ o. first_writer_of (queue_of o es)) c.object.view_is
     ∙ ap first_writer_of
-    (read-as _ _ es es _ c.self.view_is c.self.invariant.stand refl c.args.object)))
+    (read-as _ _ es es _ c.self.view_is c.self.invariant.0.stand refl c.args.object)))

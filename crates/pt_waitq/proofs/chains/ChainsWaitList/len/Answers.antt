@@ -8,6 +8,6 @@ use Rattle.pt_waitq.proofs.chains.ChainsWaitList.len.Goals as goal
 pub returns : goal.returns
 returns g c =
     let es = waiting_by c.self.inside.log.items in
-    len-told _ _ _ es c.self.invariant c.object.inside.0 _ c.len_of.ensures
+    len-told _ _ _ es c.self.invariant.0 c.object.inside.0 _ c.len_of.ensures
     ∙ (ap (λ o. length (queue_of o es)) c.object.view_is
-    ∙ ap length (read-as _ _ es es _ c.self.view_is c.self.invariant.stand refl c.args.object))
+    ∙ ap length (read-as _ _ es es _ c.self.view_is c.self.invariant.0.stand refl c.args.object))

@@ -1,9 +1,11 @@
-use Rattle.std.proofs.Common.{refl, ap, ◌∙◌}
+use Rattle.std.proofs.Common.{◌≤◌, min, length, arith, sym, refl, ap, ◌∙◌, subst}
 use Rattle.pt_waitq.specs.Waits.{is_made}
-use Rattle.pt_waitq.specs.Chains.{waiting_by}
+use Rattle.pt_waitq.specs.Chains.{numbers, waiting_by, HasNone}
 use Rattle.pt_waitq.proofs.ChangeLemmas.{queue-change}
 use Rattle.pt_waitq.proofs.ChainLemmas.{not-listed}
-use Rattle.pt_waitq.proofs.MadeLemmas.{made-stand, chains-made}
+use Rattle.pt_waitq.proofs.InsertLemmas.{length-numbers}
+use Rattle.pt_waitq.proofs.BoxLemmas.{none-without, length-made, boxes-grown}
+use Rattle.pt_waitq.proofs.MadeLemmas.{made-absent, made-stand, chains-made}
 use Rattle.pt_waitq.proofs.chains.ChainsWaitList.make.Goals as goal
 
 pub make-requires : goal.make-requires
@@ -12,22 +14,43 @@ make-requires g c =
     (ap (λ w. is_made w c.object.inside.0) c.self.view_is
     ∙ (ap (is_made c.args.self.now) c.object.view_is ∙ c.requires))
 
-pub invariant_of-self : goal.invariant_of-self
-invariant_of-self g c =
-    let none = not-listed c.self.inside.queues.entries c.object.inside.0
-    (ap (λ w. is_made w c.object.inside.0) c.self.view_is
+pub invariant_of-self-2 : goal.invariant_of-self-2
+invariant_of-self-2 g c =
+    let homes = c.self.inside.homes.entries in
+    let queues = c.self.inside.queues.entries in
+    let o = c.object.inside.0 in
+    let none = not-listed queues o (ap (λ w. is_made w o) c.self.view_is
     ∙ (ap (is_made c.args.self.now) c.object.view_is ∙ c.requires)) in
     let made = c.make.ensures in
-    chains-made _ _ c.self.inside.queues.entries _ _ c.object.inside.0 c.make.result
-    c.self.invariant none made.numbers made.others made.queue
+    let grown = c.in-Ok.ensures in
+    let longer = length-made c.make.result (numbers queues) _ o made.numbers in
+    let enough : min (length homes) (length (numbers c.make.new.queues.entries)) ≤ c.in-Ok.boxes =
+    omega (
+      arith,
+      grown.enough,
+      c.min-wanted.ensures,
+      c.len.ensures.len,
+      c.len-2.ensures.len,
+      longer,
+      length-numbers queues,
+    ) in (
+      chains-made _ _ queues _ _ o c.make.result c.self.invariant.0
+          (made-absent _ _ queues _ o c.self.invariant.0 none) made.numbers made.others
+          (λ q h. subst HasNone (sym (made.queue q h)) none-without),
+      boxes-grown (length homes) _ (length (numbers queues)) _ _ _ _ _ _ c.self.inside.boxes
+          c.self.invariant.1 c.in-Ok.boxes enough grown.len grown.room,
+      c.grow.ensures.empty,
+    )
 
 pub returns-clause-queues : goal.returns-clause-queues
 returns-clause-queues g c = λ q.
     let es = waiting_by c.self.inside.log.items in
-    let none = not-listed c.self.inside.queues.entries c.object.inside.0
-    (ap (λ w. is_made w c.object.inside.0) c.self.view_is
+    let queues = c.self.inside.queues.entries in
+    let o = c.object.inside.0 in
+    let none = not-listed queues o (ap (λ w. is_made w o) c.self.view_is
     ∙ (ap (is_made c.args.self.now) c.object.view_is ∙ c.requires)) in
     let made = c.make.ensures in
-    let now = made-stand _ _ c.self.inside.queues.entries _ es c.object.inside.0 c.make.result
-    c.self.invariant none made.numbers made.others made.queue in
-    queue-change _ _ _ es es _ c.self.view_is c.self.invariant.stand now (λ ws. ws) q refl
+    let now = made-stand _ _ queues _ es o c.make.result c.self.invariant.0
+    (made-absent _ _ queues es o c.self.invariant.0 none) made.numbers made.others
+    (λ r h. subst HasNone (sym (made.queue r h)) none-without) in
+    queue-change _ _ _ es es _ c.self.view_is c.self.invariant.0.stand now (λ ws. ws) q refl
