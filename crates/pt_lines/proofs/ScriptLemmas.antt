@@ -16,7 +16,6 @@ use Rattle.pt_lines.specs.declared.client.Who.{Who}
 use Rattle.pt_lines.specs.declared.client.Who.TheVariants.{Named, Star, Unknown}
 use Rattle.pt_lines.specs.declared.script_line.ScriptBody.{ScriptBody}
 use Rattle.pt_lines.specs.declared.script_line.ScriptBody.TheVariants.{Hello, Ask, Die, Tick}
-use Rattle.pt_lines.specs.declared.script_line.ScriptLine.{ScriptLine}
 use Rattle.pt_lines.specs.Arguments.{name_of, alone}
 use Rattle.pt_lines.specs.ClientNames.{IsClientName}
 use Rattle.pt_lines.specs.Clients.{who_text, who_named, before_space, behind_space}
@@ -148,10 +147,6 @@ called_again :
 called_again text rest read s =
     ap (λ b. cond b (Ok Die) (body_from (Named text) (call_read rest))) (not_die rest read s)
     ∙ ap (body_from (Named text)) (call_read-spelled rest read s)
-
--- a line of this client
-abbrev pub line_with : Who → Result ScriptBody Refusal → ScriptLine
-line_with who body = record { who = who; body = body }
 
 -- a word of one name, and the name alone after it, are read as the call
 pub named_said :

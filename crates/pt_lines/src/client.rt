@@ -116,11 +116,14 @@ impl Who {
     pub fn named(name: &[u8]) -> Who
         ensures { result ≡ who_named name.now }
     {
-        match ClientName::new(name) {
-            Some(name) => Who::Named(name),
-            None if name == b"*".as_slice() => Who::Star,
-            None => Who::Unknown,
+        if is_name(name) {
+            let text = ArrayVec::try_from(name).unwrap();
+            return Who::Named(ClientName { text });
         }
+        if name == b"*".as_slice() {
+            return Who::Star;
+        }
+        Who::Unknown
     }
 
     /// The bytes that are printed for it.

@@ -101,9 +101,9 @@ fn take_line<A: Allocator + Copy>(held: &mut BytesMut<A>) -> Option<Cut>
 }
 
 impl<A: Allocator + Copy> Cutter<A> {
-    ghost use Rattle.pt_lines.specs.Lines.{IsFront};
+    ghost use Rattle.pt_lines.specs.Lines.{IsFront, past_line};
     ghost use Rattle.pt_lines.specs.Reading.{IsNextCallLine};
-    ghost use Rattle.pt_lines.specs.Script.{IsNextScriptLine};
+    ghost use Rattle.pt_lines.specs.Script.{IsNextScriptLine, short_read};
 
     /// A cutter that was fed nothing. It takes no memory.
     pub fn new(alloc: A) -> Self
@@ -170,6 +170,25 @@ impl<A: Allocator + Copy> Cutter<A> {
             Some(end) => Some(end),
             None => self.newline_within(MOST_IN_LINE + 1),
         }
+    }
+
+    /// The text of the next line, if that is whole and not too long. It is not copied.
+    pub fn front_text(&self) -> Option<&[u8]>
+        ensures line { IfSome result (λ text. IsNextScriptLine self.now (short_read text.now)
+            (past_line self.now (length text.now))) }
+        ensures front { IfSome result (λ text. IsFront self.now (length text.now)) }
+    {
+        let end = self.front()?;
+        Some(&self.held.as_slice()[..end])
+    }
+
+    /// Drops the next line, whose text has this length.
+    pub fn drop_front(&mut self, len: usize)
+        requires { IsFront self.old len }
+        ensures line { self.new ≡ past_line self.old len }
+        ensures fewer { length self.new.rest < length self.old.rest }
+    {
+        self.held.advance(len + 1);
     }
 
     /// What is read of the next line as one of a script, as soon as `next_line` would return it.

@@ -22,4 +22,4 @@ pub use call_line::{CallLine, read_call};
 pub use client::{ClientName, Who};
 pub use cutter::{Cut, Cutter, cut_all, lines_of_texts};
 pub use reply::{Word, write_reply};
-pub use script_line::{ScriptBody, ScriptLine, read_script_line};
+pub use script_line::{Rest, ScriptBody, ScriptLine, read_client, read_script_line};

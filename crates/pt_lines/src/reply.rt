@@ -1,10 +1,9 @@
 ghost use Rattle.std.specs.Prelude.{◌≡◌, ◌≤◌, ◌+◌, ◌++◌, IsOk, OnOk, OnErr, IfErr, length, vec_len};
 ghost use Rattle.std.specs.Prelude.{vec_capacity};
 ghost use Rattle.std.specs.Option.{option_copied};
-ghost use Rattle.pt_lines.specs.Replies.{reply_line};
+ghost use Rattle.pt_lines.specs.Replies.{reply_line, sender};
 
 use crate::client::Who;
-use arrayvec::ArrayVec;
 use itoa::Buffer;
 use pt_types::{Outcome, Refusal};
 use std::alloc::Allocator;
@@ -31,6 +30,43 @@ impl Word {
     }
 }
 
+// How many bytes are before the number of the line.
+fn sender_len(who: Option<&Who>) -> usize
+    ensures len { result ≡ length (sender (option_copied who.entry)) }
+    ensures short { result ≤ 9 }
+{
+    match who {
+        Some(who) => who.as_bytes().len() + 1,
+        None => 0,
+    }
+}
+
+// Appends a few bytes, for which there is room. One after the other they cost less than a call that
+// copies them.
+fn append<A: Allocator + Copy>(out: &mut Vec<u8, A>, bytes: &[u8])
+    requires { vec_len out.old + length bytes.now ≤ vec_capacity out.old }
+    ensures items { out.new.items ≡ out.old.items ++ bytes.now }
+    ensures len { vec_len out.new ≡ vec_len out.old + length bytes.now }
+    ensures capacity { vec_capacity out.new ≡ vec_capacity out.old }
+{
+    for byte in bytes {
+        out.push_reserved(*byte);
+    }
+}
+
+// Appends what is before the number of the line, for which there is room.
+fn append_sender<A: Allocator + Copy>(out: &mut Vec<u8, A>, who: Option<&Who>)
+    requires { vec_len out.old + length (sender (option_copied who)) ≤ vec_capacity out.old }
+    ensures items { out.new.items ≡ out.old.items ++ sender (option_copied who.entry) }
+    ensures len { vec_len out.new ≡ vec_len out.old + length (sender (option_copied who.entry)) }
+    ensures capacity { vec_capacity out.new ≡ vec_capacity out.old }
+{
+    if let Some(who) = who {
+        append(out, who.as_bytes());
+        out.push_reserved(b' ');
+    }
+}
+
 /// Appends the answer to the client's line of this number, `who` if it is in a script.
 /// ENOMEM if a growth was refused: nothing is appended. A line for which there is room is never
 /// refused.  [profile]
@@ -47,17 +83,17 @@ pub fn write_reply<A: Allocator + Copy>(
     ensures enough { vec_len out.old + length (reply_line (option_copied who.entry) n word)
         ≤ vec_capacity out.old → IsOk result }
 {
-    let mut line: ArrayVec<u8, 64> = ArrayVec::new();
-    if let Some(who) = who {
-        line.try_extend_from_slice(who.as_bytes()).unwrap();
-        line.push(b' ');
-    }
     let mut digits = Buffer::new();
-    line.try_extend_from_slice(digits.format(n).as_bytes())
-        .unwrap();
-    line.push(b' ');
-    line.try_extend_from_slice(word.text().as_bytes()).unwrap();
-    line.push(b'\n');
-    out.extend_from_slice(line.as_slice())
-        .map_err(|_| Refusal::Enomem)
+    let number = digits.format(n).as_bytes();
+    let text = word.text().as_bytes();
+    let len = sender_len(who) + number.len() + text.len() + 2;
+    if out.reserve(len).is_err() {
+        return Err(Refusal::Enomem);
+    }
+    append_sender(out, who);
+    append(out, number);
+    out.push_reserved(b' ');
+    append(out, text);
+    out.push_reserved(b'\n');
+    Ok(())
 }

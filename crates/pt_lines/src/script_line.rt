@@ -1,6 +1,6 @@
 ghost use Rattle.std.specs.Prelude.{◌≡◌};
 ghost use Rattle.std.specs.Option.{option_copied, option_and_then};
-ghost use Rattle.pt_lines.specs.Clients.{before_space, behind_space};
+ghost use Rattle.pt_lines.specs.Clients.{before_space, behind_space, who_named};
 ghost use Rattle.pt_lines.specs.Fields.{fields_left};
 ghost use Rattle.pt_lines.specs.Reading.{line_of, line_read, call_read};
 ghost use Rattle.pt_lines.specs.Script.{body_of, body_read, IsReadAs, short_read, script_read};
@@ -11,7 +11,8 @@ use crate::client::Who;
 use crate::cutter::Cut;
 use crate::fields::{Fields, first_space};
 use crate::verb::Verb;
-use pt_types::{Call, Clock, MOST_IN_LINE, Moment, Priority, Refusal};
+use pt_types::{Call, Clock, MOST_IN_LINE, Moment, Name, NamedVerb, Priority, Refusal};
+use std::marker::Model;
 
 /// What a line of a script says.
 #[derive(Debug, PartialEq, Eq, Drop)]
@@ -53,18 +54,6 @@ fn body_of(who: &Who, line: CallLine) -> Result<ScriptBody, Refusal>
     }
 }
 
-// The verb of a text, and what comes after it.
-fn read_verb(rest: &[u8]) -> (Option<Verb>, Option<&[u8]>)
-    ensures { line_read rest.now
-        ≡ option_and_then (λ verb. line_of verb (fields_left result.1)) result.0 }
-{
-    let mut fields = Fields::new(rest);
-    match fields.next() {
-        Some(word) => (Verb::read(word), fields.rest()),
-        None => (None, None),
-    }
-}
-
 // The text as a connection's line, once its verb is read.
 fn read_line(rest: &[u8], verb: Option<Verb>, args: Option<&[u8]>) -> Result<CallLine, Refusal>
     requires { line_read rest.now
@@ -100,42 +89,93 @@ fn read_body(
     body_of(who, line)
 }
 
-// Any line with a space. It isn't inlined, so that a call of one name has no room to clear for it.
-#[inline(never)]
-fn read_other(who: Who, rest: &[u8], verb: Option<Verb>, args: Option<&[u8]>) -> ScriptLine
-    requires { line_read rest.now
-        ≡ option_and_then (λ verb. line_of verb (fields_left args)) verb }
-    ensures { result ≡ record { who = who; body = body_read who rest.now } }
+/// Whose a line of a script is, and what comes after its client and a space, if a space does.
+pub fn read_client(text: &[u8]) -> (Who, Option<&[u8]>)
+    ensures who { result.0 ≡ who_named (before_space text.now) }
+    ensures behind { option_copied result.1 ≡ behind_space text.now }
 {
-    let body = read_body(&who, rest, verb, args);
-    ScriptLine { who, body }
+    let (name, rest) = split_at_space(text);
+    (Who::named(name), rest)
 }
 
-// A line after whose client and a space this rest is. Most are calls of one name.
-fn read_rest(who: Who, rest: &[u8]) -> ScriptLine
-    ensures { result ≡ record { who = who; body = body_read who rest.now } }
-{
-    let (verb, args) = read_verb(rest);
-    if let Who::Named(_) = who
-        && let Some(Verb::Named(verb)) = verb
-        && let Some(name) = only_name(Fields::left(args))
+/// What comes after a client and a space, of which the verb is read.
+///
+/// Contracts see it as its bytes.
+#[derive(Drop)]
+pub struct Rest<'a> {
+    text: &'a [u8],
+    verb: Option<Verb>,
+    args: Option<&'a [u8]>,
+}
+
+impl<'a> Model for Rest<'a> {
+    ghost use Rattle.std.specs.Prelude.{◌≡◌, List, ℕ};
+    ghost use Rattle.std.specs.Option.{option_and_then};
+    ghost use Rattle.pt_lines.specs.Fields.{fields_left};
+    ghost use Rattle.pt_lines.specs.Reading.{line_of, line_read};
+
+    ghost Value = { List ℕ };
+
+    ghost view = { λ r. r.text.now };
+
+    ghost invariant = { λ r. line_read r.text.now
+        ≡ option_and_then (λ verb. line_of verb (fields_left r.args)) r.verb };
+}
+
+impl<'a> Rest<'a> {
+    ghost use Rattle.std.specs.Prelude.{IfSome, List, Ok, ℕ};
+    ghost use Rattle.pt_types.specs.NamedVerbs.{call_on};
+
+    /// Reads the verb.
+    pub fn new(text: &'a [u8]) -> Self
+        ensures { result ≡ text.now }
     {
-        return ScriptLine {
-            who,
-            body: Ok(ScriptBody::Ask(verb.call(name))),
-        };
+        let mut fields = Fields::new(text);
+        match fields.next() {
+            Some(word) => Rest {
+                text,
+                verb: Verb::read(word),
+                args: fields.rest(),
+            },
+            None => Rest {
+                text,
+                verb: None,
+                args: None,
+            },
+        }
     }
-    read_other(who, rest, verb, args)
+
+    /// The word and the name of a call of one name, if a client that says this calls one. Most
+    /// lines are such calls.
+    pub fn named(&self) -> Option<(NamedVerb, Name)>
+        ensures { IfSome result (λ said. (client : List ℕ) → body_read (Who.Named client) self.now
+            ≡ Ok (ScriptBody.Ask (call_on said.0 said.1))) }
+    {
+        match self.verb {
+            Some(Verb::Named(verb)) => Some((verb, only_name(Fields::left(self.args))?)),
+            _ => None,
+        }
+    }
+
+    /// What is said. It isn't inlined, so that a call of one name has no room to clear for it.
+    #[inline(never)]
+    pub fn body(self, who: &Who) -> Result<ScriptBody, Refusal>
+        ensures { result ≡ body_read who.now self.entry }
+    {
+        read_body(who, self.text, self.verb, self.args)
+    }
 }
 
 /// Reads a line that is not too long.
 pub(crate) fn read_short(text: &[u8]) -> ScriptLine
     ensures { result ≡ short_read text.now }
 {
-    let (name, rest) = split_at_space(text);
-    let who = Who::named(name);
+    let (who, rest) = read_client(text);
     match rest {
-        Some(rest) => read_rest(who, rest),
+        Some(rest) => {
+            let body = Rest::new(rest).body(&who);
+            ScriptLine { who, body }
+        }
         None => ScriptLine {
             who,
             body: Err(Refusal::Syntax),

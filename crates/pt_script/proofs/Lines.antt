@@ -1,10 +1,12 @@
 -- What is answered of a line, once it is counted.
-use Rattle.std.proofs.Common.{◌≡◌, ℕ, suc, ◌++◌, List, Result, Ok, Err, OnOk, refl, sym, ap, ◌∙◌}
-use Rattle.std.proofs.Common.{subst}
+use Rattle.std.proofs.Common.{◌≡◌, ℕ, suc, ◌++◌, List, Option, Result, Ok, Err, OnOk, refl, sym}
+use Rattle.std.proofs.Common.{ap, ◌∙◌, subst}
 use Rattle.pt_types.specs.declared.outcome.Refusal.{Refusal}
 use Rattle.pt_lines.specs.declared.client.Who.{Who}
 use Rattle.pt_lines.specs.declared.client.Who.TheVariants.{Named, Star, Unknown}
 use Rattle.pt_lines.specs.declared.script_line.ScriptLine.{ScriptLine}
+use Rattle.pt_lines.specs.Clients.{before_space, behind_space, who_named}
+use Rattle.pt_lines.specs.Script.{body_behind, short_read}
 use Rattle.pt_lines.specs.declared.script_line.ScriptBody.{ScriptBody}
 use Rattle.pt_lines.specs.declared.script_line.ScriptBody.TheVariants.{Hello, Ask, Die, Tick}
 use Rattle.pt_model.specs.declared.entry.Event.{Event}
@@ -44,6 +46,17 @@ says_counted s mid next line number asks out told is counts says adds =
     out told) counts
     (subst (λ t. Adds (SaysTo t (record { who = line.who; number = number }) asks next) out told)
     is adds))
+
+-- a text that is not too long is read by its client, and by what is behind that
+pub short_by : (text : List ℕ) (who : Who) (behind : Option (List ℕ))
+    → who ≡ who_named (before_space text) → behind ≡ behind_space text
+    → (record { who = who; body = body_behind who behind }) ≡ short_read text
+short_by text who behind is rest =
+    ap (λ w. record { who = w; body = body_behind w behind }) is
+    ∙ ap (λ b. record {
+      who = who_named (before_space text);
+      body = body_behind (who_named (before_space text)) b;
+    }) rest
 
 -- a line that asks for no event: its refusal was appended
 pub says_refused : (s : Script) (line : LineId) (why : Refusal) (out told : List ℕ)

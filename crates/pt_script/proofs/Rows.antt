@@ -1,7 +1,13 @@
 -- Rows of names, after one that was written.
 use Rattle.std.proofs.Common.{◌≡◌, ℕ, suc, ◌<◌, Bool, true, false, cond, List, [], ◌∷◌, ◌++◌}
-use Rattle.std.proofs.Common.{Option, Some, None, IsSome, refl, sym, ap, ◌∙◌, arith, rules}
-use Rattle.std.specs.Option.{option_or}
+use Rattle.std.proofs.Common.{Option, Some, None, IsSome, map, refl, sym, ap, ◌∙◌, arith, rules}
+use Rattle.std.specs.Prelude.{slice_get}
+use Rattle.std.specs.Bool.{OnTrue}
+use Rattle.std.specs.Cmp.{decided}
+use Rattle.std.specs.Option.{option_map, option_or}
+use Rattle.std.proofs.lemmas.Option.{slice_get-map}
+use Rattle.indexmap.specs.IndexMap.{IndexMap, IsUnique, set_value_at}
+use Rattle.indexmap.proofs.CallerLemmas.{updates-with_value_at}
 use Rattle.std.proofs.lemmas.Bool.Decides.{same_from_decides, Decides-like}
 use Rattle.std.specs.Str.{bytes_eq}
 use Rattle.std.proofs.lemmas.Slice.Eq.{bytes_eq-Decides}
@@ -10,7 +16,7 @@ use Rattle.pt_lines.specs.declared.client.Who.{Who}
 use Rattle.pt_lines.specs.declared.client.Who.TheVariants.{Named, Star, Unknown}
 use Rattle.pt_script.specs.Scripts.{number_named, number_of}
 use Rattle.pt_script.specs.Names.{Known, Counted, lines_in, client_in, client_counted, row_of}
-use Rattle.pt_script.specs.Names.{IsRowRaised}
+use Rattle.pt_script.specs.Names.{IsAt, IsRowRaised}
 use Rattle.pt_script.specs.Names.{IsRowGiven, IsGiven, AreCounted}
 use Rattle.pt_script.proofs.Counted.{ap_cond, lookup_push}
 
@@ -47,6 +53,38 @@ row_raised old new name row set more same = record {
       ∙ keep (λ n. client_in (row_of old n)) name other (bytes_eq name other)
       (bytes_eq-Decides name other).0;
 }
+
+-- what is found at the index of a name's row is that row
+pub row_found : (rows : List (List ℕ × Row)) (index : ℕ) (name : List ℕ) (row : Row)
+    → IsAt rows index name → Some row ≡ slice_get (map (λ p. p.1) rows) index
+    → row_of rows name ≡ Some row
+row_found rows index name row at is =
+    at.own
+    ∙ sym (is ∙ slice_get-map (λ p. p.1) rows index ∙ ap (option_map (λ p. p.1)) at.at)
+
+-- one line more of the name whose row is at an index
+pub raised_at : {S : Type 0} (m : IndexMap (List ℕ) Row S) (index : ℕ) (name : List ℕ) (row : Row)
+    → IsUnique bytes_eq m → IsAt m.entries index name
+    → row.lines ≡ suc (lines_in (row_of m.entries name))
+    → row.client ≡ client_in (row_of m.entries name)
+    → IsRowRaised m.entries name (set_value_at m.entries index row)
+raised_at m index name row unique at more same =
+    row_raised m.entries (set_value_at m.entries index row) name row
+    (updates-with_value_at m index row (decided bytes_eq bytes_eq-Decides) unique name at.row
+    at.at).0 more same
+
+-- the row at an index whose name is the same as this one
+pub row_at : (b : Bool) (rows : List (List ℕ × Row)) (index : ℕ) (key name : List ℕ) (row : Row)
+    → b ≡ bytes_eq key name → slice_get rows index ≡ Some (key, row) → row_of rows key ≡ Some row
+    → OnTrue b (IsAt rows index name)
+row_at false rows index key name row same at own = tt
+row_at true rows index key name row same at own =
+    let is : key ≡ name = (bytes_eq-Decides key name).0 (sym same) in
+    record {
+      row = row;
+      at = at ∙ ap (λ n. Some (n, row)) is;
+      own = ap (row_of rows) (sym is) ∙ own;
+    }
 
 pub given : (old new : List (List ℕ × Row)) (name : List ℕ) (row : Row) (c : ℕ)
     → IsSet old name row new → row.lines ≡ lines_in (row_of old name) → row.client ≡ Some c

@@ -119,6 +119,32 @@ answers_same held s out mid next last new before same = record {
   answered = before.answered;
 }
 
+-- some lines, and then more
+pub answers_join : (held : Held) (s : Script) (out : List ℕ) (mid : Held) (t : Script)
+    (text : List ℕ) (next : Held) (last : Script) (new : List ℕ)
+    → Answers held s out mid t text → Answers mid t text next last new
+    → Answers held s out next last new
+answers_join held s out mid t text next last new before after = record {
+  cuts = before.cuts ++ after.cuts;
+  given = λ more.
+      before.given more
+      ∙ ap (λ xs. before.cuts ++ xs) (after.given more)
+      ∙ sym (append_assoc before.cuts after.cuts (to_come next more));
+  answered = record {
+    text = before.answered.text ++ after.answered.text;
+    says =
+        subst (λ xs. SaysAll s xs last (before.answered.text ++ after.answered.text))
+        (sym (map-append script_of before.cuts after.cuts))
+        (says_join s (map script_of before.cuts) t before.answered.text
+        (map script_of after.cuts) last after.answered.text before.answered.says
+        after.answered.says);
+    grows =
+        after.answered.grows
+        ∙ ap (λ xs. xs ++ after.answered.text) before.answered.grows
+        ∙ append_assoc out before.answered.text after.answered.text;
+  };
+}
+
 -- how many lines remain
 pub answers_few : (held : Held) (s : Script) (out : List ℕ) (next : Held) (last : Script)
     (new : List ℕ) → Answers held s out next last new

@@ -1,5 +1,6 @@
 -- Names: what is stored of the clients of a script.
 use Rattle.std.specs.Prelude.{◌≡◌, ℕ, suc, List, length, Option, Some, None, if◌then◌else◌}
+use Rattle.std.specs.Prelude.{slice_get}
 use Rattle.std.specs.Map.{lookup}
 use Rattle.std.specs.Str.{bytes_eq}
 use Rattle.pt_lines.specs.declared.client.Who.{Who}
@@ -25,6 +26,12 @@ client_in (Some row) = row.client
 -- the row of a name
 abbrev pub row_of : List (List ℕ × Row) → List ℕ → Option Row
 row_of rows name = lookup (bytes_eq name) rows
+
+-- the row at an index is this name's
+pub record IsAt (rows : List (List ℕ × Row)) (index : ℕ) (name : List ℕ) : Type 0 where
+  pub row : Row
+  pub at : slice_get rows index ≡ Some (name, row)
+  pub own : row_of rows name ≡ Some row
 
 -- what is counted: the rows of names, and the lines of `*` and of `?`  [profile]
 pub record Counted : Type 0 where

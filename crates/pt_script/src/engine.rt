@@ -1,100 +1,22 @@
 ghost use Rattle.std.specs.Prelude.{◌≡◌, ◌<◌, ◌+◌, ◌^◌, ◌++◌, [], length, None, OnOk, IfOk, IfErr};
-ghost use Rattle.pt_model.specs.Queries.{answers_behind};
-ghost use Rattle.pt_core.specs.Cores.{shown};
-ghost use Rattle.indexmap.specs.IndexMap.{spare};
 ghost use Rattle.pt_script.specs.Scripts.{lines_of_who, number_of};
-ghost use Rattle.pt_script.specs.Engines.{mark_of, clients_marked, calls_marked, greeting_marked};
-ghost use Rattle.pt_script.specs.Engines.{latest_text, own_answers, own_first, IsAsked};
+ghost use Rattle.pt_script.specs.declared.mark.Mark.{Mark};
+ghost use Rattle.pt_script.specs.Engines.{mark_of};
 
+use crate::accepting::{Calls, greet, note, tell_from};
 use crate::fault::ScriptFault;
 use crate::line_id::LineId;
-use crate::mark::{Mark, mark_of};
+use crate::mark::mark_of;
 use crate::names::{CountedLine, Names};
-use crate::text::{Asked, refuse, tell, tell_all, tell_own};
+use crate::text::{Asked, refuse};
 use http_server::Log;
 use indexmap::IndexMap;
-use pt_core::{Applied, Core};
-use pt_lines::{Cutter, ScriptBody, ScriptLine, Who, Word};
+use pt_core::Core;
+use pt_lines::{Cutter, Rest, ScriptBody, ScriptLine, Who, read_client};
 use pt_model::Event;
-use pt_types::{Call, ClientId, Outcome, Priority, Refusal};
+use pt_types::{Call, ClientId, Priority, Refusal};
 use std::alloc::{Allocator, Global};
 use std::marker::Model;
-
-// The line that made the call at each place. It is for proofs alone and takes no memory.
-type Calls = Log<u64, LineId>;
-
-// Notes an accepted line, whose event was applied. It is stored for its client if its call waits,
-// since all later answers are to calls that wait.
-fn note<A: Allocator + Copy>(
-    names: &mut Names<A>,
-    asked: &mut Asked<A>,
-    calls: &mut Calls,
-    mark: &Mark,
-    line: &LineId,
-    done: &Applied,
-)
-    requires room { 0 < spare asked.old }
-    requires counted { 0 < lines_of_who names.old.seen line.now.who }
-    requires first { mark.now ≡ Mark.Client → number_of names.old.clients line.now.who ≡ None }
-    ensures names { names.new ≡ record names.old {
-      clients = clients_marked mark.now line.now.who done.now.first names.old.clients;
-    } }
-    ensures asked { IsAsked done.now.outcome mark.now line.now
-        asked.old.entries asked.new.entries }
-    ensures calls { calls.new.items
-        ≡ calls_marked mark.now line.now done.now.first calls.old.items }
-{
-    match mark {
-        Mark::Client => names.join(&line.who, ClientId(done.first)),
-        Mark::Call(client) => {
-            if done.outcome.is_none() {
-                let _ = asked.insert(client.0, line.copied()).unwrap();
-            }
-            *calls = calls.and(&done.first, line);
-        }
-        Mark::Nothing => {}
-    }
-}
-
-// An accepted hello is answered 0.
-fn greet<A: Allocator + Copy>(
-    out: &mut Vec<u8, A>,
-    mark: &Mark,
-    line: &LineId,
-) -> Result<(), ScriptFault>
-    ensures ok { OnOk result (out.new.items ≡ out.old.items ++ greeting_marked mark.now line.now) }
-    ensures why { IfErr result (λ fault. fault ≡ ScriptFault.Memory) }
-{
-    match mark {
-        Mark::Client => tell(out, line, Word::Outcome(Outcome::Done)),
-        Mark::Call(_) | Mark::Nothing => Ok(()),
-    }
-}
-
-// Appends the answers that an event gave, whose mark and line these are. If no entry followed its
-// own, it answered its own call alone, or none, and its answers need not be looked for.
-#[tactic(auto, using(crate::proofs::Alone::alone_text))]
-fn tell_from<'a, A: Allocator + Copy>(
-    out: &mut Vec<u8, A>,
-    core: &'a Core<A>,
-    asked: &'a Asked<A>,
-    mark: &'a Mark,
-    line: &'a LineId,
-    done: &'a Applied,
-) -> Result<(), ScriptFault>
-    requires alone { done.now.last ≡ done.now.first
-        → answers_behind (shown core.now).start done.now.first core.now.entries
-        ≡ own_answers mark.now done.now.first done.now.outcome }
-    ensures ok { OnOk result (out.new.items ≡ out.old.items
-        ++ latest_text (own_first mark.now line.now asked.now.entries)
-        (answers_behind (shown core.now).start done.now.first core.now.entries)) }
-    ensures why { IfErr result (λ fault. fault ≡ ScriptFault.Memory) }
-{
-    if done.last == done.first {
-        return tell_own(out, mark, line, done.outcome);
-    }
-    tell_all(out, asked, mark, line, core.answers_since(done.first))
-}
 
 /// All clients of a script, the lines that they sent, and the core that these asked.
 ///
@@ -132,9 +54,12 @@ impl<A: Allocator + Copy> Engine<A> {
     ghost use Rattle.std.specs.Prelude.{IfOk};
     ghost use Rattle.pt_model.specs.Histories.{place};
     ghost use Rattle.pt_model.specs.Clients.{is_alive};
+    ghost use Rattle.std.specs.Bool.{OnTrue, OnFalse};
     ghost use Rattle.pt_lines.specs.Lines.{to_come, IsBegun};
+    ghost use Rattle.pt_lines.specs.Script.{body_read, short_read};
     ghost use Rattle.pt_core.specs.Cores.{past};
-    ghost use Rattle.pt_script.specs.Scripts.{begun, core_of, event_for, join_for, of_client};
+    ghost use Rattle.pt_script.specs.Scripts.{begun, core_of, event_for, event_of_body, join_for};
+    ghost use Rattle.pt_script.specs.Scripts.{of_client};
     ghost use Rattle.pt_script.specs.Scripts.{refusal_of_hello};
     ghost use Rattle.pt_script.specs.Says.{Says, SaysOf, SaysTo};
     ghost use Rattle.pt_script.specs.Engines.{Adds, Answers, IsAnswered, known_by};
@@ -319,6 +244,7 @@ impl<A: Allocator + Copy> Engine<A> {
 
     /// Counts a line, does what it asks for, and appends its answer. A refused growth that
     /// the line is not answered ENOMEM for is a fault.
+    #[inline(never)]
     pub fn answer(&mut self, line: ScriptLine, out: &mut Vec<u8, A>) -> Result<(), ScriptFault>
         requires { length self.old.seen < 2 ^ 53 }
         ensures ok { OnOk result
@@ -335,8 +261,86 @@ impl<A: Allocator + Copy> Engine<A> {
         }
     }
 
+    // Answers what is said after a client and a space. Most lines are calls of one name: these are
+    // moved once.
+    #[tactic(auto, using(crate::proofs::Lines::says_refused))]
+    fn answer_rest(
+        &mut self,
+        line: &LineId,
+        client: Option<ClientId>,
+        rest: &[u8],
+        out: &mut Vec<u8, A>,
+    ) -> Result<(), ScriptFault>
+        requires counted { 0 < lines_of_who self.old.seen line.now.who }
+        requires client { client ≡ number_of self.old.clients line.now.who }
+        ensures ok { OnOk result (Adds (SaysTo (known_by self.old) line.now
+            (event_of_body (known_by self.old) line.now.who (body_read line.now.who rest.now))
+            (known_by self.new)) out.old.items out.new.items) }
+        ensures why { IfErr result (λ fault. fault ≡ ScriptFault.Memory) }
+    {
+        let rest = Rest::new(rest);
+        if let Who::Named(_) = line.who
+            && let Some((verb, name)) = rest.named()
+        {
+            return self.ask(line, client, verb.call(name), out);
+        }
+        match rest.body(&line.who) {
+            Ok(body) => self.answer_body(line, client, body, out),
+            Err(refusal) => refuse(out, line, refusal),
+        }
+    }
+
+    // Answers the line of a text that is not too long, as `answer` does.
+    fn answer_text(&mut self, text: &[u8], out: &mut Vec<u8, A>) -> Result<(), ScriptFault>
+        requires { length self.old.seen < 2 ^ 53 }
+        ensures ok { OnOk result
+            (Adds (Says (known_by self.old) (short_read text.now) (known_by self.new))
+            out.old.items out.new.items) }
+        ensures why { IfErr result (λ fault. fault ≡ ScriptFault.Memory) }
+    {
+        let (who, rest) = read_client(text);
+        let mut line = LineId { who, number: 0 };
+        let CountedLine { number, client } = self.names.count(&line.who)?;
+        line.number = number;
+        match rest {
+            Some(rest) => self.answer_rest(&line, client, rest, out),
+            None => refuse(out, &line, Refusal::Syntax),
+        }
+    }
+
+    // Answers the next line, and returns true, if the cutter has it whole.
+    #[tactic(auto, using(crate::proofs::Runs::answers_none, crate::proofs::Runs::answers_same))]
+    fn answer_next(
+        &mut self,
+        cutter: &mut Cutter<A>,
+        out: &mut Vec<u8, A>,
+    ) -> Result<bool, ScriptFault>
+        requires { length self.old.seen < 2 ^ 53 }
+        ensures ok { OnOk result
+            (Answers cutter.old (known_by self.old) out.old.items
+            cutter.new (known_by self.new) out.new.items) }
+        ensures fewer { IfOk result (λ more.
+            OnTrue more (length cutter.new.rest < length cutter.old.rest)) }
+        ensures begun { IfOk result (λ more. OnFalse more (IsBegun cutter.new)) }
+        ensures why { IfErr result (λ fault. fault ≡ ScriptFault.Memory) }
+    {
+        if let Some(text) = cutter.front_text() {
+            let len = text.len();
+            self.answer_text(text, out)?;
+            cutter.drop_front(len);
+            return Ok(true);
+        }
+        match cutter.next_script_line() {
+            Some(line) => {
+                self.answer(line, out)?;
+                Ok(true)
+            }
+            None => Ok(false),
+        }
+    }
+
     /// Answers all lines that the cutter has whole.
-    #[tactic(auto, using(crate::proofs::Runs::answers_none, crate::proofs::Runs::answers_next, crate::proofs::Runs::answers_same))]
+    #[tactic(auto, using(crate::proofs::Runs::answers_none, crate::proofs::Runs::answers_join))]
     pub fn answer_all(
         &mut self,
         cutter: &mut Cutter<A>,
@@ -349,9 +353,7 @@ impl<A: Allocator + Copy> Engine<A> {
         ensures begun { OnOk result (IsBegun cutter.new) }
         ensures why { IfErr result (λ fault. fault ≡ ScriptFault.Memory) }
     {
-        while let Some(line) = cutter.next_script_line() {
-            self.answer(line, out)?;
-        }
+        while self.answer_next(cutter, out)? {}
         Ok(())
     }
 

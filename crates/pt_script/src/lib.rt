@@ -18,6 +18,7 @@
 //! input is parted into reads, and the texts of `ScriptFault`.
 #![tactic(auto)]
 
+mod accepting;
 mod engine;
 mod fault;
 mod laws;

@@ -1,6 +1,9 @@
 ghost use Rattle.std.specs.Prelude.{◌≡◌, ◌<◌, ◌++◌, ◌^◌, ◌∷◌, [], suc, length, Some, None, IsSome};
-ghost use Rattle.std.specs.Prelude.{OnOk, OnErr, IfOk, IfErr};
-ghost use Rattle.pt_script.specs.Names.{client_in, lines_in, row_of, IsRowRaised, IsRowGiven};
+ghost use Rattle.std.specs.Prelude.{OnOk, OnErr, IfOk, IfErr, IfSome};
+ghost use Rattle.std.specs.Bool.{OnTrue};
+ghost use Rattle.std.specs.Str.{bytes_eq};
+ghost use Rattle.pt_script.specs.Names.{client_in, lines_in, row_of, IsAt, IsRowRaised};
+ghost use Rattle.pt_script.specs.Names.{IsRowGiven};
 
 use crate::fault::ScriptFault;
 use http_server::Log;
@@ -10,6 +13,9 @@ use pt_types::ClientId;
 use std::alloc::{Allocator, Global};
 use std::hash::{BuildHasherDefault, FoldHasher};
 use std::marker::Model;
+
+// How many hints there are of where a name's row is.
+const MOST_HINTS: usize = 1024;
 
 /// What is stored of a client's name: how many of its lines came, and its number once it joined.
 #[derive(Debug, Drop)]
@@ -29,10 +35,12 @@ pub struct CountedLine {
 
 type Rows<A> = IndexMap<ClientName, Row, BuildHasherDefault<FoldHasher>, A>;
 
-// How many lines came of each client, with the number of each that joined.
+// How many lines came of each client, with the number of each that joined. A row is found by a hint,
+// if no other name with that hint came since, or else by the hash of its name.
 #[derive(Drop)]
 struct Counts<A: Allocator + Copy> {
     rows: Rows<A>,
+    hints: [usize; MOST_HINTS],
     star: u64,
     unknown: u64,
 }
@@ -67,6 +75,58 @@ impl<A: Allocator + Copy> Model for Names<A> {
 
     ghost invariant = { λ n. AreCounted n.counts n.total
         (record { seen = map (λ p. p.0) n.seen.items; clients = n.joined.items }) };
+}
+
+// Which hint is a name's: names that end in different numbers below 1,000 have different ones.
+fn hint_of(name: &[u8]) -> usize
+    ensures { result < 1024 }
+{
+    let mut hint = 0;
+    for byte in &name[name.len().saturating_sub(3)..] {
+        hint = (10 * hint + usize::from(*byte)) % MOST_HINTS;
+    }
+    hint
+}
+
+// Whether two names are the same. They are short: a loop costs less than a call that compares.
+fn is_same(one: &[u8], other: &[u8]) -> bool
+    ensures { result ≡ bytes_eq one.now other.now }
+{
+    if one.len() != other.len() {
+        return false;
+    }
+    for place in 0..one.len() {
+        if one[place] != other[place] {
+            return false;
+        }
+    }
+    true
+}
+
+// Whether the row at an index is a name's.
+fn is_at<A: Allocator + Copy>(rows: &Rows<A>, index: usize, name: &ClientName) -> bool
+    ensures { OnTrue result (IsAt rows.now.entries index name.now) }
+{
+    match rows.get_index(index) {
+        Some((key, _)) => is_same(key.as_bytes(), name.as_bytes()),
+        None => false,
+    }
+}
+
+// Counts a line of this name, whose row is at an index.
+fn count_at<A: Allocator + Copy>(rows: &mut Rows<A>, index: usize, name: &ClientName) -> CountedLine
+    requires at { IsAt rows.old.entries index name.now }
+    requires few { lines_in (row_of rows.old.entries name.now) < 2 ^ 53 }
+    ensures number { result.number ≡ suc (lines_in (row_of rows.old.entries name.now)) }
+    ensures client { result.client ≡ client_in (row_of rows.old.entries name.now) }
+    ensures raised { IsRowRaised rows.old.entries name.now rows.new.entries }
+{
+    let row = rows.get_index_mut(index).unwrap();
+    row.lines += 1;
+    CountedLine {
+        number: row.lines,
+        client: row.client,
+    }
 }
 
 // Makes the row of a name's first line.
@@ -140,6 +200,41 @@ fn give<A: Allocator + Copy>(rows: &mut Rows<A>, name: &ClientName, client: Clie
 impl<A: Allocator + Copy> Counts<A> {
     ghost use Rattle.pt_script.specs.Names.{client_counted, lines_counted, IsRaised, IsGiven};
 
+    // The index of a name's row, if it has one. Its hint is right from then on.
+    fn find(&mut self, name: &ClientName) -> Option<usize>
+        ensures at { IfSome result (λ index. IsAt self.new.rows index name.now) }
+        ensures same { self.new ≡ self.old }
+    {
+        let place = hint_of(name.as_bytes());
+        let hint = self.hints[place];
+        if is_at(&self.rows, hint, name) {
+            return Some(hint);
+        }
+        let index = self.rows.get_index_of(name)?;
+        self.hints[place] = index;
+        if is_at(&self.rows, index, name) {
+            return Some(index);
+        }
+        None
+    }
+
+    // Counts a line of this name.
+    fn raise_named(&mut self, name: &ClientName) -> Result<CountedLine, ScriptFault>
+        requires { lines_in (row_of self.old.rows name.now) < 2 ^ 53 }
+        ensures number { IfOk result (λ n.
+            n.number ≡ suc (lines_in (row_of self.old.rows name.now))) }
+        ensures client { IfOk result (λ n. n.client ≡ client_in (row_of self.old.rows name.now)) }
+        ensures ok { OnOk result (IsRowRaised self.old.rows name.now self.new.rows) }
+        ensures others { (self.new.star ≡ self.old.star) × (self.new.unknown ≡ self.old.unknown) }
+        ensures err { OnErr result (self.new.rows ≡ self.old.rows) }
+        ensures why { IfErr result (λ fault. fault ≡ ScriptFault.Memory) }
+    {
+        match self.find(name) {
+            Some(index) => Ok(count_at(&mut self.rows, index, name)),
+            None => count_named(&mut self.rows, name),
+        }
+    }
+
     // Counts a line.
     fn raise(&mut self, who: &Who) -> Result<CountedLine, ScriptFault>
         requires { lines_counted self.old who.now < 2 ^ 53 }
@@ -150,7 +245,7 @@ impl<A: Allocator + Copy> Counts<A> {
         ensures why { IfErr result (λ fault. fault ≡ ScriptFault.Memory) }
     {
         match who {
-            Who::Named(name) => count_named(&mut self.rows, name),
+            Who::Named(name) => self.raise_named(name),
             Who::Star => {
                 self.star += 1;
                 Ok(unnamed(self.star))
@@ -181,6 +276,7 @@ impl<A: Allocator + Copy> Names<A> {
     {
         let counts = Counts {
             rows: IndexMap::new(alloc),
+            hints: [0; MOST_HINTS],
             star: 0,
             unknown: 0,
         };

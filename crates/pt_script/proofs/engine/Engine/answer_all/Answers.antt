@@ -3,8 +3,8 @@ use Rattle.pt_script.specs.Engines.{known_by}
 use Rattle.pt_script.proofs.Runs.{answers_few}
 use Rattle.pt_script.proofs.engine.Engine.answer_all.Goals as goal
 
-pub answer-requires : goal.answer-requires
-answer-requires g c =
+pub answer_next-requires : goal.answer_next-requires
+answer_next-requires g c =
     let few = answers_few c.args.cutter.now (known_by c.args.self.now) c.args.out.now.items
-    c.loop-line.cutter (known_by c.loop-line.self) c.loop-line.out.items c.loop-line.invariant in
+    c.loop.cutter (known_by c.loop.self) c.loop.out.items c.loop.invariant in
     omega (arith, few)

@@ -2,9 +2,9 @@ use Rattle.std.proofs.Common.{length}
 use Rattle.pt_script.specs.Engines.{Answers, known_by}
 use Rattle.pt_script.proofs.engine.Engine.answer_all.Given as goal
 
-abbrev pub invariant-loop-line : goal.invariant-loop-line
-invariant-loop-line g l =
+abbrev pub invariant-loop : goal.invariant-loop
+invariant-loop g l =
     Answers l.fn.cutter (known_by l.fn.self) l.fn.out.items l.cutter (known_by l.self) l.out.items
 
-abbrev pub decreases-loop-line : goal.decreases-loop-line
-decreases-loop-line g l = length l.cutter.rest
+abbrev pub decreases-loop : goal.decreases-loop
+decreases-loop g l = length l.cutter.rest

@@ -1,0 +1,26 @@
+use Rattle.std.proofs.Common.{◌≡◌, ◌∙◌, ◌+◌, ℕ, List, length, take, drop, ap, sym, subst, refl, arith}
+use Rattle.std.proofs.lemmas.List.{length-take-le}
+use Rattle.pt_lines.specs.Lines.{Held, past_line}
+use Rattle.pt_lines.specs.Script.{IsNextScriptLine, short_read}
+use Rattle.pt_lines.proofs.CutLemmas.{read_in_place, short_is_read}
+use Rattle.pt_lines.proofs.cutter.Cutter.front_text.Goals as goal
+
+pub returns-clause-line : goal.returns-clause-line
+returns-clause-line g c =
+    let end = c.in_ok-end.end in
+    let held = c.args.self.now in
+    let rest : c.self.inside.held.items ≡ held.rest =
+    ap (λ (h : Held). h.rest) c.self.view_is in
+    let text = ap (take end) (c.as_slice.ensures ∙ rest) in
+    let within = c.in_ok-end.ensures.within in
+    let len : length (take end held.rest) ≡ end =
+    length-take-le end held.rest (omega (arith, within)) in
+    subst
+    (λ (xs : List ℕ). IsNextScriptLine held (short_read xs) (past_line held (length xs)))
+    (sym text)
+    (subst
+    (λ n. IsNextScriptLine held (short_read (take end held.rest)) (past_line held n))
+    (sym len)
+    (read_in_place held (drop (end + 1) held.rest) held.dropping end
+    (short_read (take end held.rest)) c.in_ok-end.ensures
+    (short_is_read end held.rest c.in_ok-end.ensures.short) refl refl))

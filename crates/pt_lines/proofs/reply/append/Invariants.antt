@@ -1,0 +1,10 @@
+use Rattle.std.proofs.Common.{◌≡◌, ◌+◌, ◌++◌, take}
+use Rattle.std.specs.Prelude.{vec_len, vec_capacity}
+use Rattle.pt_lines.proofs.reply.append.Given as goal
+
+abbrev pub invariant-loop-byte : goal.invariant-loop-byte
+invariant-loop-byte g l = record {
+  items : l.out.items ≡ l.fn.out.items ++ take l.byte-index l.bytes;
+  len : vec_len l.out ≡ vec_len l.fn.out + l.byte-index;
+  capacity : vec_capacity l.out ≡ vec_capacity l.fn.out;
+}
