@@ -7,10 +7,9 @@ use Rattle.pt_types.specs.declared.call.Call.{Call as Asked}
 use Rattle.pt_types.specs.declared.time.Clock.{Clock}
 use Rattle.pt_types.specs.declared.operations.LockKind.{LockKind}
 use Rattle.pt_types.specs.declared.operations.LockKind.TheVariants.{MutexLock, ReadLock, WriteLock}
-use Rattle.pt_rwlock.specs.RwlockState.{RwlockState, is_read as is_read_by, nobody_holds}
+use Rattle.pt_rwlock.specs.RwlockState.{RwlockState, is_read as is_read_by}
 use Rattle.pt_table.specs.ClientRows.{client_value}
 use Rattle.pt_waitq.specs.Queues.{QueuesView}
-use Rattle.pt_model.specs.declared.entry.Entry.{Entry}
 use Rattle.pt_model.specs.declared.entry.Entry.TheVariants.{Call, Grant}
 use Rattle.pt_model.specs.declared.entry.Event.TheVariants as event
 use Rattle.pt_model.specs.declared.waiting_call.WaitingCall.{WaitingCall}
@@ -21,7 +20,7 @@ use Rattle.pt_model.specs.Answers.{open_calls}
 use Rattle.pt_model.specs.Forced.{forced, service}
 use Rattle.pt_model.specs.Grants.{grant_outcome}
 use Rattle.pt_model.specs.Room.{need, reserved_for}
-use Rattle.pt_model.specs.Steps.{Step, Follows}
+use Rattle.pt_model.specs.Steps.{Follows}
 use Rattle.pt_records.specs.declared.clients.Open.{Open}
 use Rattle.pt_records.specs.Callers.{call_of, open_in}
 use Rattle.pt_records.specs.Counts.{one_if}
@@ -41,7 +40,7 @@ use Rattle.pt_machine.specs.Reserved.{IsReserved, gives_owner}
 use Rattle.pt_machine.specs.Timed.{AreTimed}
 use Rattle.pt_machine.proofs.GrantsAtOnce.{after, comes, comes-open, comes-stays, granted, grants}
 use Rattle.pt_machine.proofs.GrantsAtOnce.{queued, serves, timed}
-use Rattle.pt_machine.proofs.NeedSteps.{reserved-forced, reserved-outer}
+use Rattle.pt_machine.proofs.NeedSteps.{reserved-outer}
 use Rattle.pt_machine.proofs.NeedUses.{uses-grant}
 use Rattle.pt_machine.proofs.QueuedSame.{past-adds}
 

@@ -1,15 +1,12 @@
-use Rattle.std.proofs.Common.{◌≡◌, ◌+◌, Option, Some, None, sym, ◌∙◌, arith}
+use Rattle.std.proofs.Common.{◌≡◌, Some, None, sym, ◌∙◌, arith}
 use Rattle.pt_table.specs.ClientRows.{client_value}
 use Rattle.pt_model.specs.declared.entry.Entry.TheVariants.{Call}
 use Rattle.pt_model.specs.declared.entry.Event.TheVariants as event
-use Rattle.pt_model.specs.Histories.{◌▷◌}
 use Rattle.pt_model.specs.Forced.{service}
-use Rattle.pt_model.specs.Room.{need}
-use Rattle.pt_records.specs.declared.clients.Open.{Open}
 use Rattle.pt_records.specs.Callers.{open_in}
 use Rattle.pt_state.specs.Adds.{IsReadyFor, past}
 use Rattle.pt_state.specs.Serving.{called}
-use Rattle.pt_machine.specs.GrantedAtOnce.{AddsBoth, IsGrantedAtOnce, IsReadyAfter}
+use Rattle.pt_machine.specs.GrantedAtOnce.{IsGrantedAtOnce, IsReadyAfter}
 use Rattle.pt_machine.specs.Planned.{IsPlanned}
 use Rattle.pt_machine.proofs.GrantedStates.{row-found, no-arrival, must-follow, uses, reserves}
 use Rattle.pt_machine.proofs.GrantedStates.{queued-granted, timed-granted, touched-granted}
