@@ -35,8 +35,8 @@ pub struct CountedLine {
 
 type Rows<A> = IndexMap<ClientName, Row, BuildHasherDefault<FoldHasher>, A>;
 
-// How many lines came of each client, with the number of each that joined. A row is found by a hint,
-// if no other name with that hint came since, or else by the hash of its name.
+// How many lines came of each client, with the number of each that joined. A row is found by a
+// hint, if no other name with that hint came since, or else by the hash of its name.
 #[derive(Drop)]
 struct Counts<A: Allocator + Copy> {
     rows: Rows<A>,

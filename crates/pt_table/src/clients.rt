@@ -224,6 +224,7 @@ impl<T, A: Allocator + Copy> Clients<T, A> {
             None => self.at_mut_by_number(number),
         }
     }
+
     /// The value of the client with this number, to be changed. The client is looked for at this
     /// index first, and need not be there.
     pub fn at_mut_near(&mut self, index: usize, number: u64) -> Option<&mut T>

@@ -243,6 +243,7 @@ impl<T, A: Allocator + Copy> Objects<T, A> {
             None => self.at_mut_by_number(number),
         }
     }
+
     // The slot of an object's row, or any if there is no such object.
     pub(crate) fn slot_near(&self, number: u64) -> usize {
         match self.hinted(number) {
