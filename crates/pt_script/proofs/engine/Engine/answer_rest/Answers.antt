@@ -31,6 +31,7 @@ returns-in-Err-clause-ok g c =
     let s = known_by c.args.self.now in
     let who = c.args.line.now.who in
     refused_as c.refuse.result s c.args.line.now
-    (event_of_body s who (body_read who c.args.rest.now)) c.in-Err.refusal c.args.out.now.items c.refuse.new.out.items
+    (event_of_body s who (body_read who c.args.rest.now)) c.in-Err.refusal c.args.out.now.items
+    c.refuse.new.out.items
     (ap (λ rest. event_of_body s who (body_read who rest)) (sym c.new-rest.ensures)
     ∙ ap (event_of_body s who) (sym c.body.ensures ∙ c.in-Err.is)) c.refuse.ensures.ok
