@@ -77,7 +77,7 @@ impl<A: Allocator + Copy> Model for Names<A> {
         (record { seen = map (λ p. p.0) n.seen.items; clients = n.joined.items }) };
 }
 
-// Which hint is a name's: names that end in different numbers below 1,000 have different ones.
+// Which hint is a name's. Names that differ in three digits at their end alone have different ones.
 fn hint_of(name: &[u8]) -> usize
     ensures { result < 1024 }
 {
