@@ -4,13 +4,13 @@ ghost use Rattle.pt_script.specs.declared.mark.Mark.{Mark};
 ghost use Rattle.pt_script.specs.Engines.{mark_of};
 
 use crate::accepting::{Calls, greet, note, tell_from};
+use crate::asked_lines::Asked;
 use crate::fault::ScriptFault;
 use crate::line_id::LineId;
 use crate::mark::mark_of;
 use crate::names::{CountedLine, Names};
-use crate::text::{Asked, refuse};
+use crate::text::refuse;
 use http_server::Log;
-use indexmap::IndexMap;
 use pt_core::Core;
 use pt_lines::{Cutter, Rest, ScriptBody, ScriptLine, Who, read_client};
 use pt_model::Event;
@@ -74,7 +74,7 @@ impl<A: Allocator + Copy> Engine<A> {
             Ok(core) => Ok(Engine {
                 core,
                 names: Names::new(alloc),
-                asked: IndexMap::new(alloc),
+                asked: Asked::new(alloc),
                 calls: Log::new(),
             }),
             Err(_) => Err(ScriptFault::Memory),
@@ -126,9 +126,7 @@ impl<A: Allocator + Copy> Engine<A> {
             out.old.items out.new.items) }
         ensures why { IfErr result (λ fault. fault ≡ ScriptFault.Memory) }
     {
-        if self.asked.reserve(1).is_err() {
-            return Err(ScriptFault::Memory);
-        }
+        self.asked.reserve()?;
         match self.core.apply_event(event) {
             Ok(done) => {
                 let mark = mark_of(event);
@@ -261,9 +259,37 @@ impl<A: Allocator + Copy> Engine<A> {
         }
     }
 
+    // Answers what is said after a client and a space, and isn't a call of one name. It isn't
+    // inlined, so that such a call has no room to clear for others.
+    #[inline(never)]
+    #[tactic(auto, using(crate::proofs::Lines::says_refused))]
+    fn answer_other(
+        &mut self,
+        line: &LineId,
+        client: Option<ClientId>,
+        rest: Rest,
+        out: &mut Vec<u8, A>,
+    ) -> Result<(), ScriptFault>
+        requires counted { 0 < lines_of_who self.old.seen line.now.who }
+        requires client { client ≡ number_of self.old.clients line.now.who }
+        ensures ok { OnOk result (Adds (SaysTo (known_by self.old) line.now
+            (event_of_body (known_by self.old) line.now.who (body_read line.now.who rest.entry))
+            (known_by self.new)) out.old.items out.new.items) }
+        ensures why { IfErr result (λ fault. fault ≡ ScriptFault.Memory) }
+    {
+        if let Who::Named(_) = line.who
+            && let Some(call) = rest.call()
+        {
+            return self.ask(line, client, call, out);
+        }
+        match rest.body(&line.who) {
+            Ok(body) => self.answer_body(line, client, body, out),
+            Err(refusal) => refuse(out, line, refusal),
+        }
+    }
+
     // Answers what is said after a client and a space. Most lines are calls of one name: these are
     // moved once.
-    #[tactic(auto, using(crate::proofs::Lines::says_refused))]
     fn answer_rest(
         &mut self,
         line: &LineId,
@@ -284,10 +310,7 @@ impl<A: Allocator + Copy> Engine<A> {
         {
             return self.ask(line, client, verb.call(name), out);
         }
-        match rest.body(&line.who) {
-            Ok(body) => self.answer_body(line, client, body, out),
-            Err(refusal) => refuse(out, line, refusal),
-        }
+        self.answer_other(line, client, rest, out)
     }
 
     // Answers the line of a text that is not too long, as `answer` does.
