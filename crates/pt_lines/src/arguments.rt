@@ -120,7 +120,6 @@ fn only_deadline(args: Fields) -> Option<Deadline>
 }
 
 /// A name and a deadline.
-#[inline(always)]
 pub fn name_and_deadline(mut args: Fields) -> Option<(Name, Deadline)>
     ensures { result ≡ name_and_deadline args.entry }
 {
@@ -148,7 +147,6 @@ pub fn name_clock_and_deadline(mut args: Fields) -> Option<(Name, (Clock, Deadli
 }
 
 /// Two names.
-#[inline(always)]
 pub fn two_names(mut args: Fields) -> Option<(Name, Name)>
     ensures { result ≡ first_then name_of (alone name_of) args.entry }
 {

@@ -1,10 +1,10 @@
 ghost use Rattle.std.specs.Prelude.{◌≡◌, ◌≤◌, Ok, Some, IfOk, IfErr, IsOk, nat_lt, length};
 ghost use Rattle.std.specs.Prelude.{if◌then◌else◌};
+ghost use Rattle.std.specs.Option.{option_map};
 ghost use Rattle.pt_lines.specs.declared.call_line.CallLine.{CallLine};
 ghost use Rattle.pt_lines.specs.declared.verb.Verb.TheVariants as word;
 ghost use Rattle.pt_lines.specs.Grammar.{Spells};
 ghost use Rattle.pt_lines.specs.Reading.{line_of, line_read, call_read, IsAsked};
-ghost use Rattle.std.specs.Option.{option_map};
 
 use crate::arguments::{
     name_and_count, name_and_deadline, name_and_kind, name_clock_and_deadline, only_moment,
@@ -120,7 +120,8 @@ pub(crate) fn read_asked(verb: Verb, args: Fields) -> Option<Call>
     }
 }
 
-/// The line of a verb and the fields after it.
+/// The line of a verb and the fields after it. What is seldom read stands in functions that are not
+/// inlined, so that other lines have no room to clear for it.
 pub(crate) fn read_arguments(verb: Verb, args: Fields) -> Option<CallLine>
     ensures { result ≡ line_of verb args.entry }
 {

@@ -1,7 +1,6 @@
 //! The lines of calls that had to wait.
 
-ghost use Rattle.std.specs.Prelude.{◌≡◌, ◌<◌, [], if◌then◌else◌, nat_eq, Some, OnOk, IfErr};
-ghost use Rattle.std.specs.Prelude.{IfSome, slice_get};
+ghost use Rattle.std.specs.Prelude.{◌≡◌, ◌<◌, [], Some, OnOk, IfErr, IfSome, slice_get};
 ghost use Rattle.std.specs.Option.{option_copied, option_map};
 ghost use Rattle.pt_script.specs.Engines.{latest_line, IsLatest};
 
@@ -18,8 +17,8 @@ type Lines<A> = IndexMap<u64, LineId, BuildHasherDefault<FoldHasher>, A>;
 
 /// The line that made the latest call of each client that had to wait, by the client's number.
 ///
-/// A line is found by a hint, if no other client with the same low bits of its number waited for
-/// the first time since, or else by the hash of the number.
+/// A line is found by a hint, if no call of another client with the same low bits of its number had
+/// to wait since, or else by the hash of the number.
 #[derive(Drop)]
 pub struct Asked<A: Allocator + Copy = Global> {
     lines: Lines<A>,

@@ -1,7 +1,5 @@
 ghost use Rattle.std.specs.Prelude.{◌≡◌, ◌<◌, ◌+◌, ◌^◌, ◌++◌, [], length, None, OnOk, IfOk, IfErr};
-ghost use Rattle.pt_script.specs.Scripts.{lines_of_who, number_of};
 ghost use Rattle.pt_script.specs.declared.mark.Mark.{Mark};
-ghost use Rattle.pt_script.specs.Engines.{mark_of};
 
 use crate::accepting::{Calls, greet, note, tell_from};
 use crate::asked_lines::Asked;
@@ -33,7 +31,6 @@ pub struct Engine<A: Allocator + Copy = Global> {
 }
 
 impl<A: Allocator + Copy> Model for Engine<A> {
-    ghost use Rattle.std.specs.Prelude.{◌≡◌};
     ghost use Rattle.pt_core.specs.Cores.{past, shown};
     ghost use Rattle.pt_script.specs.Engines.{AreLines, Heard, IsSound};
 
@@ -51,7 +48,6 @@ impl<A: Allocator + Copy> Model for Engine<A> {
 }
 
 impl<A: Allocator + Copy> Engine<A> {
-    ghost use Rattle.std.specs.Prelude.{IfOk};
     ghost use Rattle.pt_model.specs.Histories.{place};
     ghost use Rattle.pt_model.specs.Clients.{is_alive};
     ghost use Rattle.std.specs.Bool.{OnTrue, OnFalse};
@@ -59,10 +55,9 @@ impl<A: Allocator + Copy> Engine<A> {
     ghost use Rattle.pt_lines.specs.Script.{body_read, short_read};
     ghost use Rattle.pt_core.specs.Cores.{past};
     ghost use Rattle.pt_script.specs.Scripts.{begun, core_of, event_for, event_of_body, join_for};
-    ghost use Rattle.pt_script.specs.Scripts.{of_client};
-    ghost use Rattle.pt_script.specs.Scripts.{refusal_of_hello};
+    ghost use Rattle.pt_script.specs.Scripts.{lines_of_who, number_of, of_client, refusal_of_hello};
     ghost use Rattle.pt_script.specs.Says.{Says, SaysOf, SaysTo};
-    ghost use Rattle.pt_script.specs.Engines.{Adds, Answers, IsAnswered, known_by};
+    ghost use Rattle.pt_script.specs.Engines.{Adds, Answers, IsAnswered, known_by, mark_of};
 
     /// An engine that has read no line. A refused growth is a fault.
     #[tactic(auto, using(crate::proofs::Asked::begun_sound, crate::proofs::Asked::begun_lines))]
@@ -259,8 +254,7 @@ impl<A: Allocator + Copy> Engine<A> {
         }
     }
 
-    // Answers what is said after a client and a space, and isn't a call of one name. It isn't
-    // inlined, so that such a call has no room to clear for others.
+    // Answers what else is said. It isn't inlined, so that calls of one name clear no room for it.
     #[inline(never)]
     #[tactic(auto, using(crate::proofs::Lines::says_refused))]
     fn answer_other(

@@ -1,8 +1,8 @@
 /// How many hints there are.
 pub const MOST_HINTS: usize = 1024;
 
-/// Where entries of a map were found last, each by a few bits of its key. A hint may be wrong:
-/// who follows it compares the key that is there.
+/// Where entries of a map were last, each by a few bits of its key. A hint may be wrong: whoever
+/// follows it compares the key that is there.
 #[derive(Drop)]
 pub struct Hints {
     indices: [usize; MOST_HINTS],
