@@ -1,11 +1,12 @@
 -- ScriptLemmas: a line of a script is read as just what it spells.
 use Rattle.std.proofs.Common.{◌≡◌, ◌<◌, ◌≤◌, ◌∙◌, ℕ, Bool, true, false, cond, List, ◌∷◌, ◌++◌}
 use Rattle.std.proofs.Common.{length, nat_lt, refl, ap, sym, subst, arith, Option, None, Some}
-use Rattle.std.proofs.Common.{Result, Ok, Err, IfOk, IfErr, codes, length-append}
-use Rattle.std.specs.Option.{ok_or, option_map, option_and_then}
+use Rattle.std.proofs.Common.{IfSome, Result, Ok, Err, IfOk, IfErr, codes, length-append}
+use Rattle.std.specs.Option.{ok_or, option_map}
 use Rattle.std.specs.Str.{bytes_eq}
 use Rattle.pt_types.specs.declared.outcome.Refusal.{Refusal}
 use Rattle.pt_types.specs.declared.outcome.Refusal.TheVariants as refusal
+use Rattle.pt_types.specs.declared.call.Call.{Call}
 use Rattle.pt_types.specs.declared.named_verb.NamedVerb.{NamedVerb}
 use Rattle.pt_types.specs.NamedVerbs.{call_on}
 use Rattle.pt_lines.specs.declared.verb.Verb.{Verb}
@@ -20,7 +21,7 @@ use Rattle.pt_lines.specs.Arguments.{name_of, alone}
 use Rattle.pt_lines.specs.ClientNames.{IsClientName}
 use Rattle.pt_lines.specs.Clients.{who_text, who_named, before_space, behind_space}
 use Rattle.pt_lines.specs.Grammar.{Spells}
-use Rattle.pt_lines.specs.Reading.{call_read, line_read, line_of}
+use Rattle.pt_lines.specs.Reading.{call_read, line_read, line_of, IsAsked}
 use Rattle.pt_lines.specs.Script.{SpellsBody, SpellsScript, long_line, IsReadAs, body_of, body_from}
 use Rattle.pt_lines.specs.Script.{body_read, body_behind, short_read}
 use Rattle.pt_lines.proofs.ArgumentLemmas.{bytes_are}
@@ -148,20 +149,38 @@ called_again text rest read s =
     ap (λ b. cond b (Ok Die) (body_from (Named text) (call_read rest))) (not_die rest read s)
     ∙ ap (body_from (Named text)) (call_read-spelled rest read s)
 
+-- what a client asks for is read as the call that its verb and its fields are read as
+pub call_said :
+    (rest : List ℕ) (args : List (List ℕ)) (verb : Verb) (o : Option Call)
+    → line_read rest ≡ line_of verb args → IsAsked verb args o
+    → IfSome o (λ call. (client : List ℕ) → body_read (Named client) rest ≡ Ok (Ask call))
+call_said rest args verb None read asked = tt
+call_said rest args verb (Some call) read asked = λ client.
+    called_again client rest (line.Ask call)
+    (spells-line_read rest (line.Ask call) (read ∙ by verb asked))
+  where
+    by : (v : Verb) → IsAsked v args (Some call) → line_of v args ≡ Some (line.Ask call)
+    by first.Hello h = absurd cc
+    by (first.Moment clock) h = absurd cc
+    by first.MutexInit h = sym h
+    by first.BarrierInit h = sym h
+    by first.Wait h = sym h
+    by first.Timedwait h = sym h
+    by first.Clockwait h = sym h
+    by (first.Named n) h = sym h
+    by (first.Timed t) h = sym h
+    by (first.Clocked k) h = sym h
+
 -- a word of one name, and the name alone after it, are read as the call
 pub named_said :
-    (who : Who) (text rest : List ℕ) (args : List (List ℕ)) (o : Option Verb) (verb : NamedVerb)
-    (r : Option (List ℕ)) (name : List ℕ)
-    → who ≡ Named text → line_read rest ≡ option_and_then (λ v. line_of v args) o
-    → o ≡ Some (first.Named verb) → r ≡ alone name_of args → r ≡ Some name
-    → body_read who rest ≡ Ok (Ask (call_on verb name))
-named_said who text rest args o verb r name is read_is some_verb alone_is some_name =
-    let read : line_read rest ≡ Some (line.Ask (call_on verb name)) =
-    read_is ∙ ap (option_and_then (λ v. line_of v args)) some_verb
-    ∙ ap (option_map (λ n. line.Ask (call_on verb n))) (sym alone_is ∙ some_name) in
-    ap (λ w. body_read w rest) is
-    ∙ called_again text rest (line.Ask (call_on verb name))
-    (spells-line_read rest (line.Ask (call_on verb name)) read)
+    (rest : List ℕ) (args : List (List ℕ)) (verb : NamedVerb) (o : Option (List ℕ))
+    → line_read rest ≡ line_of (first.Named verb) args → o ≡ alone name_of args
+    → (name : List ℕ) → o ≡ Some name → (client : List ℕ)
+    → body_read (Named client) rest ≡ Ok (Ask (call_on verb name))
+named_said rest args verb o read alone_is name some client =
+    let asked : IsAsked (first.Named verb) args (Some (call_on verb name)) =
+    ap (option_map (λ n. line.Ask (call_on verb n))) (sym some ∙ alone_is) in
+    call_said rest args (first.Named verb) (Some (call_on verb name)) read asked client
 
 -- what is spelled after a client is read there
 body_again :

@@ -2,6 +2,7 @@
 use Rattle.std.specs.Prelude.{◌≡◌, ℕ, List, [], ◌∷◌, Option, None, Result, Ok, Err, IfOk, IfErr}
 use Rattle.std.specs.Prelude.{length, nat_lt, if◌then◌else◌}
 use Rattle.std.specs.Option.{option_map, option_and_then, ok_or}
+use Rattle.pt_types.specs.declared.call.Call.{Call}
 use Rattle.pt_types.specs.declared.call.Call.TheVariants as call
 use Rattle.pt_types.specs.declared.outcome.Refusal.{Refusal}
 use Rattle.pt_types.specs.declared.outcome.Refusal.TheVariants.{Syntax, Long}
@@ -48,6 +49,12 @@ line_of (Timed verb) args =
     option_map (λ a. line.Ask (call_until verb a.0 a.1)) (name_and_deadline args)
 line_of (Clocked verb) args =
     option_map (λ a. line.Ask (call_by_clock verb a.0 a.1.0 a.1.1)) (name_clock_and_deadline args)
+
+-- whether the line of a verb and the fields after it asks for this call
+abbrev pub IsAsked : Verb → List (List ℕ) → Option Call → Type 0
+IsAsked Hello args call = call ≡ None
+IsAsked (Moment clock) args call = call ≡ None
+IsAsked verb args call = option_map line.Ask call ≡ line_of verb args
 
 -- the line of these fields
 abbrev pub line_of_fields : List (List ℕ) → Option CallLine

@@ -1,9 +1,10 @@
 ghost use Rattle.std.specs.Prelude.{◌≡◌, ◌≤◌, Ok, Some, IfOk, IfErr, IsOk, nat_lt, length};
 ghost use Rattle.std.specs.Prelude.{if◌then◌else◌};
+ghost use Rattle.std.specs.Option.{option_map};
 ghost use Rattle.pt_lines.specs.declared.call_line.CallLine.{CallLine};
 ghost use Rattle.pt_lines.specs.declared.verb.Verb.TheVariants as word;
 ghost use Rattle.pt_lines.specs.Grammar.{Spells};
-ghost use Rattle.pt_lines.specs.Reading.{line_of, line_read, call_read};
+ghost use Rattle.pt_lines.specs.Reading.{line_of, line_read, call_read, IsAsked};
 
 use crate::arguments::{
     name_and_count, name_and_deadline, name_and_kind, name_clock_and_deadline, only_moment,
@@ -40,83 +41,94 @@ fn read_tick(clock: Clock, args: Fields) -> Option<CallLine>
 
 // A call with a kind, and whether the mutex is robust.
 #[inline(never)]
-fn read_mutex_init(args: Fields) -> Option<CallLine>
-    ensures { result ≡ line_of word.MutexInit args.entry }
+fn read_mutex_init(args: Fields) -> Option<Call>
+    ensures { option_map CallLine.Ask result ≡ line_of word.MutexInit args.entry }
 {
     let (name, (kind, robust)) = name_and_kind(args)?;
-    Some(CallLine::Ask(Call::MutexInit(name, kind, robust)))
+    Some(Call::MutexInit(name, kind, robust))
 }
 
 // A call with a count.
 #[inline(never)]
-fn read_barrier_init(args: Fields) -> Option<CallLine>
-    ensures { result ≡ line_of word.BarrierInit args.entry }
+fn read_barrier_init(args: Fields) -> Option<Call>
+    ensures { option_map CallLine.Ask result ≡ line_of word.BarrierInit args.entry }
 {
     let (name, count) = name_and_count(args)?;
-    Some(CallLine::Ask(Call::BarrierInit(name, count)))
+    Some(Call::BarrierInit(name, count))
 }
 
 // A call on two names.
-#[inline(never)]
-fn read_wait(args: Fields) -> Option<CallLine>
-    ensures { result ≡ line_of word.Wait args.entry }
+#[inline(always)]
+fn read_wait(args: Fields) -> Option<Call>
+    ensures { option_map CallLine.Ask result ≡ line_of word.Wait args.entry }
 {
     let (cond, mutex) = two_names(args)?;
-    Some(CallLine::Ask(Call::Wait(cond, mutex)))
+    Some(Call::Wait(cond, mutex))
 }
 
 // A call on two names with a deadline.
 #[inline(never)]
-fn read_timedwait(args: Fields) -> Option<CallLine>
-    ensures { result ≡ line_of word.Timedwait args.entry }
+fn read_timedwait(args: Fields) -> Option<Call>
+    ensures { option_map CallLine.Ask result ≡ line_of word.Timedwait args.entry }
 {
     let (cond, (mutex, deadline)) = two_names_and_deadline(args)?;
-    Some(CallLine::Ask(Call::Timedwait(cond, mutex, deadline)))
+    Some(Call::Timedwait(cond, mutex, deadline))
 }
 
 // A call on two names with a deadline of a clock.
 #[inline(never)]
-fn read_clockwait(args: Fields) -> Option<CallLine>
-    ensures { result ≡ line_of word.Clockwait args.entry }
+fn read_clockwait(args: Fields) -> Option<Call>
+    ensures { option_map CallLine.Ask result ≡ line_of word.Clockwait args.entry }
 {
     let (cond, (mutex, (clock, deadline))) = two_names_clock_and_deadline(args)?;
-    Some(CallLine::Ask(Call::Clockwait(cond, mutex, clock, deadline)))
+    Some(Call::Clockwait(cond, mutex, clock, deadline))
 }
 
 // A call with a deadline.
-#[inline(never)]
-fn read_timed(verb: TimedVerb, args: Fields) -> Option<CallLine>
-    ensures { result ≡ line_of (word.Timed verb) args.entry }
+#[inline(always)]
+fn read_timed(verb: TimedVerb, args: Fields) -> Option<Call>
+    ensures { option_map CallLine.Ask result ≡ line_of (word.Timed verb) args.entry }
 {
     let (name, deadline) = name_and_deadline(args)?;
-    Some(CallLine::Ask(verb.on(name, deadline)))
+    Some(verb.on(name, deadline))
 }
 
 // A call with a deadline of a clock.
 #[inline(never)]
-fn read_clocked(verb: ClockedVerb, args: Fields) -> Option<CallLine>
-    ensures { result ≡ line_of (word.Clocked verb) args.entry }
+fn read_clocked(verb: ClockedVerb, args: Fields) -> Option<Call>
+    ensures { option_map CallLine.Ask result ≡ line_of (word.Clocked verb) args.entry }
 {
     let (name, (clock, deadline)) = name_clock_and_deadline(args)?;
-    Some(CallLine::Ask(verb.on(name, clock, deadline)))
+    Some(verb.on(name, clock, deadline))
+}
+
+/// The call of a verb and the fields after it, if the verb is that of a call.
+#[inline(always)]
+pub(crate) fn read_asked(verb: Verb, args: Fields) -> Option<Call>
+    ensures { IsAsked verb args.entry result }
+{
+    match verb {
+        Verb::Named(verb) => Some(verb.call(only_name(args)?)),
+        Verb::Wait => read_wait(args),
+        Verb::Timed(verb) => read_timed(verb, args),
+        Verb::Clocked(verb) => read_clocked(verb, args),
+        Verb::Timedwait => read_timedwait(args),
+        Verb::Clockwait => read_clockwait(args),
+        Verb::MutexInit => read_mutex_init(args),
+        Verb::BarrierInit => read_barrier_init(args),
+        Verb::Hello | Verb::Moment(_) => None,
+    }
 }
 
 /// The line of a verb and the fields after it. What is seldom read stands in functions that are not
-/// inlined, so that a line with one name has no room to clear for it.
+/// inlined, so that other lines have no room to clear for it.
 pub(crate) fn read_arguments(verb: Verb, args: Fields) -> Option<CallLine>
     ensures { result ≡ line_of verb args.entry }
 {
     match verb {
         Verb::Hello => read_hello(args),
         Verb::Moment(clock) => read_tick(clock, args),
-        Verb::MutexInit => read_mutex_init(args),
-        Verb::BarrierInit => read_barrier_init(args),
-        Verb::Wait => read_wait(args),
-        Verb::Timedwait => read_timedwait(args),
-        Verb::Clockwait => read_clockwait(args),
-        Verb::Named(verb) => Some(CallLine::Ask(verb.call(only_name(args)?))),
-        Verb::Timed(verb) => read_timed(verb, args),
-        Verb::Clocked(verb) => read_clocked(verb, args),
+        _ => Some(CallLine::Ask(read_asked(verb, args)?)),
     }
 }
 

@@ -6,7 +6,7 @@ ghost use Rattle.pt_lines.specs.Reading.{line_of, line_read, call_read};
 ghost use Rattle.pt_lines.specs.Script.{body_of, body_read, IsReadAs, short_read, script_read};
 
 use crate::arguments::only_name;
-use crate::call_line::{CallLine, read_arguments};
+use crate::call_line::{CallLine, read_arguments, read_asked};
 use crate::client::Who;
 use crate::cutter::Cut;
 use crate::fields::{Fields, first_space};
@@ -157,7 +157,17 @@ impl<'a> Rest<'a> {
         }
     }
 
-    /// What is said. It isn't inlined, so that a call of one name has no room to clear for it.
+    /// The call, if a client that says this asks for one.
+    #[inline(always)]
+    pub fn call(&self) -> Option<Call>
+        ensures { IfSome result (λ call. (client : List ℕ)
+            → body_read (Who.Named client) self.now ≡ Ok (ScriptBody.Ask call)) }
+    {
+        let verb = self.verb?;
+        read_asked(verb, Fields::left(self.args))
+    }
+
+    /// What is said. It isn't inlined, so that a call has no room to clear for it.
     #[inline(never)]
     pub fn body(self, who: &Who) -> Result<ScriptBody, Refusal>
         ensures { result ≡ body_read who.now self.entry }

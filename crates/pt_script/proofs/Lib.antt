@@ -24,6 +24,8 @@ mod Noted
 mod Later
 -- Waiting: the line of a call that is open is the event's own, or is stored
 mod Waiting
+-- Stored: the lines that are stored, once one of them is written
+mod Stored
 -- Asked: each answer is under the event's own line, or under the one that is stored for its client
 mod Asked
 -- Alone: an event that no entry follows answers its own call, or none

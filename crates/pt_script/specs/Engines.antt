@@ -63,6 +63,17 @@ IsFresh calls next = (j : ℕ) → next ≤ j → line_at calls j ≡ None
 abbrev pub latest_line : List (ℕ × LineId) → ℕ → Option LineId
 latest_line asked c = lookup (nat_eq c) asked
 
+-- what is seen of the lines that are stored: those of each client's latest call that had to wait,
+-- and how many more can be stored in the room that there is
+pub record Stored : Type 0 where
+  pub entries : List (ℕ × LineId)
+  pub room : ℕ
+
+-- a client's line is this one, and all others are as they were
+abbrev pub IsLatest : List (ℕ × LineId) → ℕ → LineId → List (ℕ × LineId) → Type 0
+IsLatest old c line new =
+    (d : ℕ) → latest_line new d ≡ (if nat_eq c d then Some line else latest_line old d)
+
 -- all these answers, in order, each under the line that is stored for its client
 abbrev pub latest_text : List (ℕ × LineId) → List Told → List ℕ
 latest_text asked ts = flat_map (λ t. told_line (latest_line asked t.client) t.outcome) ts
@@ -122,8 +133,7 @@ calls_marked _ line place rows = rows
 -- after a call that has no answer yet its line is stored for its client; else nothing changes
 abbrev pub IsAsked : Option Outcome → Mark → LineId → List (ℕ × LineId) → List (ℕ × LineId)
     → Type 0
-IsAsked None (Call c) line old new =
-    (d : ℕ) → latest_line new d ≡ (if nat_eq c d then Some line else latest_line old d)
+IsAsked None (Call c) line old new = IsLatest old c line new
 IsAsked _ _ line old new = new ≡ old
 
 -- the greeting that a line is written for

@@ -3,16 +3,16 @@
 ghost use Rattle.std.specs.Prelude.{◌≡◌, ◌<◌, ◌++◌, None, OnOk, IfErr};
 ghost use Rattle.pt_model.specs.Queries.{answers_behind};
 ghost use Rattle.pt_core.specs.Cores.{shown};
-ghost use Rattle.indexmap.specs.IndexMap.{spare};
 ghost use Rattle.pt_script.specs.Scripts.{lines_of_who, number_of};
 ghost use Rattle.pt_script.specs.Engines.{clients_marked, calls_marked, greeting_marked};
 ghost use Rattle.pt_script.specs.Engines.{latest_text, own_answers, own_first, IsAsked};
 
+use crate::asked_lines::Asked;
 use crate::fault::ScriptFault;
 use crate::line_id::LineId;
 use crate::mark::Mark;
 use crate::names::Names;
-use crate::text::{Asked, tell, tell_all, tell_own};
+use crate::text::{tell, tell_all, tell_own};
 use http_server::Log;
 use pt_core::{Applied, Core};
 use pt_lines::Word;
@@ -32,7 +32,7 @@ pub fn note<A: Allocator + Copy>(
     line: &LineId,
     done: &Applied,
 )
-    requires room { 0 < spare asked.old }
+    requires room { 0 < asked.old.room }
     requires counted { 0 < lines_of_who names.old.seen line.now.who }
     requires first { mark.now ≡ Mark.Client → number_of names.old.clients line.now.who ≡ None }
     ensures names { names.new ≡ record names.old {
@@ -47,7 +47,7 @@ pub fn note<A: Allocator + Copy>(
         Mark::Client => names.join(&line.who, ClientId(done.first)),
         Mark::Call(client) => {
             if done.outcome.is_none() {
-                let _ = asked.insert(client.0, line.copied()).unwrap();
+                asked.store(*client, line);
             }
             *calls = calls.and(&done.first, line);
         }

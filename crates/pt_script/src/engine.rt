@@ -1,16 +1,14 @@
 ghost use Rattle.std.specs.Prelude.{◌≡◌, ◌<◌, ◌+◌, ◌^◌, ◌++◌, [], length, None, OnOk, IfOk, IfErr};
-ghost use Rattle.pt_script.specs.Scripts.{lines_of_who, number_of};
 ghost use Rattle.pt_script.specs.declared.mark.Mark.{Mark};
-ghost use Rattle.pt_script.specs.Engines.{mark_of};
 
 use crate::accepting::{Calls, greet, note, tell_from};
+use crate::asked_lines::Asked;
 use crate::fault::ScriptFault;
 use crate::line_id::LineId;
 use crate::mark::mark_of;
 use crate::names::{CountedLine, Names};
-use crate::text::{Asked, refuse};
+use crate::text::refuse;
 use http_server::Log;
-use indexmap::IndexMap;
 use pt_core::Core;
 use pt_lines::{Cutter, Rest, ScriptBody, ScriptLine, Who, read_client};
 use pt_model::Event;
@@ -33,7 +31,6 @@ pub struct Engine<A: Allocator + Copy = Global> {
 }
 
 impl<A: Allocator + Copy> Model for Engine<A> {
-    ghost use Rattle.std.specs.Prelude.{◌≡◌};
     ghost use Rattle.pt_core.specs.Cores.{past, shown};
     ghost use Rattle.pt_script.specs.Engines.{AreLines, Heard, IsSound};
 
@@ -51,7 +48,6 @@ impl<A: Allocator + Copy> Model for Engine<A> {
 }
 
 impl<A: Allocator + Copy> Engine<A> {
-    ghost use Rattle.std.specs.Prelude.{IfOk};
     ghost use Rattle.pt_model.specs.Histories.{place};
     ghost use Rattle.pt_model.specs.Clients.{is_alive};
     ghost use Rattle.std.specs.Bool.{OnTrue, OnFalse};
@@ -59,10 +55,9 @@ impl<A: Allocator + Copy> Engine<A> {
     ghost use Rattle.pt_lines.specs.Script.{body_read, short_read};
     ghost use Rattle.pt_core.specs.Cores.{past};
     ghost use Rattle.pt_script.specs.Scripts.{begun, core_of, event_for, event_of_body, join_for};
-    ghost use Rattle.pt_script.specs.Scripts.{of_client};
-    ghost use Rattle.pt_script.specs.Scripts.{refusal_of_hello};
+    ghost use Rattle.pt_script.specs.Scripts.{lines_of_who, number_of, of_client, refusal_of_hello};
     ghost use Rattle.pt_script.specs.Says.{Says, SaysOf, SaysTo};
-    ghost use Rattle.pt_script.specs.Engines.{Adds, Answers, IsAnswered, known_by};
+    ghost use Rattle.pt_script.specs.Engines.{Adds, Answers, IsAnswered, known_by, mark_of};
 
     /// An engine that has read no line. A refused growth is a fault.
     #[tactic(auto, using(crate::proofs::Asked::begun_sound, crate::proofs::Asked::begun_lines))]
@@ -74,7 +69,7 @@ impl<A: Allocator + Copy> Engine<A> {
             Ok(core) => Ok(Engine {
                 core,
                 names: Names::new(alloc),
-                asked: IndexMap::new(alloc),
+                asked: Asked::new(alloc),
                 calls: Log::new(),
             }),
             Err(_) => Err(ScriptFault::Memory),
@@ -126,9 +121,7 @@ impl<A: Allocator + Copy> Engine<A> {
             out.old.items out.new.items) }
         ensures why { IfErr result (λ fault. fault ≡ ScriptFault.Memory) }
     {
-        if self.asked.reserve(1).is_err() {
-            return Err(ScriptFault::Memory);
-        }
+        self.asked.reserve()?;
         match self.core.apply_event(event) {
             Ok(done) => {
                 let mark = mark_of(event);
@@ -261,9 +254,36 @@ impl<A: Allocator + Copy> Engine<A> {
         }
     }
 
+    // Answers what else is said. It isn't inlined, so that calls of one name clear no room for it.
+    #[inline(never)]
+    #[tactic(auto, using(crate::proofs::Lines::says_refused))]
+    fn answer_other(
+        &mut self,
+        line: &LineId,
+        client: Option<ClientId>,
+        rest: Rest,
+        out: &mut Vec<u8, A>,
+    ) -> Result<(), ScriptFault>
+        requires counted { 0 < lines_of_who self.old.seen line.now.who }
+        requires client { client ≡ number_of self.old.clients line.now.who }
+        ensures ok { OnOk result (Adds (SaysTo (known_by self.old) line.now
+            (event_of_body (known_by self.old) line.now.who (body_read line.now.who rest.entry))
+            (known_by self.new)) out.old.items out.new.items) }
+        ensures why { IfErr result (λ fault. fault ≡ ScriptFault.Memory) }
+    {
+        if let Who::Named(_) = line.who
+            && let Some(call) = rest.call()
+        {
+            return self.ask(line, client, call, out);
+        }
+        match rest.body(&line.who) {
+            Ok(body) => self.answer_body(line, client, body, out),
+            Err(refusal) => refuse(out, line, refusal),
+        }
+    }
+
     // Answers what is said after a client and a space. Most lines are calls of one name: these are
     // moved once.
-    #[tactic(auto, using(crate::proofs::Lines::says_refused))]
     fn answer_rest(
         &mut self,
         line: &LineId,
@@ -284,10 +304,7 @@ impl<A: Allocator + Copy> Engine<A> {
         {
             return self.ask(line, client, verb.call(name), out);
         }
-        match rest.body(&line.who) {
-            Ok(body) => self.answer_body(line, client, body, out),
-            Err(refusal) => refuse(out, line, refusal),
-        }
+        self.answer_other(line, client, rest, out)
     }
 
     // Answers the line of a text that is not too long, as `answer` does.

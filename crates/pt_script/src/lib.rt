@@ -19,8 +19,10 @@
 #![tactic(auto)]
 
 mod accepting;
+mod asked_lines;
 mod engine;
 mod fault;
+mod hints;
 mod laws;
 mod line_id;
 mod mark;

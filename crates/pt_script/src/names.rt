@@ -6,6 +6,7 @@ ghost use Rattle.pt_script.specs.Names.{client_in, lines_in, row_of, IsAt, IsRow
 ghost use Rattle.pt_script.specs.Names.{IsRowGiven};
 
 use crate::fault::ScriptFault;
+use crate::hints::{Hints, MOST_HINTS};
 use http_server::Log;
 use indexmap::IndexMap;
 use pt_lines::{ClientName, Who};
@@ -13,9 +14,6 @@ use pt_types::ClientId;
 use std::alloc::{Allocator, Global};
 use std::hash::{BuildHasherDefault, FoldHasher};
 use std::marker::Model;
-
-// How many hints there are of where a name's row is.
-const MOST_HINTS: usize = 1024;
 
 /// What is stored of a client's name: how many of its lines came, and its number once it joined.
 #[derive(Debug, Drop)]
@@ -40,7 +38,7 @@ type Rows<A> = IndexMap<ClientName, Row, BuildHasherDefault<FoldHasher>, A>;
 #[derive(Drop)]
 struct Counts<A: Allocator + Copy> {
     rows: Rows<A>,
-    hints: [usize; MOST_HINTS],
+    hints: Hints,
     star: u64,
     unknown: u64,
 }
@@ -77,7 +75,7 @@ impl<A: Allocator + Copy> Model for Names<A> {
         (record { seen = map (λ p. p.0) n.seen.items; clients = n.joined.items }) };
 }
 
-// Which hint is a name's: names that end in different numbers below 1,000 have different ones.
+// Which hint is a name's. Names that differ in three digits at their end alone have different ones.
 fn hint_of(name: &[u8]) -> usize
     ensures { result < 1024 }
 {
@@ -206,12 +204,12 @@ impl<A: Allocator + Copy> Counts<A> {
         ensures same { self.new ≡ self.old }
     {
         let place = hint_of(name.as_bytes());
-        let hint = self.hints[place];
-        if is_at(&self.rows, hint, name) {
-            return Some(hint);
+        let index = self.hints.get(place);
+        if is_at(&self.rows, index, name) {
+            return Some(index);
         }
         let index = self.rows.get_index_of(name)?;
-        self.hints[place] = index;
+        self.hints.set(place, index);
         if is_at(&self.rows, index, name) {
             return Some(index);
         }
@@ -276,7 +274,7 @@ impl<A: Allocator + Copy> Names<A> {
     {
         let counts = Counts {
             rows: IndexMap::new(alloc),
-            hints: [0; MOST_HINTS],
+            hints: Hints::new(),
             star: 0,
             unknown: 0,
         };

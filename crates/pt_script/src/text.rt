@@ -6,19 +6,15 @@ ghost use Rattle.pt_script.specs.Engines.{latest_line, latest_text, own_first, o
 ghost use Rattle.pt_script.specs.Scripts.{refusal_text, told_line};
 ghost use Rattle.pt_script.specs.Texts.{BreaksOff, IsBroken, IsCutShort, writing};
 
+use crate::asked_lines::Asked;
 use crate::fault::ScriptFault;
 use crate::line_id::LineId;
 use crate::mark::Mark;
-use indexmap::IndexMap;
 use pt_core::{Answers, Reply};
 use pt_io::Sink;
 use pt_lines::{Word, write_reply};
 use pt_types::{ClientId, Outcome, Refusal};
 use std::alloc::Allocator;
-use std::hash::{BuildHasherDefault, FoldHasher};
-
-/// The line that made the latest call of each client that had to wait, by the client's number.
-pub type Asked<A> = IndexMap<u64, LineId, BuildHasherDefault<FoldHasher>, A>;
 
 /// Appends the answer to a line.
 pub fn tell<A: Allocator + Copy>(
@@ -64,7 +60,7 @@ fn line_of<'a, A: Allocator + Copy>(
 {
     match mark {
         Mark::Call(caller) if *caller == client => Some(line),
-        _ => asked.get(&client.0),
+        _ => asked.get(client),
     }
 }
 

@@ -5,7 +5,6 @@ use Rattle.pt_lines.specs.Script.{body_read}
 use Rattle.pt_script.specs.Scripts.{event_of_body, number_of, of_client}
 use Rattle.pt_script.specs.Says.{SaysTo}
 use Rattle.pt_script.specs.Engines.{Adds, known_by}
-use Rattle.pt_script.proofs.Lines.{refused_as}
 use Rattle.pt_script.proofs.engine.Engine.answer_rest.Goals as goal
 
 pub returns-clause-ok : goal.returns-clause-ok
@@ -25,13 +24,3 @@ returns-clause-ok g c =
     (λ v. OnOk c.ask.result (Adds (SaysTo s c.args.line.now v (known_by c.ask.new.self))
     c.args.out.now.items c.ask.new.out.items))
     (sym asks) c.ask.ensures.ok
-
-pub returns-in-Err-clause-ok : goal.returns-in-Err-clause-ok
-returns-in-Err-clause-ok g c =
-    let s = known_by c.args.self.now in
-    let who = c.args.line.now.who in
-    refused_as c.refuse.result s c.args.line.now
-    (event_of_body s who (body_read who c.args.rest.now)) c.in-Err.refusal c.args.out.now.items
-    c.refuse.new.out.items
-    (ap (λ rest. event_of_body s who (body_read who rest)) (sym c.new-rest.ensures)
-    ∙ ap (event_of_body s who) (sym c.body.ensures ∙ c.in-Err.is)) c.refuse.ensures.ok

@@ -1,0 +1,108 @@
+//! The lines of calls that had to wait.
+
+ghost use Rattle.std.specs.Prelude.{◌≡◌, ◌<◌, [], Some, OnOk, IfErr, IfSome, slice_get};
+ghost use Rattle.std.specs.Option.{option_copied, option_map};
+ghost use Rattle.pt_script.specs.Engines.{latest_line, IsLatest};
+
+use crate::fault::ScriptFault;
+use crate::hints::{Hints, MOST_HINTS};
+use crate::line_id::LineId;
+use indexmap::IndexMap;
+use pt_types::ClientId;
+use std::alloc::{Allocator, Global};
+use std::hash::{BuildHasherDefault, FoldHasher};
+use std::marker::Model;
+
+type Lines<A> = IndexMap<u64, LineId, BuildHasherDefault<FoldHasher>, A>;
+
+/// The line that made the latest call of each client that had to wait, by the client's number.
+///
+/// A line is found by a hint, if no call of another client with the same low bits of its number had
+/// to wait since, or else by the hash of the number.
+#[derive(Drop)]
+pub struct Asked<A: Allocator + Copy = Global> {
+    lines: Lines<A>,
+    hints: Hints,
+}
+
+impl<A: Allocator + Copy> Model for Asked<A> {
+    ghost use Rattle.indexmap.specs.IndexMap.{spare};
+    ghost use Rattle.pt_script.specs.Engines.{Stored};
+
+    ghost Value = { Stored };
+
+    ghost view = { λ a. record { entries = a.lines.entries; room = spare a.lines } };
+}
+
+// Which hint is a client's.
+fn hint_of(client: ClientId) -> usize
+    ensures { result < 1024 }
+{
+    (client.0 % MOST_HINTS as u64) as usize
+}
+
+impl<A: Allocator + Copy> Asked<A> {
+    /// No line. It takes no memory.
+    pub fn new(alloc: A) -> Asked<A>
+        ensures { result.entries ≡ [] }
+    {
+        Asked {
+            lines: IndexMap::new(alloc),
+            hints: Hints::new(),
+        }
+    }
+
+    /// Makes room for one line more.
+    pub fn reserve(&mut self) -> Result<(), ScriptFault>
+        ensures entries { self.new.entries ≡ self.old.entries }
+        ensures room { OnOk result (0 < self.new.room) }
+        ensures why { IfErr result (λ fault. fault ≡ ScriptFault.Memory) }
+    {
+        match self.lines.reserve(1) {
+            Ok(()) => Ok(()),
+            Err(_) => Err(ScriptFault::Memory),
+        }
+    }
+
+    /// The client's line, if one is stored.
+    pub fn get(&self, client: ClientId) -> Option<&LineId>
+        ensures { option_copied result ≡ latest_line self.now.entries client }
+    {
+        match self.lines.get_index(self.hints.get(hint_of(client))) {
+            Some((number, line)) if *number == client.0 => Some(line),
+            _ => self.lines.get(&client.0),
+        }
+    }
+
+    // The index to which the client's hint leads, if its line is there.
+    fn hinted(&self, client: ClientId) -> Option<usize>
+        ensures { IfSome result (λ index.
+            option_map (λ e. e.0) (slice_get self.now.entries index) ≡ Some client) }
+    {
+        let index = self.hints.get(hint_of(client));
+        match self.lines.get_index(index) {
+            Some((number, _)) if *number == client.0 => Some(index),
+            _ => None,
+        }
+    }
+
+    // The line at an index, which is this client's, is this one from now on.
+    fn store_at(&mut self, index: usize, client: ClientId, line: &LineId)
+        requires { option_map (λ e. e.0) (slice_get self.old.entries index) ≡ Some client }
+        ensures { IsLatest self.old.entries client line.now self.new.entries }
+    {
+        *self.lines.get_index_mut(index).unwrap() = line.copied();
+    }
+
+    /// The client's line is this one from now on. It takes no memory.
+    pub fn store(&mut self, client: ClientId, line: &LineId)
+        requires { 0 < self.old.room }
+        ensures { IsLatest self.old.entries client line.now self.new.entries }
+    {
+        if let Some(index) = self.hinted(client) {
+            return self.store_at(index, client, line);
+        }
+        let (index, _) = self.lines.insert_full(client.0, line.copied()).unwrap();
+        self.hints.set(hint_of(client), index);
+    }
+}
