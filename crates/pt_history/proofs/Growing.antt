@@ -9,6 +9,7 @@ use Rattle.std.proofs.lemmas.List.{append-nil}
 use Rattle.pt_model.specs.declared.entry.Entry.{Entry}
 use Rattle.pt_history.specs.declared.compact.Compact.{Compact}
 use Rattle.pt_history.specs.declared.compact.TimeLimit.{TimeLimit}
+use Rattle.pt_history.specs.declared.hints.Hints.{Hints}
 use Rattle.pt_history.specs.declared.records.Records.{Records}
 use Rattle.pt_history.specs.Compact.{Parts, decoded, IsStored, ShowsAlone}
 use Rattle.pt_history.specs.Records.{parts_of, Shows, ShowsIfSome}
@@ -68,12 +69,12 @@ shows-appended b e old new c more a same stored = record {
 }
 
 -- only texts
-pub append-texts : {A : Type 0} (old : Records A) (ts : Vec ℕ A) (text : List ℕ)
+pub append-texts : {A : Type 0} (old : Records A) (ts : Vec ℕ A) (hs : Hints A) (text : List ℕ)
     → ts.items ≡ old.texts.items ++ text → vec_len ts ≤ vec_len old.texts + 64
     → vec_capacity old.texts ≤ vec_capacity ts
-    → Appends old (record old { texts = ts })
+    → Appends old (record old { texts = ts; hints = hs })
     (record { texts = text; limits = []; moments = []; wholes = [] })
-append-texts old ts text e l c = record {
+append-texts old ts hs text e l c = record {
   texts = e;
   limits = sym (append-nil _);
   moments = sym (append-nil _);
@@ -89,15 +90,15 @@ append-texts old ts text e l c = record {
 }
 
 -- texts and a limit
-pub append-limit : {A : Type 0} (old : Records A) (ts : Vec ℕ A) (ls : Vec TimeLimit A)
-    (text : List ℕ) (l : TimeLimit)
+pub append-limit : {A : Type 0} (old : Records A) (ts : Vec ℕ A) (hs : Hints A)
+    (ls : Vec TimeLimit A) (text : List ℕ) (l : TimeLimit)
     → ts.items ≡ old.texts.items ++ text → vec_len ts ≤ vec_len old.texts + 64
     → vec_capacity old.texts ≤ vec_capacity ts
     → ls.items ≡ old.limits.items ++ l ∷ [] → vec_len ls ≡ vec_len old.limits + 1
     → vec_capacity ls ≡ vec_capacity old.limits
-    → Appends old (record old { texts = ts; limits = ls })
+    → Appends old (record old { texts = ts; hints = hs; limits = ls })
     (record { texts = text; limits = l ∷ []; moments = []; wholes = [] })
-append-limit old ts ls text l e n c e2 n2 c2 = record {
+append-limit old ts hs ls text l e n c e2 n2 c2 = record {
   texts = e;
   limits = e2;
   moments = sym (append-nil _);

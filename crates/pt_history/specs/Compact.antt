@@ -14,7 +14,9 @@ use Rattle.pt_types.specs.declared.outcome.Outcome.TheVariants.{Eagain as Eagain
 use Rattle.pt_types.specs.declared.outcome.Outcome.TheVariants.{Edeadlk as EdeadlkOutcome}
 use Rattle.pt_types.specs.declared.outcome.Outcome.TheVariants.{Etimedout as EtimedoutOutcome}
 use Rattle.pt_types.specs.declared.outcome.Outcome.TheVariants.{Eownerdead as EownerdeadOutcome}
-use Rattle.pt_types.specs.declared.outcome.Outcome.TheVariants.{Enotrecoverable as EnotrecoverableOutcome}
+use Rattle.pt_types.specs.declared.outcome.Outcome.TheVariants.{
+  Enotrecoverable as EnotrecoverableOutcome,
+}
 use Rattle.pt_types.specs.declared.operations.LockKind.{LockKind}
 use Rattle.pt_types.specs.declared.operations.LockKind.TheVariants.{MutexLock, ReadLock, WriteLock}
 use Rattle.pt_types.specs.declared.call.Call.{Call}

@@ -1,5 +1,6 @@
 -- Records: the parts that stored entries refer to, and how they grow.
-use Rattle.std.specs.Prelude.{ℕ, suc, ◌+◌, ◌*◌, ◌≤◌, ◌≡◌, List, [], ◌++◌, Option, Some, None}
+use Rattle.std.specs.Prelude.{ℕ, suc, ◌+◌, ◌*◌, ◌≤◌, ◌≡◌, List, [], ◌++◌, length, Option, Some}
+use Rattle.std.specs.Prelude.{None}
 use Rattle.std.specs.Prelude.{vec_len, vec_capacity}
 use Rattle.std.specs.Prelude.{Vec}
 use Rattle.pt_model.specs.declared.entry.Entry.{Entry}
@@ -58,19 +59,26 @@ pub record Shows {A : Type 0} (b : ℕ) (e : Entry) (old new : Records A) (c : C
   pub room : (n : ℕ) → HasRoom old (suc n) → HasRoom new n
   pub few : vec_len new.wholes ≤ suc (vec_len old.wholes)
 
--- a name was appended, of this length and from this index on
-pub record IsAppended {A : Type 0} (old new : Vec ℕ A) (name : List ℕ)
+-- a name lies at an index
+pub record LiesAt (texts name : List ℕ) (from : ℕ) : Type 0 where
+  pub within : from + length name ≤ length texts
+  pub same : text_at texts from (length name) ≡ name
+
+-- the texts only grew, and a name is there, of this length and from this index on
+pub record HasText {A : Type 0} (old new : Vec ℕ A) (name : List ℕ)
     (count from : ℕ) : Type 0 where
-  pub items : new.items ≡ old.items ++ name
+  pub more : List ℕ
+  pub items : new.items ≡ old.items ++ more
   pub text : IsText new.items from count
   pub same : text_at new.items from count ≡ name
   pub len : vec_len new ≤ vec_len old + 32
   pub capacity : vec_capacity old ≤ vec_capacity new
 
--- two names were appended, of these lengths and from this index on
-pub record AreAppended {A : Type 0} (old new : Vec ℕ A) (one other : List ℕ)
+-- the texts only grew, and two names are there, of these lengths and from this index on
+pub record HasTexts {A : Type 0} (old new : Vec ℕ A) (one other : List ℕ)
     (first second from : ℕ) : Type 0 where
-  pub items : new.items ≡ old.items ++ (one ++ other)
+  pub more : List ℕ
+  pub items : new.items ≡ old.items ++ more
   pub texts : AreTexts new.items from first second
   pub same : text_at new.items from first ≡ one
   pub next : text_at new.items (from + first) second ≡ other

@@ -7,7 +7,8 @@ ghost use Rattle.pt_model.specs.declared.entry.Entry.TheVariants.{Call as CallEn
 ghost use Rattle.pt_model.specs.declared.entry.Entry.TheVariants.{Moment as MomentEntry};
 
 use crate::compact::{Answer, Compact, alone, answer_of, barrier, named, near, timed, timed_wait};
-use crate::records::{Records, one_text, short, two_texts};
+use crate::records::Records;
+use crate::texts::{one_text, short, two_texts};
 use pt_model::Entry;
 use pt_types::{Call, ClientId, Clock, Moment, Outcome};
 use std::alloc::Allocator;
@@ -26,7 +27,7 @@ impl<A: Allocator + Copy> Records<A> {
             self.old self.new result }
     {
         let (word, name) = named(call)?;
-        let (length, from) = one_text(&mut self.texts, name)?;
+        let (length, from) = one_text(&mut self.texts, &mut self.hints, name)?;
         Some(Compact::Named(word, answer, length, client, from))
     }
 
@@ -43,7 +44,7 @@ impl<A: Allocator + Copy> Records<A> {
             self.old self.new result }
     {
         let (name, count) = barrier(call)?;
-        let (length, from) = one_text(&mut self.texts, name)?;
+        let (length, from) = one_text(&mut self.texts, &mut self.hints, name)?;
         Some(Compact::Barrier(answer, length, client, from, count))
     }
 
@@ -63,7 +64,7 @@ impl<A: Allocator + Copy> Records<A> {
             return None;
         };
         let index = short(self.limits.len())?;
-        let (length, from) = one_text(&mut self.texts, name)?;
+        let (length, from) = one_text(&mut self.texts, &mut self.hints, name)?;
         self.limits.push_reserved(limit);
         Some(Compact::Timed(kind, answer, length, client, from, index))
     }
@@ -77,7 +78,7 @@ impl<A: Allocator + Copy> Records<A> {
         let Call::Wait(cond, mutex) = call else {
             return None;
         };
-        let (first, second, from) = two_texts(&mut self.texts, cond, mutex)?;
+        let (first, second, from) = two_texts(&mut self.texts, &mut self.hints, cond, mutex)?;
         Some(Compact::Wait(answer, first, second, client, from))
     }
 
@@ -97,7 +98,7 @@ impl<A: Allocator + Copy> Records<A> {
             return None;
         };
         let index = short(self.limits.len())?;
-        let (first, second, from) = two_texts(&mut self.texts, cond, mutex)?;
+        let (first, second, from) = two_texts(&mut self.texts, &mut self.hints, cond, mutex)?;
         self.limits.push_reserved(limit);
         Some(Compact::TimedWait(answer, first, second, client, from, index))
     }

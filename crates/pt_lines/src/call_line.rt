@@ -120,8 +120,8 @@ pub(crate) fn read_asked(verb: Verb, args: Fields) -> Option<Call>
     }
 }
 
-/// The line of a verb and the fields after it. What is seldom read stands in functions that are not
-/// inlined, so that other lines have no room to clear for it.
+/// The line of a verb and the fields after it. Lines that are seldom read have functions of their
+/// own, which are not inlined: the others have no room to clear for them.
 pub(crate) fn read_arguments(verb: Verb, args: Fields) -> Option<CallLine>
     ensures { result ≡ line_of verb args.entry }
 {

@@ -47,7 +47,7 @@ says_counted s mid next line number asks out told is counts says adds =
     (subst (λ t. Adds (SaysTo t (record { who = line.who; number = number }) asks next) out told)
     is adds))
 
--- a text that is not too long is read by its client, and by what is behind that
+-- a text that is not too long is read as its client and the text after it
 pub short_by : (text : List ℕ) (who : Who) (behind : Option (List ℕ))
     → who ≡ who_named (before_space text) → behind ≡ behind_space text
     → (record { who = who; body = body_behind who behind }) ≡ short_read text

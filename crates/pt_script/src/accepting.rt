@@ -1,4 +1,4 @@
-//! What is noted and told of an accepted line.
+//! What is stored and written for an accepted line.
 
 ghost use Rattle.std.specs.Prelude.{◌≡◌, ◌<◌, ◌++◌, None, OnOk, IfErr};
 ghost use Rattle.pt_model.specs.Queries.{answers_behind};

@@ -80,8 +80,8 @@ impl Pusher {
         }
     }
 
-    /// Pushes a reading, and wakes the thread that takes it, if that is another. `false` if the ring
-    /// has no room, or if no more can be counted, which no input comes to within its reads.
+    /// Pushes a reading, and wakes the thread that takes it, if that is another. `false` if the
+    /// ring has no room, or if no more can be counted, which no input comes to within its reads.
     pub fn push<L: Ledger, T: Wait>(&mut self, rt: &T, shared: &Shared<L>, reading: Reading) -> bool
         ensures ring { SameProducer self.old.ring self.new.ring }
         ensures pushed { IsTrue result

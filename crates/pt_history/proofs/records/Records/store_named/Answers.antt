@@ -6,5 +6,6 @@ pub returns : goal.returns
 returns g c =
     let t = c.in_ok-length.ensures.some in
     shows-appended _ _ _ _ _ _
-    (append-texts c.args.self.now c.one_text.new.texts _ t.items (omega (arith, t.len)) t.capacity)
+    (append-texts c.args.self.now c.one_text.new.texts c.one_text.new.hints _ t.items
+    (omega (arith, t.len)) t.capacity)
     (rw (t.same, c.in_ok-word.ensures)) t.text

@@ -9,7 +9,7 @@ returns g c =
     let t = c.in_ok-length.ensures.some in
     let e = c.push_reserved.ensures.items in
     shows-appended _ _ _ _ _ _
-    (append-limit old c.one_text.new.texts c.push_reserved.new.self _ _ t.items
+    (append-limit old c.one_text.new.texts c.one_text.new.hints c.push_reserved.new.self _ _ t.items
     (omega (arith, t.len)) t.capacity e c.push_reserved.ensures.len
     c.push_reserved.ensures.capacity)
     (rw (t.same, at_end _ _ _ _ _ e n, c.in-Some.ensures))

@@ -9,8 +9,8 @@ returns g c =
     let t = c.in_ok-first.ensures.some in
     let e = c.push_reserved.ensures.items in
     shows-appended _ _ _ _ _ _
-    (append-limit old c.two_texts.new.texts c.push_reserved.new.self _ _ t.items
-    (omega (arith, t.len)) t.capacity e c.push_reserved.ensures.len
+    (append-limit old c.two_texts.new.texts c.two_texts.new.hints c.push_reserved.new.self _ _
+    t.items (omega (arith, t.len)) t.capacity e c.push_reserved.ensures.len
     c.push_reserved.ensures.capacity)
     (rw (t.same, t.next, at_end _ _ _ _ _ e n, c.in-Some.ensures))
     (record { texts = t.texts; limit = within_end _ _ _ _ e n })

@@ -6,5 +6,6 @@ pub returns : goal.returns
 returns g c =
     let t = c.in_ok-first.ensures.some in
     shows-appended _ _ _ _ _ _
-    (append-texts c.args.self.now c.two_texts.new.texts _ t.items (omega (arith, t.len)) t.capacity)
+    (append-texts c.args.self.now c.two_texts.new.texts c.two_texts.new.hints _ t.items
+    (omega (arith, t.len)) t.capacity)
     (rw (t.same, t.next, c.in-Wait.is)) t.texts

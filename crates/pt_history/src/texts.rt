@@ -1,0 +1,94 @@
+//! The texts of names. One that is there already is not stored again, if its hint finds it.
+
+ghost use Rattle.std.specs.Prelude.{◌≡◌, ◌+◌, ◌≤◌, ◌++◌, length, None, IfSome, true};
+ghost use Rattle.std.specs.Prelude.{vec_len, vec_capacity};
+ghost use Rattle.pt_history.specs.Compact.{text_at};
+ghost use Rattle.pt_history.specs.Records.{HasText, HasTexts, LiesAt};
+
+use crate::hints::{Hints, key_of};
+use pt_types::Name;
+use std::alloc::Allocator;
+
+// An index of 32 bits; None if it takes more.
+pub(crate) fn short(index: usize) -> Option<u32>
+    ensures { IfSome result (λ i. i ≡ index) }
+{
+    if index > 4_294_967_295 {
+        return None;
+    }
+    Some(index as u32)
+}
+
+// Appends the bytes of a name.
+fn append<A: Allocator + Copy>(texts: &mut Vec<u8, A>, name: &Name)
+    requires { vec_len texts.old + length name.now ≤ vec_capacity texts.old }
+    ensures items { texts.new.items ≡ texts.old.items ++ name.now }
+    ensures len { vec_len texts.new ≡ vec_len texts.old + length name.now }
+    ensures capacity { vec_capacity texts.old ≤ vec_capacity texts.new }
+{
+    texts.extend_from_slice(name.as_bytes()).unwrap();
+}
+
+// Whether a name lies at an index.
+fn lies_at(texts: &[u8], from: usize, name: &Name) -> bool
+    requires { from ≤ 4294967327 }
+    ensures { result ≡ true → LiesAt texts.now name.now from }
+{
+    let bytes = name.as_bytes();
+    match texts.get(from..from + bytes.len()) {
+        Some(there) => there == bytes,
+        None => false,
+    }
+}
+
+// Stores a name, and returns its length and where it begins. None if that takes more than 32
+// bits, and then nothing changes.
+pub(crate) fn one_text<A: Allocator + Copy>(
+    texts: &mut Vec<u8, A>,
+    hints: &mut Hints<A>,
+    name: &Name,
+) -> Option<(u8, u32)>
+    requires { vec_len texts.old + 32 ≤ vec_capacity texts.old }
+    ensures some { IfSome result (λ p. HasText texts.old texts.new name.now p.0 p.1) }
+    ensures none { result ≡ None → texts.new ≡ texts.old }
+    ensures same { result ≡ None → hints.new ≡ hints.old }
+{
+    let key = key_of(name.as_bytes());
+    let length = name.as_bytes().len();
+    let hint = hints.get(key);
+    if lies_at(texts, hint as usize, name) {
+        return Some((length as u8, hint));
+    }
+    let from = short(texts.len())?;
+    append(texts, name);
+    hints.set(key, from);
+    Some((length as u8, from))
+}
+
+// Stores two names, one after the other, and returns their lengths and where the first begins. The
+// hint is the first name's.
+pub(crate) fn two_texts<A: Allocator + Copy>(
+    texts: &mut Vec<u8, A>,
+    hints: &mut Hints<A>,
+    one: &Name,
+    other: &Name,
+) -> Option<(u8, u8, u32)>
+    requires { vec_len texts.old + 64 ≤ vec_capacity texts.old }
+    ensures some { IfSome result (λ p.
+        HasTexts texts.old texts.new one.now other.now p.0 p.1 p.2) }
+    ensures none { result ≡ None → texts.new ≡ texts.old }
+    ensures same { result ≡ None → hints.new ≡ hints.old }
+{
+    let key = key_of(one.as_bytes());
+    let first = one.as_bytes().len();
+    let second = other.as_bytes().len();
+    let hint = hints.get(key);
+    if lies_at(texts, hint as usize, one) && lies_at(texts, hint as usize + first, other) {
+        return Some((first as u8, second as u8, hint));
+    }
+    let from = short(texts.len())?;
+    append(texts, one);
+    append(texts, other);
+    hints.set(key, from);
+    Some((first as u8, second as u8, from))
+}
