@@ -103,9 +103,30 @@ impl<A: Allocator + Copy> History<A> {
         }
     }
 
+    // Makes room for so many entries more, with memory for as many or more. ENOMEM if the growth is
+    // refused: then nothing changes.
+    #[cold]
+    #[inline(never)]
+    fn grow_for(&mut self, room: u64, memory: u64) -> Result<(), Refusal>
+        requires within { length self.old.entries + room ≤ self.old.limit }
+        requires enough { room ≤ memory }
+        requires small { memory ≤ 4294967295 }
+        ensures ok { OnOk result (self.new ≡ record self.old { room = room }) }
+        ensures err { OnErr result (self.new ≡ self.old) }
+        ensures memory { IfErr result (λ r. r ≡ Refusal.Enomem) }
+    {
+        if grow(&mut self.entries, &mut self.records, memory).is_err() {
+            return Err(Refusal::Enomem);
+        }
+        self.memory = memory;
+        self.room = room;
+        Ok(())
+    }
+
     /// Makes room for so many entries more. FULL exactly if the history would pass its limit
     /// with them; else ENOMEM if the growth is refused. A refusal changes nothing. Room that is
     /// there already is never refused.
+    #[inline(always)]
     pub fn reserve_for(&mut self, room: u64) -> Result<(), Refusal>
         ensures ok { OnOk result (self.new ≡ record self.old { room = room }) }
         ensures full { (result ≡ Err Refusal.Full)
@@ -118,11 +139,7 @@ impl<A: Allocator + Copy> History<A> {
             return Err(Refusal::Full);
         }
         if room > self.memory {
-            let many = (room + BATCH).min(MOST_AT_ONCE);
-            if grow(&mut self.entries, &mut self.records, many).is_err() {
-                return Err(Refusal::Enomem);
-            }
-            self.memory = many;
+            return self.grow_for(room, (room + BATCH).min(MOST_AT_ONCE));
         }
         self.room = room;
         Ok(())

@@ -1,6 +1,7 @@
 //! Living clients: who lives, with which priority, and what a join and a death change.
 
 ghost use Rattle.std.specs.Prelude.{IfErr, OnErr, OnOk, Some, ℕ, ◌≡◌, false, unwrap_or};
+ghost use Rattle.std.specs.Option.{option_copied};
 ghost use Rattle.pt_model.specs.Histories.{place};
 ghost use Rattle.pt_model.specs.Clients.{client, is_alive as is_alive_in, living as living_in};
 ghost use Rattle.pt_state.specs.Reads.{AreTables};
@@ -80,12 +81,12 @@ impl<A: Allocator + Copy> State<A> {
     }
 
     /// A client's open call, with its move.
-    pub fn open_of(&self, c: ClientId) -> Option<Open>
+    pub fn open_of(&self, c: ClientId) -> Option<&Open>
         requires { AreTables self.now }
-        ensures { result ≡ open_in (client_value self.now.clients c) }
+        ensures { option_copied result ≡ open_in (client_value self.now.clients c) }
     {
         match self.clients.at(c.0) {
-            Some(caller) => caller.open,
+            Some(caller) => caller.open.as_ref(),
             None => None,
         }
     }

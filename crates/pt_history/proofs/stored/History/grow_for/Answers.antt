@@ -1,7 +1,7 @@
 use Rattle.std.proofs.Common.{arith}
 use Rattle.pt_model.specs.StartRows.{rows_of}
 use Rattle.pt_history.proofs.Kept.{counted-same, recorded-same}
-use Rattle.pt_history.proofs.stored.History.reserve_for.Goals as goal
+use Rattle.pt_history.proofs.stored.History.grow_for.Goals as goal
 
 pub invariant_of-self : goal.invariant_of-self
 invariant_of-self g c =
