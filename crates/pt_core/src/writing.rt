@@ -9,7 +9,7 @@ ghost use Rattle.pt_machine.specs.Planned.{IsPlanned};
 ghost use Rattle.pt_core.specs.Cores.{kept, seen};
 ghost use Rattle.pt_core.specs.Wholes.{HasEnough, IsWhole};
 ghost use Rattle.pt_core.specs.Applying.{IsWritten, IsNotWritten, is_death as is_death_of};
-ghost use Rattle.pt_core.specs.Applying.{told_at_once};
+ghost use Rattle.pt_core.specs.Applying.{told_at_once, IsToldStill};
 
 use crate::applied::Applied;
 use crate::settling::{enter, make_room};
@@ -32,6 +32,23 @@ pub fn told<Q: WaitList, A: Allocator + Copy>(
         Event::Join(_) => Some(Outcome::Done),
         Event::Call(c, _) => body.outcome_of(*c, first),
         Event::Death(_) | Event::Moment(..) => None,
+    }
+}
+
+// The answer that an event's own call has by now: the planned one, if the call was answered at once.
+fn told_as_planned<Q: WaitList, A: Allocator + Copy>(
+    body: &Body<Q, A>,
+    event: &Event,
+    plan: &Plan<'_>,
+    first: u64,
+) -> Option<Outcome>
+    requires read { AreTables body.now }
+    requires still { IsToldStill event.now plan.now.answer (past body.now) first }
+    ensures { result ≡ told_at_once event.now (past body.now) first }
+{
+    match (event, plan.answer) {
+        (Event::Call(..), Some(answer)) => Some(answer),
+        _ => told(body, event, first),
     }
 }
 
@@ -64,7 +81,7 @@ pub fn write<Q: WaitList, A: Allocator + Copy>(
     if let Err(refusal) = enter(body, event, plan) {
         return Err(refusal);
     }
-    let outcome = told(body, event, first);
+    let outcome = told_as_planned(body, event, plan, first);
     Ok(Applied {
         first,
         last: body.len() - 1,

@@ -1,6 +1,7 @@
 //! Which call is served at an object, found by one look at the object.
 
 ghost use Rattle.std.specs.Prelude.{IfSome, None, Some, ◌&&◌, ◌==◌, ◌≡◌, is_some, option_map, true};
+ghost use Rattle.std.specs.Option.{option_copied};
 ghost use Rattle.pt_types.specs.MutexTable.{is_recursive};
 ghost use Rattle.pt_types.specs.RwlockTable.{may_read as may_read_it};
 ghost use Rattle.pt_rwlock.specs.RwlockState.{seen_by};
@@ -70,10 +71,10 @@ fn is_writer(open: &Open) -> bool
 
 impl<Q: WaitList, A: Allocator + Copy> Body<Q, A> {
     // The first call that waits at an object.  [XSH 2.8.4]
-    fn first_at(&self, o: ObjectId) -> Option<Open>
+    fn first_at(&self, o: ObjectId) -> Option<&Open>
         requires { AreTables self.now }
-        ensures value { option_map called result ≡ first_at_in (past self.now) o }
-        ensures known { IfSome result (λ found. In found (opens_of self.now.clients)) }
+        ensures value { option_map called (option_copied result) ≡ first_at_in (past self.now) o }
+        ensures known { IfSome (option_copied result) (λ found. In found (opens_of self.now.clients)) }
     {
         match self.queues.first(o) {
             Some(first) => self.state.open_of(first.client),
@@ -84,11 +85,11 @@ impl<Q: WaitList, A: Allocator + Copy> Body<Q, A> {
     // The call that is served at a mutex: the first, if nobody owns it or it is lost, and
     // otherwise a wait of its owner that has come back, if a relock counts there.
     // [XSH pthread_mutex_unlock, pthread_cond_wait]
-    fn mutex_candidate(&self, m: ObjectId, mutex: &MutexObj) -> Option<Open>
+    fn mutex_candidate(&self, m: ObjectId, mutex: &MutexObj) -> Option<&Open>
         requires read { AreTables self.now }
         requires stored { object_value self.now.objects m ≡ Some (row.Mutex mutex.now) }
-        ensures value { option_map called result ≡ mutex_candidate_in (past self.now) m }
-        ensures known { IfSome result (λ found. In found (opens_of self.now.clients)) }
+        ensures value { option_map called (option_copied result) ≡ mutex_candidate_in (past self.now) m }
+        ensures known { IfSome (option_copied result) (λ found. In found (opens_of self.now.clients)) }
     {
         if may_lock(mutex) {
             return self.first_at(m);
@@ -97,7 +98,7 @@ impl<Q: WaitList, A: Allocator + Copy> Body<Q, A> {
             return None;
         }
         let wait = self.state.open_of(mutex.owner()?)?;
-        if comes_back(m, &wait) {
+        if comes_back(m, wait) {
             Some(wait)
         } else {
             None
@@ -106,17 +107,17 @@ impl<Q: WaitList, A: Allocator + Copy> Body<Q, A> {
 
     // The call that came last, if it waits at the lock to read and its client reads there already.
     // [XSH pthread_rwlock_rdlock]
-    fn reader_again(&self, r: ObjectId, lock: &RwObj<A>) -> Option<Open>
+    fn reader_again(&self, r: ObjectId, lock: &RwObj<A>) -> Option<&Open>
         requires read { AreTables self.now }
         requires stored { object_value self.now.objects r ≡ Some (row.Rwlock lock.now) }
         requires unwritten { lock.now.writer ≡ None }
         ensures value { let h = past self.now in
-            option_map called result
+            option_map called (option_copied result)
             ≡ if_passes (reads_again_at h r) (open_call_if h (entering h)) }
-        ensures known { IfSome result (λ found. In found (opens_of self.now.clients)) }
+        ensures known { IfSome (option_copied result) (λ found. In found (opens_of self.now.clients)) }
     {
         let open = self.state.open_of(self.entering?)?;
-        if reads_more(r, lock, &open) {
+        if reads_more(r, lock, open) {
             Some(open)
         } else {
             None
@@ -126,27 +127,27 @@ impl<Q: WaitList, A: Allocator + Copy> Body<Q, A> {
     // The call that is served at a read-write lock: none if it is written; the first, unless that
     // is a writer and others read; then the call that came last, if its client reads already.
     // [XSH pthread_rwlock_unlock, pthread_rwlock_rdlock]
-    fn rwlock_candidate(&self, r: ObjectId, lock: &RwObj<A>) -> Option<Open>
+    fn rwlock_candidate(&self, r: ObjectId, lock: &RwObj<A>) -> Option<&Open>
         requires read { AreTables self.now }
         requires stored { object_value self.now.objects r ≡ Some (row.Rwlock lock.now) }
-        ensures value { option_map called result ≡ rwlock_candidate_in (past self.now) r }
-        ensures known { IfSome result (λ found. In found (opens_of self.now.clients)) }
+        ensures value { option_map called (option_copied result) ≡ rwlock_candidate_in (past self.now) r }
+        ensures known { IfSome (option_copied result) (λ found. In found (opens_of self.now.clients)) }
     {
         if lock.writer().is_some() {
             return None;
         }
         match self.first_at(r) {
-            Some(first) if is_writer(&first) && !lock.is_free() => { self.reader_again(r, lock) }
+            Some(first) if is_writer(first) && !lock.is_free() => { self.reader_again(r, lock) }
             first => first,
         }
     }
 
     // The call that is served at a barrier: the first, if it is full.  [XSH pthread_barrier_wait]
-    fn barrier_candidate(&self, b: ObjectId, barrier: &BarrierObj) -> Option<Open>
+    fn barrier_candidate(&self, b: ObjectId, barrier: &BarrierObj) -> Option<&Open>
         requires read { AreTables self.now }
         requires stored { object_value self.now.objects b ≡ Some (row.Barrier barrier.now) }
-        ensures value { option_map called result ≡ candidate_in (past self.now) b }
-        ensures known { IfSome result (λ found. In found (opens_of self.now.clients)) }
+        ensures value { option_map called (option_copied result) ≡ candidate_in (past self.now) b }
+        ensures known { IfSome (option_copied result) (λ found. In found (opens_of self.now.clients)) }
     {
         if barrier.full(self.arrivals(b)) {
             self.first_at(b)
@@ -156,10 +157,10 @@ impl<Q: WaitList, A: Allocator + Copy> Body<Q, A> {
     }
 
     /// The call that is served at an object.  [XSH, the object's pages]
-    pub(crate) fn candidate(&self, o: ObjectId) -> Option<Open>
+    pub(crate) fn candidate(&self, o: ObjectId) -> Option<&Open>
         requires { AreTables self.now }
-        ensures value { option_map called result ≡ candidate_in (past self.now) o }
-        ensures known { IfSome result (λ found. In found (opens_of self.now.clients)) }
+        ensures value { option_map called (option_copied result) ≡ candidate_in (past self.now) o }
+        ensures known { IfSome (option_copied result) (λ found. In found (opens_of self.now.clients)) }
     {
         match self.state.objects.at(o.0)? {
             Object::Mutex(mutex) => self.mutex_candidate(o, mutex),

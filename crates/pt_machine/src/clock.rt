@@ -338,7 +338,7 @@ impl<Q: WaitList, A: Allocator + Copy> Body<Q, A> {
             ≡ keep (λ o. o.call.place == place) (open_in (client_value self.now.clients c)) }
     {
         match self.state.open_of(c) {
-            Some(open) if open.call.place == place => Some(open),
+            Some(open) if open.call.place == place => Some(*open),
             _ => None,
         }
     }

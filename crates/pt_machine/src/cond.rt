@@ -1,5 +1,6 @@
 //! Condition variables: verdicts of waits, signals and broadcasts, and the waits that they move.
 
+ghost use Rattle.std.specs.Option.{option_copied};
 ghost use Rattle.std.specs.Prelude.{IfSome, None, Some, ◌≡◌, ◌≤◌, filter, length, option_map, true};
 ghost use Rattle.pt_types.specs.declared.outcome.Outcome.TheVariants as told;
 ghost use Rattle.pt_types.specs.Operations.{Awaits, Broadcasts, Signals, operation};
@@ -72,7 +73,7 @@ pub(crate) fn push_signal<Q: WaitList, A: Allocator + Copy>(
     ensures queued { IsQueued (past state.new) (Q.seen queues.new) }
 {
     let q = object.unwrap();
-    match first_waiting(queues, state, q) {
+    match first_waiting(queues, state, q).copied() {
         Some(first) => push_wake(state, queues, c, call, n, &first),
         None => state.push_woken(c, call, n, None),
     }
@@ -123,18 +124,19 @@ pub(crate) fn push_late_wait<Q: WaitList, A: Allocator + Copy>(
 }
 
 // The wait that a signal at this condition wakes.  [XSH pthread_cond_signal]
-fn first_waiting<Q: WaitList, A: Allocator + Copy>(
+fn first_waiting<'s, Q: WaitList, A: Allocator + Copy>(
     queues: &Q,
-    state: &State<A>,
+    state: &'s State<A>,
     q: ObjectId,
-) -> Option<Open>
+) -> Option<&'s Open>
     requires read { AreTables state.now }
     requires queued { IsQueued (past state.now) (Q.seen queues.now) }
     requires cond { kind_of (past state.now) q ≡ Some kind.Cond }
-    ensures value { option_map called result
+    ensures value { option_map called (option_copied result)
         ≡ least (precedes (past state.now))
         (filter (waits_in (past state.now) q) (open_calls (past state.now))) }
-    ensures known { IfSome result (λ found. In found (opens_of state.now.clients)) }
+    ensures known { IfSome (option_copied result)
+        (λ found. In found (opens_of state.now.clients)) }
 {
     match queues.first(q) {
         Some(first) => state.open_of(first.client),

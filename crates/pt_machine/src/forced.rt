@@ -1,5 +1,6 @@
 //! Forced entries: which comes next, and how it comes in.
 
+ghost use Rattle.std.specs.Option.{option_copied};
 ghost use Rattle.std.specs.Prelude.{IfSome, ◌≡◌, false, filter, option_map};
 ghost use Rattle.pt_model.specs.Searches.{In, least};
 ghost use Rattle.pt_model.specs.Histories.{place};
@@ -119,13 +120,13 @@ pub(crate) fn push_forced<Q: WaitList, A: Allocator + Copy>(
 
 impl<Q: WaitList, A: Allocator + Copy> Body<Q, A> {
     /// The call to serve first.  [XSH pthread_mutex_unlock, the lowest first is profile]
-    pub fn first_served(&self) -> Option<Open>
+    pub fn first_served(&self) -> Option<&Open>
         requires { AreTables self.now }
-        ensures value { option_map called result
+        ensures value { option_map called (option_copied result)
             ≡ least (is_served_before_in (past self.now))
             (filter (is_served_in (past self.now))
             (open_calls (past self.now))) }
-        ensures known { IfSome result (λ found. In found (opens_of self.now.clients)) }
+        ensures known { IfSome (option_copied result) (λ found. In found (opens_of self.now.clients)) }
     {
         self.candidate(self.touched?)
     }
@@ -139,7 +140,7 @@ impl<Q: WaitList, A: Allocator + Copy> Body<Q, A> {
         ensures known { IfSome result (IsFor (opens_of self.now.clients)) }
     {
         if let Some(served) = self.first_served() {
-            return Some(Forced::Serve(served));
+            return Some(Forced::Serve(*served));
         }
         if let Some(m) = self.state.first_orphan() {
             return Some(Forced::Yield(m));

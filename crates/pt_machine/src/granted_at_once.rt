@@ -91,7 +91,7 @@ impl<Q: WaitList, A: Allocator + Copy> Body<Q, A> {
     {
         self.state
             .push_left(c, call, plan.request.as_ref().unwrap())?;
-        let open = self.state.open_of(c).unwrap();
+        let open = self.state.open_of(c).copied().unwrap();
         let used = used_by_grant(&self.state, &open);
         self.state.push_granted(&open);
         self.touched = plan.touched;

@@ -51,7 +51,7 @@ impl<Q: WaitList, A: Allocator + Copy> Body<Q, A> {
         ensures { let h = past self.now in result ≡ object_if h (open_call_of h c) }
     {
         match self.state.open_of(c) {
-            Some(open) => Some(at_object(&open)),
+            Some(open) => Some(at_object(open)),
             None => None,
         }
     }

@@ -3,8 +3,9 @@ use Rattle.std.specs.Prelude.{IsOk}
 use Rattle.pt_model.specs.Histories.{History}
 use Rattle.pt_model.specs.Room.{entry_for, refusal}
 use Rattle.pt_machine.specs.Memory.{needs_memory}
-use Rattle.pt_machine.specs.Planned.{IsPlanned}
+use Rattle.pt_machine.specs.Planned.{entry_with, IsPlanned}
 use Rattle.pt_core.proofs.AcceptingLemmas.{same-past}
+use Rattle.pt_core.proofs.AnswersStay.{told-still}
 use Rattle.pt_core.proofs.WritingLemmas.{entered-written}
 use Rattle.pt_core.proofs.OpenLemmas.{memory-open, open-within}
 use Rattle.pt_core.proofs.WholeLemmas.{whole-entered}
@@ -22,6 +23,18 @@ enter-requires-clause-planned g c =
     (sym (same-past c.args.body.now.stored c.make_room.new.body.stored made.same_start
     made.same_entries))
     c.requires.planned
+
+-- a call that was answered at once has its answer still
+pub told_as_planned-outcome-requires-clause-still : goal.told_as_planned-outcome-requires-clause-still
+told_as_planned-outcome-requires-clause-still g c =
+    let o = c.in_default.ensures.ok in
+    let same = same-past c.args.body.now.stored c.make_room.new.body.stored o.made.same_start
+    o.made.same_entries in
+    told-still c.make_room.new.body.stored c.enter.new.body.stored c.args.event.now o.made.ready
+    (ap (λ h. refusal h c.args.event.now) same ∙ c.requires.accepted)
+    c.in_default-enter.ensures.ok c.args.plan.now.answer c.len-first.result
+    (subst (λ (h : History). entry_with h c.args.event.now c.args.plan.now.answer
+    ≡ entry_for h c.args.event.now) (sym same) c.requires.planned.enters) c.len-first.ensures
 
 pub returns-in-Err-enter-clause-err : goal.returns-in-Err-enter-clause-err
 returns-in-Err-enter-clause-err g c =
@@ -45,8 +58,8 @@ returns-clause-ok g c =
     entered-written c.args.body.now.stored c.make_room.new.body.stored c.enter.new.body.stored
     c.args.event.now o.made c.in_default-enter.ensures.ok
     (open-within c.args.body.now c.make_room.new.body c.args.event.now o c.requires.accepted)
-    c.len-first.result c.len.result c.told-outcome.result None
-    c.len-first.ensures c.len.ensures c.told-outcome.ensures
+    c.len-first.result c.len.result c.told_as_planned-outcome.result None
+    c.len-first.ensures c.len.ensures c.told_as_planned-outcome.ensures
 
 pub returns-in-Err-clause-enough : goal.returns-in-Err-clause-enough
 returns-in-Err-clause-enough g c = λ there small.

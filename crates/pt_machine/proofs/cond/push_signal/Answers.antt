@@ -1,7 +1,9 @@
-use Rattle.std.proofs.Common.{Some, None, sym, ◌∙◌}
+use Rattle.std.proofs.Common.{Some, None, sym, ap, ◌∙◌}
+use Rattle.std.specs.Prelude.{option_map}
 use Rattle.pt_types.specs.declared.outcome.Outcome.TheVariants as told
 use Rattle.pt_model.specs.declared.entry.Entry.TheVariants as entry
 use Rattle.pt_state.specs.Adds.{past}
+use Rattle.pt_state.specs.Serving.{called}
 use Rattle.pt_records.proofs.LockViews.{cond-found}
 use Rattle.pt_machine.proofs.QueuedSame.{queued-adds}
 use Rattle.pt_machine.proofs.QueuedWakes.{first-named, queued-unmoved}
@@ -24,6 +26,6 @@ returns-in-None-clause-queued g c =
     (g.Q.WaitList.seen c.args.queues.now).queue (g.Q.WaitList.seen c.args.queues.now).admitted
     (g.Q.WaitList.seen c.args.queues.now).made
     (sym (first-named (past c.args.state.now) c.args.n.now c.unwrap-q.result
-    c.first_waiting.result (sym c.requires.found ∙ c.unwrap-q.ensures)
-    c.first_waiting.ensures.value None c.in-None.is))
+    c.copied.result (sym c.requires.found ∙ c.unwrap-q.ensures)
+    (ap (option_map called) c.copied.ensures ∙ c.first_waiting.ensures.value) None c.in-None.is))
     c.requires.queued)

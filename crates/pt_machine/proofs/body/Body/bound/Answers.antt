@@ -1,5 +1,6 @@
 use Rattle.std.proofs.Common.{◌≡◌, sym, ap, ◌∙◌}
 use Rattle.std.specs.Prelude.{option_map}
+use Rattle.std.specs.Option.{option_copied}
 use Rattle.pt_model.specs.Searches.{least}
 use Rattle.pt_model.specs.Moves.{precedes}
 use Rattle.pt_state.specs.Adds.{past}
@@ -10,18 +11,18 @@ use Rattle.pt_machine.proofs.body.Body.bound.Goals as goal
 pub returns-in-Some : goal.returns-in-Some
 returns-in-Some g c =
     let h = past c.args.self.now in
-    let first : option_map called c.first_waiting.result
+    let first : option_map called (option_copied c.first_waiting.result)
     ≡ least (precedes h) (waits h c.requires.read.follows c.args.q c.requires.cond) =
     rw (← c.self.view_is) c.first_waiting.ensures.value in
-    bound-first h c.requires.read.follows c.args.q c.requires.cond (called c.in-Some.first)
-    (ap (option_map called) (sym c.in-Some.is) ∙ first) c.mutex_awaited.result
+    bound-first h c.requires.read.follows c.args.q c.requires.cond (called c.in-Some.first.now)
+    (ap (λ r. option_map called (option_copied r)) (sym c.in-Some.is) ∙ first) c.mutex_awaited.result
     c.mutex_awaited.ensures
 
 pub returns-in-None : goal.returns-in-None
 returns-in-None g c =
     let h = past c.args.self.now in
-    let first : option_map called c.first_waiting.result
+    let first : option_map called (option_copied c.first_waiting.result)
     ≡ least (precedes h) (waits h c.requires.read.follows c.args.q c.requires.cond) =
     rw (← c.self.view_is) c.first_waiting.ensures.value in
     bound-nothing h c.requires.read.follows c.args.q c.requires.cond
-    (ap (option_map called) (sym c.in-None.is) ∙ first)
+    (ap (λ r. option_map called (option_copied r)) (sym c.in-None.is) ∙ first)

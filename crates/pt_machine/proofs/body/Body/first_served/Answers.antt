@@ -1,4 +1,5 @@
 use Rattle.std.proofs.Common.{◌≡◌, Some, None, sym, ap, ◌∙◌}
+use Rattle.std.specs.Option.{option_copied}
 use Rattle.std.specs.Prelude.{option_map}
 use Rattle.pt_touched.specs.Candidates.{candidate_if}
 use Rattle.pt_touched.specs.Touched.{touched}
@@ -13,7 +14,7 @@ returns-in_err-self-clause-value g c =
     let h = past c.args.self.now in
     let last : None ≡ touched h =
     rw (← c.self.view_is) (sym c.in_err-self.was ∙ c.self.invariant.2.touches) in
-    ap (option_map called) c.from_residual.ensures
+    ap (λ r. option_map called (option_copied r)) c.from_residual.ensures
     ∙ (ap (candidate_if h) last ∙ sym (served_candidate h c.requires.follows))
 
 -- what can be served is at the object that is touched

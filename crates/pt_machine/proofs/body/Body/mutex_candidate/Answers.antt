@@ -1,4 +1,5 @@
 use Rattle.std.proofs.Common.{◌≡◌, Some, None, option_map, sym, ap, ◌∙◌}
+use Rattle.std.specs.Option.{option_copied}
 use Rattle.pt_table.specs.ClientRows.{client_value}
 use Rattle.pt_records.specs.Callers.{open_in}
 use Rattle.pt_state.specs.Adds.{past}
@@ -12,9 +13,9 @@ pub returns-then-comes_back-clause-value : goal.returns-then-comes_back-clause-v
 returns-then-comes_back-clause-value g c =
     let s = c.args.self.now in
     let read = c.requires.read in
-    let wait = c.in_ok-wait.wait in
+    let wait = c.in_ok-wait.wait.now in
     let found : Some wait ≡ open_in (client_value s.clients c.in_ok-owner.field-0) =
-    rw (← c.self.view_is) (sym c.in_ok-wait.was ∙ c.open_of.ensures) in
+    rw (← c.self.view_is) (ap option_copied (sym c.in_ok-wait.was) ∙ c.open_of.ensures) in
     if_taken c.comes_back.result (called wait) _ c.if-comes_back.true
     (mutex-served (past s) s.clients s.objects read.follows read.callers read.object_rows.look
     c.args.m c.args.mutex.now c.requires.stored c.in_ok-owner.field-0
@@ -25,17 +26,17 @@ returns-then-comes_back-clause-value g c =
 pub returns-then-comes_back-clause-known : goal.returns-then-comes_back-clause-known
 returns-then-comes_back-clause-known g c =
     let s = c.args.self.now in
-    let found : Some c.in_ok-wait.wait ≡ open_in (client_value s.clients c.in_ok-owner.field-0) =
-    rw (← c.self.view_is) (sym c.in_ok-wait.was ∙ c.open_of.ensures) in
-    found-known s.clients c.in_ok-owner.field-0 (Some c.in_ok-wait.wait) found
+    let found : Some c.in_ok-wait.wait.now ≡ open_in (client_value s.clients c.in_ok-owner.field-0) =
+    rw (← c.self.view_is) (ap option_copied (sym c.in_ok-wait.was) ∙ c.open_of.ensures) in
+    found-known s.clients c.in_ok-owner.field-0 (Some c.in_ok-wait.wait.now) found
 
 pub returns-else-comes_back-clause-value : goal.returns-else-comes_back-clause-value
 returns-else-comes_back-clause-value g c =
     let s = c.args.self.now in
     let read = c.requires.read in
-    let wait = c.in_ok-wait.wait in
+    let wait = c.in_ok-wait.wait.now in
     let found : Some wait ≡ open_in (client_value s.clients c.in_ok-owner.field-0) =
-    rw (← c.self.view_is) (sym c.in_ok-wait.was ∙ c.open_of.ensures) in
+    rw (← c.self.view_is) (ap option_copied (sym c.in_ok-wait.was) ∙ c.open_of.ensures) in
     if_left c.comes_back.result (called wait) _ c.if-comes_back.false
     (mutex-served (past s) s.clients s.objects read.follows read.callers read.object_rows.look
     c.args.m c.args.mutex.now c.requires.stored c.in_ok-owner.field-0
@@ -48,8 +49,8 @@ returns-in_err-wait-clause-value g c =
     let s = c.args.self.now in
     let read = c.requires.read in
     let found : None ≡ open_in (client_value s.clients c.in_ok-owner.field-0) =
-    rw (← c.self.view_is) (sym c.in_err-wait.was ∙ c.open_of.ensures) in
-    ap (option_map called) c.from_residual-in_err-wait.ensures
+    rw (← c.self.view_is) (ap option_copied (sym c.in_err-wait.was) ∙ c.open_of.ensures) in
+    ap (λ r. option_map called (option_copied r)) c.from_residual-in_err-wait.ensures
     ∙ mutex-idle (past s) s.clients s.objects read.follows read.callers read.object_rows.look
     c.args.m c.args.mutex.now c.requires.stored c.in_ok-owner.field-0
     (sym c.may_lock.ensures ∙ c.if-may_lock.false) (sym c.owner.ensures ∙ c.in_ok-owner.was) found

@@ -1,4 +1,5 @@
 use Rattle.std.proofs.Common.{◌≡◌, Some, None, sym, ap, ◌∙◌}
+use Rattle.std.specs.Option.{option_copied}
 use Rattle.pt_table.specs.ClientRows.{client_value}
 use Rattle.pt_records.specs.Callers.{open_in}
 use Rattle.pt_state.specs.Adds.{past}
@@ -8,8 +9,8 @@ use Rattle.pt_machine.proofs.body.Body.object_of.Goals as goal
 pub returns-in-Some : goal.returns-in-Some
 returns-in-Some g c =
     let s = c.args.self.now in
-    let found : Some c.in-Some.open ≡ open_in (client_value s.clients c.args.c) =
-    rw (← c.self.view_is) (sym c.in-Some.is ∙ c.open_of.ensures) in
+    let found : Some c.in-Some.open.now ≡ open_in (client_value s.clients c.args.c) =
+    rw (← c.self.view_is) (ap option_copied (sym c.in-Some.is) ∙ c.open_of.ensures) in
     ap Some c.at_object.ensures
     ∙ row-waits (past s) s.clients c.requires.follows c.requires.callers c.args.c _ found
 
@@ -17,5 +18,5 @@ pub returns-in-None : goal.returns-in-None
 returns-in-None g c =
     let s = c.args.self.now in
     let found : None ≡ open_in (client_value s.clients c.args.c) =
-    rw (← c.self.view_is) (sym c.in-None.is ∙ c.open_of.ensures) in
+    rw (← c.self.view_is) (ap option_copied (sym c.in-None.is) ∙ c.open_of.ensures) in
     row-waits (past s) s.clients c.requires.follows c.requires.callers c.args.c _ found

@@ -23,14 +23,15 @@ unwrap-open-requires g c =
     rw c.self.view_is c.requires.granted in
     let mid = c.push_left.new.self in
     let adds = c.in_ok-push_left.ensures.ok in
-    row-found old mid c.args.c c.args.call.now ready granted adds c.open_of.result c.open_of.ensures
+    row-found old mid c.args.c c.args.call.now ready granted adds c.copied.result
+    (c.copied.ensures ∙ c.open_of.ensures)
 
 pub used_by_grant-used-requires-clause-known : goal.used_by_grant-used-requires-clause-known
 used_by_grant-used-requires-clause-known g c =
     let mid = c.push_left.new.self in
     let o = c.unwrap-open.result in
     let found : Some o ≡ open_in (client_value mid.clients c.args.c) =
-    sym c.unwrap-open.ensures ∙ c.open_of.ensures in
+    sym c.unwrap-open.ensures ∙ (c.copied.ensures ∙ c.open_of.ensures) in
     found-known mid.clients c.args.c (Some o) found
 
 pub push_granted-requires-clause-ready : goal.push_granted-requires-clause-ready
@@ -44,7 +45,7 @@ push_granted-requires-clause-ready g c =
     let adds = c.in_ok-push_left.ensures.ok in
     let o = c.unwrap-open.result in
     let found : Some o ≡ open_in (client_value mid.clients c.args.c) =
-    sym c.unwrap-open.ensures ∙ c.open_of.ensures in
+    sym c.unwrap-open.ensures ∙ (c.copied.ensures ∙ c.open_of.ensures) in
     let after : IsReadyAfter old e = rw c.self.view_is c.requires.next in
     let must = must-follow old mid c.args.c c.args.call.now ready granted adds o found in
     let next = after mid adds (service (past mid) (called o)) must in
@@ -55,7 +56,7 @@ push_granted-requires-clause-known g c =
     let mid = c.push_left.new.self in
     let o = c.unwrap-open.result in
     let found : Some o ≡ open_in (client_value mid.clients c.args.c) =
-    sym c.unwrap-open.ensures ∙ c.open_of.ensures in
+    sym c.unwrap-open.ensures ∙ (c.copied.ensures ∙ c.open_of.ensures) in
     found-known mid.clients c.args.c (Some o) found
 
 pub push_granted-requires-clause-other : goal.push_granted-requires-clause-other
@@ -69,7 +70,7 @@ push_granted-requires-clause-other g c =
     let adds = c.in_ok-push_left.ensures.ok in
     let o = c.unwrap-open.result in
     let found : Some o ≡ open_in (client_value mid.clients c.args.c) =
-    sym c.unwrap-open.ensures ∙ c.open_of.ensures in
+    sym c.unwrap-open.ensures ∙ (c.copied.ensures ∙ c.open_of.ensures) in
     no-arrival old mid c.args.c c.args.call.now ready granted adds o found
 
 pub overflow_sub-self : goal.overflow_sub-self
@@ -83,7 +84,7 @@ overflow_sub-self g c =
     let adds = c.in_ok-push_left.ensures.ok in
     let o = c.unwrap-open.result in
     let found : Some o ≡ open_in (client_value mid.clients c.args.c) =
-    sym c.unwrap-open.ensures ∙ c.open_of.ensures in
+    sym c.unwrap-open.ensures ∙ (c.copied.ensures ∙ c.open_of.ensures) in
     let after : IsReadyAfter old e = rw c.self.view_is c.requires.next in
     let must = must-follow old mid c.args.c c.args.call.now ready granted adds o found in
     let next = after mid adds (service (past mid) (called o)) must in
@@ -106,7 +107,7 @@ invariant_of-self-2 g c =
     let adds = c.in_ok-push_left.ensures.ok in
     let o = c.unwrap-open.result in
     let found : Some o ≡ open_in (client_value mid.clients c.args.c) =
-    sym c.unwrap-open.ensures ∙ c.open_of.ensures in
+    sym c.unwrap-open.ensures ∙ (c.copied.ensures ∙ c.open_of.ensures) in
     let after : IsReadyAfter old e = rw c.self.view_is c.requires.next in
     let must = must-follow old mid c.args.c c.args.call.now ready granted adds o found in
     let next = after mid adds (service (past mid) (called o)) must in
@@ -138,7 +139,7 @@ returns-clause-ok g c =
     let adds = c.in_ok-push_left.ensures.ok in
     let o = c.unwrap-open.result in
     let found : Some o ≡ open_in (client_value mid.clients c.args.c) =
-    sym c.unwrap-open.ensures ∙ c.open_of.ensures in
+    sym c.unwrap-open.ensures ∙ (c.copied.ensures ∙ c.open_of.ensures) in
     rw (← c.self.view_is)
     (record {
       mid = mid;

@@ -1,4 +1,5 @@
 use Rattle.std.proofs.Common.{is_some, sym, ap, ◌∙◌}
+use Rattle.std.specs.Option.{option_copied}
 use Rattle.std.specs.Prelude.{option_map}
 use Rattle.pt_state.specs.Adds.{past}
 use Rattle.pt_state.specs.Serving.{called}
@@ -13,15 +14,15 @@ returns-in-Some-clause-value g c =
     ∙ lock-again (past s) s.clients s.objects read.follows read.callers read.object_rows.look
     c.args.r c.args.lock.now c.requires.stored (empty c.args.lock.now.writer
     (ap is_some (sym c.writer.ensures) ∙ (sym c.is_some.ensures ∙ c.if-is_some.false)))
-    (sym c.is_free.ensures ∙ c.if-not-is_free.true) (called c.in-Some.first)
-    (ap (option_map called) (sym c.in-Some.is) ∙ c.first_at.ensures.value)
+    (sym c.is_free.ensures ∙ c.if-not-is_free.true) (called c.in-Some.first.now)
+    (ap (λ r. option_map called (option_copied r)) (sym c.in-Some.is) ∙ c.first_at.ensures.value)
     (sym c.is_writer.ensures ∙ c.if-is_writer.true)
 
 pub returns-in_default-clause-value : goal.returns-in_default-clause-value
 returns-in_default-clause-value g c =
     let s = c.args.self.now in
     let read = c.requires.read in
-    ap (option_map called) (sym c.in-Some.is)
+    ap (λ r. option_map called (option_copied r)) (sym c.in-Some.is)
     ∙ (c.first_at.ensures.value
     ∙ lock-free (past s) s.clients s.objects read.follows read.callers read.object_rows.look
     c.args.r c.args.lock.now c.requires.stored (empty c.args.lock.now.writer

@@ -1,0 +1,85 @@
+-- The answer of a call's own entry is the call's answer still, after the forced entries.
+use Rattle.std.proofs.Common.{◌≡◌, ℕ, ◌+◌, ◌==◌, List, [], ◌∷◌, ◌++◌, Option, Some, None, is_some}
+use Rattle.std.proofs.Common.{true, length, refl, sym, ap, ◌∙◌, subst, arith, append_assoc}
+use Rattle.std.proofs.lemmas.Bool.Decides.{nat_tests}
+use Rattle.std.specs.Option.{option_or}
+use Rattle.pt_types.specs.declared.outcome.Outcome.{Outcome}
+use Rattle.pt_model.specs.declared.entry.Entry.{Entry}
+use Rattle.pt_model.specs.declared.entry.Entry.TheVariants.{Call}
+use Rattle.pt_model.specs.declared.entry.Event.{Event}
+use Rattle.pt_model.specs.declared.entry.Event.TheVariants as event
+use Rattle.pt_model.specs.Histories.{History, Begin, ◌▷◌, onto, place}
+use Rattle.pt_model.specs.Answers.{outcome, outcome_in, told}
+use Rattle.pt_model.specs.Room.{refusal, entry_for}
+use Rattle.pt_model.specs.StartRows.{StartRows, reads_of}
+use Rattle.pt_model.specs.Steps.{Step, Follows}
+use Rattle.pt_model.proofs.Histories.{onto-append}
+use Rattle.pt_model.proofs.Once.{answers-unanswered}
+use Rattle.pt_model.proofs.Steps.{step-forced}
+use Rattle.pt_history.specs.Stored.{Stored, past_of}
+use Rattle.pt_history.proofs.Places.{past-pushed, place_of_next}
+use Rattle.pt_machine.specs.Planned.{entry_with}
+use Rattle.pt_core.specs.Applying.{IsToldStill}
+use Rattle.pt_core.specs.Settling.{Enters, Forces, IsReady}
+use Rattle.pt_core.proofs.SettlingLemmas.{ready-follows}
+
+-- an answer stays
+told-step : (h : History) (e : Entry) (j : ℕ) (x : Outcome) → Follows h → Step h e
+    → outcome h j ≡ Some x → outcome (h ▷ e) j ≡ Some x
+told-step h e j x f s is = go (outcome_in (told h e) j) (answers-unanswered h e j f s)
+  where
+    go : (o : Option Outcome) → (is_some o ≡ true → outcome h j ≡ None)
+        → option_or o (outcome h j) ≡ Some x
+    go None fresh = is
+    go (Some y) fresh = absurd (let no = sym is ∙ fresh refl in cc)
+
+-- while forced entries follow
+told-kept : (h : History) (fs : List Entry) (j : ℕ) (x : Outcome) → Follows h → Forces h fs
+    → outcome h j ≡ Some x → outcome (onto h fs) j ≡ Some x
+told-kept h [] j x f a is = is
+told-kept h (e ∷ fs) j x f a is =
+    let s = step-forced h e a.0 in
+    told-kept (h ▷ e) fs j x (f, s) a.1 (told-step h e j x f s is)
+
+-- it is there with the call's own entry
+told-called : (h : History) (c : ℕ) (call : _) (x : Outcome)
+    → outcome (h ▷ Call c call (Some x)) (place h) ≡ Some x
+told-called h c call x =
+    let there : (place h == place h) ≡ true = grind (arith, nat_tests) in rw there refl
+
+module _ (old new : Stored) (v : Event) (r : IsReady old v) (ok : refusal (past_of old) v ≡ None)
+    (e : Enters old v new) where
+  entered_past : past_of new ≡ onto (past_of old ▷ entry_for (past_of old) v) e.added.0
+  entered_past =
+      ap (λ (s : StartRows). onto (Begin (reads_of s)) new.entries) e.same_start
+      ∙ (ap (onto (Begin (reads_of old.start))) (e.added.1
+      ∙ append_assoc old.entries (entry_for (past_of old) v ∷ []) e.added.0)
+      ∙ onto-append (Begin (reads_of old.start)) old.entries
+      (entry_for (past_of old) v ∷ e.added.0))
+
+  entered_follows : Follows (past_of old ▷ entry_for (past_of old) v)
+  entered_follows =
+      subst Follows (past-pushed old (entry_for (past_of old) v)) (ready-follows old v r ok)
+
+  pub told-still : (answer : Option Outcome) (first : ℕ)
+      → entry_with (past_of old) v answer ≡ entry_for (past_of old) v
+      → first ≡ old.start.at + length old.entries → IsToldStill v answer (past_of new) first
+  told-still answer first is at = go v answer is
+    where
+      at_place : first ≡ place (past_of old)
+      at_place = at ∙ sym (place_of_next old)
+
+      go : (u : Event) (a : Option Outcome)
+          → entry_with (past_of old) u a ≡ entry_for (past_of old) v
+          → IsToldStill u a (past_of new) first
+      go (event.Call c call) (Some x) same =
+          ap (λ j. outcome (past_of new) j) at_place
+          ∙ (ap (λ (h : History). outcome h (place (past_of old))) entered_past
+          ∙ told-kept (past_of old ▷ entry_for (past_of old) v) e.added.0 (place (past_of old)) x
+          entered_follows e.added.2
+          (subst (λ (n : Entry). outcome (past_of old ▷ n) (place (past_of old)) ≡ Some x) same
+          (told-called (past_of old) c call x)))
+      go (event.Call c call) None same = tt
+      go (event.Join p) a same = tt
+      go (event.Death c) a same = tt
+      go (event.Moment k t) a same = tt
