@@ -4,6 +4,7 @@ ghost use Rattle.std.specs.Prelude.{◌≡◌, ◌+◌, ◌-◌, IfSome};
 ghost use Rattle.pt_history.specs.Compact.{spelled, base_of, answered, with_limit, wait_until};
 ghost use Rattle.pt_history.specs.Compact.{ShowsAlone};
 ghost use Rattle.pt_types.specs.declared.call.Call.TheVariants.{BarrierInit};
+ghost use Rattle.pt_model.specs.declared.entry.Entry.TheVariants.{Grant};
 
 use pt_model::Entry;
 use pt_types::operations::LockKind;
@@ -234,6 +235,13 @@ pub(crate) fn wait_call(cond: Name, mutex: Name, limit: TimeLimit) -> Call
     }
 }
 
+/// The stored form of a Grant; None if its place doesn't fit.
+pub(crate) fn granted(base: u64, place: u64, outcome: Outcome) -> Option<Compact>
+    ensures { IfSome result (λ c. ShowsAlone base c (Grant place outcome)) }
+{
+    Some(Compact::Grant(outcome, near(base, place)?))
+}
+
 /// The stored form of an entry that needs nothing beside it.
 pub(crate) fn alone(base: u64, entry: &Entry) -> Option<Compact>
     ensures { IfSome result (λ c. ShowsAlone base c entry.now) }
@@ -241,7 +249,7 @@ pub(crate) fn alone(base: u64, entry: &Entry) -> Option<Compact>
     match entry {
         Entry::Join(client, priority) => Some(Compact::Join(*priority, near(base, client.0)?)),
         Entry::Death(client) => Some(Compact::Death(near(base, client.0)?)),
-        Entry::Grant(place, outcome) => Some(Compact::Grant(*outcome, near(base, *place)?)),
+        Entry::Grant(place, outcome) => granted(base, *place, *outcome),
         Entry::Trip(barrier) => Some(Compact::Trip(near(base, barrier.0)?)),
         Entry::Yield(mutex) => Some(Compact::Yield(near(base, mutex.0)?)),
         Entry::Expire(place) => Some(Compact::Expire(near(base, *place)?)),

@@ -87,6 +87,7 @@ impl<A: Allocator + Copy> History<A> {
     ghost use Rattle.pt_history.specs.Stored.{Stored, begun, past_of};
     ghost use Rattle.pt_model.specs.Histories.{outer};
     ghost use Rattle.pt_model.specs.declared.entry.Entry.TheVariants.{Call as CallEntry};
+    ghost use Rattle.pt_model.specs.declared.entry.Entry.TheVariants.{Grant as GrantEntry};
 
     /// An empty history of at most so many entries. It takes no memory.
     pub fn with_limit(alloc: A, limit: u32) -> History<A>
@@ -173,6 +174,22 @@ impl<A: Allocator + Copy> History<A> {
         self.outer += 1;
         let base = base(self.start.at);
         let compact = self.records.store_borrowed(base, client, call, outcome);
+        self.entries.push_reserved(compact);
+        self.room -= 1;
+        self.memory -= 1;
+    }
+
+    /// Appends a Grant, in room that was made for it. It takes no memory.
+    pub fn push_grant(&mut self, place: u64, outcome: Outcome)
+        requires { 0 < self.old.room }
+        ensures { self.new
+            ≡ record self.old {
+              entries = self.old.entries ++ GrantEntry place outcome ∷ [];
+              room = self.old.room - 1;
+            } }
+    {
+        let base = base(self.start.at);
+        let compact = self.records.store_grant(base, place, outcome);
         self.entries.push_reserved(compact);
         self.room -= 1;
         self.memory -= 1;

@@ -5,8 +5,9 @@ ghost use Rattle.pt_history.specs.Compact.{decoded, answered};
 ghost use Rattle.pt_history.specs.Records.{HasRoom, Shows, ShowsIfSome};
 ghost use Rattle.pt_model.specs.declared.entry.Entry.TheVariants.{Call as CallEntry};
 ghost use Rattle.pt_model.specs.declared.entry.Entry.TheVariants.{Moment as MomentEntry};
+ghost use Rattle.pt_model.specs.declared.entry.Entry.TheVariants.{Grant as GrantEntry};
 
-use crate::compact::{Answer, Compact, alone, answer_of, barrier, named, near, timed, timed_wait};
+use crate::compact::{Answer, Compact, alone, answer_of, barrier, granted, named, near, timed, timed_wait};
 use crate::records::Records;
 use crate::texts::{one_text, short, two_texts};
 use pt_model::Entry;
@@ -175,6 +176,54 @@ impl<A: Allocator + Copy> Records<A> {
         Compact::Whole(index)
     }
 
+    // The entry of a call as it is. It is seldom needed, so it is not inlined.
+    #[cold]
+    #[inline(never)]
+    fn store_whole_call(
+        &mut self,
+        base: u64,
+        client: ClientId,
+        call: &Call,
+        outcome: Option<Outcome>,
+    ) -> Compact
+        requires room { HasRoom self.old 1 }
+        requires few { vec_len self.old.wholes ≤ 4294967295 }
+        ensures { Shows base (CallEntry client call.now outcome) self.old self.new result }
+    {
+        self.store_whole(base, Entry::Call(client, call.copied(), outcome))
+    }
+
+    // A Grant as it is. It is seldom needed, so it is not inlined.
+    #[cold]
+    #[inline(never)]
+    fn store_whole_grant(&mut self, base: u64, place: u64, outcome: Outcome) -> Compact
+        requires room { HasRoom self.old 1 }
+        requires few { vec_len self.old.wholes ≤ 4294967295 }
+        ensures { Shows base (GrantEntry place outcome) self.old self.new result }
+    {
+        self.store_whole(base, Entry::Grant(place, outcome))
+    }
+
+    // A Grant whose place fits.
+    fn store_short_grant(&mut self, base: u64, place: u64, outcome: Outcome) -> Option<Compact>
+        requires { HasRoom self.old 1 }
+        ensures { ShowsIfSome base (GrantEntry place outcome) self.old self.new result }
+    {
+        granted(base, place, outcome)
+    }
+
+    /// Stores a Grant, and returns its stored form. It takes no memory.
+    pub(crate) fn store_grant(&mut self, base: u64, place: u64, outcome: Outcome) -> Compact
+        requires room { HasRoom self.old 1 }
+        requires few { vec_len self.old.wholes ≤ 4294967295 }
+        ensures { Shows base (GrantEntry place outcome) self.old self.new result }
+    {
+        match self.store_short_grant(base, place, outcome) {
+            Some(compact) => compact,
+            None => self.store_whole_grant(base, place, outcome),
+        }
+    }
+
     /// Stores what an entry refers to, and returns its stored form. It takes no memory.
     pub(crate) fn store(&mut self, base: u64, entry: Entry) -> Compact
         requires room { HasRoom self.old 1 }
@@ -202,7 +251,7 @@ impl<A: Allocator + Copy> Records<A> {
     {
         match self.store_short_call(base, client, call, outcome) {
             Some(compact) => compact,
-            None => self.store_whole(base, Entry::Call(client, call.copied(), outcome)),
+            None => self.store_whole_call(base, client, call, outcome),
         }
     }
 }
