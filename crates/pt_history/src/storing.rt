@@ -7,7 +7,9 @@ ghost use Rattle.pt_model.specs.declared.entry.Entry.TheVariants.{Call as CallEn
 ghost use Rattle.pt_model.specs.declared.entry.Entry.TheVariants.{Moment as MomentEntry};
 ghost use Rattle.pt_model.specs.declared.entry.Entry.TheVariants.{Grant as GrantEntry};
 
-use crate::compact::{Answer, Compact, alone, answer_of, barrier, granted, named, near, timed, timed_wait};
+use crate::compact::{
+    Answer, Compact, alone, answer_of, barrier, granted, named, near, timed, timed_wait,
+};
 use crate::records::Records;
 use crate::texts::{one_text, short, two_texts};
 use pt_model::Entry;

@@ -25,7 +25,8 @@ use Rattle.pt_model.specs.Searches.{In, least}
 use Rattle.pt_model.specs.Histories.{History, ◌▷◌, place}
 use Rattle.pt_model.specs.Objects.{kind_of}
 use Rattle.pt_model.specs.declared.waiting_call.WaitingCall.{WaitingCall}
-use Rattle.pt_model.specs.WaitingCall.{entered, is_arrival, is_write, role_needed}
+use Rattle.pt_model.specs.WaitingCall.{entered, is_arrival, is_write, role_needed, stood_by}
+use Rattle.pt_model.specs.WaitingCall.{stood_by_operation}
 use Rattle.pt_model.specs.Answers.{open_calls}
 use Rattle.pt_model.specs.Moves.{at_object, precedes, waiting_at}
 use Rattle.pt_model.specs.Mutexes.{consistency, count, frees, gained, lost, owner, unlocks_to_wait}
@@ -141,13 +142,22 @@ module _ (h : History) (f : Follows h) (c : ℕ) (call : Asked) (had : IsGranted
       ap (λ b. gained h had.object d
       - cond (b && (c == d)) (suc (lost h had.object d)) (lost h had.object d)) stays_locked
 
+  pub owner_kept : owner after had.object ≡ owner h had.object
+  owner_kept =
+      owner-same h (Call c call None) had.object f (λ d. ap (nat_lt 0) (counted d))
+
+  -- it would be left waiting
+  pub stands : stood_by h (Call c call None) ≡ comes ∷ []
+  stands =
+      ap (stood_by_operation h c (clock_of call)) had.asks
+      ∙ ap (λ o. entered h c (unwrap_or o 0) (role_needed had.kind) (clock_of call)
+      (deadline_of had.how) ∷ []) had.found
+
   freed : (k : LockKind) → IsFree h k had.object → IsFree after k had.object
   freed MutexLock e =
       ap (λ b. is_lost (cond (frees h had.object c b) (after_release (consistency h had.object))
       (consistency h had.object)) || is_none (owner after had.object)) stays_locked
-      ∙ (ap (λ o. is_lost (consistency h had.object) || is_none o)
-      (owner-same h (Call c call None) had.object f (λ d. ap (nat_lt 0) (counted d)))
-      ∙ e)
+      ∙ (ap (λ o. is_lost (consistency h had.object) || is_none o) owner_kept ∙ e)
   freed ReadLock e =
       writer-same h (Call c call None) had.object f (λ d. refl) ∙ e
   freed WriteLock e = (

@@ -1,5 +1,6 @@
 -- GrantedAtOnce: a call for a lock that is granted as it comes, and its entry with its Grant.
-use Rattle.std.specs.Prelude.{ℕ, ◌≡◌, ◌||◌, true, false, List, Some, None, is_some, is_none}
+use Rattle.std.specs.Prelude.{ℕ, ◌≡◌, ◌+◌, ◌||◌, true, false, List, Some, None, is_some}
+use Rattle.std.specs.Prelude.{is_none}
 use Rattle.pt_types.specs.declared.call.Call.{Call as Asked}
 use Rattle.pt_types.specs.declared.call.How.{How}
 use Rattle.pt_types.specs.declared.operations.LockKind.{LockKind}
@@ -15,10 +16,17 @@ use Rattle.pt_model.specs.Objects.{find}
 use Rattle.pt_model.specs.Mutexes.{consistency, owner}
 use Rattle.pt_model.specs.Rwlocks.{reader, writer}
 use Rattle.pt_model.specs.Verdicts.{is_awaited}
-use Rattle.pt_model.specs.Room.{entry_for}
-use Rattle.pt_model.specs.Forced.{forced}
+use Rattle.pt_model.specs.Room.{entry_for, reserved_for}
+use Rattle.pt_model.specs.Forced.{forced, service}
+use Rattle.pt_model.specs.WaitingCall.{mutex_of}
+use Rattle.pt_types.specs.declared.operations.ObjectClass.TheVariants.{Mutex as MutexClass}
+use Rattle.pt_table.specs.ClientRows.{client_value}
+use Rattle.pt_records.specs.declared.clients.Open.{Open}
+use Rattle.pt_records.specs.Callers.{open_in}
+use Rattle.pt_records.specs.Counts.{one_if}
 use Rattle.pt_state.specs.declared.state.State.{State}
 use Rattle.pt_state.specs.Adds.{Adds, IsReadyFor, past}
+use Rattle.pt_machine.specs.Reserved.{gives_owner}
 use Rattle.pt_machine.specs.Timed.{asked, good_of}
 
 -- nobody's lock keeps a call for this lock from it  [XSH pthread_mutex_lock, pthread_rwlock_rdlock]
@@ -48,12 +56,31 @@ pub record IsGrantedAtOnce (h : History) (c : ℕ) (call : Asked) : Type 0 where
   pub free : IsFree h kind object
   pub alone : is_awaited h object ≡ false
 
+-- a call for this mutex  [XSH pthread_mutex_lock]
+pub record IsForMutex (h : History) (call : Asked) (m : ℕ) : Type 0 where
+  pub name : List ℕ
+  pub how : How
+  pub asks : operation call ≡ Acquires name MutexLock how
+  pub found : find h name MutexClass ≡ Some m
+
 module _ {A : Type 0} where
   -- once the entry was added, there is room for the one that must follow
   abbrev pub IsReadyAfter : State A → Entry → Type 0
   IsReadyAfter old e =
       (mid : State A) → Adds old e mid → (f : Entry) → forced (past mid) ≡ Some f
       → IsReadyFor mid f
+
+  -- a call's entry was added, and its Grant, and this many entries are no longer reserved then
+  pub record AddsGranted (old : State A) (c : ℕ) (call : Asked) (used : ℕ) (new : State A)
+      : Type 0 where
+    pub mid : State A
+    pub first : Adds old (Call c call None) mid
+    pub its : Open
+    pub found : Some its ≡ open_in (client_value mid.clients c)
+    pub second : Adds mid (service (past mid) its.call) new
+    pub uses :
+        used + one_if (gives_owner (past mid) its.call (mutex_of its.call.role its.call.object))
+        ≡ reserved_for (past mid) its.call
 
   -- an entry was added, and the one that must follow it
   pub record AddsBoth (old : State A) (e : Entry) (new : State A) : Type 0 where

@@ -1,13 +1,16 @@
 //! Calls for a lock that is free: each is pushed with its Grant, and stands in no queue.
 
-ghost use Rattle.std.specs.Prelude.{IfErr, IsOk, None, OnErr, OnOk, false, ◌≡◌};
+ghost use Rattle.std.specs.Prelude.{IfErr, IfOk, IsOk, None, OnErr, OnOk, false, ◌≡◌};
 ghost use Rattle.std.specs.Bool.{OnTrue};
 ghost use Rattle.pt_model.specs.declared.entry.Event.TheVariants as event_is;
 ghost use Rattle.pt_model.specs.declared.entry.Entry.TheVariants as entry_is;
 ghost use Rattle.pt_state.specs.Adds.{IsReadyFor, Stays, past};
 ghost use Rattle.pt_state.specs.Reads.{AreTables};
-ghost use Rattle.pt_machine.specs.GrantedAtOnce.{AddsBoth, IsFree, IsFreeLock};
-ghost use Rattle.pt_machine.specs.GrantedAtOnce.{IsGrantedAtOnce, IsReadyAfter};
+ghost use Rattle.pt_types.specs.Operations.{operation};
+ghost use Rattle.pt_state.specs.Outer.{asks_to_read};
+ghost use Rattle.pt_state.specs.Requests.{IsRequest};
+ghost use Rattle.pt_machine.specs.GrantedAtOnce.{AddsBoth, AddsGranted, IsForMutex, IsFree};
+ghost use Rattle.pt_machine.specs.GrantedAtOnce.{IsFreeLock, IsGrantedAtOnce, IsReadyAfter};
 ghost use Rattle.pt_machine.specs.Memory.{needs_memory};
 ghost use Rattle.pt_machine.specs.Planned.{IsPlanned};
 
@@ -18,8 +21,9 @@ use crate::room::used_by_grant;
 use pt_records::Object;
 use pt_records::mutex::may_lock;
 use pt_rwlock::RwObj;
-use pt_state::State;
+use pt_state::{Request, State};
 use pt_types::operations::{LockKind, Operation};
+use pt_types::views::is_acquired;
 use pt_types::{Call, ClientId, ObjectId, Refusal};
 use pt_waitq::WaitList;
 use std::alloc::Allocator;
@@ -46,6 +50,70 @@ fn is_free<A: Allocator + Copy>(state: &State<A>, kind: LockKind, o: ObjectId) -
         Some(Object::Mutex(mutex)) => matches!(kind, LockKind::MutexLock) && may_lock(mutex),
         Some(Object::Rwlock(lock)) => is_free_lock(kind, lock),
         _ => false,
+    }
+}
+
+// Pushes a call for a mutex that is granted as it comes, with its Grant, and returns how many
+// entries are no longer reserved then.  [XSH pthread_mutex_lock]
+fn push_had<A: Allocator + Copy>(state: &mut State<A>, c: ClientId, call: &Call, m: ObjectId) -> u64
+    requires ready { IsReadyFor state.old (entry_is.Call c call.now None) }
+    requires next { IsReadyAfter state.old (entry_is.Call c call.now None) }
+    requires granted { IsGrantedAtOnce (past state.old) c call.now }
+    requires mutex { IsForMutex (past state.old) call.now m }
+    ensures { AddsGranted state.old c call.now result state.new }
+{
+    let robust = state.is_robust_free(m);
+    let outcome = state.push_had(c, call, m);
+    if robust && is_acquired(outcome) { 2 } else { 3 }
+}
+
+// Pushes a call that waits, and then its Grant, and returns how many entries are no longer reserved
+// then. ENOMEM if there is no memory for its row in a read-write lock: then nothing is pushed.
+// [XSH pthread_rwlock_rdlock, pthread_rwlock_wrlock]
+fn push_left_and_granted<A: Allocator + Copy>(
+    state: &mut State<A>,
+    c: ClientId,
+    call: &Call,
+    request: &Request<'_>,
+) -> Result<u64, Refusal>
+    requires ready { IsReadyFor state.old (entry_is.Call c call.now None) }
+    requires next { IsReadyAfter state.old (entry_is.Call c call.now None) }
+    requires granted { IsGrantedAtOnce (past state.old) c call.now }
+    requires asks { IsRequest (past state.old) (operation call.now) request.now }
+    ensures ok { IfOk result (λ used. AddsGranted state.old c call.now used state.new) }
+    ensures err { OnErr result (Stays state.old state.new) }
+    ensures reason { IfErr result (λ refusal. refusal ≡ Refusal.Enomem) }
+    ensures enough { asks_to_read (operation call.now) ≡ false → IsOk result }
+{
+    state.push_left(c, call, request)?;
+    let open = state.open_of(c).copied().unwrap();
+    let used = used_by_grant(state, &open);
+    state.push_granted(&open);
+    Ok(used)
+}
+
+// Pushes a call that is granted as it comes, with its Grant. A mutex needs no row of the client, so
+// its call is never left waiting.
+fn push_both<A: Allocator + Copy>(
+    state: &mut State<A>,
+    c: ClientId,
+    call: &Call,
+    request: &Request<'_>,
+) -> Result<u64, Refusal>
+    requires ready { IsReadyFor state.old (entry_is.Call c call.now None) }
+    requires next { IsReadyAfter state.old (entry_is.Call c call.now None) }
+    requires granted { IsGrantedAtOnce (past state.old) c call.now }
+    requires asks { IsRequest (past state.old) (operation call.now) request.now }
+    ensures ok { IfOk result (λ used. AddsGranted state.old c call.now used state.new) }
+    ensures err { OnErr result (Stays state.old state.new) }
+    ensures reason { IfErr result (λ refusal. refusal ≡ Refusal.Enomem) }
+    ensures enough { asks_to_read (operation call.now) ≡ false → IsOk result }
+{
+    match (&request.operation, request.object) {
+        (Operation::Acquires(_, LockKind::MutexLock, _), Some(m)) => {
+            Ok(push_had(state, c, call, m))
+        }
+        _ => push_left_and_granted(state, c, call, request),
     }
 }
 
@@ -89,11 +157,8 @@ impl<Q: WaitList, A: Allocator + Copy> Body<Q, A> {
         ensures reason { IfErr result (λ refusal. refusal ≡ Refusal.Enomem) }
         ensures enough { needs_memory (entry_is.Call c call.now None) ≡ false → IsOk result }
     {
-        self.state
-            .push_left(c, call, plan.request.as_ref().unwrap())?;
-        let open = self.state.open_of(c).copied().unwrap();
-        let used = used_by_grant(&self.state, &open);
-        self.state.push_granted(&open);
+        let request = plan.request.as_ref().unwrap();
+        let used = push_both(&mut self.state, c, call, request)?;
         self.touched = plan.touched;
         self.entering = Some(c);
         self.need = plan.need - used;

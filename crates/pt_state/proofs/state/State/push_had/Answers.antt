@@ -73,24 +73,36 @@ returns g c = λ o had.
     (ap (λ (t : State g.row.A.Denot). t.orphans) rest)
     (ap (λ (t : State g.row.A.Denot). t.clocks) rest)
     (c.tell.ensures.told
-    ∙ (ap (λ (t : State g.row.A.Denot). map logged t.answers.items ++ (c.len.result, record {
-      client = c.args.c;
-      place = c.len-place.result;
-      outcome = x;
-    }) ∷ []) rest
-    ∙ (ap (λ n. map logged s.answers.items ++ (n, record {
-      client = c.args.c;
-      place = c.len-place.result;
-      outcome = x;
-    }) ∷ []) next
-    ∙ (ap (λ n. map logged s.answers.items ++ (place (past middle), record {
-      client = n;
-      place = c.len-place.result;
-      outcome = x;
-    }) ∷ []) (sym had.client)
-    ∙ ap (λ n. map logged s.answers.items ++ (place (past middle), record {
-      client = o.call.client;
-      place = n;
-      outcome = x;
-    }) ∷ []) (first ∙ sym had.place)))))
+    ∙ (ap (λ (t : State g.row.A.Denot). map logged t.answers.items ++ (
+      c.len.result,
+      record {
+        client = c.args.c;
+        place = c.len-place.result;
+        outcome = x;
+      },
+    ) ∷ []) rest
+    ∙ (ap (λ n. map logged s.answers.items ++ (
+      n,
+      record {
+        client = c.args.c;
+        place = c.len-place.result;
+        outcome = x;
+      },
+    ) ∷ []) next
+    ∙ (ap (λ n. map logged s.answers.items ++ (
+      place (past middle),
+      record {
+        client = n;
+        place = c.len-place.result;
+        outcome = x;
+      },
+    ) ∷ []) (sym had.client)
+    ∙ ap (λ n. map logged s.answers.items ++ (
+      place (past middle),
+      record {
+        client = o.call.client;
+        place = n;
+        outcome = x;
+      },
+    ) ∷ []) (first ∙ sym had.place)))))
     (c.tell.ensures.capacity ∙ ap (λ (t : State g.row.A.Denot). t.answers.capacity) rest)

@@ -1,0 +1,66 @@
+use Rattle.std.proofs.Common.{◌≡◌, Some, sym, ◌∙◌}
+use Rattle.pt_table.specs.ClientRows.{client_value}
+use Rattle.pt_model.specs.Forced.{service}
+use Rattle.pt_records.specs.Callers.{open_in}
+use Rattle.pt_state.specs.Adds.{past}
+use Rattle.pt_state.specs.Serving.{called}
+use Rattle.pt_machine.proofs.GrantedStates.{row-found, no-arrival, must-follow}
+use Rattle.pt_machine.proofs.QueueFirsts.{found-known}
+use Rattle.pt_machine.proofs.granted_at_once.push_left_and_granted.Goals as goal
+
+pub unwrap-open-requires : goal.unwrap-open-requires
+unwrap-open-requires g c =
+    row-found c.args.state.now c.push_left.new.self c.args.c c.args.call.now c.requires.ready
+    c.requires.granted c.in_ok-push_left.ensures.ok c.copied.result
+    (c.copied.ensures ∙ c.open_of.ensures)
+
+pub used_by_grant-used-requires-clause-known : goal.used_by_grant-used-requires-clause-known
+used_by_grant-used-requires-clause-known g c =
+    let mid = c.push_left.new.self in
+    let o = c.unwrap-open.result in
+    let found : Some o ≡ open_in (client_value mid.clients c.args.c) =
+    sym c.unwrap-open.ensures ∙ (c.copied.ensures ∙ c.open_of.ensures) in
+    found-known mid.clients c.args.c (Some o) found
+
+pub push_granted-requires-clause-ready : goal.push_granted-requires-clause-ready
+push_granted-requires-clause-ready g c =
+    let mid = c.push_left.new.self in
+    let adds = c.in_ok-push_left.ensures.ok in
+    let o = c.unwrap-open.result in
+    let found : Some o ≡ open_in (client_value mid.clients c.args.c) =
+    sym c.unwrap-open.ensures ∙ (c.copied.ensures ∙ c.open_of.ensures) in
+    c.requires.next mid adds (service (past mid) (called o))
+    (must-follow c.args.state.now mid c.args.c c.args.call.now c.requires.ready
+    c.requires.granted adds o found)
+
+pub push_granted-requires-clause-known : goal.push_granted-requires-clause-known
+push_granted-requires-clause-known g c =
+    let mid = c.push_left.new.self in
+    let o = c.unwrap-open.result in
+    let found : Some o ≡ open_in (client_value mid.clients c.args.c) =
+    sym c.unwrap-open.ensures ∙ (c.copied.ensures ∙ c.open_of.ensures) in
+    found-known mid.clients c.args.c (Some o) found
+
+pub push_granted-requires-clause-other : goal.push_granted-requires-clause-other
+push_granted-requires-clause-other g c =
+    let mid = c.push_left.new.self in
+    let o = c.unwrap-open.result in
+    let found : Some o ≡ open_in (client_value mid.clients c.args.c) =
+    sym c.unwrap-open.ensures ∙ (c.copied.ensures ∙ c.open_of.ensures) in
+    no-arrival c.args.state.now mid c.args.c c.args.call.now c.requires.ready
+    c.requires.granted c.in_ok-push_left.ensures.ok o found
+
+pub returns-clause-ok : goal.returns-clause-ok
+returns-clause-ok g c =
+    let mid = c.push_left.new.self in
+    let o = c.unwrap-open.result in
+    let found : Some o ≡ open_in (client_value mid.clients c.args.c) =
+    sym c.unwrap-open.ensures ∙ (c.copied.ensures ∙ c.open_of.ensures) in
+    record {
+      mid = mid;
+      first = c.in_ok-push_left.ensures.ok;
+      its = o;
+      found = found;
+      second = c.push_granted.ensures;
+      uses = c.used_by_grant-used.ensures;
+    }
