@@ -50,10 +50,10 @@ impl<A: Allocator + Copy> Hints<A> {
         }
     }
 
-    // Whether there are more hints than so many rows, or as many as there may be.
+    // Whether there are more than twice as many hints as rows, or as many as there may be.
     #[inline(always)]
     fn suffice(&self, rows: usize) -> bool {
-        self.places.len() > rows || self.places.len() >= MOST
+        self.places.len() / 2 > rows || self.places.len() >= MOST
     }
 
     // Makes twice as many hints as there are.
@@ -74,7 +74,7 @@ impl<A: Allocator + Copy> Hints<A> {
         }
     }
 
-    /// Makes more hints if there are as many rows as hints, and then notes each row again:
+    /// Makes more hints if there are too few for so many rows, and then notes each row again:
     /// `row_at` gives the key and the place of the row at an index below `rows`, if one is there.
     #[inline]
     pub fn grow_for<F: Fn(usize) -> Option<(u64, usize)>>(

@@ -39,7 +39,7 @@ fn keyed<A: Allocator + Copy>(slots: &NameMap<A>, index: usize) -> Option<(u64, 
     Some((key_of(name.as_bytes()), *slot))
 }
 
-// Makes more hints if there are as many names as hints.
+// Makes more hints if there are too few for the names.
 fn grow<A: Allocator + Copy>(hints: &mut Hints<A>, slots: &NameMap<A>) -> Result<(), AllocError> {
     hints.grow_for(slots.len(), |index| keyed(slots, index))
 }

@@ -97,7 +97,7 @@ fn slot_by_distance(entries: &[Listed], number: u64) -> Option<usize>
     slot_at(entries, distance as usize, number)
 }
 
-// Makes more hints if there are as many numbers as hints.
+// Makes more hints if there are too few for the numbers.
 fn grow<A: Allocator + Copy>(hints: &mut Hints<A>, entries: &[Listed]) -> Result<(), AllocError> {
     hints.grow_for(entries.len(), |index| with_slot(entry_at(entries, index)))
 }
