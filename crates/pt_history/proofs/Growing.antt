@@ -9,7 +9,7 @@ use Rattle.std.proofs.lemmas.List.{append-nil}
 use Rattle.pt_model.specs.declared.entry.Entry.{Entry}
 use Rattle.pt_history.specs.declared.compact.Compact.{Compact}
 use Rattle.pt_history.specs.declared.compact.TimeLimit.{TimeLimit}
-use Rattle.pt_history.specs.declared.hints.Hints.{Hints}
+use Rattle.pt_hints.specs.declared.hints.Hints.{Hints}
 use Rattle.pt_history.specs.declared.records.Records.{Records}
 use Rattle.pt_history.specs.Compact.{Parts, decoded, IsStored, ShowsAlone}
 use Rattle.pt_history.specs.Records.{parts_of, Shows, ShowsIfSome}

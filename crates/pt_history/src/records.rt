@@ -5,8 +5,8 @@ ghost use Rattle.std.specs.Prelude.{ℕ, IsOk, ◌≡◌, ◌≤◌, OnOk, vec_l
 ghost use Rattle.pt_history.specs.Records.{no_parts, parts_of, HasRoom, KeepsParts};
 
 use crate::compact::TimeLimit;
-use crate::hints::Hints;
 use crate::memory::take_memory;
+use pt_hints::Hints;
 use pt_model::Entry;
 use pt_types::Moment;
 use std::alloc::{AllocError, Allocator};
@@ -46,7 +46,7 @@ impl<A: Allocator + Copy> Records<A> {
     {
         let many = room as usize;
         if self.texts.capacity() - self.texts.len() < 64 * many {
-            self.hints.make()?;
+            self.hints.grow_to_most()?;
         }
         self.texts.reserve(64 * many)?;
         self.limits.reserve(many)?;

@@ -5,7 +5,7 @@ ghost use Rattle.std.specs.Prelude.{vec_len, vec_capacity};
 ghost use Rattle.pt_history.specs.Compact.{text_at};
 ghost use Rattle.pt_history.specs.Records.{HasText, HasTexts, LiesAt};
 
-use crate::hints::{Hints, key_of};
+use pt_hints::{Hints, key_of};
 use pt_types::Name;
 use std::alloc::Allocator;
 
@@ -41,6 +41,12 @@ fn lies_at(texts: &[u8], from: usize, name: &Name) -> bool
     }
 }
 
+// The index at which the name with a key is looked for.
+#[inline(always)]
+fn hint_of<A: Allocator + Copy>(hints: &Hints<A>, key: u64) -> u32 {
+    hints.get(key).unwrap_or(0) as u32
+}
+
 // Stores a name, and returns its length and where it begins. None if that takes more than 32
 // bits, and then nothing changes.
 pub(crate) fn one_text<A: Allocator + Copy>(
@@ -55,13 +61,13 @@ pub(crate) fn one_text<A: Allocator + Copy>(
 {
     let key = key_of(name.as_bytes());
     let length = name.as_bytes().len();
-    let hint = hints.get(key);
+    let hint = hint_of(hints, key);
     if lies_at(texts, hint as usize, name) {
         return Some((length as u8, hint));
     }
     let from = short(texts.len())?;
     append(texts, name);
-    hints.set(key, from);
+    hints.set(key, from as usize);
     Some((length as u8, from))
 }
 
@@ -82,13 +88,13 @@ pub(crate) fn two_texts<A: Allocator + Copy>(
     let key = key_of(one.as_bytes());
     let first = one.as_bytes().len();
     let second = other.as_bytes().len();
-    let hint = hints.get(key);
+    let hint = hint_of(hints, key);
     if lies_at(texts, hint as usize, one) && lies_at(texts, hint as usize + first, other) {
         return Some((first as u8, second as u8, hint));
     }
     let from = short(texts.len())?;
     append(texts, one);
     append(texts, other);
-    hints.set(key, from);
+    hints.set(key, from as usize);
     Some((first as u8, second as u8, from))
 }

@@ -9,6 +9,7 @@ ghost use Rattle.pt_hub.specs.Desks.{Wrote, after_taking, awaiting, renewed, ren
 ghost use Rattle.pt_hub.specs.Desks.{renewed_if};
 
 use indexmap::IndexMap;
+use pt_hints::Hints;
 use std::alloc::{AllocError, Allocator};
 use std::hash::{BuildHasherDefault, FoldHasher};
 use std::marker::Model;
@@ -26,17 +27,13 @@ pub struct Account {
 /// Accounts by the numbers of their clients.
 type Map<A> = IndexMap<u64, Account, BuildHasherDefault<FoldHasher>, A>;
 
-/// How many hints there are of where an account is.
-const MOST_HINTS: usize = 256;
-
 /// The account of each living client, by its number.
 ///
 /// An account is found by a hint, if no client with the same low bits of its number joined since,
 /// or else by the hash of the number.
 #[derive(Drop)]
 pub(crate) struct Accounts<A: Allocator + Copy> {
-    /// For each value of a number's low bits, the index at which an account was added last.
-    hints: [usize; MOST_HINTS],
+    hints: Hints<A>,
     map: Map<A>,
 }
 
@@ -49,11 +46,15 @@ impl<A: Allocator + Copy> Model for Accounts<A> {
     ghost view = { λ a. record { entries = a.map.entries; room = spare a.map } };
 }
 
-// Which hint is a client's.
-fn hint_of(client: u64) -> usize
-    ensures { result < 256 }
-{
-    (client % MOST_HINTS as u64) as usize
+// The number of the client whose account is at an index, and the index.
+fn keyed<A: Allocator + Copy>(map: &Map<A>, index: usize) -> Option<(u64, usize)> {
+    let (client, _) = map.get_index(index)?;
+    Some((*client, index))
+}
+
+// Makes more hints if there are too few for the accounts.
+fn grow<A: Allocator + Copy>(hints: &mut Hints<A>, map: &Map<A>) -> Result<(), AllocError> {
+    hints.grow_for(map.len(), |index| keyed(map, index))
 }
 
 // One answer more is taken.
@@ -93,7 +94,7 @@ impl<A: Allocator + Copy> Accounts<A> {
         ensures { result.entries ≡ [] }
     {
         Accounts {
-            hints: [0; MOST_HINTS],
+            hints: Hints::new(alloc),
             map: IndexMap::new(alloc),
         }
     }
@@ -103,7 +104,8 @@ impl<A: Allocator + Copy> Accounts<A> {
         ensures entries { self.new.entries ≡ self.old.entries }
         ensures room { OnOk result (0 < self.new.room) }
     {
-        self.map.reserve(1)
+        self.map.reserve(1)?;
+        grow(&mut self.hints, &self.map)
     }
 
     // Where a client's account is, and the account, if its hint is right.
@@ -113,7 +115,7 @@ impl<A: Allocator + Copy> Accounts<A> {
         ensures found { IfSome result (λ r.
             lookup (nat_eq client) self.now.entries ≡ Some r.1) }
     {
-        let hint = self.hints[hint_of(client)];
+        let hint = self.hints.get(client).unwrap_or(0);
         match self.map.get_index(hint) {
             Some((number, account)) if *number == client => Some((hint, *account)),
             _ => None,
@@ -138,7 +140,7 @@ impl<A: Allocator + Copy> Accounts<A> {
         requires { 0 < self.old.room }
         ensures { Wrote self.old.entries self.new.entries client (Some account) }
     {
-        self.hints[hint_of(client)] = self.map.len();
+        self.hints.set(client, self.map.len());
         let _ = self.map.insert(client, account);
     }
 

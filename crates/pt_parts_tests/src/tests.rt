@@ -1,5 +1,6 @@
 ghost use Rattle.std.specs.Prelude.{◌≤◌};
 
+mod hints;
 mod history;
 mod lanes;
 mod model;

@@ -5,11 +5,11 @@ ghost use Rattle.std.specs.Option.{option_copied, option_map};
 ghost use Rattle.pt_script.specs.Engines.{latest_line, IsLatest};
 
 use crate::fault::ScriptFault;
-use crate::hints::{Hints, MOST_HINTS};
 use crate::line_id::LineId;
 use indexmap::IndexMap;
+use pt_hints::Hints;
 use pt_types::ClientId;
-use std::alloc::{Allocator, Global};
+use std::alloc::{AllocError, Allocator, Global};
 use std::hash::{BuildHasherDefault, FoldHasher};
 use std::marker::Model;
 
@@ -22,7 +22,7 @@ type Lines<A> = IndexMap<u64, LineId, BuildHasherDefault<FoldHasher>, A>;
 #[derive(Drop)]
 pub struct Asked<A: Allocator + Copy = Global> {
     lines: Lines<A>,
-    hints: Hints,
+    hints: Hints<A>,
 }
 
 impl<A: Allocator + Copy> Model for Asked<A> {
@@ -34,11 +34,15 @@ impl<A: Allocator + Copy> Model for Asked<A> {
     ghost view = { λ a. record { entries = a.lines.entries; room = spare a.lines } };
 }
 
-// Which hint is a client's.
-fn hint_of(client: ClientId) -> usize
-    ensures { result < 1024 }
-{
-    (client.0 % MOST_HINTS as u64) as usize
+// The number of the client whose line is at an index, and the index.
+fn keyed<A: Allocator + Copy>(lines: &Lines<A>, index: usize) -> Option<(u64, usize)> {
+    let (client, _) = lines.get_index(index)?;
+    Some((*client, index))
+}
+
+// Makes more hints if there are too few for the lines.
+fn grow<A: Allocator + Copy>(hints: &mut Hints<A>, lines: &Lines<A>) -> Result<(), AllocError> {
+    hints.grow_for(lines.len(), |index| keyed(lines, index))
 }
 
 impl<A: Allocator + Copy> Asked<A> {
@@ -48,7 +52,7 @@ impl<A: Allocator + Copy> Asked<A> {
     {
         Asked {
             lines: IndexMap::new(alloc),
-            hints: Hints::new(),
+            hints: Hints::new(alloc),
         }
     }
 
@@ -58,17 +62,18 @@ impl<A: Allocator + Copy> Asked<A> {
         ensures room { OnOk result (0 < self.new.room) }
         ensures why { IfErr result (λ fault. fault ≡ ScriptFault.Memory) }
     {
-        match self.lines.reserve(1) {
-            Ok(()) => Ok(()),
-            Err(_) => Err(ScriptFault::Memory),
+        if self.lines.reserve(1).is_err() || grow(&mut self.hints, &self.lines).is_err() {
+            return Err(ScriptFault::Memory);
         }
+        Ok(())
     }
 
     /// The client's line, if one is stored.
     pub fn get(&self, client: ClientId) -> Option<&LineId>
         ensures { option_copied result ≡ latest_line self.now.entries client }
     {
-        match self.lines.get_index(self.hints.get(hint_of(client))) {
+        let index = self.hints.get(client.0).unwrap_or(0);
+        match self.lines.get_index(index) {
             Some((number, line)) if *number == client.0 => Some(line),
             _ => self.lines.get(&client.0),
         }
@@ -79,7 +84,7 @@ impl<A: Allocator + Copy> Asked<A> {
         ensures { IfSome result (λ index.
             option_map (λ e. e.0) (slice_get self.now.entries index) ≡ Some client) }
     {
-        let index = self.hints.get(hint_of(client));
+        let index = self.hints.get(client.0).unwrap_or(0);
         match self.lines.get_index(index) {
             Some((number, _)) if *number == client.0 => Some(index),
             _ => None,
@@ -103,6 +108,6 @@ impl<A: Allocator + Copy> Asked<A> {
             return self.store_at(index, client, line);
         }
         let (index, _) = self.lines.insert_full(client.0, line.copied()).unwrap();
-        self.hints.set(hint_of(client), index);
+        self.hints.set(client.0, index);
     }
 }

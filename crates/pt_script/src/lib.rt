@@ -22,7 +22,6 @@ mod accepting;
 mod asked_lines;
 mod engine;
 mod fault;
-mod hints;
 mod laws;
 mod line_id;
 mod mark;

@@ -6,9 +6,9 @@ ghost use Rattle.pt_script.specs.Names.{client_in, lines_in, row_of, IsAt, IsRow
 ghost use Rattle.pt_script.specs.Names.{IsRowGiven};
 
 use crate::fault::ScriptFault;
-use crate::hints::{Hints, MOST_HINTS};
 use http_server::Log;
 use indexmap::IndexMap;
+use pt_hints::{Hints, key_of};
 use pt_lines::{ClientName, Who};
 use pt_types::ClientId;
 use std::alloc::{Allocator, Global};
@@ -38,7 +38,7 @@ type Rows<A> = IndexMap<ClientName, Row, BuildHasherDefault<FoldHasher>, A>;
 #[derive(Drop)]
 struct Counts<A: Allocator + Copy> {
     rows: Rows<A>,
-    hints: Hints,
+    hints: Hints<A>,
     star: u64,
     unknown: u64,
 }
@@ -75,15 +75,20 @@ impl<A: Allocator + Copy> Model for Names<A> {
         (record { seen = map (λ p. p.0) n.seen.items; clients = n.joined.items }) };
 }
 
-// Which hint is a name's. Names that differ in three digits at their end alone have different ones.
-fn hint_of(name: &[u8]) -> usize
-    ensures { result < 1024 }
+// The key of the name whose row is at an index, and the index.
+fn keyed<A: Allocator + Copy>(rows: &Rows<A>, index: usize) -> Option<(u64, usize)> {
+    let (name, _) = rows.get_index(index)?;
+    Some((key_of(name.as_bytes()), index))
+}
+
+// Makes more hints if there are too few for the rows.
+fn grow<A: Allocator + Copy>(hints: &mut Hints<A>, rows: &Rows<A>) -> Result<(), ScriptFault>
+    ensures why { IfErr result (λ fault. fault ≡ ScriptFault.Memory) }
 {
-    let mut hint = 0;
-    for byte in &name[name.len().saturating_sub(3)..] {
-        hint = (10 * hint + usize::from(*byte)) % MOST_HINTS;
+    match hints.grow_for(rows.len(), |index| keyed(rows, index)) {
+        Ok(()) => Ok(()),
+        Err(_) => Err(ScriptFault::Memory),
     }
-    hint
 }
 
 // Whether two names are the same. They are short: a loop costs less than a call that compares.
@@ -203,13 +208,13 @@ impl<A: Allocator + Copy> Counts<A> {
         ensures at { IfSome result (λ index. IsAt self.new.rows index name.now) }
         ensures same { self.new ≡ self.old }
     {
-        let place = hint_of(name.as_bytes());
-        let index = self.hints.get(place);
+        let key = key_of(name.as_bytes());
+        let index = self.hints.get(key).unwrap_or(0);
         if is_at(&self.rows, index, name) {
             return Some(index);
         }
         let index = self.rows.get_index_of(name)?;
-        self.hints.set(place, index);
+        self.hints.set(key, index);
         if is_at(&self.rows, index, name) {
             return Some(index);
         }
@@ -229,7 +234,10 @@ impl<A: Allocator + Copy> Counts<A> {
     {
         match self.find(name) {
             Some(index) => Ok(count_at(&mut self.rows, index, name)),
-            None => count_named(&mut self.rows, name),
+            None => {
+                grow(&mut self.hints, &self.rows)?;
+                count_named(&mut self.rows, name)
+            }
         }
     }
 
@@ -274,7 +282,7 @@ impl<A: Allocator + Copy> Names<A> {
     {
         let counts = Counts {
             rows: IndexMap::new(alloc),
-            hints: Hints::new(),
+            hints: Hints::new(alloc),
             star: 0,
             unknown: 0,
         };

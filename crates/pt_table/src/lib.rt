@@ -10,7 +10,6 @@
 mod chains;
 mod clients;
 mod fault;
-mod hints;
 mod link;
 mod names;
 mod numbers;

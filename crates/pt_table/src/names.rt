@@ -5,8 +5,8 @@ ghost use Rattle.std.specs.Map.{lookup};
 ghost use Rattle.pt_types.specs.Names.{same_name};
 ghost use Rattle.pt_table.specs.NameSlots.{IsForgotten};
 
-use crate::hints::Hints;
 use indexmap::IndexMap;
+use pt_hints::{Hints, key_of};
 use pt_types::Name;
 use std::alloc::{AllocError, Allocator};
 use std::hash::{BuildHasherDefault, FoldHasher};
@@ -14,10 +14,6 @@ use std::marker::Model;
 
 /// The slot of each name.
 type NameMap<A> = IndexMap<Name, usize, BuildHasherDefault<FoldHasher>, A>;
-
-/// How far names that differ in their length alone lie apart, so that as many may end in
-/// consecutive numbers.
-const APART: u64 = 1237;
 
 /// The names, each with the slot of its row.
 ///
@@ -37,43 +33,15 @@ impl<A: Allocator + Copy> Model for Names<A> {
     ghost view = { λ n. record { entries = n.slots.entries; room = spare n.slots } };
 }
 
-// The sum of these bytes, each times the power of ten that a digit in its place stands for.
-#[inline(always)]
-fn as_digits(bytes: &[u8]) -> u64 {
-    let mut sum = 0u64;
-    for byte in bytes {
-        sum = sum.wrapping_mul(10).wrapping_add(*byte as u64);
-    }
-    sum
+// The key of a name, and its slot, at an index.
+fn keyed<A: Allocator + Copy>(slots: &NameMap<A>, index: usize) -> Option<(u64, usize)> {
+    let (name, slot) = slots.get_index(index)?;
+    Some((key_of(name.as_bytes()), *slot))
 }
 
-// The key of a name among the hints. Names that end in consecutive numbers have consecutive keys.
-fn key_of(name: &Name) -> u64 {
-    let bytes = name.as_bytes();
-    let end = match bytes.last_chunk::<4>() {
-        Some(last) => as_digits(last),
-        None => as_digits(bytes),
-    };
-    end.wrapping_add(APART.wrapping_mul(bytes.len() as u64))
-}
-
-// Notes the slot of each name.
-fn note_all<A: Allocator + Copy>(hints: &mut Hints<A>, slots: &NameMap<A>) {
-    for i in 0..slots.len() {
-        if let Some((name, slot)) = slots.get_index(i) {
-            hints.set(key_of(name), *slot);
-        }
-    }
-}
-
-// Makes more hints if there are as many names as hints.
+// Makes more hints if there are too few for the names.
 fn grow<A: Allocator + Copy>(hints: &mut Hints<A>, slots: &NameMap<A>) -> Result<(), AllocError> {
-    if hints.suffice(slots.len()) {
-        return Ok(());
-    }
-    hints.grow()?;
-    note_all(hints, slots);
-    Ok(())
+    hints.grow_for(slots.len(), |index| keyed(slots, index))
 }
 
 impl<A: Allocator + Copy> Names<A> {
@@ -89,7 +57,7 @@ impl<A: Allocator + Copy> Names<A> {
 
     /// The slot in which the row of a name is looked for first. It may be another's.
     pub(crate) fn hint(&self, name: &Name) -> Option<usize> {
-        self.hints.get(key_of(name))
+        self.hints.get(key_of(name.as_bytes()))
     }
 
     /// The slot of a name.
@@ -114,7 +82,7 @@ impl<A: Allocator + Copy> Names<A> {
         requires new { lookup (same_name name) self.old.entries ≡ None }
         ensures { self.new.entries ≡ self.old.entries ++ (name, slot) ∷ [] }
     {
-        self.hints.set(key_of(&name), slot);
+        self.hints.set(key_of(name.as_bytes()), slot);
         self.slots.insert(name, slot).unwrap();
     }
 

@@ -7,8 +7,8 @@ ghost use Rattle.std.specs.Option.{option_and_then};
 ghost use Rattle.std.specs.Map.{lookup};
 ghost use Rattle.pt_table.specs.Slots.{left_of, with_slot, without_number, Distinct, IsLeftAt};
 
-use crate::hints::Hints;
 use indexmap::IndexMap;
+use pt_hints::Hints;
 use std::alloc::{AllocError, Allocator};
 use std::hash::{BuildHasherDefault, FoldHasher};
 use std::marker::Model;
@@ -97,24 +97,9 @@ fn slot_by_distance(entries: &[Listed], number: u64) -> Option<usize>
     slot_at(entries, distance as usize, number)
 }
 
-// Notes the slot of each number that is not struck out.
-fn note_all<A: Allocator + Copy>(hints: &mut Hints<A>, entries: &[Listed]) {
-    for i in 0..entries.len() {
-        let (number, slot) = entries[i];
-        if let Some(slot) = slot {
-            hints.set(number, slot);
-        }
-    }
-}
-
-// Makes more hints if there are as many numbers as hints.
+// Makes more hints if there are too few for the numbers.
 fn grow<A: Allocator + Copy>(hints: &mut Hints<A>, entries: &[Listed]) -> Result<(), AllocError> {
-    if hints.suffice(entries.len()) {
-        return Ok(());
-    }
-    hints.grow()?;
-    note_all(hints, entries);
-    Ok(())
+    hints.grow_for(entries.len(), |index| with_slot(entry_at(entries, index)))
 }
 
 // The index of a number that is listed, found by a look at each entry.

@@ -1,0 +1,99 @@
+//! For each value of a key's low bits, where a row with such a key was last.
+
+ghost use Rattle.std.specs.Prelude.{◌<◌, ◌^◌, IfSome};
+
+use std::alloc::{AllocError, Allocator};
+
+/// How many hints there are once there is a row.
+const FEWEST: usize = 256;
+
+/// How many hints there are at most.
+const MOST: usize = 4096;
+
+/// For each value of a key's low bits, the place that was noted last with such a key.
+///
+/// A hint may be wrong: whoever takes it compares the key of the row in that place.
+#[derive(Drop)]
+pub struct Hints<A: Allocator + Copy> {
+    places: Vec<u32, A>,
+}
+
+impl<A: Allocator + Copy> Hints<A> {
+    /// No hint. It takes no memory.
+    pub fn new(alloc: A) -> Self {
+        Hints {
+            places: Vec::new(alloc),
+        }
+    }
+
+    // The index of the hint for a key. The number of hints is a power of two.
+    #[inline(always)]
+    fn index_of(&self, key: u64) -> usize {
+        key as usize & self.places.len().wrapping_sub(1)
+    }
+
+    /// The place in which the row with a key is looked for first. None if there are no hints.
+    #[inline(always)]
+    pub fn get(&self, key: u64) -> Option<usize>
+        ensures { IfSome result (λ place. place < 2 ^ 32) }
+    {
+        let place = self.places.get(self.index_of(key))?;
+        Some(*place as usize)
+    }
+
+    /// Notes the place of the row with a key, if there are hints and the place fits 32 bits.
+    #[inline(always)]
+    pub fn set(&mut self, key: u64, place: usize) {
+        let index = self.index_of(key);
+        if let (Some(hint), Ok(place)) = (self.places.get_mut(index), u32::try_from(place)) {
+            *hint = place;
+        }
+    }
+
+    // Whether there are more than twice as many hints as rows, or as many as there may be.
+    #[inline(always)]
+    fn suffice(&self, rows: usize) -> bool {
+        self.places.len() / 2 > rows || self.places.len() >= MOST
+    }
+
+    // Makes twice as many hints as there are.
+    fn grow(&mut self) -> Result<(), AllocError> {
+        let count = self.places.len();
+        let more = if count < FEWEST { FEWEST } else { count };
+        self.places.resize(count + more, 0)
+    }
+
+    // Notes the place of each row.
+    fn note_all<F: Fn(usize) -> Option<(u64, usize)>>(&mut self, rows: usize, row_at: F)
+        requires { F.IsAlwaysCallable row_at }
+    {
+        for index in 0..rows {
+            if let Some((key, place)) = row_at(index) {
+                self.set(key, place);
+            }
+        }
+    }
+
+    /// Makes more hints if there are too few for so many rows, and then notes each row again:
+    /// `row_at` gives the key and the place of the row at an index below `rows`, if one is there.
+    #[inline]
+    pub fn grow_for<F: Fn(usize) -> Option<(u64, usize)>>(
+        &mut self,
+        rows: usize,
+        row_at: F,
+    ) -> Result<(), AllocError>
+        requires { F.IsAlwaysCallable row_at }
+    {
+        if self.suffice(rows) {
+            return Ok(());
+        }
+        self.grow()?;
+        self.note_all(rows, row_at);
+        Ok(())
+    }
+
+    /// Makes as many hints as there may be.
+    pub fn grow_to_most(&mut self) -> Result<(), AllocError> {
+        self.places.resize(MOST, 0)
+    }
+}

@@ -1,0 +1,24 @@
+//! The keys of names.
+
+/// How far names that differ in their length alone lie apart, so that as many may end in
+/// consecutive numbers.
+const APART: u64 = 1237;
+
+// The sum of these bytes, each times the power of ten that a digit in its place stands for.
+#[inline(always)]
+fn as_digits(bytes: &[u8]) -> u64 {
+    let mut sum = 0u64;
+    for byte in bytes {
+        sum = sum.wrapping_mul(10).wrapping_add(*byte as u64);
+    }
+    sum
+}
+
+/// The key of a name. Names that end in consecutive numbers have consecutive keys.
+pub fn key_of(bytes: &[u8]) -> u64 {
+    let end = match bytes.last_chunk::<4>() {
+        Some(last) => as_digits(last),
+        None => as_digits(bytes),
+    };
+    end.wrapping_add(APART.wrapping_mul(bytes.len() as u64))
+}

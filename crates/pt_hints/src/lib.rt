@@ -1,0 +1,11 @@
+//! Hints of where rows lie, by a few bits of their keys.
+//!
+//! A hint may be wrong: whoever takes it compares the key of what lies there. So contracts say of a
+//! hint only that it fits 32 bits.
+#![tactic(auto)]
+
+mod hints;
+mod keys;
+
+pub use hints::Hints;
+pub use keys::key_of;
