@@ -1,4 +1,4 @@
-use Rattle.std.proofs.Common.{◌≡◌, refl}
+use Rattle.std.proofs.Common.{refl}
 use Rattle.pt_types.proofs.NameLemmas.{four_more, four_stand}
 use Rattle.pt_types.proofs.name.append_fours.Goals as goal
 
