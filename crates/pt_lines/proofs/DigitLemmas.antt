@@ -1,14 +1,11 @@
 -- DigitLemmas: a number's digits, two at a time.
 use Rattle.std.proofs.Common.{◌≡◌, ◌<◌, ◌≤◌, ◌+◌, ◌*◌, ◌/◌, ◌%◌, ◌^◌, ◌∙◌, ◌&&◌, ◌⊎◌, ◌==◌, ℕ}
 use Rattle.std.proofs.Common.{zero, suc, Bool, true, List, [], ◌∷◌, ◌++◌, length, get_or, refl, ap}
-use Rattle.std.proofs.Common.{subst, arith, inl, inr, decimal, append_assoc, length-append, Option}
+use Rattle.std.proofs.Common.{subst, arith, inl, inr, decimal, append_assoc, length-append}
 use Rattle.std.proofs.lemmas.Bool.{cases_lt, eqb-true}
-use Rattle.std.proofs.lemmas.Fmt.{decimal_digit}
+use Rattle.std.proofs.lemmas.Fmt.{decimal_digit, length-decimal-le}
 use Rattle.itoa.proofs.Decimal.{decimal_two, decimal_pair}
 use Rattle.pt_lines.specs.declared.reply.TheConstants.{PAIRS}
-use Rattle.pt_lines.specs.declared.reply.Word.{Word}
-use Rattle.pt_lines.specs.declared.client.Who.{Who}
-use Rattle.pt_lines.specs.Replies.{reply_line, sender, answer_word}
 use Rattle.pt_lines.proofs.TestLemmas.{and_parts}
 
 -- the two digits of a number below 100
@@ -72,18 +69,8 @@ pub length_four_more :
 length_four_more n le fits =
     ap length (decimal_two_pairs n le fits) ∙ length-append (decimal (n / 10000)) _
 
--- the length of an answer
-pub length_reply :
-    (who : Option Who) (n : ℕ) (word : Word)
-    → length (reply_line who n word)
-    ≡ length (sender who) + length (decimal n) + length (answer_word word) + 2
-length_reply who n word =
-    omega (
-      arith,
-      length-append (sender who ++ decimal n ++ 32 ∷ answer_word word) (10 ∷ []),
-      length-append (sender who ++ decimal n) (32 ∷ answer_word word),
-      length-append (sender who) (decimal n),
-    )
+pub few_digits : (n : ℕ) → n < 1000000 → length (decimal n) ≤ 6
+few_digits n lt = length-decimal-le 6 n (omega arith) lt (omega arith)
 
 -- three pieces that are appended
 pub joined :

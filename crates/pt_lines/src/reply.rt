@@ -8,8 +8,11 @@ use itoa::Buffer;
 use pt_types::{Outcome, Refusal};
 use std::alloc::Allocator;
 
-// How many digits a number has at most.
-const MOST_DIGITS: usize = 20;
+// How many digits most numbers have at most.
+const FEW_DIGITS: usize = 6;
+
+// The least number that has more.
+const FEW_DIGITS_END: u64 = 1_000_000;
 
 /// What a line is answered: the outcome of an accepted call, or why it is not accepted.
 #[derive(Clone, Copy, Debug, PartialEq, Eq)]
@@ -136,21 +139,9 @@ fn append_below_1000000<A: Allocator + Copy>(out: &mut Vec<u8, A>, n: u64)
     append_pair(out, n % 100);
 }
 
-// Appends any number, for which there is room. It isn't inlined, so that others have no room to
-// clear for it.
-#[inline(never)]
-fn append_any<A: Allocator + Copy>(out: &mut Vec<u8, A>, n: u64)
-    requires room { vec_len out.old + length (decimal n) ≤ vec_capacity out.old }
-    ensures items { out.new.items ≡ out.old.items ++ decimal n }
-    ensures len { vec_len out.new ≡ vec_len out.old + length (decimal n) }
-    ensures capacity { vec_capacity out.new ≡ vec_capacity out.old }
-{
-    let mut digits = Buffer::new();
-    append(out, digits.format(n).as_bytes());
-}
-
-// Appends a number, for which there is room. Most have few digits.
+// Appends a number of at most six digits, for which there is room.
 fn append_number<A: Allocator + Copy>(out: &mut Vec<u8, A>, n: u64)
+    requires below { n < 1000000 }
     requires room { vec_len out.old + length (decimal n) ≤ vec_capacity out.old }
     ensures items { out.new.items ≡ out.old.items ++ decimal n }
     ensures len { vec_len out.new ≡ vec_len out.old + length (decimal n) }
@@ -158,30 +149,15 @@ fn append_number<A: Allocator + Copy>(out: &mut Vec<u8, A>, n: u64)
 {
     if n < 10_000 {
         append_below_10000(out, n);
-    } else if n < 1_000_000 {
-        append_below_1000000(out, n);
     } else {
-        append_any(out, n);
+        append_below_1000000(out, n);
     }
 }
 
-// Appends an answer, for which there is room.
-#[inline(always)]
-fn append_reply<A: Allocator + Copy>(out: &mut Vec<u8, A>, who: Option<&Who>, n: u64, word: Word)
-    requires { vec_len out.old + length (reply_line (option_copied who) n word)
-        ≤ vec_capacity out.old }
-    ensures { out.new.items ≡ out.old.items ++ reply_line (option_copied who.entry) n word }
-{
-    append_sender(out, who);
-    append_number(out, n);
-    out.push_reserved(b' ');
-    append(out, word.text().as_bytes());
-    out.push_reserved(b'\n');
-}
-
-// Makes room for an answer, and appends it. It isn't inlined: most answers have room.
+// Makes room for an answer, and appends it. It isn't inlined: most answers have room, and their
+// numbers few digits.
 #[inline(never)]
-fn write_with_room<A: Allocator + Copy>(
+fn write_any<A: Allocator + Copy>(
     out: &mut Vec<u8, A>,
     who: Option<&Who>,
     n: u64,
@@ -196,17 +172,23 @@ fn write_with_room<A: Allocator + Copy>(
 {
     let mut digits = Buffer::new();
     let number = digits.format(n).as_bytes();
-    let len = sender_len(who) + number.len() + word.text().len() + 2;
+    let text = word.text().as_bytes();
+    let len = sender_len(who) + number.len() + text.len() + 2;
     if out.reserve(len).is_err() {
         return Err(Refusal::Enomem);
     }
-    append_reply(out, who, n, word);
+    append_sender(out, who);
+    append(out, number);
+    out.push_reserved(b' ');
+    append(out, text);
+    out.push_reserved(b'\n');
     Ok(())
 }
 
 /// Appends the answer to the client's line of this number, `who` if it is in a script.
 /// ENOMEM if a growth was refused: nothing is appended. A line for which there is room is never
 /// refused.  [profile]
+#[tactic(auto, using(crate::proofs::DigitLemmas::few_digits))]
 pub fn write_reply<A: Allocator + Copy>(
     out: &mut Vec<u8, A>,
     who: Option<&Who>,
@@ -220,10 +202,15 @@ pub fn write_reply<A: Allocator + Copy>(
     ensures enough { vec_len out.old + length (reply_line (option_copied who.entry) n word)
         ≤ vec_capacity out.old → IsOk result }
 {
-    let most = sender_len(who) + word.text().len() + MOST_DIGITS + 2;
-    if out.capacity() - out.len() < most {
-        return write_with_room(out, who, n, word);
+    let text = word.text().as_bytes();
+    let most = sender_len(who) + FEW_DIGITS + text.len() + 2;
+    if n >= FEW_DIGITS_END || out.capacity() - out.len() < most {
+        return write_any(out, who, n, word);
     }
-    append_reply(out, who, n, word);
+    append_sender(out, who);
+    append_number(out, n);
+    out.push_reserved(b' ');
+    append(out, text);
+    out.push_reserved(b'\n');
     Ok(())
 }
