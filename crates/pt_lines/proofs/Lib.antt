@@ -20,5 +20,10 @@ pub mod CallLemmas
 pub mod GrammarLemmas
 -- ClientLemmas: a line's client, and what is after it
 pub mod ClientLemmas
+-- StartLemmas: the bytes of a client by the table, the client that a line begins with, and newlines
+-- among lanes
+pub mod StartLemmas
+-- DigitLemmas: a number's digits, two at a time
+pub mod DigitLemmas
 -- ScriptLemmas: a line of a script is read as just what it spells
 pub mod ScriptLemmas

@@ -22,6 +22,10 @@ use Rattle.pt_lines.specs.ClientNames.{IsClientName}
 use Rattle.pt_lines.specs.Clients.{who_text, who_named, before_space, behind_space}
 use Rattle.pt_lines.specs.Grammar.{Spells}
 use Rattle.pt_lines.specs.Reading.{call_read, line_read, line_of, IsAsked}
+use Rattle.pt_lines.specs.Verbs.{named_word}
+use Rattle.std.proofs.lemmas.List.{append-nil}
+use Rattle.pt_types.specs.Names.{IsName}
+use Rattle.pt_lines.proofs.CallLemmas.{spells-call_on}
 use Rattle.pt_lines.specs.Script.{SpellsBody, SpellsScript, long_line, IsReadAs, body_of, body_from}
 use Rattle.pt_lines.specs.Script.{body_read, body_behind, short_read}
 use Rattle.pt_lines.proofs.ArgumentLemmas.{bytes_are}
@@ -181,6 +185,18 @@ named_said rest args verb o read alone_is name some client =
     let asked : IsAsked (first.Named verb) args (Some (call_on verb name)) =
     ap (option_map (λ n. line.Ask (call_on verb n))) (sym some ∙ alone_is) in
     call_said rest args (first.Named verb) (Some (call_on verb name)) read asked client
+
+-- a word, a space and a name are read as the call of the word on the name
+pub named_spelled :
+    (rest : List ℕ) (verb : NamedVerb) (name : List ℕ) → rest ≡ named_word verb ++ 32 ∷ name
+    → (client : List ℕ) → IsName name
+    → body_read (Named client) rest ≡ Ok (Ask (call_on verb name))
+named_spelled rest verb name is client named =
+    called_again client rest (line.Ask (call_on verb name))
+    (spells-call_on verb rest name (record {
+      named = named;
+      spelled = is ∙ ap (λ ys. named_word verb ++ 32 ∷ ys) (sym (append-nil name));
+    }))
 
 -- what is spelled after a client is read there
 body_again :

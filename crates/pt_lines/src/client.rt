@@ -1,4 +1,4 @@
-ghost use Rattle.std.specs.Prelude.{◌≡◌, ◌↔◌, IsTrue};
+ghost use Rattle.std.specs.Prelude.{◌≡◌, ◌↔◌, ◌≤◌, ◌++◌, ◌∷◌, IsTrue, IfSome, length, drop};
 ghost use Rattle.std.specs.List.{list_all};
 ghost use Rattle.pt_lines.specs.ClientNames.{is_client_byte, IsClientName};
 
@@ -27,10 +27,33 @@ impl Model for ClientName {
     ghost inverse = { λ xs. record { text = record { items = xs } } };
 }
 
+// Which bytes a client's name may have.
+const MAY_STAND: [bool; 256] = [
+    false, false, false, false, false, false, false, false, false, false, false, false, false,
+    false, false, false, false, false, false, false, false, false, false, false, false, false,
+    false, false, false, false, false, false, false, false, false, false, false, false, false,
+    false, false, false, false, false, false, false, false, false, true, true, true, true, true,
+    true, true, true, true, true, false, false, false, false, false, false, false, true, true,
+    true, true, true, true, true, true, true, true, true, true, true, true, true, true, true, true,
+    true, true, true, true, true, true, true, true, false, false, false, false, false, false, true,
+    true, true, true, true, true, true, true, true, true, true, true, true, true, true, true, true,
+    true, true, true, true, true, true, true, true, true, false, false, false, false, false, false,
+    false, false, false, false, false, false, false, false, false, false, false, false, false,
+    false, false, false, false, false, false, false, false, false, false, false, false, false,
+    false, false, false, false, false, false, false, false, false, false, false, false, false,
+    false, false, false, false, false, false, false, false, false, false, false, false, false,
+    false, false, false, false, false, false, false, false, false, false, false, false, false,
+    false, false, false, false, false, false, false, false, false, false, false, false, false,
+    false, false, false, false, false, false, false, false, false, false, false, false, false,
+    false, false, false, false, false, false, false, false, false, false, false, false, false,
+    false, false, false, false, false, false, false, false, false, false, false, false, false,
+    false, false, false, false, false, false, false, false, false, false,
+];
+
 fn may_stand(byte: u8) -> bool
     ensures { result ≡ is_client_byte byte }
 {
-    matches!(byte, b'a'..=b'z' | b'A'..=b'Z' | b'0'..=b'9')
+    MAY_STAND[byte as usize]
 }
 
 fn may_all_stand(bytes: &[u8]) -> bool
@@ -49,6 +72,37 @@ fn is_name(bytes: &[u8]) -> bool
     ensures { IsTrue result ↔ IsClientName bytes.now }
 {
     !bytes.is_empty() && bytes.len() <= 8 && may_all_stand(bytes)
+}
+
+// The bytes before the first that a client's name can't have, but at most eight.
+fn name_at_start(text: &[u8]) -> ArrayVec<u8, 8>
+    ensures start { text.now ≡ result.items ++ drop (length result.items) text.now }
+    ensures stand { IsTrue (list_all is_client_byte result.items) }
+    ensures short { length result.items ≤ 8 }
+{
+    let mut name = ArrayVec::new();
+    for place in 0..text.len().min(8) {
+        if !may_stand(text[place]) {
+            return name;
+        }
+        name.push(text[place]);
+    }
+    name
+}
+
+/// The client at the start of a text and what is after it and a space, if a client's name and a
+/// space are there. The name is tested and copied as the space is searched for.
+#[inline(always)]
+pub(crate) fn client_at_start(text: &[u8]) -> Option<(ClientName, &[u8])>
+    ensures text { IfSome result (λ start. text.now ≡ start.0 ++ 32 ∷ start.1.now) }
+    ensures name { IfSome result (λ start. IsClientName start.0) }
+{
+    let name = name_at_start(text);
+    let len = name.len();
+    if len == 0 || len >= text.len() || text[len] != b' ' {
+        return None;
+    }
+    Some((ClientName { text: name }, &text[len + 1..]))
 }
 
 impl ClientName {

@@ -3,6 +3,7 @@ ghost use Rattle.std.specs.Prelude.{OnSome, IfOk, IfSome, IfNone, true, false, l
 ghost use Rattle.std.specs.Prelude.{option_to_list, if◌then◌else◌};
 ghost use Rattle.std.specs.Bool.{OnTrue, OnFalse};
 ghost use Rattle.std.specs.List.{flat_map};
+ghost use Rattle.memchr.specs.Find.{IsFirstByte, is_byte};
 ghost use Rattle.pt_lines.specs.Cuts.{is_long};
 ghost use Rattle.pt_lines.specs.Lines.{lines, lines_past_newline, to_come, NoNewline, IsBegun};
 ghost use Rattle.pt_lines.specs.Lines.{LinesOfTexts};
@@ -15,6 +16,7 @@ use memchr::memchr;
 use pt_types::{MOST_IN_LINE, Refusal};
 use std::alloc::{Allocator, Global};
 use std::marker::Model;
+use std::simd::prelude::*;
 
 // How many bytes are searched first for a newline.
 const SHORT_LINE: usize = 32;
@@ -100,6 +102,19 @@ fn take_line<A: Allocator + Copy>(held: &mut BytesMut<A>) -> Option<Cut>
     }
 }
 
+// The place of the first newline of a block, whose bytes are tested at once.
+#[inline(always)]
+fn newline_in(block: &[u8; SHORT_LINE]) -> Option<usize>
+    ensures { IsFirstByte (is_byte 10) block.now result }
+{
+    let newline = u8x32::splat(b'\n');
+    let mask = u8x32::from_array(*block).simd_eq(newline).to_bitmask();
+    if mask == 0 {
+        return None;
+    }
+    Some(mask.trailing_zeros() as usize)
+}
+
 impl<A: Allocator + Copy> Cutter<A> {
     ghost use Rattle.pt_lines.specs.Lines.{IsFront, past_line};
     ghost use Rattle.pt_lines.specs.Reading.{IsNextCallLine};
@@ -158,15 +173,27 @@ impl<A: Allocator + Copy> Cutter<A> {
         memchr(b'\n', &text[..count])
     }
 
+    // The same of the first bytes, as many as most lines have at most.
+    fn newline_near(&self) -> Option<usize>
+        requires { self.now.dropping ≡ false }
+        ensures { IfSome result (IsFront self.now) }
+    {
+        match self.held.as_slice().first_chunk::<32>() {
+            Some(block) => newline_in(block),
+            None => self.newline_within(SHORT_LINE),
+        }
+    }
+
     // The place of the newline of the first line, if that is whole and not too long. Few bytes are
     // searched in fewer steps, and most lines are short.
+    #[inline(always)]
     fn front(&self) -> Option<usize>
         ensures { IfSome result (IsFront self.now) }
     {
         if self.dropping {
             return None;
         }
-        match self.newline_within(SHORT_LINE) {
+        match self.newline_near() {
             Some(end) => Some(end),
             None => self.newline_within(MOST_IN_LINE + 1),
         }

@@ -1,5 +1,5 @@
-ghost use Rattle.std.specs.Prelude.{◌≡◌, ◌≤◌, ◌+◌, ◌++◌, IsOk, OnOk, OnErr, IfErr, length, vec_len};
-ghost use Rattle.std.specs.Prelude.{vec_capacity};
+ghost use Rattle.std.specs.Prelude.{◌≡◌, ◌≤◌, ◌<◌, ◌+◌, ◌++◌, IsOk, OnOk, OnErr, IfErr, length};
+ghost use Rattle.std.specs.Prelude.{vec_len, vec_capacity, decimal, ◌/◌, ◌%◌, ◌∷◌, []};
 ghost use Rattle.std.specs.Option.{option_copied};
 ghost use Rattle.pt_lines.specs.Replies.{reply_line, sender};
 
@@ -7,6 +7,12 @@ use crate::client::Who;
 use itoa::Buffer;
 use pt_types::{Outcome, Refusal};
 use std::alloc::Allocator;
+
+// How many digits most numbers have at most.
+const FEW_DIGITS: usize = 6;
+
+// The least number that has more.
+const FEW_DIGITS_END: u64 = 1_000_000;
 
 /// What a line is answered: the outcome of an accepted call, or why it is not accepted.
 #[derive(Clone, Copy, Debug, PartialEq, Eq)]
@@ -29,6 +35,14 @@ impl Word {
         }
     }
 }
+
+// The two digits of each number below 100.
+const PAIRS: [u8; 200] = *b"\
+    0001020304050607080910111213141516171819\
+    2021222324252627282930313233343536373839\
+    4041424344454647484950515253545556575859\
+    6061626364656667686970717273747576777879\
+    8081828384858687888990919293949596979899";
 
 // How many bytes are before the number of the line.
 fn sender_len(who: Option<&Who>) -> usize
@@ -67,10 +81,83 @@ fn append_sender<A: Allocator + Copy>(out: &mut Vec<u8, A>, who: Option<&Who>)
     }
 }
 
-/// Appends the answer to the client's line of this number, `who` if it is in a script.
-/// ENOMEM if a growth was refused: nothing is appended. A line for which there is room is never
-/// refused.  [profile]
-pub fn write_reply<A: Allocator + Copy>(
+// Appends two digits, for which there is room.
+fn append_pair<A: Allocator + Copy>(out: &mut Vec<u8, A>, n: u64)
+    requires below { n < 100 }
+    requires room { vec_len out.old + 2 ≤ vec_capacity out.old }
+    ensures items { out.new.items ≡ out.old.items ++ (48 + n / 10) ∷ (48 + n % 10) ∷ [] }
+    ensures len { vec_len out.new ≡ vec_len out.old + 2 }
+    ensures capacity { vec_capacity out.new ≡ vec_capacity out.old }
+{
+    let place = 2 * n as usize;
+    out.push_reserved(PAIRS[place]);
+    out.push_reserved(PAIRS[place + 1]);
+}
+
+// Appends a number of one digit or two, for which there is room.
+fn append_below_100<A: Allocator + Copy>(out: &mut Vec<u8, A>, n: u64)
+    requires below { n < 100 }
+    requires room { vec_len out.old + length (decimal n) ≤ vec_capacity out.old }
+    ensures items { out.new.items ≡ out.old.items ++ decimal n }
+    ensures len { vec_len out.new ≡ vec_len out.old + length (decimal n) }
+    ensures capacity { vec_capacity out.new ≡ vec_capacity out.old }
+{
+    if n < 10 {
+        out.push_reserved(b'0' + n as u8);
+    } else {
+        append_pair(out, n);
+    }
+}
+
+// Appends a number of at most four digits, for which there is room.
+fn append_below_10000<A: Allocator + Copy>(out: &mut Vec<u8, A>, n: u64)
+    requires below { n < 10000 }
+    requires room { vec_len out.old + length (decimal n) ≤ vec_capacity out.old }
+    ensures items { out.new.items ≡ out.old.items ++ decimal n }
+    ensures len { vec_len out.new ≡ vec_len out.old + length (decimal n) }
+    ensures capacity { vec_capacity out.new ≡ vec_capacity out.old }
+{
+    if n < 100 {
+        append_below_100(out, n);
+    } else {
+        append_below_100(out, n / 100);
+        append_pair(out, n % 100);
+    }
+}
+
+// Appends a number of five digits or six, for which there is room.
+fn append_below_1000000<A: Allocator + Copy>(out: &mut Vec<u8, A>, n: u64)
+    requires above { 10000 ≤ n }
+    requires below { n < 1000000 }
+    requires room { vec_len out.old + length (decimal n) ≤ vec_capacity out.old }
+    ensures items { out.new.items ≡ out.old.items ++ decimal n }
+    ensures len { vec_len out.new ≡ vec_len out.old + length (decimal n) }
+    ensures capacity { vec_capacity out.new ≡ vec_capacity out.old }
+{
+    append_below_100(out, n / 10_000);
+    append_pair(out, n / 100 % 100);
+    append_pair(out, n % 100);
+}
+
+// Appends a number of at most six digits, for which there is room.
+fn append_number<A: Allocator + Copy>(out: &mut Vec<u8, A>, n: u64)
+    requires below { n < 1000000 }
+    requires room { vec_len out.old + length (decimal n) ≤ vec_capacity out.old }
+    ensures items { out.new.items ≡ out.old.items ++ decimal n }
+    ensures len { vec_len out.new ≡ vec_len out.old + length (decimal n) }
+    ensures capacity { vec_capacity out.new ≡ vec_capacity out.old }
+{
+    if n < 10_000 {
+        append_below_10000(out, n);
+    } else {
+        append_below_1000000(out, n);
+    }
+}
+
+// Makes room for an answer, and appends it. It isn't inlined: most answers have room, and their
+// numbers few digits.
+#[inline(never)]
+fn write_any<A: Allocator + Copy>(
     out: &mut Vec<u8, A>,
     who: Option<&Who>,
     n: u64,
@@ -92,6 +179,36 @@ pub fn write_reply<A: Allocator + Copy>(
     }
     append_sender(out, who);
     append(out, number);
+    out.push_reserved(b' ');
+    append(out, text);
+    out.push_reserved(b'\n');
+    Ok(())
+}
+
+/// Appends the answer to the client's line of this number, `who` if it is in a script.
+/// ENOMEM if a growth was refused: nothing is appended. A line for which there is room is never
+/// refused.  [profile]
+#[tactic(auto, using(crate::proofs::DigitLemmas::few_digits))]
+pub fn write_reply<A: Allocator + Copy>(
+    out: &mut Vec<u8, A>,
+    who: Option<&Who>,
+    n: u64,
+    word: Word,
+) -> Result<(), Refusal>
+    ensures ok { OnOk result
+        (out.new.items ≡ out.old.items ++ reply_line (option_copied who.entry) n word) }
+    ensures err { OnErr result (out.new.items ≡ out.old.items) }
+    ensures why { IfErr result (λ refusal. refusal ≡ Refusal.Enomem) }
+    ensures enough { vec_len out.old + length (reply_line (option_copied who.entry) n word)
+        ≤ vec_capacity out.old → IsOk result }
+{
+    let text = word.text().as_bytes();
+    let most = sender_len(who) + FEW_DIGITS + text.len() + 2;
+    if n >= FEW_DIGITS_END || out.capacity() - out.len() < most {
+        return write_any(out, who, n, word);
+    }
+    append_sender(out, who);
+    append_number(out, n);
     out.push_reserved(b' ');
     append(out, text);
     out.push_reserved(b'\n');

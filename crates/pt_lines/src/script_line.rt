@@ -7,7 +7,7 @@ ghost use Rattle.pt_lines.specs.Script.{body_of, body_read, IsReadAs, short_read
 
 use crate::arguments::only_name;
 use crate::call_line::{CallLine, read_arguments, read_asked};
-use crate::client::Who;
+use crate::client::{Who, client_at_start};
 use crate::cutter::Cut;
 use crate::fields::{Fields, first_space};
 use crate::verb::Verb;
@@ -91,6 +91,18 @@ fn read_body(
 
 /// Whose a line of a script is, and what comes after its client and a space, if a space does.
 pub fn read_client(text: &[u8]) -> (Who, Option<&[u8]>)
+    ensures who { result.0 ≡ who_named (before_space text.now) }
+    ensures behind { option_copied result.1 ≡ behind_space text.now }
+{
+    match client_at_start(text) {
+        Some((name, rest)) => (Who::Named(name), Some(rest)),
+        None => read_other_client(text),
+    }
+}
+
+// The same, where no client's name and a space are at the start.
+#[inline(never)]
+fn read_other_client(text: &[u8]) -> (Who, Option<&[u8]>)
     ensures who { result.0 ≡ who_named (before_space text.now) }
     ensures behind { option_copied result.1 ≡ behind_space text.now }
 {

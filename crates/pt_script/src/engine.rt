@@ -10,9 +10,9 @@ use crate::names::{CountedLine, Names};
 use crate::text::refuse;
 use http_server::Log;
 use pt_core::Core;
-use pt_lines::{Cutter, Rest, ScriptBody, ScriptLine, Who, read_client};
+use pt_lines::{Cutter, Rest, ScriptBody, ScriptLine, Who, named_at_start, read_client};
 use pt_model::Event;
-use pt_types::{Call, ClientId, Priority, Refusal};
+use pt_types::{Call, ClientId, Name, Priority, Refusal};
 use std::alloc::{Allocator, Global};
 use std::marker::Model;
 
@@ -167,6 +167,7 @@ impl<A: Allocator + Copy> Engine<A> {
     }
 
     // Answers a call of the client that joined under the line's name, if one did.
+    #[inline(always)]
     #[tactic(auto, using(crate::proofs::Lines::says_refused))]
     fn ask(
         &mut self,
@@ -254,10 +255,11 @@ impl<A: Allocator + Copy> Engine<A> {
         }
     }
 
-    // Answers what else is said. It isn't inlined, so that calls of one name clear no room for it.
+    // Answers what is said, be it a call or not. It isn't inlined, so that calls have no room to clear
+    // for it.
     #[inline(never)]
     #[tactic(auto, using(crate::proofs::Lines::says_refused))]
-    fn answer_other(
+    fn answer_said(
         &mut self,
         line: &LineId,
         client: Option<ClientId>,
@@ -271,20 +273,16 @@ impl<A: Allocator + Copy> Engine<A> {
             (known_by self.new)) out.old.items out.new.items) }
         ensures why { IfErr result (λ fault. fault ≡ ScriptFault.Memory) }
     {
-        if let Who::Named(_) = line.who
-            && let Some(call) = rest.call()
-        {
-            return self.ask(line, client, call, out);
-        }
         match rest.body(&line.who) {
             Ok(body) => self.answer_body(line, client, body, out),
             Err(refusal) => refuse(out, line, refusal),
         }
     }
 
-    // Answers what is said after a client and a space. Most lines are calls of one name: these are
-    // moved once.
-    fn answer_rest(
+    // Answers what else is said. It isn't inlined, so that calls of one name clear no room for it.
+    #[inline(never)]
+    #[tactic(auto, using(crate::proofs::Lines::says_refused))]
+    fn answer_other(
         &mut self,
         line: &LineId,
         client: Option<ClientId>,
@@ -300,7 +298,33 @@ impl<A: Allocator + Copy> Engine<A> {
     {
         let rest = Rest::new(rest);
         if let Who::Named(_) = line.who
-            && let Some((verb, name)) = rest.named()
+            && let Some(call) = rest.call()
+        {
+            return self.ask(line, client, call, out);
+        }
+        self.answer_said(line, client, rest, out)
+    }
+
+    // Answers what is said after a client and a space. Most lines are calls of one name: these are
+    // moved once.
+    #[inline(always)]
+    fn answer_rest(
+        &mut self,
+        line: &LineId,
+        client: Option<ClientId>,
+        rest: &[u8],
+        out: &mut Vec<u8, A>,
+    ) -> Result<(), ScriptFault>
+        requires counted { 0 < lines_of_who self.old.seen line.now.who }
+        requires client { client ≡ number_of self.old.clients line.now.who }
+        ensures ok { OnOk result (Adds (SaysTo (known_by self.old) line.now
+            (event_of_body (known_by self.old) line.now.who (body_read line.now.who rest.now))
+            (known_by self.new)) out.old.items out.new.items) }
+        ensures why { IfErr result (λ fault. fault ≡ ScriptFault.Memory) }
+    {
+        if let Who::Named(_) = line.who
+            && let Some((verb, name)) = named_at_start(rest)
+            && let Some(name) = Name::new(name)
         {
             return self.ask(line, client, verb.call(name), out);
         }
@@ -308,6 +332,7 @@ impl<A: Allocator + Copy> Engine<A> {
     }
 
     // Answers the line of a text that is not too long, as `answer` does.
+    #[inline(always)]
     fn answer_text(&mut self, text: &[u8], out: &mut Vec<u8, A>) -> Result<(), ScriptFault>
         requires { length self.old.seen < 2 ^ 53 }
         ensures ok { OnOk result
@@ -325,7 +350,35 @@ impl<A: Allocator + Copy> Engine<A> {
         }
     }
 
+    // Answers the next line as the cutter reads it, and returns true, if it has the line whole. It
+    // isn't inlined, so that other lines have no room to clear for it.
+    #[inline(never)]
+    #[tactic(auto, using(crate::proofs::Runs::answers_none, crate::proofs::Runs::answers_same))]
+    fn answer_cut(
+        &mut self,
+        cutter: &mut Cutter<A>,
+        out: &mut Vec<u8, A>,
+    ) -> Result<bool, ScriptFault>
+        requires { length self.old.seen < 2 ^ 53 }
+        ensures ok { OnOk result
+            (Answers cutter.old (known_by self.old) out.old.items
+            cutter.new (known_by self.new) out.new.items) }
+        ensures fewer { IfOk result (λ more.
+            OnTrue more (length cutter.new.rest < length cutter.old.rest)) }
+        ensures begun { IfOk result (λ more. OnFalse more (IsBegun cutter.new)) }
+        ensures why { IfErr result (λ fault. fault ≡ ScriptFault.Memory) }
+    {
+        match cutter.next_script_line() {
+            Some(line) => {
+                self.answer(line, out)?;
+                Ok(true)
+            }
+            None => Ok(false),
+        }
+    }
+
     // Answers the next line, and returns true, if the cutter has it whole.
+    #[inline(always)]
     #[tactic(auto, using(crate::proofs::Runs::answers_none, crate::proofs::Runs::answers_same))]
     fn answer_next(
         &mut self,
@@ -347,13 +400,7 @@ impl<A: Allocator + Copy> Engine<A> {
             cutter.drop_front(len);
             return Ok(true);
         }
-        match cutter.next_script_line() {
-            Some(line) => {
-                self.answer(line, out)?;
-                Ok(true)
-            }
-            None => Ok(false),
-        }
+        self.answer_cut(cutter, out)
     }
 
     /// Answers all lines that the cutter has whole.

@@ -60,6 +60,7 @@ impl NamedVerb {
     }
 
     /// The call of this word on this name.  [XSH, the call's page]
+    #[inline(always)]
     pub fn call(self, name: Name) -> Call
         ensures { result ≡ call_on self name }
     {

@@ -14,14 +14,3 @@ returns-in-Some-clause-ok g c =
     c.answer_text.new.out.items line (answers_none held s out)
     (subst (IsNextScriptLine held line) (sym c.drop_front.ensures.line) c.in-Some.ensures.line)
     c.in_ok-answer_text.ensures.ok
-
-pub returns-in_ok-answer-in-Some-next_script_line-clause-ok :
-    goal.returns-in_ok-answer-in-Some-next_script_line-clause-ok
-returns-in_ok-answer-in-Some-next_script_line-clause-ok g c =
-    let s = known_by c.args.self.now in
-    let held = c.args.cutter.now in
-    let out = c.args.out.now.items in
-    answers_next held s out held s out c.next_script_line.new.self (known_by c.answer.new.self)
-    c.answer.new.out.items c.in-Some-next_script_line.line (answers_none held s out)
-    c.in-Some-next_script_line.ensures.some
-    c.in_ok-answer-in-Some-next_script_line.ensures.ok

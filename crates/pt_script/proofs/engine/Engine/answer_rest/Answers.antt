@@ -1,4 +1,5 @@
-use Rattle.std.proofs.Common.{OnOk, sym, ap, ◌∙◌, subst}
+use Rattle.std.proofs.Common.{OnOk, refl, sym, ap, ◌∙◌, subst}
+use Rattle.pt_types.specs.NamedVerbs.{call_on}
 use Rattle.pt_model.specs.declared.entry.Event.TheVariants as event
 use Rattle.pt_lines.specs.declared.client.Who.TheVariants.{Named}
 use Rattle.pt_lines.specs.Script.{body_read}
@@ -12,12 +13,12 @@ returns-clause-ok g c =
     let s = known_by c.args.self.now in
     let who = c.in-Named.is in
     let client = Named c.in-Named.field-0 in
+    let named = c.in-Some-new.ensures.valid.0 refl in
     let asks =
     ap (λ w. event_of_body s w (body_read w c.args.rest.now)) who
-    ∙ ap (λ rest. event_of_body s client (body_read client rest)) (sym c.new-rest.ensures)
-    ∙ ap (event_of_body s client) (c.in-Some.ensures c.in-Named.field-0)
+    ∙ ap (event_of_body s client) (c.in-Some.ensures c.in-Named.field-0 named)
     ∙ ap (λ call. of_client (λ d. event.Call d call) (number_of s.clients client))
-    (sym c.call.ensures)
+    (ap (call_on c.in-Some.verb) (sym c.in-Some-new.ensures.value) ∙ sym c.call.ensures)
     ∙ ap (of_client (λ d. event.Call d c.call.result))
     (sym (c.requires.client ∙ ap (number_of s.clients) who)) in
     subst

@@ -1,0 +1,123 @@
+//! Calls of one name, by the bytes that a line begins with.
+
+ghost use Rattle.std.specs.Prelude.{◌≡◌, ◌++◌, [], ◌∷◌, IfSome, List, Ok, ℕ};
+ghost use Rattle.pt_types.specs.Names.{IsName};
+ghost use Rattle.pt_types.specs.NamedVerbs.{call_on};
+ghost use Rattle.pt_lines.specs.declared.client.Who.TheVariants as who;
+ghost use Rattle.pt_lines.specs.declared.script_line.ScriptBody.TheVariants as body;
+ghost use Rattle.pt_lines.specs.Script.{body_read};
+ghost use Rattle.pt_lines.specs.Verbs.{named_word};
+
+use pt_types::NamedVerb;
+
+// What is after these bytes, if a text begins with them.
+#[inline(always)]
+fn after<'a>(text: &'a [u8], start: &[u8]) -> Option<&'a [u8]>
+    ensures { IfSome result (λ rest. text.now ≡ start.now ++ rest.now) }
+{
+    if text.len() < start.len() {
+        return None;
+    }
+    for place in 0..start.len() {
+        if text[place] != start[place] {
+            return None;
+        }
+    }
+    Some(&text[start.len()..])
+}
+
+// This word and what is after it and a space, if a text begins with them.
+#[inline(always)]
+fn said<'a>(text: &'a [u8], verb: NamedVerb, start: &[u8]) -> Option<(NamedVerb, &'a [u8])>
+    requires { start.now ≡ named_word verb ++ 32 ∷ [] }
+    ensures { IfSome result (λ said. text.now ≡ named_word said.0 ++ 32 ∷ said.1.now) }
+{
+    let rest = after(text, start)?;
+    Some((verb, rest))
+}
+
+// The same of the words that begin with `b`.
+fn said_by_b(text: &[u8]) -> Option<(NamedVerb, &[u8])>
+    ensures { IfSome result (λ said. text.now ≡ named_word said.0 ++ 32 ∷ said.1.now) }
+{
+    if let Some(said) = said(text, NamedVerb::Bwait, b"bwait ") {
+        return Some(said);
+    }
+    if let Some(said) = said(text, NamedVerb::Broadcast, b"broadcast ") {
+        return Some(said);
+    }
+    said(text, NamedVerb::BarrierDestroy, b"barrier-destroy ")
+}
+
+// The same of the words that begin with `c`.
+fn said_by_c(text: &[u8]) -> Option<(NamedVerb, &[u8])>
+    ensures { IfSome result (λ said. text.now ≡ named_word said.0 ++ 32 ∷ said.1.now) }
+{
+    if let Some(said) = said(text, NamedVerb::Consistent, b"consistent ") {
+        return Some(said);
+    }
+    if let Some(said) = said(text, NamedVerb::CondInit, b"cond-init ") {
+        return Some(said);
+    }
+    said(text, NamedVerb::CondDestroy, b"cond-destroy ")
+}
+
+// The same of the words that begin with `r`.
+fn said_by_r(text: &[u8]) -> Option<(NamedVerb, &[u8])>
+    ensures { IfSome result (λ said. text.now ≡ named_word said.0 ++ 32 ∷ said.1.now) }
+{
+    if let Some(said) = said(text, NamedVerb::Rdlock, b"rdlock ") {
+        return Some(said);
+    }
+    if let Some(said) = said(text, NamedVerb::Rwunlock, b"rwunlock ") {
+        return Some(said);
+    }
+    if let Some(said) = said(text, NamedVerb::RwlockInit, b"rwlock-init ") {
+        return Some(said);
+    }
+    said(text, NamedVerb::RwlockDestroy, b"rwlock-destroy ")
+}
+
+// The same of the words that begin with `t`.
+fn said_by_t(text: &[u8]) -> Option<(NamedVerb, &[u8])>
+    ensures { IfSome result (λ said. text.now ≡ named_word said.0 ++ 32 ∷ said.1.now) }
+{
+    if let Some(said) = said(text, NamedVerb::Trylock, b"trylock ") {
+        return Some(said);
+    }
+    if let Some(said) = said(text, NamedVerb::Tryrdlock, b"tryrdlock ") {
+        return Some(said);
+    }
+    said(text, NamedVerb::Trywrlock, b"trywrlock ")
+}
+
+// The word that a text begins with, and what is after it and a space. Few words have one first
+// letter, so few are compared.
+fn said_at_start(text: &[u8]) -> Option<(NamedVerb, &[u8])>
+    ensures { IfSome result (λ said. text.now ≡ named_word said.0 ++ 32 ∷ said.1.now) }
+{
+    match text.first() {
+        Some(b'l') => said(text, NamedVerb::Lock, b"lock "),
+        Some(b'u') => said(text, NamedVerb::Unlock, b"unlock "),
+        Some(b'w') => said(text, NamedVerb::Wrlock, b"wrlock "),
+        Some(b's') => said(text, NamedVerb::Signal, b"signal "),
+        Some(b'm') => said(text, NamedVerb::MutexDestroy, b"mutex-destroy "),
+        Some(b'b') => said_by_b(text),
+        Some(b'c') => said_by_c(text),
+        Some(b'r') => said_by_r(text),
+        Some(b't') => said_by_t(text),
+        _ => None,
+    }
+}
+
+/// The word of a call of one name and what is after it and a space, if a text begins with them. A
+/// client that says this calls the word on that, if it is a name. Most lines are such calls, and
+/// these are read without a search for spaces.
+#[inline(always)]
+pub fn named_at_start(text: &[u8]) -> Option<(NamedVerb, &[u8])>
+    ensures { IfSome result (λ said. (client : List ℕ) → IsName said.1.now
+        → body_read (who.Named client) text.now
+        ≡ Ok (body.Ask (call_on said.0 said.1.now))) }
+{
+    said_at_start(text)
+}
