@@ -7,7 +7,7 @@
 //! clock alone; what a call makes of the hub is the contract of that call of `Hub`.
 #![tactic(auto)]
 
-mod attached;
+mod attendance;
 mod bells;
 mod calls;
 mod sessions;

@@ -2,7 +2,7 @@
 
 ghost use Rattle.pt_hub.specs.Hubs.{Fits};
 
-use crate::attached::Attendance;
+use crate::attendance::Attendance;
 use crate::bells::{Bell, bells};
 use pt_hub::{Hub, SessionId};
 use pt_types::ClientId;
