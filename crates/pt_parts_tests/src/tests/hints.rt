@@ -40,10 +40,9 @@ fn rows_are_noted_after_a_growth(rt: HostRuntime) -> Result<(), Fail> {
 fn at_most_4096_hints(rt: HostRuntime) -> Result<(), Fail> {
     let mut hints = Hints::new(rt.alloc());
     for _ in 0..8 {
-        hints.grow_for(5000, |_index| -> Option<(u64, usize)> { None })?;
+        hints.grow_for(5000, row_at)?;
     }
-    hints.set(1, 10);
-    assert!(rt; hints.get(2049) == Some(0) && hints.get(4097) == Some(10));
+    assert!(rt; hints.get(4097) == Some(10) && hints.get(2049) == Some(20490));
     Ok(())
 }
 
