@@ -1,8 +1,9 @@
 -- Stored: what is seen of a stored history.
-use Rattle.std.specs.Prelude.{ℕ, ◌+◌, ◌≡◌, ◌≤◌, List, [], map, length, vec_len}
+use Rattle.std.specs.Prelude.{ℕ, ◌+◌, ◌≡◌, ◌≤◌, List, [], Option, Some, None, map, length, vec_len}
 use Rattle.std.specs.List.{All}
 use Rattle.pt_types.specs.Limits.{most_places}
 use Rattle.pt_model.specs.declared.entry.Entry.{Entry}
+use Rattle.pt_model.specs.declared.entry.Entry.TheVariants.{Call}
 use Rattle.pt_model.specs.StartRows.{StartRows, no_rows, reads_of}
 use Rattle.pt_history.specs.declared.compact.Compact.{Compact}
 use Rattle.pt_history.specs.declared.records.Records.{Records}
@@ -25,6 +26,16 @@ begun limit = record { start = no_rows; entries = []; limit = limit; room = 0 }
 -- the history that is stored
 abbrev pub past_of : Stored → History
 past_of s = behind (reads_of s.start) s.entries
+
+-- the client of an entry, if that is a call
+abbrev pub caller_of : Entry → Option ℕ
+caller_of (Call c call r) = Some c
+caller_of _ = None
+
+-- the same of an entry that was found
+abbrev pub caller_in : Option Entry → Option ℕ
+caller_in None = None
+caller_in (Some e) = caller_of e
 
 -- so many entries, with their room, fit the limit; there is memory for the room and perhaps for
 -- more; and places are numbers

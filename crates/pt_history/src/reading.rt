@@ -6,6 +6,7 @@ ghost use Rattle.pt_history.specs.Compact.{decoded, answered, limit_at, HasLimit
 ghost use Rattle.pt_history.specs.Compact.{IsStored, IsText, AreTexts, text_at, with_limit};
 ghost use Rattle.pt_history.specs.Compact.{wait_until};
 ghost use Rattle.pt_history.specs.Records.{parts_of};
+ghost use Rattle.pt_history.specs.Stored.{caller_of};
 ghost use Rattle.pt_types.specs.declared.call.Call.TheVariants.{Wait};
 ghost use Rattle.pt_model.specs.declared.entry.Entry.TheVariants.{Call as CallEntry};
 
@@ -37,6 +38,16 @@ fn copied(entry: &Entry) -> Entry
         Entry::Trip(barrier) => Entry::Trip(*barrier),
         Entry::Yield(mutex) => Entry::Yield(*mutex),
         Entry::Expire(place) => Entry::Expire(*place),
+    }
+}
+
+// The client of an entry, if that is a call.
+fn caller(entry: &Entry) -> Option<ClientId>
+    ensures { result ≡ caller_of entry.now }
+{
+    match entry {
+        Entry::Call(client, _, _) => Some(*client),
+        _ => None,
     }
 }
 
@@ -84,6 +95,23 @@ impl<A: Allocator + Copy> Records<A> {
     {
         let cond = self.name(from as usize, first);
         Call::Wait(cond, self.name(from as usize + first as usize, second))
+    }
+
+    /// The client of a stored entry, if that is a call. No name is copied for it.
+    pub(crate) fn caller(&self, base: u64, compact: Compact) -> Option<ClientId>
+        requires base { base ≤ most_places }
+        requires stored { IsStored (parts_of self.now) compact }
+        ensures { result ≡ caller_of (decoded base (parts_of self.now) compact) }
+    {
+        match compact {
+            Compact::Named(_, _, _, client, _)
+            | Compact::Barrier(_, _, client, _, _)
+            | Compact::Timed(_, _, _, client, _, _)
+            | Compact::Wait(_, _, _, client, _)
+            | Compact::TimedWait(_, _, _, client, _, _) => Some(ClientId(base + client as u64)),
+            Compact::Whole(index) => caller(&self.wholes[index as usize]),
+            _ => None,
+        }
     }
 
     /// The entry that a stored one is.

@@ -84,7 +84,7 @@ impl<A: Allocator + Copy> History<A> {
     ghost use Rattle.std.specs.Prelude.{slice_get, None, IsOk, OnOk, OnErr, IfErr, ◌≢◌};
     ghost use Rattle.pt_types.specs.Limits.{most_places};
     ghost use Rattle.pt_model.specs.StartRows.{no_rows, rows_of};
-    ghost use Rattle.pt_history.specs.Stored.{Stored, begun, past_of};
+    ghost use Rattle.pt_history.specs.Stored.{Stored, begun, caller_in, past_of};
     ghost use Rattle.pt_model.specs.Histories.{outer};
     ghost use Rattle.pt_model.specs.declared.entry.Entry.TheVariants.{Call as CallEntry};
     ghost use Rattle.pt_model.specs.declared.entry.Entry.TheVariants.{Grant as GrantEntry};
@@ -256,6 +256,16 @@ impl<A: Allocator + Copy> History<A> {
         }
         let compact = *self.entries.get((place - self.start.at) as usize)?;
         Some(self.records.entry(base(self.start.at), compact))
+    }
+
+    /// The client of the call at a place since the Start, if there is a call.
+    pub fn caller(&self, place: u64) -> Option<ClientId>
+        requires { self.now.start.at ≤ place }
+        ensures { result
+            ≡ caller_in (slice_get self.now.entries (place - self.now.start.at)) }
+    {
+        let compact = *self.entries.get((place - self.start.at) as usize)?;
+        self.records.caller(base(self.start.at), compact)
     }
 
     /// The greatest number of entries since the Start.

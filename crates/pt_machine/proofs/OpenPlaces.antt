@@ -42,6 +42,7 @@ use Rattle.pt_model.proofs.Opens.{left, was_open}
 use Rattle.pt_records.specs.declared.clients.Caller.{Caller}
 use Rattle.pt_records.specs.declared.clients.Open.{Open}
 use Rattle.pt_state.specs.declared.state.State.{State}
+use Rattle.pt_history.specs.Stored.{caller_in, caller_of}
 use Rattle.pt_state.specs.Adds.{past}
 use Rattle.pt_records.specs.Callers.{AreCallers, call_of, open_in, opens_of}
 use Rattle.pt_state.specs.Serving.{called}
@@ -95,16 +96,6 @@ place-none p ws f = go (at_place p ws) refl
     go None e = refl
     go (Some v) e = let r = place-in p ws v e in absurd (f v r.0 r.1)
 
--- the client of an entry, where that is a call
-abbrev pub caller_of : Entry → Option ℕ
-caller_of (Call c call r) = Some c
-caller_of _ = None
-
--- the same of an entry that was found
-abbrev pub caller_in : Option Entry → Option ℕ
-caller_in None = None
-caller_in (Some e) = caller_of e
-
 -- an entry at another place says nothing of it
 caller_still : (h : History) (e : Entry) (j : ℕ) → (place h == j) ≡ false
     → caller (h ▷ e) j ≡ caller h j
@@ -157,15 +148,12 @@ caller_onto (x ∷ xs) h zero j e =
 caller_onto (x ∷ xs) h (suc i) j e = caller_onto xs (h ▷ x) i j (omega (arith, e))
 
 -- the client of the call at a place is that of the entry that is stored there
-pub caller-stored : {A : Type 0} (s t : State A) → s ≡ t → (j : ℕ) (found : Option Entry)
-    → t.stored.start.at ≤ j
-    → (s.stored.start.at ≤ j → found ≡ slice_get s.stored.entries (j - s.stored.start.at))
-    → caller (past t) j ≡ caller_in found
-caller-stored {A = A} s t view j found late e =
+pub caller-stored : {A : Type 0} (s t : State A) → s ≡ t → (j : ℕ) → t.stored.start.at ≤ j
+    → caller (past t) j ≡ caller_in (slice_get s.stored.entries (j - s.stored.start.at))
+caller-stored {A = A} s t view j late =
     ap (λ (u : State A). caller (past u) j) (sym view)
-    ∙ (caller_onto s.stored.entries (Begin (reads_of s.stored.start)) (j - s.stored.start.at) j
+    ∙ caller_onto s.stored.entries (Begin (reads_of s.stored.start)) (j - s.stored.start.at) j
     (omega (arith, here))
-    ∙ ap caller_in (sym (e here)))
   where
     here : s.stored.start.at ≤ j
     here = subst (λ (u : State A). u.stored.start.at ≤ j) (sym view) late
@@ -236,18 +224,6 @@ caller-begun {A = A} s t view rows same j lt =
         → client_at (option_map (λ r. r.call) o) ≡ option_map (λ r. r.call.client) o
     found None = refl
     found (Some r) = refl
-
--- an entry that is no call has none
-pub no-caller : (e : Entry)
-    → ((c : ℕ) (call : Asked) (r : Option Outcome) → e ≡ Call c call r → ⊥) → caller_of e ≡ None
-no-caller (Call c call r) f = absurd (f c call r refl)
-no-caller (Join p k) f = refl
-no-caller (Death c) f = refl
-no-caller (Moment k t) f = refl
-no-caller (Grant k x) f = refl
-no-caller (Trip b) f = refl
-no-caller (Yield m) f = refl
-no-caller (Expire k) f = refl
 
 -- what a call leaves waiting came at its place, and is its client's
 left_came : (h : History) (c : ℕ) (E : Effect) → Allowed h c E → (w : WaitingCall)

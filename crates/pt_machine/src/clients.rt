@@ -8,7 +8,6 @@ ghost use Rattle.pt_state.specs.Adds.{Adds, IsReadyFor, Stays, past};
 ghost use Rattle.pt_machine.specs.Queued.{IsQueued};
 
 use crate::body::Body;
-use pt_model::Entry;
 use pt_state::State;
 use pt_types::{ClientId, Priority, Refusal};
 use pt_waitq::WaitList;
@@ -64,10 +63,7 @@ impl<Q: WaitList, A: Allocator + Copy> Body<Q, A> {
         requires { self.now.stored.start.at ≤ place }
         ensures { result ≡ caller (past self.now) place }
     {
-        match self.state.stored.entry(place)? {
-            Entry::Call(c, _, _) => Some(c),
-            _ => None,
-        }
+        self.state.stored.caller(place)
     }
 
     /// The client of the call at a place; of an open call of the Start, by the Start's rows.
