@@ -321,9 +321,10 @@ impl<A: Allocator + Copy> Engine<A> {
             (known_by self.new)) out.old.items out.new.items) }
         ensures why { IfErr result (λ fault. fault ≡ ScriptFault.Memory) }
     {
-        if let Who::Named(_) = line.who
-            && let Some((cond, mutex)) = wait_at_start(rest)
-        {
+        let Who::Named(_) = line.who else {
+            return self.answer_said(line, client, Rest::new(rest), out);
+        };
+        if let Some((cond, mutex)) = wait_at_start(rest) {
             return self.ask(line, client, Call::Wait(cond, mutex), out);
         }
         self.answer_rare(line, client, rest, out)
