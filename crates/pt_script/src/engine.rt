@@ -253,8 +253,8 @@ impl<A: Allocator + Copy> Engine<A> {
         }
     }
 
-    // Answers what is said, be it a call or not. It isn't inlined, so that calls have no room to clear
-    // for it.
+    // Answers what is said, be it a call or not. It isn't inlined, so that calls have no room to
+    // clear for it.
     #[inline(never)]
     #[tactic(auto, using(crate::proofs::Lines::says_refused))]
     fn answer_said(
@@ -277,8 +277,8 @@ impl<A: Allocator + Copy> Engine<A> {
         }
     }
 
-    // Answers what is neither a call of one name nor a wait. It isn't inlined, so that these have no
-    // room to clear for it.
+    // Answers what is neither a call of one name nor a wait. It isn't inlined, so that these have
+    // no room to clear for it.
     #[inline(never)]
     #[tactic(auto, using(crate::proofs::Lines::says_refused))]
     fn answer_rare(
@@ -304,8 +304,8 @@ impl<A: Allocator + Copy> Engine<A> {
         self.answer_said(line, client, rest, out)
     }
 
-    // Answers what else is said than calls of one name. It isn't inlined, so that these have no room
-    // to clear for it.
+    // Answers what else is said than calls of one name. It isn't inlined, so that these have no
+    // room to clear for it.
     #[inline(never)]
     fn answer_other(
         &mut self,
