@@ -50,7 +50,8 @@ length_one n lt = ap length (decimal_digit n lt)
 pub length_two : (n : ℕ) → 10 ≤ n → n < 100 → length (decimal n) ≡ 2
 length_two n le lt = ap length (decimal_two n le lt)
 
-pub length_more : (n : ℕ) → 100 ≤ n → n < 2 ^ 64 → length (decimal n) ≡ length (decimal (n / 100)) + 2
+pub length_more :
+    (n : ℕ) → 100 ≤ n → n < 2 ^ 64 → length (decimal n) ≡ length (decimal (n / 100)) + 2
 length_more n le fits = ap length (decimal_pair n le fits) ∙ length-append (decimal (n / 100)) _
 
 -- four digits at the end

@@ -76,7 +76,8 @@ no_space_is x h = by (x == 32) h
     by true h = sym h
     by false h = refl
 
-fields-word :
+-- a word and a space
+pub fields-word :
     (word rest : List ℕ) → is_word word ≡ true
     → fields (word ++ 32 ∷ rest) ≡ word ∷ fields rest
 fields-word [] rest h = refl

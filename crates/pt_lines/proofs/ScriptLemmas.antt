@@ -7,6 +7,7 @@ use Rattle.std.specs.Str.{bytes_eq}
 use Rattle.pt_types.specs.declared.outcome.Refusal.{Refusal}
 use Rattle.pt_types.specs.declared.outcome.Refusal.TheVariants as refusal
 use Rattle.pt_types.specs.declared.call.Call.{Call}
+use Rattle.pt_types.specs.declared.call.Call.TheVariants as call
 use Rattle.pt_types.specs.declared.named_verb.NamedVerb.{NamedVerb}
 use Rattle.pt_types.specs.NamedVerbs.{call_on}
 use Rattle.pt_lines.specs.declared.verb.Verb.{Verb}
@@ -17,11 +18,12 @@ use Rattle.pt_lines.specs.declared.client.Who.{Who}
 use Rattle.pt_lines.specs.declared.client.Who.TheVariants.{Named, Star, Unknown}
 use Rattle.pt_lines.specs.declared.script_line.ScriptBody.{ScriptBody}
 use Rattle.pt_lines.specs.declared.script_line.ScriptBody.TheVariants.{Hello, Ask, Die, Tick}
-use Rattle.pt_lines.specs.Arguments.{name_of, alone}
+use Rattle.pt_lines.specs.Arguments.{name_of, alone, first_then}
+use Rattle.pt_lines.specs.Fields.{fields}
 use Rattle.pt_lines.specs.ClientNames.{IsClientName}
 use Rattle.pt_lines.specs.Clients.{who_text, who_named, before_space, behind_space}
 use Rattle.pt_lines.specs.Grammar.{Spells}
-use Rattle.pt_lines.specs.Reading.{call_read, line_read, line_of, IsAsked}
+use Rattle.pt_lines.specs.Reading.{call_read, line_read, line_of, line_of_fields, IsAsked}
 use Rattle.pt_lines.specs.Verbs.{named_word}
 use Rattle.std.proofs.lemmas.List.{append-nil}
 use Rattle.pt_types.specs.Names.{IsName}
@@ -31,7 +33,7 @@ use Rattle.pt_lines.specs.Script.{body_read, body_behind, short_read}
 use Rattle.pt_lines.proofs.ArgumentLemmas.{bytes_are}
 use Rattle.pt_lines.proofs.ClientLemmas.{before-word, behind-word, both_sides, client_name_is_word}
 use Rattle.pt_lines.proofs.ClientLemmas.{IsNamed, named_is, named_again}
-use Rattle.pt_lines.proofs.FieldLemmas.{is_word}
+use Rattle.pt_lines.proofs.FieldLemmas.{is_word, fields-word}
 use Rattle.pt_lines.proofs.GrammarLemmas.{spells-line_read, length-spelled, call_read-spelled}
 
 if_ok :
@@ -157,13 +159,13 @@ called_again text rest read s =
 pub call_said :
     (rest : List ℕ) (args : List (List ℕ)) (verb : Verb) (o : Option Call)
     → line_read rest ≡ line_of verb args → IsAsked verb args o
-    → IfSome o (λ call. (client : List ℕ) → body_read (Named client) rest ≡ Ok (Ask call))
+    → IfSome o (λ asked. (client : List ℕ) → body_read (Named client) rest ≡ Ok (Ask asked))
 call_said rest args verb None read asked = tt
-call_said rest args verb (Some call) read asked = λ client.
-    called_again client rest (line.Ask call)
-    (spells-line_read rest (line.Ask call) (read ∙ by verb asked))
+call_said rest args verb (Some said) read asked = λ client.
+    called_again client rest (line.Ask said)
+    (spells-line_read rest (line.Ask said) (read ∙ by verb asked))
   where
-    by : (v : Verb) → IsAsked v args (Some call) → line_of v args ≡ Some (line.Ask call)
+    by : (v : Verb) → IsAsked v args (Some said) → line_of v args ≡ Some (line.Ask said)
     by first.Hello h = absurd cc
     by (first.Moment clock) h = absurd cc
     by first.MutexInit h = sym h
@@ -175,16 +177,19 @@ call_said rest args verb (Some call) read asked = λ client.
     by (first.Timed t) h = sym h
     by (first.Clocked k) h = sym h
 
--- a word of one name, and the name alone after it, are read as the call
-pub named_said :
-    (rest : List ℕ) (args : List (List ℕ)) (verb : NamedVerb) (o : Option (List ℕ))
-    → line_read rest ≡ line_of (first.Named verb) args → o ≡ alone name_of args
-    → (name : List ℕ) → o ≡ Some name → (client : List ℕ)
-    → body_read (Named client) rest ≡ Ok (Ask (call_on verb name))
-named_said rest args verb o read alone_is name some client =
-    let asked : IsAsked (first.Named verb) args (Some (call_on verb name)) =
-    ap (option_map (λ n. line.Ask (call_on verb n))) (sym some ∙ alone_is) in
-    call_said rest args (first.Named verb) (Some (call_on verb name)) read asked client
+-- a wait, a space and two names are read as the call of that wait
+pub wait_said :
+    (text args : List ℕ) (o : Option (List ℕ × List ℕ)) → text ≡ codes "wait " ++ args
+    → o ≡ first_then name_of (alone name_of) (fields args)
+    → IfSome o (λ names. (client : List ℕ)
+    → body_read (Named client) text ≡ Ok (Ask (call.Wait names.0 names.1)))
+wait_said text args None is two = tt
+wait_said text args (Some names) is two =
+    let read : line_read text ≡ line_of first.Wait (fields args) =
+    ap line_read is ∙ ap line_of_fields (fields-word (codes "wait") args refl) in
+    let asked : IsAsked first.Wait (fields args) (Some (call.Wait names.0 names.1)) =
+    ap (option_map (λ a. line.Ask (call.Wait a.0 a.1))) two in
+    call_said text (fields args) first.Wait (Some (call.Wait names.0 names.1)) read asked
 
 -- a word, a space and a name are read as the call of the word on the name
 pub named_spelled :

@@ -2,9 +2,11 @@
 -- among lanes.
 use Rattle.std.proofs.Common.{◌≡◌, ◌≢◌, ◌<◌, ◌≤◌, ◌+◌, ◌-◌, ◌^◌, ◌∙◌, ◌&&◌, ◌⊎◌, ℕ, zero, suc}
 use Rattle.std.proofs.Common.{Bool, true, false, not, cond, List, ◌∷◌, ◌++◌, length, take, drop}
-use Rattle.std.proofs.Common.{get_or, map, refl, ap, sym, subst, arith, inl, inr, Some, None, w64, pow_mono}
+use Rattle.std.proofs.Common.{get_or, map, refl, ap, sym, subst, arith, inl, inr, Some, None}
+use Rattle.std.proofs.Common.{w64, pow_mono}
 use Rattle.std.proofs.lemmas.Bool.{cases_lt}
-use Rattle.std.proofs.lemmas.List.{length-map, take-append-drop, drop_more, get_or_past, length-take-le, take_all, length-drop}
+use Rattle.std.proofs.lemmas.List.{length-map, length-take-le, length-drop, take-append-drop}
+use Rattle.std.proofs.lemmas.List.{drop_more, get_or_past, take_all}
 use Rattle.std.proofs.lemmas.Nat.Bits.{bit_at-zero, bit_at-trailing_zeros}
 use Rattle.std.proofs.lemmas.Simd.{bit_mask_l, mask_l-lt}
 use Rattle.std.proofs.Math.ListN.{get_or-map}
@@ -147,12 +149,9 @@ pub newlines_first :
     (xs : List ℕ) → length xs ≡ 32 → newlines xs ≢ 0
     → IsFirstByte (is_byte 10) xs (Some (trailing_zeros w64 (newlines xs)))
 newlines_first xs long some =
-    let fits : newlines xs < 2 ^ 64 =
-    omega (
-      arith,
-      mask_l-lt (map (is_byte 10) xs),
-      length-map xs (is_byte 10),
-      pow_mono {i = length (map (is_byte 10) xs)} {j = 64} (omega (arith, length-map xs (is_byte 10))),
-    ) in
+    let lanes = map (is_byte 10) xs in
+    let few = length-map xs (is_byte 10) in
+    let most = pow_mono {i = length lanes} {j = 64} (omega (arith, few)) in
+    let fits : newlines xs < 2 ^ 64 = omega (arith, mask_l-lt lanes, few, most) in
     let h = bit_at-trailing_zeros w64 (newlines xs) (omega (arith, some)) fits in
     newline_lowest xs (trailing_zeros w64 (newlines xs)) h.1 h.2

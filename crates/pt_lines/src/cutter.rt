@@ -178,7 +178,7 @@ impl<A: Allocator + Copy> Cutter<A> {
         requires { self.now.dropping ≡ false }
         ensures { IfSome result (IsFront self.now) }
     {
-        match self.held.as_slice().first_chunk::<32>() {
+        match self.held.as_slice().first_chunk::<SHORT_LINE>() {
             Some(block) => newline_in(block),
             None => self.newline_within(SHORT_LINE),
         }

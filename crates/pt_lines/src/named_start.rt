@@ -1,6 +1,7 @@
-//! Calls of one name, by the bytes that a line begins with.
+//! Calls of one name, and waits, by the bytes that a line begins with.
 
 ghost use Rattle.std.specs.Prelude.{◌≡◌, ◌++◌, [], ◌∷◌, IfSome, List, Ok, ℕ};
+ghost use Rattle.pt_types.specs.declared.call.Call.TheVariants as call;
 ghost use Rattle.pt_types.specs.Names.{IsName};
 ghost use Rattle.pt_types.specs.NamedVerbs.{call_on};
 ghost use Rattle.pt_lines.specs.declared.client.Who.TheVariants as who;
@@ -8,7 +9,9 @@ ghost use Rattle.pt_lines.specs.declared.script_line.ScriptBody.TheVariants as b
 ghost use Rattle.pt_lines.specs.Script.{body_read};
 ghost use Rattle.pt_lines.specs.Verbs.{named_word};
 
-use pt_types::NamedVerb;
+use crate::arguments::two_names;
+use crate::fields::Fields;
+use pt_types::{Name, NamedVerb};
 
 // What is after these bytes, if a text begins with them.
 #[inline(always)]
@@ -120,4 +123,15 @@ pub fn named_at_start(text: &[u8]) -> Option<(NamedVerb, &[u8])>
         ≡ Ok (body.Ask (call_on said.0 said.1.now))) }
 {
     said_at_start(text)
+}
+
+/// The condition and the mutex of a `wait`, if a text begins with one and a client that says this
+/// waits.
+#[inline(always)]
+pub fn wait_at_start(text: &[u8]) -> Option<(Name, Name)>
+    ensures { IfSome result (λ names. (client : List ℕ) → body_read (who.Named client) text.now
+        ≡ Ok (body.Ask (call.Wait names.0 names.1))) }
+{
+    let args = after(text, b"wait ")?;
+    two_names(Fields::new(args))
 }

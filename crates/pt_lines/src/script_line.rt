@@ -5,13 +5,12 @@ ghost use Rattle.pt_lines.specs.Fields.{fields_left};
 ghost use Rattle.pt_lines.specs.Reading.{line_of, line_read, call_read};
 ghost use Rattle.pt_lines.specs.Script.{body_of, body_read, IsReadAs, short_read, script_read};
 
-use crate::arguments::only_name;
 use crate::call_line::{CallLine, read_arguments, read_asked};
 use crate::client::{Who, client_at_start};
 use crate::cutter::Cut;
 use crate::fields::{Fields, first_space};
 use crate::verb::Verb;
-use pt_types::{Call, Clock, MOST_IN_LINE, Moment, Name, NamedVerb, Priority, Refusal};
+use pt_types::{Call, Clock, MOST_IN_LINE, Moment, Priority, Refusal};
 use std::marker::Model;
 
 /// What a line of a script says.
@@ -136,7 +135,6 @@ impl<'a> Model for Rest<'a> {
 
 impl<'a> Rest<'a> {
     ghost use Rattle.std.specs.Prelude.{IfSome, List, Ok, ℕ};
-    ghost use Rattle.pt_types.specs.NamedVerbs.{call_on};
 
     /// Reads the verb.
     pub fn new(text: &'a [u8]) -> Self
@@ -154,18 +152,6 @@ impl<'a> Rest<'a> {
                 verb: None,
                 args: None,
             },
-        }
-    }
-
-    /// The word and the name of a call of one name, if a client that says this calls one. Most
-    /// lines are such calls.
-    pub fn named(&self) -> Option<(NamedVerb, Name)>
-        ensures { IfSome result (λ said. (client : List ℕ) → body_read (Who.Named client) self.now
-            ≡ Ok (ScriptBody.Ask (call_on said.0 said.1))) }
-    {
-        match self.verb {
-            Some(Verb::Named(verb)) => Some((verb, only_name(Fields::left(self.args))?)),
-            _ => None,
         }
     }
 

@@ -10,7 +10,7 @@ use crate::names::{CountedLine, Names};
 use crate::text::refuse;
 use http_server::Log;
 use pt_core::Core;
-use pt_lines::{Cutter, Rest, ScriptBody, ScriptLine, Who, named_at_start, read_client};
+use pt_lines::{Rest, ScriptBody, ScriptLine, Who, named_at_start, read_client, wait_at_start};
 use pt_model::Event;
 use pt_types::{Call, ClientId, Name, Priority, Refusal};
 use std::alloc::{Allocator, Global};
@@ -50,14 +50,12 @@ impl<A: Allocator + Copy> Model for Engine<A> {
 impl<A: Allocator + Copy> Engine<A> {
     ghost use Rattle.pt_model.specs.Histories.{place};
     ghost use Rattle.pt_model.specs.Clients.{is_alive};
-    ghost use Rattle.std.specs.Bool.{OnTrue, OnFalse};
-    ghost use Rattle.pt_lines.specs.Lines.{to_come, IsBegun};
     ghost use Rattle.pt_lines.specs.Script.{body_read, short_read};
     ghost use Rattle.pt_core.specs.Cores.{past};
     ghost use Rattle.pt_script.specs.Scripts.{begun, core_of, event_for, event_of_body, join_for};
     ghost use Rattle.pt_script.specs.Scripts.{lines_of_who, number_of, of_client, refusal_of_hello};
     ghost use Rattle.pt_script.specs.Says.{Says, SaysOf, SaysTo};
-    ghost use Rattle.pt_script.specs.Engines.{Adds, Answers, IsAnswered, known_by, mark_of};
+    ghost use Rattle.pt_script.specs.Engines.{Adds, known_by, mark_of};
 
     /// An engine that has read no line. A refused growth is a fault.
     #[tactic(auto, using(crate::proofs::Asked::begun_sound, crate::proofs::Asked::begun_lines))]
@@ -255,8 +253,8 @@ impl<A: Allocator + Copy> Engine<A> {
         }
     }
 
-    // Answers what is said, be it a call or not. It isn't inlined, so that calls have no room to clear
-    // for it.
+    // Answers what is said, be it a call or not. It isn't inlined, so that calls have no room to
+    // clear for it.
     #[inline(never)]
     #[tactic(auto, using(crate::proofs::Lines::says_refused))]
     fn answer_said(
@@ -279,10 +277,11 @@ impl<A: Allocator + Copy> Engine<A> {
         }
     }
 
-    // Answers what else is said. It isn't inlined, so that calls of one name clear no room for it.
+    // Answers what is neither a call of one name nor a wait. It isn't inlined, so that these have
+    // no room to clear for it.
     #[inline(never)]
     #[tactic(auto, using(crate::proofs::Lines::says_refused))]
-    fn answer_other(
+    fn answer_rare(
         &mut self,
         line: &LineId,
         client: Option<ClientId>,
@@ -303,6 +302,32 @@ impl<A: Allocator + Copy> Engine<A> {
             return self.ask(line, client, call, out);
         }
         self.answer_said(line, client, rest, out)
+    }
+
+    // Answers what else is said than calls of one name. It isn't inlined, so that these have no
+    // room to clear for it.
+    #[inline(never)]
+    fn answer_other(
+        &mut self,
+        line: &LineId,
+        client: Option<ClientId>,
+        rest: &[u8],
+        out: &mut Vec<u8, A>,
+    ) -> Result<(), ScriptFault>
+        requires counted { 0 < lines_of_who self.old.seen line.now.who }
+        requires client { client ≡ number_of self.old.clients line.now.who }
+        ensures ok { OnOk result (Adds (SaysTo (known_by self.old) line.now
+            (event_of_body (known_by self.old) line.now.who (body_read line.now.who rest.now))
+            (known_by self.new)) out.old.items out.new.items) }
+        ensures why { IfErr result (λ fault. fault ≡ ScriptFault.Memory) }
+    {
+        let Who::Named(_) = line.who else {
+            return self.answer_said(line, client, Rest::new(rest), out);
+        };
+        if let Some((cond, mutex)) = wait_at_start(rest) {
+            return self.ask(line, client, Call::Wait(cond, mutex), out);
+        }
+        self.answer_rare(line, client, rest, out)
     }
 
     // Answers what is said after a client and a space. Most lines are calls of one name: these are
@@ -333,7 +358,11 @@ impl<A: Allocator + Copy> Engine<A> {
 
     // Answers the line of a text that is not too long, as `answer` does.
     #[inline(always)]
-    fn answer_text(&mut self, text: &[u8], out: &mut Vec<u8, A>) -> Result<(), ScriptFault>
+    pub(crate) fn answer_text(
+        &mut self,
+        text: &[u8],
+        out: &mut Vec<u8, A>,
+    ) -> Result<(), ScriptFault>
         requires { length self.old.seen < 2 ^ 53 }
         ensures ok { OnOk result
             (Adds (Says (known_by self.old) (short_read text.now) (known_by self.new))
@@ -347,100 +376,6 @@ impl<A: Allocator + Copy> Engine<A> {
         match rest {
             Some(rest) => self.answer_rest(&line, client, rest, out),
             None => refuse(out, &line, Refusal::Syntax),
-        }
-    }
-
-    // Answers the next line as the cutter reads it, and returns true, if it has the line whole. It
-    // isn't inlined, so that other lines have no room to clear for it.
-    #[inline(never)]
-    #[tactic(auto, using(crate::proofs::Runs::answers_none, crate::proofs::Runs::answers_same))]
-    fn answer_cut(
-        &mut self,
-        cutter: &mut Cutter<A>,
-        out: &mut Vec<u8, A>,
-    ) -> Result<bool, ScriptFault>
-        requires { length self.old.seen < 2 ^ 53 }
-        ensures ok { OnOk result
-            (Answers cutter.old (known_by self.old) out.old.items
-            cutter.new (known_by self.new) out.new.items) }
-        ensures fewer { IfOk result (λ more.
-            OnTrue more (length cutter.new.rest < length cutter.old.rest)) }
-        ensures begun { IfOk result (λ more. OnFalse more (IsBegun cutter.new)) }
-        ensures why { IfErr result (λ fault. fault ≡ ScriptFault.Memory) }
-    {
-        match cutter.next_script_line() {
-            Some(line) => {
-                self.answer(line, out)?;
-                Ok(true)
-            }
-            None => Ok(false),
-        }
-    }
-
-    // Answers the next line, and returns true, if the cutter has it whole.
-    #[inline(always)]
-    #[tactic(auto, using(crate::proofs::Runs::answers_none, crate::proofs::Runs::answers_same))]
-    fn answer_next(
-        &mut self,
-        cutter: &mut Cutter<A>,
-        out: &mut Vec<u8, A>,
-    ) -> Result<bool, ScriptFault>
-        requires { length self.old.seen < 2 ^ 53 }
-        ensures ok { OnOk result
-            (Answers cutter.old (known_by self.old) out.old.items
-            cutter.new (known_by self.new) out.new.items) }
-        ensures fewer { IfOk result (λ more.
-            OnTrue more (length cutter.new.rest < length cutter.old.rest)) }
-        ensures begun { IfOk result (λ more. OnFalse more (IsBegun cutter.new)) }
-        ensures why { IfErr result (λ fault. fault ≡ ScriptFault.Memory) }
-    {
-        if let Some(text) = cutter.front_text() {
-            let len = text.len();
-            self.answer_text(text, out)?;
-            cutter.drop_front(len);
-            return Ok(true);
-        }
-        self.answer_cut(cutter, out)
-    }
-
-    /// Answers all lines that the cutter has whole.
-    #[tactic(auto, using(crate::proofs::Runs::answers_none, crate::proofs::Runs::answers_join))]
-    pub fn answer_all(
-        &mut self,
-        cutter: &mut Cutter<A>,
-        out: &mut Vec<u8, A>,
-    ) -> Result<(), ScriptFault>
-        requires { length self.old.seen + length (to_come cutter.old []) < 2 ^ 53 }
-        ensures ok { OnOk result
-            (Answers cutter.old (known_by self.old) out.old.items
-            cutter.new (known_by self.new) out.new.items) }
-        ensures begun { OnOk result (IsBegun cutter.new) }
-        ensures why { IfErr result (λ fault. fault ≡ ScriptFault.Memory) }
-    {
-        while self.answer_next(cutter, out)? {}
-        Ok(())
-    }
-
-    /// Answers the last line, which no newline ended, if there is one.
-    #[tactic(auto, using(crate::proofs::Runs::last_none))]
-    pub fn answer_last(
-        &mut self,
-        cutter: Cutter<A>,
-        out: &mut Vec<u8, A>,
-    ) -> Result<(), ScriptFault>
-        requires begun { IsBegun cutter }
-        requires few { length self.old.seen < 2 ^ 53 }
-        ensures ok { OnOk result
-            (IsAnswered (known_by self.old) (to_come cutter []) out.old.items
-            (known_by self.new) out.new.items) }
-        ensures why { IfErr result (λ fault. fault ≡ ScriptFault.Memory) }
-    {
-        match cutter.finish() {
-            Some(cut) => {
-                self.answer(ScriptLine::of(&cut), out)?;
-                Ok(())
-            }
-            None => Ok(()),
         }
     }
 }

@@ -20,6 +20,7 @@
 
 mod accepting;
 mod asked_lines;
+mod cut_lines;
 mod engine;
 mod fault;
 mod laws;

@@ -1,10 +1,10 @@
 -- NameLemmas: which bytes a name may have, by the table, and names that grow byte by byte
-use Rattle.std.proofs.Common.{◌≡◌, ◌<◌, ◌-◌, ◌&&◌, ◌⊎◌, ℕ, zero, suc, Bool, true, false, List, get_or}
-use Rattle.std.proofs.Common.{◌++◌, [], ◌∷◌, length, take, drop, append_assoc, ap, ◌∙◌}
-use Rattle.std.proofs.lemmas.List.{take_all}
+use Rattle.std.proofs.Common.{◌≡◌, ◌<◌, ◌≤◌, ◌-◌, ◌^◌, ◌&&◌, ◌⊎◌, ◌∙◌, ℕ, zero, suc, Bool}
+use Rattle.std.proofs.Common.{true, false, not, List, [], ◌∷◌, ◌++◌, length, take, drop, get_or}
+use Rattle.std.proofs.Common.{append_assoc, ap, refl, sym, subst, arith, inl, inr}
 use Rattle.std.specs.List.{list_all}
-use Rattle.std.proofs.Common.{◌≤◌, ◌^◌, arith, refl, sym, subst, not, inl, inr}
 use Rattle.std.proofs.lemmas.Bool.{cases_lt}
+use Rattle.std.proofs.lemmas.List.{take_all}
 use Rattle.pt_types.specs.Names.{is_name_byte}
 use Rattle.pt_types.specs.declared.name.TheConstants.{MAY_STAND}
 
