@@ -35,8 +35,9 @@ pub fn told<Q: WaitList, A: Allocator + Copy>(
     }
 }
 
-// The answer that an event's own call has by now: the planned one, if the call was answered at once.
-fn told_as_planned<Q: WaitList, A: Allocator + Copy>(
+// The answer that an event's own call has by now: the planned one, if the call was answered at
+// once.
+fn told_by_plan<Q: WaitList, A: Allocator + Copy>(
     body: &Body<Q, A>,
     event: &Event,
     plan: &Plan<'_>,
@@ -81,7 +82,7 @@ pub fn write<Q: WaitList, A: Allocator + Copy>(
     if let Err(refusal) = enter(body, event, plan) {
         return Err(refusal);
     }
-    let outcome = told_as_planned(body, event, plan, first);
+    let outcome = told_by_plan(body, event, plan, first);
     Ok(Applied {
         first,
         last: body.len() - 1,

@@ -74,7 +74,8 @@ impl<Q: WaitList, A: Allocator + Copy> Body<Q, A> {
     fn first_at(&self, o: ObjectId) -> Option<&Open>
         requires { AreTables self.now }
         ensures value { option_map called (option_copied result) ≡ first_at_in (past self.now) o }
-        ensures known { IfSome (option_copied result) (λ found. In found (opens_of self.now.clients)) }
+        ensures known { IfSome (option_copied result)
+            (λ found. In found (opens_of self.now.clients)) }
     {
         match self.queues.first(o) {
             Some(first) => self.state.open_of(first.client),
@@ -88,8 +89,10 @@ impl<Q: WaitList, A: Allocator + Copy> Body<Q, A> {
     fn mutex_candidate(&self, m: ObjectId, mutex: &MutexObj) -> Option<&Open>
         requires read { AreTables self.now }
         requires stored { object_value self.now.objects m ≡ Some (row.Mutex mutex.now) }
-        ensures value { option_map called (option_copied result) ≡ mutex_candidate_in (past self.now) m }
-        ensures known { IfSome (option_copied result) (λ found. In found (opens_of self.now.clients)) }
+        ensures value { option_map called (option_copied result)
+            ≡ mutex_candidate_in (past self.now) m }
+        ensures known { IfSome (option_copied result)
+            (λ found. In found (opens_of self.now.clients)) }
     {
         if may_lock(mutex) {
             return self.first_at(m);
@@ -114,7 +117,8 @@ impl<Q: WaitList, A: Allocator + Copy> Body<Q, A> {
         ensures value { let h = past self.now in
             option_map called (option_copied result)
             ≡ if_passes (reads_again_at h r) (open_call_if h (entering h)) }
-        ensures known { IfSome (option_copied result) (λ found. In found (opens_of self.now.clients)) }
+        ensures known { IfSome (option_copied result)
+            (λ found. In found (opens_of self.now.clients)) }
     {
         let open = self.state.open_of(self.entering?)?;
         if reads_more(r, lock, open) {
@@ -130,8 +134,10 @@ impl<Q: WaitList, A: Allocator + Copy> Body<Q, A> {
     fn rwlock_candidate(&self, r: ObjectId, lock: &RwObj<A>) -> Option<&Open>
         requires read { AreTables self.now }
         requires stored { object_value self.now.objects r ≡ Some (row.Rwlock lock.now) }
-        ensures value { option_map called (option_copied result) ≡ rwlock_candidate_in (past self.now) r }
-        ensures known { IfSome (option_copied result) (λ found. In found (opens_of self.now.clients)) }
+        ensures value { option_map called (option_copied result)
+            ≡ rwlock_candidate_in (past self.now) r }
+        ensures known { IfSome (option_copied result)
+            (λ found. In found (opens_of self.now.clients)) }
     {
         if lock.writer().is_some() {
             return None;
@@ -147,7 +153,8 @@ impl<Q: WaitList, A: Allocator + Copy> Body<Q, A> {
         requires read { AreTables self.now }
         requires stored { object_value self.now.objects b ≡ Some (row.Barrier barrier.now) }
         ensures value { option_map called (option_copied result) ≡ candidate_in (past self.now) b }
-        ensures known { IfSome (option_copied result) (λ found. In found (opens_of self.now.clients)) }
+        ensures known { IfSome (option_copied result)
+            (λ found. In found (opens_of self.now.clients)) }
     {
         if barrier.full(self.arrivals(b)) {
             self.first_at(b)
@@ -160,7 +167,8 @@ impl<Q: WaitList, A: Allocator + Copy> Body<Q, A> {
     pub(crate) fn candidate(&self, o: ObjectId) -> Option<&Open>
         requires { AreTables self.now }
         ensures value { option_map called (option_copied result) ≡ candidate_in (past self.now) o }
-        ensures known { IfSome (option_copied result) (λ found. In found (opens_of self.now.clients)) }
+        ensures known { IfSome (option_copied result)
+            (λ found. In found (opens_of self.now.clients)) }
     {
         match self.state.objects.at(o.0)? {
             Object::Mutex(mutex) => self.mutex_candidate(o, mutex),

@@ -126,7 +126,8 @@ impl<Q: WaitList, A: Allocator + Copy> Body<Q, A> {
             ≡ least (is_served_before_in (past self.now))
             (filter (is_served_in (past self.now))
             (open_calls (past self.now))) }
-        ensures known { IfSome (option_copied result) (λ found. In found (opens_of self.now.clients)) }
+        ensures known { IfSome (option_copied result)
+            (λ found. In found (opens_of self.now.clients)) }
     {
         self.candidate(self.touched?)
     }

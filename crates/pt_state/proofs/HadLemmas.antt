@@ -204,7 +204,8 @@ module _ {A : Type 0} (s : State A) (c : ℕ) (call : Asked) (m : ℕ)
       closes = with_client rows c (closed (Some answer) waits)
 
       closed_row : WritesCaller rows closes c (closed (Some answer) waits)
-      closed_row = writes-caller rows c (closed (Some answer) waits) (client-there rows c waits its_row)
+      closed_row =
+          writes-caller rows c (closed (Some answer) waits) (client-there rows c waits its_row)
 
       callers_closed : AreCallers (past mid ▷ Grant o.call.place answer) closes
       callers_closed =
@@ -302,14 +303,16 @@ module _ {A : Type 0} (s : State A) (c : ℕ) (call : Asked) (m : ℕ)
                   (an
                   ∙ ap (λ y. map logged s.answers.items ++ (place (past mid), told_of o y) ∷ [])
                   answers_it
-                  ∙ ap (λ us. map logged s.answers.items ++ told_at (place (past mid)) us) (sym one))
+                  ∙ ap (λ us. map logged s.answers.items ++ told_at (place (past mid)) us)
+                  (sym one))
                   held);
             }
           where
             chained_then : AreChained end.clients end.objects end.orphans
             chained_then =
                 let kept = chained-caller clients ones new s.orphans chained c its_clients.0
-                (called_at (place (past s)) (Some answer) its_clients.0) its_clients.1 noted_it refl in
+                (called_at (place (past s)) (Some answer) its_clients.0) its_clients.1 noted_it
+                refl in
                 subst (λ n. AreChained end.clients end.objects n) (sym os)
                 (subst (λ (ns : List (ObjectRow (Object A))). AreChained end.clients ns s.orphans)
                 (sym ts)

@@ -25,8 +25,8 @@ enter-requires-clause-planned g c =
     c.requires.planned
 
 -- a call that was answered at once has its answer still
-pub told_as_planned-outcome-requires-clause-still : goal.told_as_planned-outcome-requires-clause-still
-told_as_planned-outcome-requires-clause-still g c =
+pub told_by_plan-outcome-requires-clause-still : goal.told_by_plan-outcome-requires-clause-still
+told_by_plan-outcome-requires-clause-still g c =
     let o = c.in_default.ensures.ok in
     let same = same-past c.args.body.now.stored c.make_room.new.body.stored o.made.same_start
     o.made.same_entries in
@@ -58,8 +58,8 @@ returns-clause-ok g c =
     entered-written c.args.body.now.stored c.make_room.new.body.stored c.enter.new.body.stored
     c.args.event.now o.made c.in_default-enter.ensures.ok
     (open-within c.args.body.now c.make_room.new.body c.args.event.now o c.requires.accepted)
-    c.len-first.result c.len.result c.told_as_planned-outcome.result None
-    c.len-first.ensures c.len.ensures c.told_as_planned-outcome.ensures
+    c.len-first.result c.len.result c.told_by_plan-outcome.result None
+    c.len-first.ensures c.len.ensures c.told_by_plan-outcome.ensures
 
 pub returns-in-Err-clause-enough : goal.returns-in-Err-clause-enough
 returns-in-Err-clause-enough g c = λ there small.

@@ -11,12 +11,14 @@ returns-in-Some-clause-value g c =
     first-called (past s) (g.Q.WaitList.seen c.args.queues.now).queue c.requires.queued.members
     c.requires.read.follows c.args.q (waits_in (past s) c.args.q)
     (at-cond (past s) c.requires.read.follows c.args.q c.requires.cond) s.clients
-    c.requires.read.callers c.first.result c.in-Some.first (option_copied c.open_of.result) c.first.ensures
+    c.requires.read.callers c.first.result c.in-Some.first (option_copied c.open_of.result)
+    c.first.ensures
     c.in-Some.is c.open_of.ensures
 
 pub returns-in-Some-clause-known : goal.returns-in-Some-clause-known
 returns-in-Some-clause-known g c =
-    found-known c.args.state.now.clients c.in-Some.first.client (option_copied c.open_of.result) c.open_of.ensures
+    found-known c.args.state.now.clients c.in-Some.first.client (option_copied c.open_of.result)
+    c.open_of.ensures
 
 pub returns-in-None-clause-value : goal.returns-in-None-clause-value
 returns-in-None-clause-value g c =

@@ -15,7 +15,8 @@ returns-in-Some g c =
     ≡ least (precedes h) (waits h c.requires.read.follows c.args.q c.requires.cond) =
     rw (← c.self.view_is) c.first_waiting.ensures.value in
     bound-first h c.requires.read.follows c.args.q c.requires.cond (called c.in-Some.first.now)
-    (ap (λ r. option_map called (option_copied r)) (sym c.in-Some.is) ∙ first) c.mutex_awaited.result
+    (ap (λ r. option_map called (option_copied r)) (sym c.in-Some.is) ∙ first)
+    c.mutex_awaited.result
     c.mutex_awaited.ensures
 
 pub returns-in-None : goal.returns-in-None

@@ -15,18 +15,21 @@ returns-in-Some-clause-value g c =
     let queues = c.self.inside.queues in
     let queued : IsQueued (past s) (g.Q.WaitList.seen queues) =
     rw (← c.self.view_is) c.self.invariant.0 in
-    let found : option_copied c.open_of.result ≡ open_in (client_value s.clients c.in-Some.first.client) =
+    let found : option_copied c.open_of.result
+    ≡ open_in (client_value s.clients c.in-Some.first.client) =
     rw (← c.self.view_is) c.open_of.ensures in
     first-called (past s)
     (g.Q.WaitList.seen queues).queue queued.members c.requires.follows c.args.o
     (λ (w : WaitingCall). at_object (past s) w == c.args.o) (λ w i. refl) s.clients
-    c.requires.callers c.first.result c.in-Some.first (option_copied c.open_of.result) c.first.ensures
+    c.requires.callers c.first.result c.in-Some.first (option_copied c.open_of.result)
+    c.first.ensures
     c.in-Some.is found
 
 pub returns-in-Some-clause-known : goal.returns-in-Some-clause-known
 returns-in-Some-clause-known g c =
     let s = c.args.self.now in
-    let found : option_copied c.open_of.result ≡ open_in (client_value s.clients c.in-Some.first.client) =
+    let found : option_copied c.open_of.result
+    ≡ open_in (client_value s.clients c.in-Some.first.client) =
     rw (← c.self.view_is) c.open_of.ensures in
     found-known s.clients c.in-Some.first.client (option_copied c.open_of.result) found
 

@@ -26,7 +26,8 @@ returns-then-comes_back-clause-value g c =
 pub returns-then-comes_back-clause-known : goal.returns-then-comes_back-clause-known
 returns-then-comes_back-clause-known g c =
     let s = c.args.self.now in
-    let found : Some c.in_ok-wait.wait.now ≡ open_in (client_value s.clients c.in_ok-owner.field-0) =
+    let found : Some c.in_ok-wait.wait.now
+    ≡ open_in (client_value s.clients c.in_ok-owner.field-0) =
     rw (← c.self.view_is) (ap option_copied (sym c.in_ok-wait.was) ∙ c.open_of.ensures) in
     found-known s.clients c.in_ok-owner.field-0 (Some c.in_ok-wait.wait.now) found
 

@@ -15,7 +15,8 @@ returns-then-reads_more-clause-value g c =
     let read = c.requires.read in
     let come : Some c.in_ok-self.field-0 ≡ entering (past s) =
     rw (← c.self.view_is) (sym c.in_ok-self.was ∙ c.self.invariant.2.enters) in
-    let found : Some c.in_ok-open.«open».now ≡ open_in (client_value s.clients c.in_ok-self.field-0) =
+    let found : Some c.in_ok-open.«open».now
+    ≡ open_in (client_value s.clients c.in_ok-self.field-0) =
     rw (← c.self.view_is) (ap option_copied (sym c.in_ok-open.was) ∙ c.open_of.ensures) in
     if_taken c.reads_more.result (called c.in_ok-open.«open».now) _ c.if-reads_more.true
     (again-served (past s) s.clients s.objects read.follows read.callers read.object_rows.look
@@ -25,7 +26,8 @@ returns-then-reads_more-clause-value g c =
 pub returns-then-reads_more-clause-known : goal.returns-then-reads_more-clause-known
 returns-then-reads_more-clause-known g c =
     let s = c.args.self.now in
-    let found : Some c.in_ok-open.«open».now ≡ open_in (client_value s.clients c.in_ok-self.field-0) =
+    let found : Some c.in_ok-open.«open».now
+    ≡ open_in (client_value s.clients c.in_ok-self.field-0) =
     rw (← c.self.view_is) (ap option_copied (sym c.in_ok-open.was) ∙ c.open_of.ensures) in
     found-known s.clients c.in_ok-self.field-0 (Some c.in_ok-open.«open».now) found
 
@@ -35,7 +37,8 @@ returns-else-reads_more-clause-value g c =
     let read = c.requires.read in
     let come : Some c.in_ok-self.field-0 ≡ entering (past s) =
     rw (← c.self.view_is) (sym c.in_ok-self.was ∙ c.self.invariant.2.enters) in
-    let found : Some c.in_ok-open.«open».now ≡ open_in (client_value s.clients c.in_ok-self.field-0) =
+    let found : Some c.in_ok-open.«open».now
+    ≡ open_in (client_value s.clients c.in_ok-self.field-0) =
     rw (← c.self.view_is) (ap option_copied (sym c.in_ok-open.was) ∙ c.open_of.ensures) in
     if_left c.reads_more.result (called c.in_ok-open.«open».now) _ c.if-reads_more.false
     (again-served (past s) s.clients s.objects read.follows read.callers read.object_rows.look
