@@ -4,9 +4,9 @@ use std::net::Net;
 use std::os::unix::net::UnixStream;
 use std::rt::Files;
 use std::time::{Clock, Duration};
-use std::{fs, io, thread};
+use std::{io, thread};
 
-/// How many milliseconds a client waits for the socket at most.
+/// How many milliseconds a client waits for the server at most.
 const PATIENCE: u32 = 20_000;
 
 /// A connection to a server, for tests.
@@ -16,17 +16,15 @@ pub struct Client {
 }
 
 impl Client {
-    /// Connects once the socket is there.
+    /// Connects once the server listens. The socket is there a moment before.
     pub fn connect<R: Files + Net + Clock>(rt: &R, path: &str) -> io::Result<Client> {
         for _ in 0..PATIENCE {
-            if fs::metadata(rt, path).is_ok() {
-                break;
+            if let Ok(stream) = UnixStream::connect(rt, path) {
+                return Ok(Client { stream });
             }
             thread::sleep(rt, Duration::from_millis(1));
         }
-        Ok(Client {
-            stream: UnixStream::connect(rt, path)?,
-        })
+        Err(io::Error::from(ErrorKind::TimedOut))
     }
 
     /// Sends these bytes.
