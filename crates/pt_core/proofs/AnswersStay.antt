@@ -1,5 +1,5 @@
 -- The answer of a call's own entry is the call's answer still, after the forced entries.
-use Rattle.std.proofs.Common.{◌≡◌, ℕ, ◌+◌, ◌==◌, List, [], ◌∷◌, ◌++◌, Option, Some, None, is_some}
+use Rattle.std.proofs.Common.{◌≡◌, ℕ, ◌+◌, ◌==◌, List, [], ◌∷◌, Option, Some, None, is_some}
 use Rattle.std.proofs.Common.{true, length, refl, sym, ap, ◌∙◌, subst, arith, append_assoc}
 use Rattle.std.proofs.lemmas.Bool.Decides.{nat_tests}
 use Rattle.std.specs.Option.{option_or}
@@ -20,7 +20,7 @@ use Rattle.pt_history.specs.Stored.{Stored, past_of}
 use Rattle.pt_history.proofs.Places.{past-pushed, place_of_next}
 use Rattle.pt_machine.specs.Planned.{entry_with}
 use Rattle.pt_core.specs.Applying.{IsToldStill}
-use Rattle.pt_core.specs.Settling.{Enters, Forces, IsReady}
+use Rattle.pt_core.specs.Settling.{Enters, Forces, IsReady, IsSettling}
 use Rattle.pt_core.proofs.SettlingLemmas.{ready-follows}
 
 -- an answer stays
@@ -34,7 +34,7 @@ told-step h e j x f s is = go (outcome_in (told h e) j) (answers-unanswered h e 
     go (Some y) fresh = absurd (let no = sym is ∙ fresh refl in cc)
 
 -- while forced entries follow
-told-kept : (h : History) (fs : List Entry) (j : ℕ) (x : Outcome) → Follows h → Forces h fs
+pub told-kept : (h : History) (fs : List Entry) (j : ℕ) (x : Outcome) → Follows h → Forces h fs
     → outcome h j ≡ Some x → outcome (onto h fs) j ≡ Some x
 told-kept h [] j x f a is = is
 told-kept h (e ∷ fs) j x f a is =
@@ -83,3 +83,13 @@ module _ (old new : Stored) (v : Event) (r : IsReady old v) (ok : refusal (past_
       go (event.Join p) a same = tt
       go (event.Death c) a same = tt
       go (event.Moment k t) a same = tt
+
+-- and so is the answer of a call that was granted as it came
+pub told-settled : (now u : Stored) (j : ℕ) (x : Outcome) → Follows (past_of now)
+    → IsSettling now u → outcome (past_of now) j ≡ Some x → outcome (past_of u) j ≡ Some x
+told-settled now u j x f s is =
+    ap (λ (h : History). outcome h j)
+    (ap (λ (r : StartRows). onto (Begin (reads_of r)) u.entries) s.same_start
+    ∙ (ap (onto (Begin (reads_of now.start))) s.added.1
+    ∙ onto-append (Begin (reads_of now.start)) now.entries s.added.0))
+    ∙ told-kept (past_of now) s.added.0 j x f s.added.2 is

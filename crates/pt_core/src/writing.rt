@@ -35,19 +35,18 @@ pub fn told<Q: WaitList, A: Allocator + Copy>(
     }
 }
 
-// The answer that an event's own call has by now: the planned one, if the call was answered at
-// once.
-fn told_by_plan<Q: WaitList, A: Allocator + Copy>(
+// The answer that an event's own call has by now: the one that it had as it came, if it had one.
+fn outcome_by_answer<Q: WaitList, A: Allocator + Copy>(
     body: &Body<Q, A>,
     event: &Event,
-    plan: &Plan<'_>,
+    answer: Option<Outcome>,
     first: u64,
 ) -> Option<Outcome>
     requires read { AreTables body.now }
-    requires still { IsToldStill event.now plan.now.answer (past body.now) first }
+    requires still { IsToldStill event.now answer (past body.now) first }
     ensures { result ≡ told_at_once event.now (past body.now) first }
 {
-    match (event, plan.answer) {
+    match (event, answer) {
         (Event::Call(..), Some(answer)) => Some(answer),
         _ => told(body, event, first),
     }
@@ -79,10 +78,11 @@ pub fn write<Q: WaitList, A: Allocator + Copy>(
         return Err(refusal);
     }
     let first = body.len();
-    if let Err(refusal) = enter(body, event, plan) {
-        return Err(refusal);
-    }
-    let outcome = told_by_plan(body, event, plan, first);
+    let answer = match enter(body, event, plan) {
+        Ok(answer) => answer,
+        Err(refusal) => return Err(refusal),
+    };
+    let outcome = outcome_by_answer(body, event, answer, first);
     Ok(Applied {
         first,
         last: body.len() - 1,

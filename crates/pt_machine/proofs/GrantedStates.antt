@@ -1,6 +1,8 @@
 -- GrantedStates: the tables after a call that is granted as it comes, and after its Grant.
 use Rattle.std.proofs.Common.{◌≡◌, ℕ, ◌+◌, ◌&&◌, Bool, true, false, cond, not, List, Option, Some}
-use Rattle.std.proofs.Common.{None, is_none, refl, sym, ap, ◌∙◌, subst}
+use Rattle.std.proofs.Common.{None, is_none, refl, sym, ap, ◌∙◌, subst, eq-eqb}
+use Rattle.std.specs.Option.{option_or}
+use Rattle.pt_model.specs.Answers.{outcome}
 use Rattle.std.proofs.lemmas.Bool.{and_parts}
 use Rattle.std.specs.Prelude.{IsSome, option_map, unwrap_or}
 use Rattle.pt_types.specs.declared.call.Call.{Call as Asked}
@@ -161,6 +163,16 @@ module _ {A : Type 0} (old mid : State A) (c : ℕ) (call : Asked)
             (serves_it ∙ grants h ready.read.follows c call had ready.step)
             ∙ ap (λ y. y ▷ Grant (place h) (grant_outcome g its)) same)
 
+        -- the call is answered so
+        pub told-granted : (y : Outcome) → y ≡ grant_outcome (past mid) (called o)
+            → outcome (past new) (place h) ≡ Some y
+        told-granted y told =
+            ap (λ (k : History). outcome k (place h)) ends
+            ∙ (ap (λ b. option_or (cond b (Some (grant_outcome g its)) None) (outcome g (place h)))
+            (eq-eqb (place h) (place h) refl)
+            ∙ ap Some (sym (told
+            ∙ (ap (λ k. grant_outcome k (called o)) same ∙ ap (grant_outcome g) is_it))))
+
         -- the queues stay
         pub queued-granted : (v : QueuesView) → IsQueued h v → IsQueued (past new) v
         queued-granted v k =
@@ -286,7 +298,7 @@ module _ {A : Type 0} (old : State A) (c : ℕ) (call : Asked) (m : ℕ)
         adds.first.read.callers waits
         (found-known between.clients c (Some waits) (sym adds.found)))
 
-    pub adds-granted : AddsGranted old c call used new
+    pub adds-granted : AddsGranted old c call used x new
     adds-granted =
         record {
           mid = between;
@@ -297,6 +309,7 @@ module _ {A : Type 0} (old : State A) (c : ℕ) (call : Asked) (m : ℕ)
               (ap (λ y. Grant waits.call.place y) adds.told
               ∙ sym (its_grant between adds.first))
               adds.second;
+          told = adds.told;
           uses = ap (λ n. n + one_if (gives_owner (past between) waits.call
               (mutex_of waits.call.role waits.call.object))) uses_it
               ∙ (ap (λ b. cond {A = ℕ} (robust && is_acquired x) 2 3 + one_if b) gives

@@ -4,6 +4,7 @@ use Rattle.std.specs.Prelude.{is_none}
 use Rattle.pt_types.specs.declared.call.Call.{Call as Asked}
 use Rattle.pt_types.specs.declared.call.How.{How}
 use Rattle.pt_types.specs.declared.operations.LockKind.{LockKind}
+use Rattle.pt_types.specs.declared.outcome.Outcome.{Outcome}
 use Rattle.pt_types.specs.declared.operations.LockKind.TheVariants.{MutexLock, ReadLock, WriteLock}
 use Rattle.pt_types.specs.MutexTable.{is_lost}
 use Rattle.pt_types.specs.Operations.{Acquires, class_needed, operation}
@@ -18,6 +19,7 @@ use Rattle.pt_model.specs.Rwlocks.{reader, writer}
 use Rattle.pt_model.specs.Verdicts.{is_awaited}
 use Rattle.pt_model.specs.Room.{entry_for, reserved_for}
 use Rattle.pt_model.specs.Forced.{forced, service}
+use Rattle.pt_model.specs.Grants.{grant_outcome}
 use Rattle.pt_model.specs.WaitingCall.{mutex_of}
 use Rattle.pt_types.specs.declared.operations.ObjectClass.TheVariants.{Mutex as MutexClass}
 use Rattle.pt_table.specs.ClientRows.{client_value}
@@ -70,14 +72,16 @@ module _ {A : Type 0} where
       (mid : State A) → Adds old e mid → (f : Entry) → forced (past mid) ≡ Some f
       → IsReadyFor mid f
 
-  -- a call's entry was added, and its Grant, and this many entries are no longer reserved then
-  pub record AddsGranted (old : State A) (c : ℕ) (call : Asked) (used : ℕ) (new : State A)
-      : Type 0 where
+  -- a call's entry was added, and its Grant with this outcome, and this many entries are no longer
+  -- reserved then
+  pub record AddsGranted (old : State A) (c : ℕ) (call : Asked) (used : ℕ) (x : Outcome)
+      (new : State A) : Type 0 where
     pub mid : State A
     pub first : Adds old (Call c call None) mid
     pub its : Open
     pub found : Some its ≡ open_in (client_value mid.clients c)
     pub second : Adds mid (service (past mid) its.call) new
+    pub told : x ≡ grant_outcome (past mid) its.call
     pub uses :
         used + one_if (gives_owner (past mid) its.call (mutex_of its.call.role its.call.object))
         ≡ reserved_for (past mid) its.call

@@ -27,6 +27,7 @@ ghost use Rattle.pt_model.specs.Searches.{In, least};
 ghost use Rattle.pt_model.specs.WaitingCall.{at_place};
 ghost use Rattle.pt_model.specs.Answers.{open_calls};
 ghost use Rattle.pt_model.specs.Forced.{expires_before, forced, forced_service, is_overdue};
+ghost use Rattle.pt_model.specs.Forced.{service};
 
 use crate::body::Body;
 use crate::{calls, clients, forced};
@@ -301,6 +302,26 @@ pub(crate) fn push_outer<Q: WaitList, A: Allocator + Copy>(
     }
 }
 
+/// A call is served, and its deadline dropped.
+/// [XSH pthread_barrier_wait, pthread_mutex_unlock, pthread_rwlock_unlock]
+pub(crate) fn push_served<Q: WaitList, A: Allocator + Copy>(
+    state: &mut State<A>,
+    queues: &mut Q,
+    timers: &mut Timers<A>,
+    found: &Open,
+)
+    requires ready { IsReadyFor state.old (service (past state.old) (called found.now)) }
+    requires queued { IsQueued (past state.old) (Q.seen queues.old) }
+    requires timed { AreTimed (past state.old) timers.old }
+    requires known { In found.now (opens_of state.old.clients) }
+    ensures adds { Adds state.old (service (past state.old) (called found.now)) state.new }
+    ensures queued { IsQueued (past state.new) (Q.seen queues.new) }
+    ensures timed { AreTimed (past state.new) timers.new }
+{
+    forced::push_served(state, queues, found);
+    timers.cancel(found.call.place);
+}
+
 /// Pushes what must follow, and drops the deadline of the call that it serves or ends.
 /// [XSH pthread_mutex_unlock, pthread_mutex_lock EOWNERDEAD, pthread_mutex_timedlock]
 pub(crate) fn push_forced<Q: WaitList, A: Allocator + Copy>(
@@ -365,6 +386,17 @@ impl<Q: WaitList, A: Allocator + Copy> Body<Q, A> {
         let clocks = &self.state.clocks;
         let place = self.timers.least_due(clocks.real, clocks.mono)?;
         self.open_at(place)
+    }
+
+    /// Whether a deadline has passed, if no call is to be served.  [XSH pthread_mutex_timedlock]
+    pub(crate) fn is_overdue(&self) -> bool
+        requires read { AreTables self.now }
+        requires unserved { forced_service (past self.now) ≡ None }
+        ensures { result ≡ false → least expires_before
+            (filter (is_overdue (past self.now)) (open_calls (past self.now))) ≡ None }
+    {
+        let clocks = &self.state.clocks;
+        self.timers.least_due(clocks.real, clocks.mono).is_some()
     }
 
     /// The least deadline by this clock of the open calls that are not moved, as it was written.

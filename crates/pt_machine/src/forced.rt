@@ -1,7 +1,11 @@
 //! Forced entries: which comes next, and how it comes in.
 
 ghost use Rattle.std.specs.Option.{option_copied};
-ghost use Rattle.std.specs.Prelude.{IfSome, ◌≡◌, false, filter, option_map};
+ghost use Rattle.std.specs.Prelude.{IfSome, IsSome, None, Some, ◌≡◌, false, filter, option_map};
+ghost use Rattle.std.specs.Prelude.{true};
+ghost use Rattle.pt_model.specs.declared.entry.Entry.{Entry};
+ghost use Rattle.pt_model.specs.declared.waiting_call.WaitingCall.{WaitingCall};
+ghost use Rattle.pt_records.specs.Callers.{call_of};
 ghost use Rattle.pt_model.specs.Searches.{In, least};
 ghost use Rattle.pt_model.specs.Histories.{place};
 ghost use Rattle.pt_model.specs.WaitingCall.{is_arrival as is_arrival_role};
@@ -18,10 +22,12 @@ ghost use Rattle.pt_model.specs.Answers.{open_calls};
 
 use crate::barrier::push_tripped;
 use crate::body::Body;
+use crate::clock;
 use crate::cond::push_late_wait;
 use pt_model::waiting_call::{is_arrival, is_wait};
 use pt_records::Open;
 use pt_state::{Forced, State};
+use pt_types::ClientId;
 use pt_waitq::WaitList;
 use std::alloc::Allocator;
 
@@ -150,5 +156,68 @@ impl<Q: WaitList, A: Allocator + Copy> Body<Q, A> {
             Some(late) => Some(Forced::Expire(late)),
             None => None,
         }
+    }
+
+    // The open call of a client is served, which must be. What is touched stays so.
+    // [XSH pthread_mutex_unlock, pthread_rwlock_unlock, pthread_barrier_wait]
+    #[inline(never)]
+    fn push_service(&mut self, c: ClientId)
+        requires read { AreTables self.old }
+        requires waits { IsSome (call_of (open_calls (past self.old)) c) }
+        requires ready { (w : WaitingCall) → call_of (open_calls (past self.old)) c ≡ Some w
+            → IsReadyFor self.old (service (past self.old) w) }
+        ensures { (w : WaitingCall) → call_of (open_calls (past self.old)) c ≡ Some w
+            → Adds self.old (service (past self.old) w) self.new }
+    {
+        let found = *self.state.open_of(c).unwrap();
+        let used = self.used_by_service(&found);
+        clock::push_served(&mut self.state, &mut self.queues, &mut self.timers, &found);
+        self.need -= used;
+    }
+
+    // Pushes what must follow next, and returns whether anything must. A yield and a deadline are
+    // seldom due, so it is not inlined.
+    #[cold]
+    #[inline(never)]
+    fn push_any(&mut self) -> bool
+        requires read { AreTables self.old }
+        requires ready { (e : Entry) → forced_in (past self.old) ≡ Some e
+            → IsReadyFor self.old e }
+        ensures pushed { result ≡ true → (e : Entry)
+            × (forced_in (past self.old) ≡ Some e) × Adds self.old e self.new }
+        ensures none { result ≡ false → (forced_in (past self.old) ≡ None)
+            × (self.new ≡ self.old) }
+    {
+        match self.next_forced() {
+            Some(forced) => {
+                self.push_forced(&forced);
+                true
+            }
+            None => false,
+        }
+    }
+
+    /// Pushes what must follow next, and returns whether anything must: service, then yields, then
+    /// deadlines.
+    /// [XSH pthread_mutex_unlock, pthread_mutex_lock EOWNERDEAD, pthread_mutex_timedlock]
+    #[inline(always)]
+    pub fn push_next(&mut self) -> bool
+        requires read { AreTables self.old }
+        requires ready { (e : Entry) → forced_in (past self.old) ≡ Some e
+            → IsReadyFor self.old e }
+        ensures pushed { result ≡ true → (e : Entry)
+            × (forced_in (past self.old) ≡ Some e) × Adds self.old e self.new }
+        ensures none { result ≡ false → (forced_in (past self.old) ≡ None)
+            × (self.new ≡ self.old) }
+    {
+        if let Some(served) = self.first_served() {
+            let c = served.call.client;
+            self.push_service(c);
+            return true;
+        }
+        if self.state.first_orphan().is_none() && !self.is_overdue() {
+            return false;
+        }
+        self.push_any()
     }
 }

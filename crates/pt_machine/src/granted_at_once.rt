@@ -1,6 +1,10 @@
 //! Calls for a lock that is free: each is pushed with its Grant, and stands in no queue.
 
-ghost use Rattle.std.specs.Prelude.{IfErr, IfOk, IsOk, None, OnErr, OnOk, false, ◌≡◌};
+ghost use Rattle.std.specs.Prelude.{IfErr, IfOk, IsOk, None, OnErr, OnOk, Some, ◌&&◌, false, ◌≡◌};
+ghost use Rattle.std.specs.Prelude.{if◌then◌else◌};
+ghost use Rattle.pt_types.specs.MutexTable.{is_acquired as is_acquired_it};
+ghost use Rattle.pt_model.specs.Answers.{outcome};
+ghost use Rattle.pt_model.specs.Histories.{place};
 ghost use Rattle.std.specs.Bool.{OnTrue};
 ghost use Rattle.pt_model.specs.declared.entry.Event.TheVariants as event_is;
 ghost use Rattle.pt_model.specs.declared.entry.Entry.TheVariants as entry_is;
@@ -21,10 +25,10 @@ use crate::room::used_by_grant;
 use pt_records::Object;
 use pt_records::mutex::may_lock;
 use pt_rwlock::RwObj;
-use pt_state::{Request, State};
+use pt_state::{Had, Request, State};
 use pt_types::operations::{LockKind, Operation};
 use pt_types::views::is_acquired;
-use pt_types::{Call, ClientId, ObjectId, Refusal};
+use pt_types::{Call, ClientId, ObjectId, Outcome, Refusal};
 use pt_waitq::WaitList;
 use std::alloc::Allocator;
 
@@ -53,34 +57,60 @@ fn is_free<A: Allocator + Copy>(state: &State<A>, kind: LockKind, o: ObjectId) -
     }
 }
 
-// Pushes a call for a mutex that is granted as it comes, with its Grant, and returns how many
-// entries are no longer reserved then.  [XSH pthread_mutex_lock]
-fn push_had<A: Allocator + Copy>(state: &mut State<A>, c: ClientId, call: &Call, m: ObjectId) -> u64
+// What came of a call that was granted as it came.
+#[derive(Clone, Copy)]
+struct Granted {
+    // How many entries are no longer reserved.
+    used: u64,
+    outcome: Outcome,
+}
+
+// How many entries are no longer reserved once a call got its mutex: one is, for a Yield, if the
+// mutex is robust and had no owner.  [XSH pthread_mutex_lock, EOWNERDEAD]
+fn used_by_had(had: Had) -> u64
+    ensures { result ≡ if had.robust && is_acquired_it had.outcome then 2 else 3 }
+{
+    if had.robust && is_acquired(had.outcome) {
+        2
+    } else {
+        3
+    }
+}
+
+// Pushes a call for a mutex that is granted as it comes, with its Grant.  [XSH pthread_mutex_lock]
+fn push_had<A: Allocator + Copy>(
+    state: &mut State<A>,
+    c: ClientId,
+    call: &Call,
+    m: ObjectId,
+) -> Granted
     requires ready { IsReadyFor state.old (entry_is.Call c call.now None) }
     requires next { IsReadyAfter state.old (entry_is.Call c call.now None) }
     requires granted { IsGrantedAtOnce (past state.old) c call.now }
     requires mutex { IsForMutex (past state.old) call.now m }
-    ensures { AddsGranted state.old c call.now result state.new }
+    ensures { AddsGranted state.old c call.now result.used result.outcome state.new }
 {
-    let robust = state.is_robust_free(m);
-    let outcome = state.push_had(c, call, m);
-    if robust && is_acquired(outcome) { 2 } else { 3 }
+    let had = state.push_had(c, call, m);
+    Granted {
+        used: used_by_had(had),
+        outcome: had.outcome,
+    }
 }
 
-// Pushes a call that waits, and then its Grant, and returns how many entries are no longer reserved
-// then. ENOMEM if there is no memory for its row in a read-write lock: then nothing is pushed.
+// Pushes a call that waits, and then its Grant. ENOMEM if there is no memory for its row in a read-write lock: then nothing is pushed.
 // [XSH pthread_rwlock_rdlock, pthread_rwlock_wrlock]
 fn push_left_and_granted<A: Allocator + Copy>(
     state: &mut State<A>,
     c: ClientId,
     call: &Call,
     request: &Request<'_>,
-) -> Result<u64, Refusal>
+) -> Result<Granted, Refusal>
     requires ready { IsReadyFor state.old (entry_is.Call c call.now None) }
     requires next { IsReadyAfter state.old (entry_is.Call c call.now None) }
     requires granted { IsGrantedAtOnce (past state.old) c call.now }
     requires asks { IsRequest (past state.old) (operation call.now) request.now }
-    ensures ok { IfOk result (λ used. AddsGranted state.old c call.now used state.new) }
+    ensures ok { IfOk result (λ granted.
+        AddsGranted state.old c call.now granted.used granted.outcome state.new) }
     ensures err { OnErr result (Stays state.old state.new) }
     ensures reason { IfErr result (λ refusal. refusal ≡ Refusal.Enomem) }
     ensures enough { asks_to_read (operation call.now) ≡ false → IsOk result }
@@ -88,8 +118,9 @@ fn push_left_and_granted<A: Allocator + Copy>(
     state.push_left(c, call, request)?;
     let open = state.open_of(c).copied().unwrap();
     let used = used_by_grant(state, &open);
+    let outcome = state.grant_outcome(&open);
     state.push_granted(&open);
-    Ok(used)
+    Ok(Granted { used, outcome })
 }
 
 // Pushes a call that is granted as it comes, with its Grant. A mutex needs no row of the client, so
@@ -99,12 +130,13 @@ fn push_both<A: Allocator + Copy>(
     c: ClientId,
     call: &Call,
     request: &Request<'_>,
-) -> Result<u64, Refusal>
+) -> Result<Granted, Refusal>
     requires ready { IsReadyFor state.old (entry_is.Call c call.now None) }
     requires next { IsReadyAfter state.old (entry_is.Call c call.now None) }
     requires granted { IsGrantedAtOnce (past state.old) c call.now }
     requires asks { IsRequest (past state.old) (operation call.now) request.now }
-    ensures ok { IfOk result (λ used. AddsGranted state.old c call.now used state.new) }
+    ensures ok { IfOk result (λ granted.
+        AddsGranted state.old c call.now granted.used granted.outcome state.new) }
     ensures err { OnErr result (Stays state.old state.new) }
     ensures reason { IfErr result (λ refusal. refusal ≡ Refusal.Enomem) }
     ensures enough { asks_to_read (operation call.now) ≡ false → IsOk result }
@@ -138,30 +170,32 @@ impl<Q: WaitList, A: Allocator + Copy> Body<Q, A> {
         }
     }
 
-    /// The entry of a call that is granted as it comes, and its Grant. ENOMEM if there is no memory
-    /// for its row in a read-write lock: then nothing is pushed.
+    /// The entry of a call that is granted as it comes, and its Grant. The outcome is returned.
+    /// ENOMEM if there is no memory for its row in a read-write lock: then nothing is pushed.
     /// [XSH pthread_mutex_lock, pthread_rwlock_rdlock, pthread_rwlock_wrlock]
     pub fn push_granted_at_once(
         &mut self,
         c: ClientId,
         call: &Call,
         plan: &Plan<'_>,
-    ) -> Result<(), Refusal>
+    ) -> Result<Outcome, Refusal>
         requires ready { IsReadyFor self.old (entry_is.Call c call.now None) }
         requires next { IsReadyAfter self.old (entry_is.Call c call.now None) }
         requires granted { IsGrantedAtOnce (past self.old) c call.now }
         requires planned { IsPlanned (past self.old) (event_is.Call c call.now) plan.now }
         ensures ok { OnOk result
             (AddsBoth self.old (entry_is.Call c call.now None) self.new) }
+        ensures told { IfOk result (λ x.
+            outcome (past self.new) (place (past self.old)) ≡ Some x) }
         ensures err { OnErr result (Stays self.old self.new) }
         ensures reason { IfErr result (λ refusal. refusal ≡ Refusal.Enomem) }
         ensures enough { needs_memory (entry_is.Call c call.now None) ≡ false → IsOk result }
     {
         let request = plan.request.as_ref().unwrap();
-        let used = push_both(&mut self.state, c, call, request)?;
+        let granted = push_both(&mut self.state, c, call, request)?;
         self.touched = plan.touched;
         self.entering = Some(c);
-        self.need = plan.need - used;
-        Ok(())
+        self.need = plan.need - granted.used;
+        Ok(granted.outcome)
     }
 }

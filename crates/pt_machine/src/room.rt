@@ -114,7 +114,7 @@ impl<Q: WaitList, A: Allocator + Copy> Body<Q, A> {
     }
 
     // The entries that are no longer reserved as a full barrier trips, or a call is granted.
-    fn used_by_service(&self, open: &Open) -> u64
+    pub(crate) fn used_by_service(&self, open: &Open) -> u64
         requires read { AreTables self.now }
         requires step { Step (past self.now) (service (past self.now) (called «open».now)) }
         requires known { In «open».now (opens_of self.now.clients) }

@@ -1,6 +1,9 @@
 //! Rows of mutexes: what one says of a call, and how it changes.
 
 ghost use Rattle.std.specs.Prelude.{IsSome, IsTrue, List, None, Option, Some, ◌+◌, ◌<◌, ◌≡◌, true};
+ghost use Rattle.std.specs.Prelude.{false};
+ghost use Rattle.pt_model.specs.Found.{passes};
+ghost use Rattle.pt_records.specs.Chained.{is_robust_free};
 ghost use Rattle.std.specs.Prelude.{ℕ};
 ghost use Rattle.pt_records.specs.Counts.{is_last_lock, is_robust_held};
 ghost use Rattle.pt_types.specs.MutexTable.{lock_verdict as lock_table, may_lock as may_lock_it};
@@ -132,6 +135,26 @@ pub fn acquire<A: Allocator + Copy>(
         → AreChained clients.new objects.new orphans }
 {
     hold(clients, objects, m, c);
+    lock(objects, m, c);
+}
+
+/// As `acquire`, of a mutex that is not a robust one without an owner: it comes into no chain.
+/// [XSH pthread_mutex_lock]
+pub fn acquire_plain<A: Allocator + Copy>(
+    objects: &mut Objects<Object<A>, A>,
+    m: ObjectId,
+    c: ClientId,
+)
+    requires there { IsSome (mutex_in (object_value objects.old m)) }
+    requires may { (x : MutexState) → object_value objects.old m ≡ Some (Mutex x)
+        → IsTrue (can_acquire x.seen c) }
+    requires plain { passes is_robust_free (object_value objects.old m) ≡ false }
+    ensures mutex { (x : MutexState) → object_value objects.old m ≡ Some (Mutex x)
+        → WritesObject objects.old objects.new m (Mutex (record x { seen = acquired x.seen c })) }
+    ensures chained { (clients : List (ClientRow Caller)) → has_client clients c ≡ true
+        → (orphans : Option ℕ) → AreChained clients objects.old orphans
+        → AreChained clients objects.new orphans }
+{
     lock(objects, m, c);
 }
 

@@ -1,35 +1,72 @@
 //! A call for a mutex that is granted as it comes: its entry, and its Grant.
 
-ghost use Rattle.std.specs.Prelude.{IsSome, IsTrue, None, Option, Some, ℕ, ◌≡◌, false, true};
+ghost use Rattle.std.specs.Prelude.{IsSome, IsTrue, None, Option, Some, ℕ, ◌&&◌, ◌≡◌, false};
+ghost use Rattle.std.specs.Prelude.{is_none, true};
+ghost use Rattle.pt_model.specs.Found.{passes};
+ghost use Rattle.pt_model.specs.Mutexes.{owner};
+ghost use Rattle.pt_model.specs.Objects.{is_robust, kind_of};
 ghost use Rattle.pt_types.specs.MutexTable.{is_acquired as is_acquired_it};
 ghost use Rattle.pt_mutex.specs.MutexState.{MutexState, acquired, can_acquire};
 ghost use Rattle.pt_table.specs.ClientRows.{has_client};
 ghost use Rattle.pt_table.specs.ObjectRows.{object_value};
 ghost use Rattle.pt_model.specs.declared.entry.Entry.TheVariants as entry;
 ghost use Rattle.pt_records.specs.Callers.{Once};
-ghost use Rattle.pt_records.specs.Chained.{AreChained, unowned};
+ghost use Rattle.pt_records.specs.Chained.{AreChained, is_robust_free, unowned};
 ghost use Rattle.pt_records.specs.LocksInRows.{mutex_in};
 ghost use Rattle.pt_records.specs.Writes.{WritesObject};
 ghost use Rattle.pt_records.specs.declared.clients.Open.{Open};
 ghost use Rattle.pt_records.specs.declared.objects.Object.TheVariants.{Mutex};
-ghost use Rattle.pt_state.specs.Adds.{IsReadyFor};
+ghost use Rattle.pt_state.specs.Adds.{IsReadyFor, past};
+ghost use Rattle.pt_state.specs.Granting.{told_at};
 ghost use Rattle.pt_state.specs.Had.{AddsHad, IsHad};
+ghost use Rattle.pt_state.specs.Reads.{AreTables};
 
 use crate::state::State;
 use pt_records::Answered;
 use pt_records::answers::tell;
 use pt_records::clients::note_call;
-use pt_records::mutex::acquire;
+use pt_records::mutex::{acquire, acquire_plain};
+use pt_types::tables::lock_outcome;
 use pt_types::views::is_acquired;
-use pt_types::{Call, ClientId, ObjectId, Outcome};
+use pt_types::{Call, ClientId, Consistency, ObjectId, Outcome};
 use std::alloc::Allocator;
 
+/// What a call for a mutex gets that is granted as it comes.
+#[derive(Clone, Copy, Debug, PartialEq, Eq)]
+pub struct Had {
+    /// Whether the mutex was a robust one that nobody owned.
+    pub robust: bool,
+    /// What the call is answered.
+    pub outcome: Outcome,
+}
+
 impl<A: Allocator + Copy> State<A> {
+    // What a call for a mutex gets if it is granted now.  [XSH pthread_mutex_lock]
+    fn had_at(&self, m: ObjectId) -> Had
+        requires read { AreTables self.now }
+        ensures row { result.robust ≡ passes is_robust_free (object_value self.now.objects m) }
+        ensures robust { let h = past self.now in
+            result.robust ≡ is_robust (kind_of h m) && is_none (owner h m) }
+        ensures outcome { result.outcome ≡ told_at self.now.objects m None }
+    {
+        match self.mutex_at(m) {
+            Some(mutex) => Had {
+                robust: mutex.is_robust() && mutex.owner().is_none(),
+                outcome: lock_outcome(mutex.consistency(), false),
+            },
+            None => Had {
+                robust: false,
+                outcome: lock_outcome(Consistency::Consistent, false),
+            },
+        }
+    }
+
     // The client gets the mutex, if its call is answered so.  [XSH pthread_mutex_lock]
-    fn take(&mut self, m: ObjectId, c: ClientId, outcome: Outcome)
+    fn take(&mut self, m: ObjectId, c: ClientId, had: Had)
         requires there { IsSome (mutex_in (object_value self.old.objects m)) }
-        requires may { is_acquired_it outcome ≡ true → (x : MutexState)
+        requires may { is_acquired_it had.outcome ≡ true → (x : MutexState)
             → object_value self.old.objects m ≡ Some (Mutex x) → IsTrue (can_acquire x.seen c) }
+        requires robust { had.robust ≡ passes is_robust_free (object_value self.old.objects m) }
         requires client { has_client self.old.clients c ≡ true }
         requires chained { (orphans : Option ℕ)
             × AreChained self.old.clients self.old.objects orphans }
@@ -37,33 +74,41 @@ impl<A: Allocator + Copy> State<A> {
           clients = self.new.clients;
           objects = self.new.objects;
         } }
-        ensures taken { is_acquired_it outcome ≡ true → (x : MutexState)
+        ensures taken { is_acquired_it had.outcome ≡ true → (x : MutexState)
             → object_value self.old.objects m ≡ Some (Mutex x)
             → WritesObject self.old.objects self.new.objects m
             (Mutex (record x { seen = acquired x.seen c })) }
-        ensures lost { is_acquired_it outcome ≡ false → self.new.objects ≡ self.old.objects }
+        ensures lost { is_acquired_it had.outcome ≡ false → self.new.objects ≡ self.old.objects }
         ensures rows { Once self.old.clients
             → unowned self.new.clients ≡ unowned self.old.clients }
         ensures chained { (orphans : Option ℕ)
             → AreChained self.old.clients self.old.objects orphans
             → AreChained self.new.clients self.new.objects orphans }
     {
-        if is_acquired(outcome) {
+        if !is_acquired(had.outcome) {
+            return;
+        }
+        if had.robust {
             acquire(&mut self.clients, &mut self.objects, m, c);
+        } else {
+            acquire_plain(&mut self.objects, m, c);
         }
     }
 
-    /// The entry of a call for a mutex that is granted as it comes, and its Grant. Its outcome is
+    /// The entry of a call for a mutex that is granted as it comes, and its Grant. What it gets is
     /// returned. The call is never open, so the row of its client is written once.
     /// [XSH pthread_mutex_lock]
-    pub fn push_had(&mut self, c: ClientId, call: &Call, m: ObjectId) -> Outcome
+    pub fn push_had(&mut self, c: ClientId, call: &Call, m: ObjectId) -> Had
         requires ready { IsReadyFor self.old (entry.Call c call.now None) }
         requires had { (o : Open) × IsHad self.old c call.now m o }
-        ensures { (o : Open) → IsHad self.old c call.now m o
-            → AddsHad self.old c call.now o result self.new }
+        ensures adds { (o : Open) → IsHad self.old c call.now m o
+            → AddsHad self.old c call.now o result.outcome self.new }
+        ensures robust { let h = past self.old in
+            result.robust ≡ is_robust (kind_of h m) && is_none (owner h m) }
     {
-        let outcome = self.told_at(m, None);
-        self.take(m, c, outcome);
+        let had = self.had_at(m);
+        let outcome = had.outcome;
+        self.take(m, c, had);
         let place = self.stored.len();
         note_call(&mut self.clients, c, place, outcome);
         self.stored.push_call(c, call, None);
@@ -75,6 +120,6 @@ impl<A: Allocator + Copy> State<A> {
         };
         tell(&mut self.answers, answered);
         self.stored.push_grant(place, outcome);
-        outcome
+        had
     }
 }

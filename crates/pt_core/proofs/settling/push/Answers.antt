@@ -1,4 +1,10 @@
-use Rattle.std.proofs.Common.{◌≡◌, None, sym, ap, ◌∙◌, subst}
+use Rattle.std.proofs.Common.{◌≡◌, Some, None, sym, ap, ◌∙◌, subst}
+use Rattle.pt_history.specs.Stored.{past_of}
+use Rattle.pt_history.proofs.Places.{place_of_next}
+use Rattle.pt_model.specs.Histories.{place}
+use Rattle.pt_model.specs.declared.entry.Event.{Event}
+use Rattle.pt_core.specs.Applying.{IsToldStill}
+use Rattle.pt_core.proofs.AnswersStay.{told-settled, told-still}
 use Rattle.pt_model.specs.declared.entry.Entry.{Entry}
 use Rattle.pt_model.specs.declared.entry.Entry.TheVariants.{Call}
 use Rattle.pt_model.specs.Room.{entry_for}
@@ -43,3 +49,29 @@ returns-in_ok-push_outer-in_default-clause-ok g c =
 pub push_outer-requires-clause-ready : goal.push_outer-requires-clause-ready
 push_outer-requires-clause-ready g c =
     ready-outer c.args.body.now c.args.event.now c.requires.open c.requires.accepted
+
+pub returns-in_ok-push_granted_at_once-in-Call-clause-told :
+    goal.returns-in_ok-push_granted_at_once-in-Call-clause-told
+returns-in_ok-push_granted_at_once-in-Call-clause-told g c = λ u st.
+    let s = c.args.body.now in
+    let new = c.push_granted_at_once.new.self in
+    let known : entry_for (past s) c.args.event.now ≡ Call c.in-Call.c c.in-Call.call None =
+    ap (entry_for (past s)) c.in-Call.is ∙ c.if-is_granted_at_once.ensures.waits in
+    let begins = begins-both s c.args.event.now c.requires.open c.requires.accepted new
+    (subst (λ (e : Entry). AddsBoth s e new) (sym known)
+    c.in_ok-push_granted_at_once-in-Call.ensures.ok) in
+    subst (λ (v : Event). IsToldStill v (Some c.in_ok-push_granted_at_once-in-Call.field-0) (past_of u)
+    (place (past s)))
+    (sym c.in-Call.is)
+    (told-settled new.stored u (place (past s)) c.in_ok-push_granted_at_once-in-Call.field-0
+    begins.roomy.read.follows st.settling c.in_ok-push_granted_at_once-in-Call.ensures.told)
+
+pub returns-in_ok-push_outer-in_default-clause-told :
+    goal.returns-in_ok-push_outer-in_default-clause-told
+returns-in_ok-push_outer-in_default-clause-told g c = λ u st.
+    let s = c.args.body.now in
+    let begins = begins-outer s c.args.event.now c.requires.open c.requires.accepted
+    c.push_outer.new.self c.in_ok-push_outer-in_default.ensures.ok in
+    told-still s.stored u c.args.event.now c.requires.open.made.ready c.requires.accepted
+    (begins.enters u st) c.args.plan.now.answer (place (past s)) c.requires.planned.enters
+    (place_of_next s.stored)

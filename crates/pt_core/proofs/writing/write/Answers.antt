@@ -3,9 +3,11 @@ use Rattle.std.specs.Prelude.{IsOk}
 use Rattle.pt_model.specs.Histories.{History}
 use Rattle.pt_model.specs.Room.{entry_for, refusal}
 use Rattle.pt_machine.specs.Memory.{needs_memory}
-use Rattle.pt_machine.specs.Planned.{entry_with, IsPlanned}
+use Rattle.pt_machine.specs.Planned.{IsPlanned}
+use Rattle.pt_history.specs.Stored.{past_of}
+use Rattle.pt_history.proofs.Places.{place_of_next}
+use Rattle.pt_core.specs.Applying.{IsToldStill}
 use Rattle.pt_core.proofs.AcceptingLemmas.{same-past}
-use Rattle.pt_core.proofs.AnswersStay.{told-still}
 use Rattle.pt_core.proofs.WritingLemmas.{entered-written}
 use Rattle.pt_core.proofs.OpenLemmas.{memory-open, open-within}
 use Rattle.pt_core.proofs.WholeLemmas.{whole-entered}
@@ -24,17 +26,13 @@ enter-requires-clause-planned g c =
     made.same_entries))
     c.requires.planned
 
--- a call that was answered at once has its answer still
-pub told_by_plan-outcome-requires-clause-still : goal.told_by_plan-outcome-requires-clause-still
-told_by_plan-outcome-requires-clause-still g c =
-    let o = c.in_default.ensures.ok in
-    let same = same-past c.args.body.now.stored c.make_room.new.body.stored o.made.same_start
-    o.made.same_entries in
-    told-still c.make_room.new.body.stored c.enter.new.body.stored c.args.event.now o.made.ready
-    (ap (λ h. refusal h c.args.event.now) same ∙ c.requires.accepted)
-    c.in_default-enter.ensures.ok c.args.plan.now.answer c.len-first.result
-    (subst (λ (h : History). entry_with h c.args.event.now c.args.plan.now.answer
-    ≡ entry_for h c.args.event.now) (sym same) c.requires.planned.enters) c.len-first.ensures
+-- a call that was answered as it came has its answer still
+pub outcome_by_answer-outcome-requires-clause-still :
+    goal.outcome_by_answer-outcome-requires-clause-still
+outcome_by_answer-outcome-requires-clause-still g c =
+    let made = c.make_room.new.body.stored in
+    subst (λ n. IsToldStill c.args.event.now c.in-Ok.answer (past_of c.enter.new.body.stored) n)
+    (sym (c.len-first.ensures ∙ sym (place_of_next made))) c.in-Ok.ensures.told
 
 pub returns-in-Err-enter-clause-err : goal.returns-in-Err-enter-clause-err
 returns-in-Err-enter-clause-err g c =
@@ -50,16 +48,16 @@ returns-clause-whole g c =
     (same-past c.args.body.now.stored c.make_room.new.body.stored o.made.same_start
     o.made.same_entries)
     ∙ c.requires.accepted)
-    c.in_default-enter.ensures.ok c.in_default-enter.ensures.roomy
+    c.in-Ok.ensures.ok c.in-Ok.ensures.roomy
 
 pub returns-clause-ok : goal.returns-clause-ok
 returns-clause-ok g c =
     let o = c.in_default.ensures.ok in
     entered-written c.args.body.now.stored c.make_room.new.body.stored c.enter.new.body.stored
-    c.args.event.now o.made c.in_default-enter.ensures.ok
+    c.args.event.now o.made c.in-Ok.ensures.ok
     (open-within c.args.body.now c.make_room.new.body c.args.event.now o c.requires.accepted)
-    c.len-first.result c.len.result c.told_by_plan-outcome.result None
-    c.len-first.ensures c.len.ensures c.told_by_plan-outcome.ensures
+    c.len-first.result c.len.result c.outcome_by_answer-outcome.result None
+    c.len-first.ensures c.len.ensures c.outcome_by_answer-outcome.ensures
 
 pub returns-in-Err-clause-enough : goal.returns-in-Err-clause-enough
 returns-in-Err-clause-enough g c = λ there small.

@@ -62,5 +62,14 @@ returns-clause-ok g c =
       its = o;
       found = found;
       second = c.push_granted.ensures;
+      told = c.grant_outcome-outcome.ensures;
       uses = c.used_by_grant-used.ensures;
     }
+
+pub grant_outcome-outcome-requires-clause-known : goal.grant_outcome-outcome-requires-clause-known
+grant_outcome-outcome-requires-clause-known g c =
+    let mid = c.push_left.new.self in
+    let o = c.unwrap-open.result in
+    let found : Some o ≡ open_in (client_value mid.clients c.args.c) =
+    sym c.unwrap-open.ensures ∙ (c.copied.ensures ∙ c.open_of.ensures) in
+    found-known mid.clients c.args.c (Some o) found

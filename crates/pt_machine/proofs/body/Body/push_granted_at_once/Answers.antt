@@ -7,7 +7,8 @@ use Rattle.pt_state.specs.Adds.{IsReadyFor, past}
 use Rattle.pt_machine.specs.GrantedAtOnce.{IsGrantedAtOnce, IsReadyAfter}
 use Rattle.pt_machine.specs.Planned.{IsPlanned}
 use Rattle.pt_machine.proofs.GrantedStates.{must-follow, uses, reserves}
-use Rattle.pt_machine.proofs.GrantedStates.{queued-granted, timed-granted, touched-granted}
+use Rattle.pt_machine.proofs.GrantedStates.{queued-granted, timed-granted, told-granted}
+use Rattle.pt_machine.proofs.GrantedStates.{touched-granted}
 use Rattle.pt_machine.proofs.NeedSteps.{reserved-forced}
 use Rattle.pt_machine.proofs.body.Body.push_granted_at_once.Goals as goal
 
@@ -28,14 +29,14 @@ overflow_sub-self g c =
     let after : IsReadyAfter old e = rw c.self.view_is c.requires.next in
     let planned : IsPlanned (past old) (event.Call c.args.c c.args.call.now) c.args.plan.now =
     rw c.self.view_is c.requires.planned in
-    let both = c.in_ok-used.ensures.ok in
+    let both = c.in_ok-granted.ensures.ok in
     let must = must-follow old both.mid c.args.c c.args.call.now ready granted both.first both.its
     both.found in
     let next = after both.mid both.first (service (past both.mid) both.its.call) must in
     let reserved = reserves old both.mid c.args.c c.args.call.now ready granted both.first both.its
     both.found c.args.plan.now planned in
     let used = uses old both.mid c.args.c c.args.call.now ready granted both.first both.its
-    both.found next c.in_ok-used.used both.uses in
+    both.found next c.in_ok-granted.granted.used both.uses in
     omega (arith, reserved.needs, used)
 
 pub invariant_of-self-2 : goal.invariant_of-self-2
@@ -48,14 +49,14 @@ invariant_of-self-2 g c =
     let after : IsReadyAfter old e = rw c.self.view_is c.requires.next in
     let planned : IsPlanned (past old) (event.Call c.args.c c.args.call.now) c.args.plan.now =
     rw c.self.view_is c.requires.planned in
-    let both = c.in_ok-used.ensures.ok in
+    let both = c.in_ok-granted.ensures.ok in
     let must = must-follow old both.mid c.args.c c.args.call.now ready granted both.first both.its
     both.found in
     let next = after both.mid both.first (service (past both.mid) both.its.call) must in
     let reserved = reserves old both.mid c.args.c c.args.call.now ready granted both.first both.its
     both.found c.args.plan.now planned in
     let used = uses old both.mid c.args.c c.args.call.now ready granted both.first both.its
-    both.found next c.in_ok-used.used both.uses in
+    both.found next c.in_ok-granted.granted.used both.uses in
     let new = c.push_both.new.state in (
       queued-granted old both.mid c.args.c c.args.call.now ready granted both.first both.its
           both.found new both.second (g.Q.WaitList.seen c.self.inside.queues) c.self.invariant.0,
@@ -64,7 +65,7 @@ invariant_of-self-2 g c =
       touched-granted old both.mid c.args.c c.args.call.now ready granted both.first both.its
           both.found new both.second c.args.plan.now planned,
       reserved-forced both.mid new (service (past both.mid) both.its.call) both.second
-          c.args.plan.now.need c.in_ok-used.used reserved used,
+          c.args.plan.now.need c.in_ok-granted.granted.used reserved used,
     )
 
 pub returns-clause-ok : goal.returns-clause-ok
@@ -74,7 +75,7 @@ returns-clause-ok g c =
     let ready : IsReadyFor old e = rw c.self.view_is c.requires.ready in
     let granted : IsGrantedAtOnce (past old) c.args.c c.args.call.now =
     rw c.self.view_is c.requires.granted in
-    let both = c.in_ok-used.ensures.ok in
+    let both = c.in_ok-granted.ensures.ok in
     rw (← c.self.view_is)
     (record {
       mid = both.mid;
@@ -84,3 +85,15 @@ returns-clause-ok g c =
           both.found;
       second = both.second;
     })
+
+pub returns-clause-told : goal.returns-clause-told
+returns-clause-told g c =
+    let old = c.self.inside.state in
+    let e = Call c.args.c c.args.call.now None in
+    let ready : IsReadyFor old e = rw c.self.view_is c.requires.ready in
+    let granted : IsGrantedAtOnce (past old) c.args.c c.args.call.now =
+    rw c.self.view_is c.requires.granted in
+    let both = c.in_ok-granted.ensures.ok in
+    rw (← c.self.view_is)
+    (told-granted old both.mid c.args.c c.args.call.now ready granted both.first both.its
+    both.found c.push_both.new.state both.second c.in_ok-granted.granted.outcome both.told)

@@ -18,7 +18,7 @@ take-requires-clause-there g c =
 pub take-requires-clause-may : goal.take-requires-clause-may
 take-requires-clause-may g c =
     may c.args.self.now c.args.c c.args.call.now c.args.m c.requires.ready c.requires.had.0
-    c.requires.had.1 c.told_at-outcome.result c.told_at-outcome.ensures
+    c.requires.had.1 c.had_at-had.result.outcome c.had_at-had.ensures.outcome
 
 pub note_call-requires : goal.note_call-requires
 note_call-requires g c =
@@ -48,11 +48,11 @@ push_grant-requires g c =
       ap (λ (s : State g.row.A.Denot). s.stored.room) c.take.ensures.rest,
     )
 
-pub returns : goal.returns
-returns g c = λ o had.
+pub returns-clause-adds : goal.returns-clause-adds
+returns-clause-adds g c = λ o had.
     let s = c.args.self.now in
     let e = Call c.args.c c.args.call.now None in
-    let x = c.told_at-outcome.result in
+    let x = c.had_at-had.result.outcome in
     let rest = c.take.ensures.rest in
     let first = c.len-place.ensures
     ∙ (ap (λ (t : State g.row.A.Denot). t.stored.start.at + length t.stored.entries) rest
@@ -63,7 +63,7 @@ returns g c = λ o had.
     c.len.ensures
     ∙ (ap (λ (t : Stored). t.start.at + length t.entries) called
     ∙ sym (place_of_next middle.stored)) in
-    second s c.args.c c.args.call.now c.args.m c.requires.ready o had x c.told_at-outcome.ensures
+    second s c.args.c c.args.call.now c.args.m c.requires.ready o had x c.had_at-had.ensures.outcome
     c.take.new.self.objects c.take.ensures.taken c.take.ensures.lost c.take.new.self.clients
     (c.take.ensures.rows c.requires.ready.read.callers.once)
     (c.take.ensures.chained s.orphans c.requires.ready.read.chained)
