@@ -8,12 +8,12 @@ ghost use Rattle.pt_model.specs.declared.entry.Entry.TheVariants.{Moment as Mome
 ghost use Rattle.pt_model.specs.declared.entry.Entry.TheVariants.{Grant as GrantEntry};
 
 use crate::compact::{
-    Answer, Compact, alone, answer_of, barrier, granted, named, near, timed, timed_wait,
+    Answer, Compact, Word, alone, answer_of, barrier, granted, named, near, timed, timed_wait,
 };
 use crate::records::Records;
-use crate::texts::{one_text, short, two_texts};
+use crate::texts::{both_found, found, one_text, short, two_texts};
 use pt_model::Entry;
-use pt_types::{Call, ClientId, Clock, Moment, Outcome};
+use pt_types::{Call, ClientId, Clock, Moment, NamedVerb, Outcome};
 use std::alloc::Allocator;
 
 impl<A: Allocator + Copy> Records<A> {
@@ -141,6 +141,43 @@ impl<A: Allocator + Copy> Records<A> {
     {
         let client = near(base, client.0)?;
         self.store_call(base, client, call, answer_of(outcome))
+    }
+
+    /// The stored form of a call of one name, if its hint finds that name.
+    #[inline(always)]
+    pub(crate) fn named_again(
+        &self,
+        base: u64,
+        client: ClientId,
+        call: &Call,
+        outcome: Option<Outcome>,
+    ) -> Option<Compact>
+        ensures { ShowsIfSome base (CallEntry client call.now outcome) self.now self.now result }
+    {
+        let (verb, name) = NamedVerb::of(call)?;
+        let from = found(&self.texts, &self.hints, name)?;
+        let client = near(base, client.0)?;
+        let length = name.as_bytes().len() as u8;
+        Some(Compact::Named(Word::Named(verb), answer_of(outcome), length, client, from))
+    }
+
+    /// The stored form of a wait without a deadline, if its hint finds both names.
+    #[inline(always)]
+    pub(crate) fn wait_again(
+        &self,
+        base: u64,
+        client: ClientId,
+        call: &Call,
+        outcome: Option<Outcome>,
+    ) -> Option<Compact>
+        ensures { ShowsIfSome base (CallEntry client call.now outcome) self.now self.now result }
+    {
+        let Call::Wait(cond, mutex) = call else {
+            return None;
+        };
+        let (first, second, from) = both_found(&self.texts, &self.hints, cond, mutex)?;
+        let client = near(base, client.0)?;
+        Some(Compact::Wait(answer_of(outcome), first, second, client, from))
     }
 
     // A reading of a clock.

@@ -22,7 +22,7 @@ invariant_of-self g c =
     let some : 0 < i.memory = omega (arith, room, c.requires, c.self.invariant.0.enough) in
     let more = c.push_reserved.ensures.items in
     let all = entries-more i.start.at _ i.records c.store-compact.new.self i.entries.items
-    c.push_reserved.new.self.items _ c.args.entry i.memory c.base.ensures more
+    c.push_reserved.new.self.items _ c.args.entry i.memory c.self.invariant.3 more
     c.store-compact.ensures c.self.invariant.2 in (
       record {
         fits = omega (arith, c.self.invariant.0.fits, c.push_reserved.ensures.len);
@@ -36,13 +36,14 @@ invariant_of-self g c =
       recorded-more _ i.records c.store-compact.new.self i.entries.items
           c.push_reserved.new.self.items _ c.args.entry i.memory more some
           c.store-compact.ensures c.self.invariant.2,
+      c.self.invariant.3,
     )
 
 pub returns : goal.returns
 returns g c =
     let i = c.self.inside in
     let all = entries-more i.start.at _ i.records c.store-compact.new.self i.entries.items
-    c.push_reserved.new.self.items _ c.args.entry i.memory c.base.ensures
+    c.push_reserved.new.self.items _ c.args.entry i.memory c.self.invariant.3
     c.push_reserved.ensures.items
     c.store-compact.ensures c.self.invariant.2 in
     seen-more c.args.self.now (rows_of i.start) (entries_of i.start.at i.records i.entries.items)
