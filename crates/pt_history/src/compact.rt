@@ -116,7 +116,6 @@ pub(crate) fn outcome_of(answer: Answer) -> Option<Outcome>
 }
 
 /// The base of a history that begins at a place: 2^31 before it, or 0.
-#[inline(always)]
 pub(crate) fn base(at: u64) -> u64
     ensures { result ≡ base_of at }
 {
@@ -124,22 +123,16 @@ pub(crate) fn base(at: u64) -> u64
 }
 
 /// A place counted from the base; None if it is before the base, or takes more than 32 bits.
-#[inline(always)]
 pub fn near(base: u64, place: u64) -> Option<u32>
     ensures { IfSome result (λ n. base + n ≡ place) }
 {
-    if place < base {
+    if place < base || place - base > 4_294_967_295 {
         return None;
     }
-    let distance = place - base;
-    if distance > 4_294_967_295 {
-        return None;
-    }
-    Some(distance as u32)
+    Some((place - base) as u32)
 }
 
 /// The word and the name of such a call; None for another call.
-#[inline(always)]
 pub(crate) fn named(call: &Call) -> Option<(Word, &Name)>
     ensures { IfSome result (λ p. spelled p.0 p.1.now ≡ call.now) }
 {

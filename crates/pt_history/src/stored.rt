@@ -85,7 +85,8 @@ impl<A: Allocator + Copy> Model for History<A> {
 
 impl<A: Allocator + Copy> History<A> {
     ghost use Rattle.std.specs.Prelude.{◌≡◌, ◌↔◌, ◌+◌, ◌-◌, ◌<◌, ◌≤◌, [], ◌∷◌, ◌++◌, length};
-    ghost use Rattle.std.specs.Prelude.{slice_get, None, IsOk, OnOk, OnErr, IfErr, ◌≢◌, if◌then◌else◌};
+    ghost use Rattle.std.specs.Prelude.{slice_get, None, IsOk, OnOk, OnErr, IfErr, ◌≢◌};
+    ghost use Rattle.std.specs.Prelude.{if◌then◌else◌};
     ghost use Rattle.pt_types.specs.Limits.{most_places};
     ghost use Rattle.pt_model.specs.StartRows.{no_rows, rows_of};
     ghost use Rattle.pt_history.specs.Stored.{Stored, begun, caller_in, past_of, pushed};
@@ -161,7 +162,7 @@ impl<A: Allocator + Copy> History<A> {
             } }
     {
         self.outer += outer_in(&entry);
-        let compact = self.records.store(self.base, entry);
+        let compact = self.records.store(self.base, &entry);
         self.entries.push_reserved(compact);
         self.room -= 1;
         self.memory -= 1;

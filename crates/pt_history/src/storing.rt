@@ -10,6 +10,7 @@ ghost use Rattle.pt_model.specs.declared.entry.Entry.TheVariants.{Grant as Grant
 use crate::compact::{
     Answer, Compact, Word, alone, answer_of, barrier, granted, named, near, timed, timed_wait,
 };
+use crate::reading::copied;
 use crate::records::Records;
 use crate::texts::{both_found, found, one_text, short, two_texts};
 use pt_model::Entry;
@@ -215,6 +216,17 @@ impl<A: Allocator + Copy> Records<A> {
         Compact::Whole(index)
     }
 
+    // A copy of an entry as it is. It is seldom needed, so it is not inlined.
+    #[cold]
+    #[inline(never)]
+    fn store_copy(&mut self, base: u64, entry: &Entry) -> Compact
+        requires room { HasRoom self.old 1 }
+        requires few { vec_len self.old.wholes ≤ 4294967295 }
+        ensures { Shows base entry.now self.old self.new result }
+    {
+        self.store_whole(base, copied(entry))
+    }
+
     // The entry of a call as it is. It is seldom needed, so it is not inlined.
     #[cold]
     #[inline(never)]
@@ -263,15 +275,16 @@ impl<A: Allocator + Copy> Records<A> {
         }
     }
 
-    /// Stores what an entry refers to, and returns its stored form. It takes no memory.
-    pub(crate) fn store(&mut self, base: u64, entry: Entry) -> Compact
+    /// Stores what an entry refers to, and returns its stored form. The entry is copied only if a
+    /// number of it doesn't fit. It takes no memory.
+    pub(crate) fn store(&mut self, base: u64, entry: &Entry) -> Compact
         requires room { HasRoom self.old 1 }
         requires few { vec_len self.old.wholes ≤ 4294967295 }
-        ensures { Shows base entry self.old self.new result }
+        ensures { Shows base entry.now self.old self.new result }
     {
-        match self.store_short(base, &entry) {
+        match self.store_short(base, entry) {
             Some(compact) => compact,
-            None => self.store_whole(base, entry),
+            None => self.store_copy(base, entry),
         }
     }
 

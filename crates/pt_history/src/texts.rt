@@ -113,7 +113,8 @@ pub(crate) fn found<A: Allocator + Copy>(texts: &[u8], hints: &Hints<A>, name: &
     Some(hint)
 }
 
-// The lengths of two names and where the first begins, if its hint finds it, and after it the other.
+// The lengths of two names and where the first begins, if its hint finds it and the other is next
+// to it.
 #[inline(always)]
 pub(crate) fn both_found<A: Allocator + Copy>(
     texts: &[u8],

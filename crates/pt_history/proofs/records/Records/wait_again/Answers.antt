@@ -11,4 +11,11 @@ returns g c =
     found.from)
     c.deref.ensures.value found.ensures in
     shows-read _ _ _ _
-    (rw (lie.same, lie.next, c.in-Wait.is, c.in_ok-client.ensures, c.client.view_is, c.answer_of.ensures)) lie.both
+    (rw (
+      lie.same,
+      lie.next,
+      c.in-Wait.is,
+      c.in_ok-client.ensures,
+      c.client.view_is,
+      c.answer_of.ensures,
+    )) lie.both
