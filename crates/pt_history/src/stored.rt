@@ -153,6 +153,7 @@ impl<A: Allocator + Copy> History<A> {
     }
 
     /// Appends an entry, in room that was made for it. It takes no memory.
+    #[inline(always)]
     pub fn push(&mut self, entry: Entry)
         requires { 0 < self.old.room }
         ensures { self.new
@@ -161,8 +162,16 @@ impl<A: Allocator + Copy> History<A> {
               room = self.old.room - 1;
             } }
     {
-        self.outer += outer_in(&entry);
-        let compact = self.records.store(self.base, &entry);
+        self.push_borrowed(&entry);
+    }
+
+    // The same of a borrowed entry.
+    fn push_borrowed(&mut self, entry: &Entry)
+        requires { 0 < self.old.room }
+        ensures { self.new ≡ pushed entry.now self.old }
+    {
+        self.outer += outer_in(entry);
+        let compact = self.records.store(self.base, entry);
         self.entries.push_reserved(compact);
         self.room -= 1;
         self.memory -= 1;

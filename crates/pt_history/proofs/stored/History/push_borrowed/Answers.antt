@@ -4,7 +4,7 @@ use Rattle.pt_model.specs.StartRows.{rows_of}
 use Rattle.pt_history.proofs.Counts.{one_most, outer-most}
 use Rattle.pt_history.proofs.Kept.{length-entries, entries-more, seen-more, counted-more}
 use Rattle.pt_history.proofs.Kept.{recorded-more}
-use Rattle.pt_history.proofs.stored.History.push.Goals as goal
+use Rattle.pt_history.proofs.stored.History.push_borrowed.Goals as goal
 
 pub overflow_add-self : goal.overflow_add-self
 overflow_add-self g c =
@@ -22,7 +22,7 @@ invariant_of-self g c =
     let some : 0 < i.memory = omega (arith, room, c.requires, c.self.invariant.0.enough) in
     let more = c.push_reserved.ensures.items in
     let all = entries-more i.start.at _ i.records c.store-compact.new.self i.entries.items
-    c.push_reserved.new.self.items _ c.args.entry i.memory c.self.invariant.3 more
+    c.push_reserved.new.self.items _ c.args.entry.now i.memory c.self.invariant.3 more
     c.store-compact.ensures c.self.invariant.2 in (
       record {
         fits = omega (arith, c.self.invariant.0.fits, c.push_reserved.ensures.len);
@@ -31,10 +31,10 @@ invariant_of-self g c =
         places = c.self.invariant.0.places;
       },
       counted-more (rows_of i.start) i.start.at i.records c.store-compact.new.self i.entries.items
-          c.push_reserved.new.self.items c.args.entry i.outer _ all c.outer_in.ensures
+          c.push_reserved.new.self.items c.args.entry.now i.outer _ all c.outer_in.ensures
           c.self.invariant.1,
       recorded-more _ i.records c.store-compact.new.self i.entries.items
-          c.push_reserved.new.self.items _ c.args.entry i.memory more some
+          c.push_reserved.new.self.items _ c.args.entry.now i.memory more some
           c.store-compact.ensures c.self.invariant.2,
       c.self.invariant.3,
     )
@@ -43,9 +43,9 @@ pub returns : goal.returns
 returns g c =
     let i = c.self.inside in
     let all = entries-more i.start.at _ i.records c.store-compact.new.self i.entries.items
-    c.push_reserved.new.self.items _ c.args.entry i.memory c.self.invariant.3
+    c.push_reserved.new.self.items _ c.args.entry.now i.memory c.self.invariant.3
     c.push_reserved.ensures.items
     c.store-compact.ensures c.self.invariant.2 in
     seen-more c.args.self.now (rows_of i.start) (entries_of i.start.at i.records i.entries.items)
     (entries_of i.start.at c.store-compact.new.self c.push_reserved.new.self.items) i.limit i.room
-    c.args.entry all c.self.view_is
+    c.args.entry.now all c.self.view_is
