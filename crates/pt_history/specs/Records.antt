@@ -64,6 +64,12 @@ pub record LiesAt (texts name : List ℕ) (from : ℕ) : Type 0 where
   pub within : from + length name ≤ length texts
   pub same : text_at texts from (length name) ≡ name
 
+-- two names lie there, one after the other, of these lengths
+pub record LieAt (texts one other : List ℕ) (first second from : ℕ) : Type 0 where
+  pub both : AreTexts texts from first second
+  pub same : text_at texts from first ≡ one
+  pub next : text_at texts (from + first) second ≡ other
+
 -- the texts only grew, and a name is there, of this length and from this index on
 pub record HasText {A : Type 0} (old new : Vec ℕ A) (name : List ℕ)
     (count from : ℕ) : Type 0 where

@@ -1,5 +1,6 @@
 -- Stored: what is seen of a stored history.
-use Rattle.std.specs.Prelude.{ℕ, ◌+◌, ◌≡◌, ◌≤◌, List, [], Option, Some, None, map, length, vec_len}
+use Rattle.std.specs.Prelude.{ℕ, ◌+◌, ◌≡◌, ◌≤◌, List, [], ◌∷◌, ◌++◌, ◌-◌, Option, Some, None, map}
+use Rattle.std.specs.Prelude.{length, vec_len}
 use Rattle.std.specs.List.{All}
 use Rattle.pt_types.specs.Limits.{most_places}
 use Rattle.pt_model.specs.declared.entry.Entry.{Entry}
@@ -22,6 +23,10 @@ pub record Stored : Type 0 where
 -- a history without entries, before which there was nothing
 abbrev pub begun : ℕ → Stored
 begun limit = record { start = no_rows; entries = []; limit = limit; room = 0 }
+
+-- one entry more, in room that was made for it
+abbrev pub pushed : Entry → Stored → Stored
+pushed e s = record s { entries = s.entries ++ e ∷ []; room = s.room - 1 }
 
 -- the history that is stored
 abbrev pub past_of : Stored → History

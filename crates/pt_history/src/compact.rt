@@ -77,6 +77,7 @@ pub(crate) enum Compact {
 const _: () = prove!(size_of::<Compact>() == 16);
 
 /// The stored form of an answer; None is a call that waits.
+#[inline(always)]
 pub(crate) fn answer_of(outcome: Option<Outcome>) -> Answer
     ensures { answered result ≡ outcome }
 {

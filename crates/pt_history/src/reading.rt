@@ -25,8 +25,8 @@ fn call_entry(base: u64, client: u32, call: Call, answer: Answer) -> Entry
     Entry::Call(ClientId(base + client as u64), call, outcome_of(answer))
 }
 
-// A copy of an entry. It takes no memory.
-fn copied(entry: &Entry) -> Entry
+/// A copy of an entry. It takes no memory.
+pub(crate) fn copied(entry: &Entry) -> Entry
     ensures { result ≡ entry.now }
 {
     match entry {

@@ -15,13 +15,15 @@ use std::marker::Model;
 #[derive(Drop)]
 pub struct History<A: Allocator + Copy = Global> {
     start: Start<A>,
+    /// The number from which the numbers of the entries count.
+    base: u64,
     entries: Vec<Compact, A>,
+    /// For how many more entries there is memory, whatever they are.
+    memory: u64,
     records: Records<A>,
     outer: u64,
     limit: u32,
     room: u64,
-    /// For how many more entries there is memory, whatever they are.
-    memory: u64,
 }
 
 /// For how many more entries than there has to be room for memory is asked, so that it is asked for
@@ -61,8 +63,9 @@ fn outer_in(entry: &Entry) -> u64
 
 impl<A: Allocator + Copy> Model for History<A> {
     ghost use Rattle.pt_history.specs.Stored.{Stored, IsWithin, IsCounted, IsRecorded, entries_of};
-    ghost use Rattle.std.specs.Prelude.{◌+◌, ◌≤◌, vec_len, vec_capacity};
+    ghost use Rattle.std.specs.Prelude.{◌≡◌, ◌+◌, ◌≤◌, vec_len, vec_capacity};
     ghost use Rattle.pt_model.specs.StartRows.{rows_of};
+    ghost use Rattle.pt_history.specs.Compact.{base_of};
 
     ghost Value = { Stored };
 
@@ -76,15 +79,17 @@ impl<A: Allocator + Copy> Model for History<A> {
     ghost invariant = { λ h.
         IsWithin h.start.at (vec_len h.entries) h.room h.memory h.limit (vec_capacity h.entries)
         × IsCounted (rows_of h.start) (entries_of h.start.at h.records h.entries.items) h.outer
-        × IsRecorded h.records h.entries.items h.memory };
+        × IsRecorded h.records h.entries.items h.memory
+        × (h.base ≡ base_of h.start.at) };
 }
 
 impl<A: Allocator + Copy> History<A> {
     ghost use Rattle.std.specs.Prelude.{◌≡◌, ◌↔◌, ◌+◌, ◌-◌, ◌<◌, ◌≤◌, [], ◌∷◌, ◌++◌, length};
     ghost use Rattle.std.specs.Prelude.{slice_get, None, IsOk, OnOk, OnErr, IfErr, ◌≢◌};
+    ghost use Rattle.std.specs.Prelude.{if◌then◌else◌};
     ghost use Rattle.pt_types.specs.Limits.{most_places};
     ghost use Rattle.pt_model.specs.StartRows.{no_rows, rows_of};
-    ghost use Rattle.pt_history.specs.Stored.{Stored, begun, caller_in, past_of};
+    ghost use Rattle.pt_history.specs.Stored.{Stored, begun, caller_in, past_of, pushed};
     ghost use Rattle.pt_model.specs.Histories.{outer};
     ghost use Rattle.pt_model.specs.declared.entry.Entry.TheVariants.{Call as CallEntry};
     ghost use Rattle.pt_model.specs.declared.entry.Entry.TheVariants.{Grant as GrantEntry};
@@ -95,12 +100,13 @@ impl<A: Allocator + Copy> History<A> {
     {
         History {
             start: Start::new(alloc),
+            base: 0,
             entries: Vec::new(alloc),
+            memory: 0,
             records: Records::new(alloc),
             outer: 0,
             limit,
             room: 0,
-            memory: 0,
         }
     }
 
@@ -147,6 +153,7 @@ impl<A: Allocator + Copy> History<A> {
     }
 
     /// Appends an entry, in room that was made for it. It takes no memory.
+    #[inline(always)]
     pub fn push(&mut self, entry: Entry)
         requires { 0 < self.old.room }
         ensures { self.new
@@ -155,8 +162,69 @@ impl<A: Allocator + Copy> History<A> {
               room = self.old.room - 1;
             } }
     {
-        self.outer += outer_in(&entry);
-        let compact = self.records.store(base(self.start.at), entry);
+        self.push_borrowed(&entry);
+    }
+
+    // The same of a borrowed entry.
+    fn push_borrowed(&mut self, entry: &Entry)
+        requires { 0 < self.old.room }
+        ensures { self.new ≡ pushed entry.now self.old }
+    {
+        self.outer += outer_in(entry);
+        let compact = self.records.store(self.base, entry);
+        self.entries.push_reserved(compact);
+        self.room -= 1;
+        self.memory -= 1;
+    }
+
+    // Appends the entry of a call of one name, if its hint finds that name, and reports whether it
+    // does.
+    #[inline(always)]
+    fn push_named_again(&mut self, client: ClientId, call: &Call, outcome: Option<Outcome>) -> bool
+        requires { 0 < self.old.room }
+        ensures { self.new
+            ≡ if result then pushed (CallEntry client call.now outcome) self.old else self.old }
+    {
+        let again = self.records.named_again(self.base, client, call, outcome);
+        let Some(compact) = again else {
+            return false;
+        };
+        self.outer += 1;
+        self.entries.push_reserved(compact);
+        self.room -= 1;
+        self.memory -= 1;
+        true
+    }
+
+    // Appends the entry of a wait, if its hint finds both names, and reports whether it does.
+    #[inline(always)]
+    fn push_wait_again(&mut self, client: ClientId, call: &Call, outcome: Option<Outcome>) -> bool
+        requires { 0 < self.old.room }
+        ensures { self.new
+            ≡ if result then pushed (CallEntry client call.now outcome) self.old else self.old }
+    {
+        let again = self.records.wait_again(self.base, client, call, outcome);
+        let Some(compact) = again else {
+            return false;
+        };
+        self.outer += 1;
+        self.entries.push_reserved(compact);
+        self.room -= 1;
+        self.memory -= 1;
+        true
+    }
+
+    // Appends the entry of any call. It is seldom needed, so it is not inlined.
+    #[cold]
+    #[inline(never)]
+    fn push_any_call(&mut self, client: ClientId, call: &Call, outcome: Option<Outcome>)
+        requires { 0 < self.old.room }
+        ensures { self.new ≡ pushed (CallEntry client call.now outcome) self.old }
+    {
+        self.outer += 1;
+        let compact = self
+            .records
+            .store_borrowed(self.base, client, call, outcome);
         self.entries.push_reserved(compact);
         self.room -= 1;
         self.memory -= 1;
@@ -171,12 +239,13 @@ impl<A: Allocator + Copy> History<A> {
               room = self.old.room - 1;
             } }
     {
-        self.outer += 1;
-        let base = base(self.start.at);
-        let compact = self.records.store_borrowed(base, client, call, outcome);
-        self.entries.push_reserved(compact);
-        self.room -= 1;
-        self.memory -= 1;
+        let pushed = match call {
+            Call::Wait(..) => self.push_wait_again(client, call, outcome),
+            _ => self.push_named_again(client, call, outcome),
+        };
+        if !pushed {
+            self.push_any_call(client, call, outcome);
+        }
     }
 
     /// Appends a Grant, in room that was made for it. It takes no memory.
@@ -188,8 +257,7 @@ impl<A: Allocator + Copy> History<A> {
               room = self.old.room - 1;
             } }
     {
-        let base = base(self.start.at);
-        let compact = self.records.store_grant(base, place, outcome);
+        let compact = self.records.store_grant(self.base, place, outcome);
         self.entries.push_reserved(compact);
         self.room -= 1;
         self.memory -= 1;
@@ -203,6 +271,7 @@ impl<A: Allocator + Copy> History<A> {
         ensures { self.new ≡ record self.old { start = rows_of start; entries = [] } }
     {
         self.outer = start.outer;
+        self.base = base(start.at);
         self.start = start;
         self.entries.clear();
         self.records.clear();
@@ -255,7 +324,7 @@ impl<A: Allocator + Copy> History<A> {
             return None;
         }
         let compact = *self.entries.get((place - self.start.at) as usize)?;
-        Some(self.records.entry(base(self.start.at), compact))
+        Some(self.records.entry(self.base, compact))
     }
 
     /// The client of the call at a place since the Start, if there is a call.
@@ -265,7 +334,7 @@ impl<A: Allocator + Copy> History<A> {
             ≡ caller_in (slice_get self.now.entries (place - self.now.start.at)) }
     {
         let compact = *self.entries.get((place - self.start.at) as usize)?;
-        self.records.caller(base(self.start.at), compact)
+        self.records.caller(self.base, compact)
     }
 
     /// The greatest number of entries since the Start.

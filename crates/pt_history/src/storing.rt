@@ -8,12 +8,13 @@ ghost use Rattle.pt_model.specs.declared.entry.Entry.TheVariants.{Moment as Mome
 ghost use Rattle.pt_model.specs.declared.entry.Entry.TheVariants.{Grant as GrantEntry};
 
 use crate::compact::{
-    Answer, Compact, alone, answer_of, barrier, granted, named, near, timed, timed_wait,
+    Answer, Compact, Word, alone, answer_of, barrier, granted, named, near, timed, timed_wait,
 };
+use crate::reading::copied;
 use crate::records::Records;
-use crate::texts::{one_text, short, two_texts};
+use crate::texts::{both_found, found, one_text, short, two_texts};
 use pt_model::Entry;
-use pt_types::{Call, ClientId, Clock, Moment, Outcome};
+use pt_types::{Call, ClientId, Clock, Moment, NamedVerb, Outcome};
 use std::alloc::Allocator;
 
 impl<A: Allocator + Copy> Records<A> {
@@ -143,6 +144,43 @@ impl<A: Allocator + Copy> Records<A> {
         self.store_call(base, client, call, answer_of(outcome))
     }
 
+    /// The stored form of a call of one name, if its hint finds that name.
+    #[inline(always)]
+    pub(crate) fn named_again(
+        &self,
+        base: u64,
+        client: ClientId,
+        call: &Call,
+        outcome: Option<Outcome>,
+    ) -> Option<Compact>
+        ensures { ShowsIfSome base (CallEntry client call.now outcome) self.now self.now result }
+    {
+        let (verb, name) = NamedVerb::of(call)?;
+        let from = found(&self.texts, &self.hints, name)?;
+        let client = near(base, client.0)?;
+        let length = name.as_bytes().len() as u8;
+        Some(Compact::Named(Word::Named(verb), answer_of(outcome), length, client, from))
+    }
+
+    /// The stored form of a wait without a deadline, if its hint finds both names.
+    #[inline(always)]
+    pub(crate) fn wait_again(
+        &self,
+        base: u64,
+        client: ClientId,
+        call: &Call,
+        outcome: Option<Outcome>,
+    ) -> Option<Compact>
+        ensures { ShowsIfSome base (CallEntry client call.now outcome) self.now self.now result }
+    {
+        let Call::Wait(cond, mutex) = call else {
+            return None;
+        };
+        let (first, second, from) = both_found(&self.texts, &self.hints, cond, mutex)?;
+        let client = near(base, client.0)?;
+        Some(Compact::Wait(answer_of(outcome), first, second, client, from))
+    }
+
     // A reading of a clock.
     fn store_moment(&mut self, base: u64, clock: Clock, moment: Moment) -> Option<Compact>
         requires { HasRoom self.old 1 }
@@ -176,6 +214,17 @@ impl<A: Allocator + Copy> Records<A> {
         let index = self.wholes.len() as u32;
         self.wholes.push_reserved(entry);
         Compact::Whole(index)
+    }
+
+    // A copy of an entry as it is. It is seldom needed, so it is not inlined.
+    #[cold]
+    #[inline(never)]
+    fn store_copy(&mut self, base: u64, entry: &Entry) -> Compact
+        requires room { HasRoom self.old 1 }
+        requires few { vec_len self.old.wholes ≤ 4294967295 }
+        ensures { Shows base entry.now self.old self.new result }
+    {
+        self.store_whole(base, copied(entry))
     }
 
     // The entry of a call as it is. It is seldom needed, so it is not inlined.
@@ -226,15 +275,16 @@ impl<A: Allocator + Copy> Records<A> {
         }
     }
 
-    /// Stores what an entry refers to, and returns its stored form. It takes no memory.
-    pub(crate) fn store(&mut self, base: u64, entry: Entry) -> Compact
+    /// Stores what an entry refers to, and returns its stored form. The entry is copied only if a
+    /// number of it doesn't fit. It takes no memory.
+    pub(crate) fn store(&mut self, base: u64, entry: &Entry) -> Compact
         requires room { HasRoom self.old 1 }
         requires few { vec_len self.old.wholes ≤ 4294967295 }
-        ensures { Shows base entry self.old self.new result }
+        ensures { Shows base entry.now self.old self.new result }
     {
-        match self.store_short(base, &entry) {
+        match self.store_short(base, entry) {
             Some(compact) => compact,
-            None => self.store_whole(base, entry),
+            None => self.store_copy(base, entry),
         }
     }
 

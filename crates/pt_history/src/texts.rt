@@ -1,9 +1,10 @@
 //! The texts of names. One that is there already is not stored again, if its hint finds it.
 
-ghost use Rattle.std.specs.Prelude.{◌≡◌, ◌+◌, ◌≤◌, ◌++◌, length, None, IfSome, true};
+ghost use Rattle.std.specs.Prelude.{◌≡◌, ◌+◌, ◌-◌, ◌≤◌, ◌*◌, ◌++◌, length, None, IfSome, true};
+ghost use Rattle.std.specs.Prelude.{take, drop};
 ghost use Rattle.std.specs.Prelude.{vec_len, vec_capacity};
 ghost use Rattle.pt_history.specs.Compact.{text_at};
-ghost use Rattle.pt_history.specs.Records.{HasText, HasTexts, LiesAt};
+ghost use Rattle.pt_history.specs.Records.{HasText, HasTexts, LiesAt, LieAt};
 
 use pt_hints::{Hints, key_of};
 use pt_types::Name;
@@ -29,14 +30,67 @@ fn append<A: Allocator + Copy>(texts: &mut Vec<u8, A>, name: &Name)
     texts.extend_from_slice(name.as_bytes()).unwrap();
 }
 
+// Whether both texts have a first N bytes, and the same.
+#[inline(always)]
+fn first_equal<const N: usize>(one: &[u8], other: &[u8]) -> bool
+    requires { N ≤ 32 }
+    ensures enough { result ≡ true → N ≤ length other.now }
+    ensures same { result ≡ true → take N one.now ≡ take N other.now }
+{
+    match (one.first_chunk::<N>(), other.first_chunk::<N>()) {
+        (Some(first), Some(wanted)) => first == wanted,
+        _ => false,
+    }
+}
+
+// Whether both texts have a last N bytes, and the same.
+#[inline(always)]
+fn last_equal<const N: usize>(one: &[u8], other: &[u8]) -> bool
+    requires { N ≤ 32 }
+    ensures { result ≡ true
+        → drop (length one.now - N) one.now ≡ drop (length other.now - N) other.now }
+{
+    match (one.last_chunk::<N>(), other.last_chunk::<N>()) {
+        (Some(last), Some(wanted)) => last == wanted,
+        _ => false,
+    }
+}
+
+// Whether texts of one length are equal, of which the first N bytes and the last N are all.
+#[inline(always)]
+fn ends_equal<const N: usize>(one: &[u8], other: &[u8]) -> bool
+    requires few { N ≤ 32 }
+    requires same { length one.now ≡ length other.now }
+    requires all { length other.now ≤ 2 * N }
+    ensures { result ≡ true → one.now ≡ other.now }
+{
+    first_equal::<N>(one, other) && last_equal::<N>(one, other)
+}
+
+// Whether texts of one length, that of a name, are equal. It needs no call.
+#[inline(always)]
+fn are_equal(one: &[u8], other: &[u8]) -> bool
+    requires same { length one.now ≡ length other.now }
+    requires few { length other.now ≤ 32 }
+    ensures { result ≡ true → one.now ≡ other.now }
+{
+    match other.len() {
+        0..=3 => one == other,
+        4..=8 => ends_equal::<4>(one, other),
+        9..=16 => ends_equal::<8>(one, other),
+        _ => ends_equal::<16>(one, other),
+    }
+}
+
 // Whether a name lies at an index.
-fn lies_at(texts: &[u8], from: usize, name: &Name) -> bool
+#[inline(always)]
+pub(crate) fn lies_at(texts: &[u8], from: usize, name: &Name) -> bool
     requires { from ≤ 4294967327 }
     ensures { result ≡ true → LiesAt texts.now name.now from }
 {
     let bytes = name.as_bytes();
     match texts.get(from..from + bytes.len()) {
-        Some(there) => there == bytes,
+        Some(there) => are_equal(there, bytes),
         None => false,
     }
 }
@@ -45,6 +99,37 @@ fn lies_at(texts: &[u8], from: usize, name: &Name) -> bool
 #[inline(always)]
 fn hint_of<A: Allocator + Copy>(hints: &Hints<A>, key: u64) -> u32 {
     hints.get(key).unwrap_or(0) as u32
+}
+
+// Where a name begins, if its hint finds it.
+#[inline(always)]
+pub(crate) fn found<A: Allocator + Copy>(texts: &[u8], hints: &Hints<A>, name: &Name) -> Option<u32>
+    ensures { IfSome result (λ i. LiesAt texts.now name.now i) }
+{
+    let hint = hint_of(hints, key_of(name.as_bytes()));
+    if !lies_at(texts, hint as usize, name) {
+        return None;
+    }
+    Some(hint)
+}
+
+// The lengths of two names and where the first begins, if its hint finds it and the other is next
+// to it.
+#[inline(always)]
+pub(crate) fn both_found<A: Allocator + Copy>(
+    texts: &[u8],
+    hints: &Hints<A>,
+    one: &Name,
+    other: &Name,
+) -> Option<(u8, u8, u32)>
+    ensures { IfSome result (λ p. LieAt texts.now one.now other.now p.0 p.1 p.2) }
+{
+    let from = found(texts, hints, one)?;
+    let first = one.as_bytes().len();
+    if !lies_at(texts, from as usize + first, other) {
+        return None;
+    }
+    Some((first as u8, other.as_bytes().len() as u8, from))
 }
 
 // Stores a name, and returns its length and where it begins. None if that takes more than 32

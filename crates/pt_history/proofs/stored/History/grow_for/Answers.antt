@@ -18,4 +18,5 @@ invariant_of-self g c =
           c.grow.new.entries.items i.outer c.grow.ensures.entries k.same c.self.invariant.1,
       recorded-same i.records c.grow.new.records i.entries.items c.grow.new.entries.items i.memory
           c.grow.ensures.entries k c.self.invariant.2,
+      c.self.invariant.3,
     )

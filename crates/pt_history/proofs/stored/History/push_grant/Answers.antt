@@ -15,7 +15,7 @@ invariant_of-self g c =
     let more = c.push_reserved.ensures.items in
     let none : i.outer + 0 ≡ i.outer = omega arith in
     let all = entries-more i.start.at _ i.records c.store_grant-compact.new.self i.entries.items
-    c.push_reserved.new.self.items _ e i.memory c.base-base.ensures more
+    c.push_reserved.new.self.items _ e i.memory c.self.invariant.3 more
     c.store_grant-compact.ensures c.self.invariant.2 in (
       record {
         fits = omega (arith, c.self.invariant.0.fits, c.push_reserved.ensures.len);
@@ -32,6 +32,7 @@ invariant_of-self g c =
       recorded-more _ i.records c.store_grant-compact.new.self i.entries.items
           c.push_reserved.new.self.items _ e i.memory more some
           c.store_grant-compact.ensures c.self.invariant.2,
+      c.self.invariant.3,
     )
 
 pub returns : goal.returns
@@ -39,7 +40,7 @@ returns g c =
     let i = c.self.inside in
     let e = GrantEntry c.args.place c.args.outcome in
     let all = entries-more i.start.at _ i.records c.store_grant-compact.new.self i.entries.items
-    c.push_reserved.new.self.items _ e i.memory c.base-base.ensures
+    c.push_reserved.new.self.items _ e i.memory c.self.invariant.3
     c.push_reserved.ensures.items
     c.store_grant-compact.ensures c.self.invariant.2 in
     seen-more c.args.self.now (rows_of i.start) (entries_of i.start.at i.records i.entries.items)

@@ -15,4 +15,5 @@ invariant_of-self g c = (
     room = c.clear-2.ensures.room _ c.self.invariant.2.room;
     few = omega (arith, c.clear-2.ensures.few);
   }),
+  c.base-self-inside.ensures,
 )

@@ -23,4 +23,5 @@ invariant_of-self g c =
           c.self.invariant.1,
       recorded-same i.records c.take_memory-2.new.self i.entries.items c.take_memory.new.list.items
           i.memory c.take_memory.ensures.items k c.self.invariant.2,
+      c.self.invariant.3,
     )

@@ -1,14 +1,16 @@
-use Rattle.std.proofs.Common.{◌≡◌, ◌<◌, ap, arith}
+use Rattle.std.proofs.Common.{◌≡◌, ◌<◌, ap, refl, arith}
+use Rattle.pt_model.specs.declared.entry.Entry.TheVariants.{Call as CallEntry}
 use Rattle.pt_history.specs.Stored.{Stored, entries_of}
 use Rattle.pt_model.specs.StartRows.{rows_of}
 use Rattle.pt_history.proofs.Counts.{one_most, outer-most}
 use Rattle.pt_history.proofs.Kept.{length-entries, entries-more, seen-more, counted-more}
 use Rattle.pt_history.proofs.Kept.{recorded-more}
-use Rattle.pt_history.proofs.stored.History.push.Goals as goal
+use Rattle.pt_history.proofs.stored.History.push_any_call.Goals as goal
 
 pub overflow_add-self : goal.overflow_add-self
 overflow_add-self g c =
     let i = c.self.inside in
+    let e = CallEntry c.args.client c.args.call.now c.args.outcome in
     let count = c.self.invariant.1 in
     let least = outer-most (rows_of i.start) (entries_of i.start.at i.records i.entries.items)
     count.before in
@@ -18,33 +20,36 @@ overflow_add-self g c =
 pub invariant_of-self : goal.invariant_of-self
 invariant_of-self g c =
     let i = c.self.inside in
+    let e = CallEntry c.args.client c.args.call.now c.args.outcome in
     let room : i.room ≡ c.args.self.now.room = ap (λ (s : Stored). s.room) c.self.view_is in
     let some : 0 < i.memory = omega (arith, room, c.requires, c.self.invariant.0.enough) in
     let more = c.push_reserved.ensures.items in
-    let all = entries-more i.start.at _ i.records c.store-compact.new.self i.entries.items
-    c.push_reserved.new.self.items _ c.args.entry i.memory c.base.ensures more
-    c.store-compact.ensures c.self.invariant.2 in (
+    let all = entries-more i.start.at _ i.records c.store_borrowed-compact.new.self i.entries.items
+    c.push_reserved.new.self.items _ e i.memory c.self.invariant.3 more
+    c.store_borrowed-compact.ensures c.self.invariant.2 in (
       record {
         fits = omega (arith, c.self.invariant.0.fits, c.push_reserved.ensures.len);
         enough = omega (arith, c.self.invariant.0.enough);
         held = omega (arith, some, c.self.invariant.0.held, c.push_reserved.ensures.len);
         places = c.self.invariant.0.places;
       },
-      counted-more (rows_of i.start) i.start.at i.records c.store-compact.new.self i.entries.items
-          c.push_reserved.new.self.items c.args.entry i.outer _ all c.outer_in.ensures
+      counted-more (rows_of i.start) i.start.at i.records c.store_borrowed-compact.new.self
+          i.entries.items c.push_reserved.new.self.items e i.outer _ all refl
           c.self.invariant.1,
-      recorded-more _ i.records c.store-compact.new.self i.entries.items
-          c.push_reserved.new.self.items _ c.args.entry i.memory more some
-          c.store-compact.ensures c.self.invariant.2,
+      recorded-more _ i.records c.store_borrowed-compact.new.self i.entries.items
+          c.push_reserved.new.self.items _ e i.memory more some
+          c.store_borrowed-compact.ensures c.self.invariant.2,
+      c.self.invariant.3,
     )
 
 pub returns : goal.returns
 returns g c =
     let i = c.self.inside in
-    let all = entries-more i.start.at _ i.records c.store-compact.new.self i.entries.items
-    c.push_reserved.new.self.items _ c.args.entry i.memory c.base.ensures
+    let e = CallEntry c.args.client c.args.call.now c.args.outcome in
+    let all = entries-more i.start.at _ i.records c.store_borrowed-compact.new.self i.entries.items
+    c.push_reserved.new.self.items _ e i.memory c.self.invariant.3
     c.push_reserved.ensures.items
-    c.store-compact.ensures c.self.invariant.2 in
+    c.store_borrowed-compact.ensures c.self.invariant.2 in
     seen-more c.args.self.now (rows_of i.start) (entries_of i.start.at i.records i.entries.items)
-    (entries_of i.start.at c.store-compact.new.self c.push_reserved.new.self.items) i.limit i.room
-    c.args.entry all c.self.view_is
+    (entries_of i.start.at c.store_borrowed-compact.new.self c.push_reserved.new.self.items)
+    i.limit i.room e all c.self.view_is
