@@ -2,7 +2,7 @@
 use Rattle.std.proofs.Common.{◌≡◌, ◌<◌, ◌≤◌, ◌∙◌, ℕ, Bool, true, false, cond, List, ◌∷◌, ◌++◌}
 use Rattle.std.proofs.Common.{length, nat_lt, refl, ap, sym, subst, arith, Option, None, Some}
 use Rattle.std.proofs.Common.{IfSome, Result, Ok, Err, IfOk, IfErr, codes, length-append}
-use Rattle.std.specs.Option.{ok_or, option_map}
+use Rattle.std.specs.Option.{ok_or, option_map, option_and_then}
 use Rattle.std.specs.Str.{bytes_eq}
 use Rattle.pt_types.specs.declared.outcome.Refusal.{Refusal}
 use Rattle.pt_types.specs.declared.outcome.Refusal.TheVariants as refusal
@@ -10,7 +10,12 @@ use Rattle.pt_types.specs.declared.call.Call.{Call}
 use Rattle.pt_types.specs.declared.call.Call.TheVariants as call
 use Rattle.pt_types.specs.declared.named_verb.NamedVerb.{NamedVerb}
 use Rattle.pt_types.specs.NamedVerbs.{call_on}
+use Rattle.pt_types.specs.declared.time.Clock.TheVariants.{Real}
+use Rattle.pt_types.specs.Times.{Timespec}
 use Rattle.pt_lines.specs.declared.verb.Verb.{Verb}
+use Rattle.pt_lines.specs.declared.verb.TimedVerb.{TimedVerb}
+use Rattle.pt_lines.specs.declared.verb.TimedVerb.TheVariants.{Timedlock, Timedrdlock}
+use Rattle.pt_lines.specs.declared.verb.TimedVerb.TheVariants.{Timedwrlock}
 use Rattle.pt_lines.specs.declared.verb.Verb.TheVariants as first
 use Rattle.pt_lines.specs.declared.call_line.CallLine.{CallLine}
 use Rattle.pt_lines.specs.declared.call_line.CallLine.TheVariants as line
@@ -18,13 +23,14 @@ use Rattle.pt_lines.specs.declared.client.Who.{Who}
 use Rattle.pt_lines.specs.declared.client.Who.TheVariants.{Named, Star, Unknown}
 use Rattle.pt_lines.specs.declared.script_line.ScriptBody.{ScriptBody}
 use Rattle.pt_lines.specs.declared.script_line.ScriptBody.TheVariants.{Hello, Ask, Die, Tick}
-use Rattle.pt_lines.specs.Arguments.{name_of, alone, first_then}
+use Rattle.pt_lines.specs.Arguments.{name_of, alone, first_then, name_and_deadline, two_numbers}
+use Rattle.pt_lines.specs.Arguments.{moment_of}
 use Rattle.pt_lines.specs.Fields.{fields}
 use Rattle.pt_lines.specs.ClientNames.{IsClientName}
 use Rattle.pt_lines.specs.Clients.{who_text, who_named, before_space, behind_space}
 use Rattle.pt_lines.specs.Grammar.{Spells}
 use Rattle.pt_lines.specs.Reading.{call_read, line_read, line_of, line_of_fields, IsAsked}
-use Rattle.pt_lines.specs.Verbs.{named_word}
+use Rattle.pt_lines.specs.Verbs.{named_word, timed_word, call_until}
 use Rattle.std.proofs.lemmas.List.{append-nil}
 use Rattle.pt_types.specs.Names.{IsName}
 use Rattle.pt_lines.proofs.CallLemmas.{spells-call_on}
@@ -155,6 +161,21 @@ called_again text rest read s =
     ap (λ b. cond b (Ok Die) (body_from (Named text) (call_read rest))) (not_die rest read s)
     ∙ ap (body_from (Named text)) (call_read-spelled rest read s)
 
+-- what is spelled after a client is read there
+body_again :
+    (who : Who) (rest : List ℕ) (body : ScriptBody) → SpellsBody who rest body
+    → body_read who rest ≡ Ok body
+body_again (Named text) rest (Hello p) h = called_again text rest (line.Hello p) h.1
+body_again (Named text) rest (Ask asked) h = called_again text rest (line.Ask asked) h.1
+body_again (Named text) rest Die h = ap (body_read (Named text)) h.1
+body_again (Named text) rest (Tick clock t) h = absurd h
+body_again Star rest (Hello p) h = absurd h
+body_again Star rest (Ask asked) h = absurd h
+body_again Star rest Die h = absurd h
+body_again Star rest (Tick clock t) h =
+    ap (body_from Star) (call_read-spelled rest (line.Tick clock t) h)
+body_again Unknown rest body h = absurd h
+
 -- what a client asks for is read as the call that its verb and its fields are read as
 pub call_said :
     (rest : List ℕ) (args : List (List ℕ)) (verb : Verb) (o : Option Call)
@@ -191,6 +212,42 @@ wait_said text args (Some names) is two =
     ap (option_map (λ a. line.Ask (call.Wait a.0 a.1))) two in
     call_said text (fields args) first.Wait (Some (call.Wait names.0 names.1)) read asked
 
+-- a word, a space, a name and a deadline are read as the call of the word
+pub timed_said :
+    (text args : List ℕ) (verb : TimedVerb) (o : Option (List ℕ × Timespec))
+    → text ≡ timed_word verb ++ 32 ∷ args → o ≡ name_and_deadline (fields args)
+    → IfSome o (λ due. (client : List ℕ)
+    → body_read (Named client) text ≡ Ok (Ask (call_until verb due.0 due.1)))
+timed_said text args verb None is due = tt
+timed_said text args verb (Some given) is due =
+    let read : line_read text ≡ line_of (first.Timed verb) (fields args) =
+    ap line_read is ∙ by verb in
+    let asked :
+    IsAsked (first.Timed verb) (fields args) (Some (call_until verb given.0 given.1)) =
+    ap (option_map (λ a. line.Ask (call_until verb a.0 a.1))) due in
+    call_said text (fields args) (first.Timed verb) (Some (call_until verb given.0 given.1))
+    read asked
+  where
+    by :
+        (v : TimedVerb)
+        → line_read (timed_word v ++ 32 ∷ args) ≡ line_of (first.Timed v) (fields args)
+    by Timedlock = ap line_of_fields (fields-word (timed_word Timedlock) args refl)
+    by Timedrdlock = ap line_of_fields (fields-word (timed_word Timedrdlock) args refl)
+    by Timedwrlock = ap line_of_fields (fields-word (timed_word Timedwrlock) args refl)
+
+-- `moment`, a space and two numbers are read as that moment of the real clock
+pub moment_said :
+    (text args : List ℕ) (o : Option ℕ) → text ≡ codes "moment " ++ args
+    → o ≡ option_and_then moment_of (two_numbers (fields args))
+    → IfSome o (λ t. body_read Star text ≡ Ok (Tick Real t))
+moment_said text args None is two = tt
+moment_said text args (Some t) is two =
+    let read : line_read text ≡ Some (line.Tick Real t) =
+    ap line_read is
+    ∙ ap line_of_fields (fields-word (codes "moment") args refl)
+    ∙ sym (ap (option_map (line.Tick Real)) two) in
+    body_again Star text (Tick Real t) (spells-line_read text (line.Tick Real t) read)
+
 -- a word, a space and a name are read as the call of the word on the name
 pub named_spelled :
     (rest : List ℕ) (verb : NamedVerb) (name : List ℕ) → rest ≡ named_word verb ++ 32 ∷ name
@@ -202,21 +259,6 @@ named_spelled rest verb name is client named =
       named = named;
       spelled = is ∙ ap (λ ys. named_word verb ++ 32 ∷ ys) (sym (append-nil name));
     }))
-
--- what is spelled after a client is read there
-body_again :
-    (who : Who) (rest : List ℕ) (body : ScriptBody) → SpellsBody who rest body
-    → body_read who rest ≡ Ok body
-body_again (Named text) rest (Hello p) h = called_again text rest (line.Hello p) h.1
-body_again (Named text) rest (Ask asked) h = called_again text rest (line.Ask asked) h.1
-body_again (Named text) rest Die h = ap (body_read (Named text)) h.1
-body_again (Named text) rest (Tick clock t) h = absurd h
-body_again Star rest (Hello p) h = absurd h
-body_again Star rest (Ask asked) h = absurd h
-body_again Star rest Die h = absurd h
-body_again Star rest (Tick clock t) h =
-    ap (body_from Star) (call_read-spelled rest (line.Tick clock t) h)
-body_again Unknown rest body h = absurd h
 
 -- the client of a line that says something
 abbrev IsClient : Who → Type 0

@@ -120,6 +120,7 @@ fn only_deadline(args: Fields) -> Option<Deadline>
 }
 
 /// A name and a deadline.
+#[inline(always)]
 pub fn name_and_deadline(mut args: Fields) -> Option<(Name, Deadline)>
     ensures { result ≡ name_and_deadline args.entry }
 {

@@ -1,17 +1,19 @@
-//! Calls of one name, and waits, by the bytes that a line begins with.
+//! Calls that are often made, and moments, by the bytes that a line begins with.
 
 ghost use Rattle.std.specs.Prelude.{◌≡◌, ◌++◌, [], ◌∷◌, IfSome, List, Ok, ℕ};
 ghost use Rattle.pt_types.specs.declared.call.Call.TheVariants as call;
 ghost use Rattle.pt_types.specs.Names.{IsName};
+ghost use Rattle.pt_types.specs.declared.time.Clock.TheVariants as clock;
 ghost use Rattle.pt_types.specs.NamedVerbs.{call_on};
 ghost use Rattle.pt_lines.specs.declared.client.Who.TheVariants as who;
 ghost use Rattle.pt_lines.specs.declared.script_line.ScriptBody.TheVariants as body;
 ghost use Rattle.pt_lines.specs.Script.{body_read};
-ghost use Rattle.pt_lines.specs.Verbs.{named_word};
+ghost use Rattle.pt_lines.specs.Verbs.{named_word, timed_word};
 
-use crate::arguments::two_names;
+use crate::arguments::{name_and_deadline, only_moment, two_names};
 use crate::fields::Fields;
-use pt_types::{Name, NamedVerb};
+use crate::verb::TimedVerb;
+use pt_types::{Call, Moment, Name, NamedVerb};
 
 // What is after these bytes, if a text begins with them.
 #[inline(always)]
@@ -134,4 +136,43 @@ pub fn wait_at_start(text: &[u8]) -> Option<(Name, Name)>
 {
     let args = after(text, b"wait ")?;
     two_names(Fields::new(args))
+}
+
+// The word of a call of one name and a deadline that a text begins with, and what is after it and
+// a space.
+#[inline(always)]
+fn timed_word_at_start(text: &[u8]) -> Option<(TimedVerb, &[u8])>
+    ensures { IfSome result (λ said. text.now ≡ timed_word said.0 ++ 32 ∷ said.1.now) }
+{
+    if let Some(rest) = after(text, b"timedlock ") {
+        return Some((TimedVerb::Timedlock, rest));
+    }
+    if let Some(rest) = after(text, b"timedrdlock ") {
+        return Some((TimedVerb::Timedrdlock, rest));
+    }
+    let rest = after(text, b"timedwrlock ")?;
+    Some((TimedVerb::Timedwrlock, rest))
+}
+
+/// The call of one name and a deadline, if a text begins with the word of one and a client that
+/// says this makes it.
+#[inline(always)]
+pub fn timed_at_start(text: &[u8]) -> Option<Call>
+    ensures { IfSome result (λ asked. (client : List ℕ) → body_read (who.Named client) text.now
+        ≡ Ok (body.Ask asked)) }
+{
+    let (verb, args) = timed_word_at_start(text)?;
+    let (name, deadline) = name_and_deadline(Fields::new(args))?;
+    Some(verb.on(name, deadline))
+}
+
+/// The moment of the real clock, if a text begins with `moment` and is read as that where the
+/// clocks say it.
+#[inline(always)]
+pub fn moment_at_start(text: &[u8]) -> Option<Moment>
+    ensures { IfSome result (λ moment. body_read who.Star text.now
+        ≡ Ok (body.Tick clock.Real moment)) }
+{
+    let args = after(text, b"moment ")?;
+    only_moment(Fields::new(args))
 }

@@ -1,9 +1,9 @@
 ghost use Rattle.std.specs.Prelude.{◌≡◌, ◌≤◌, ◌<◌, ◌+◌, ◌++◌, IsOk, OnOk, OnErr, IfErr, length};
-ghost use Rattle.std.specs.Prelude.{vec_len, vec_capacity, decimal, ◌/◌, ◌%◌, ◌∷◌, []};
+ghost use Rattle.std.specs.Prelude.{vec_len, vec_capacity, decimal, ◌/◌, ◌%◌, ◌∷◌, [], Some};
 ghost use Rattle.std.specs.Option.{option_copied};
 ghost use Rattle.pt_lines.specs.Replies.{reply_line, sender};
 
-use crate::client::Who;
+use crate::client::{ClientName, Who};
 use itoa::Buffer;
 use pt_types::{Outcome, Refusal};
 use std::alloc::Allocator;
@@ -13,6 +13,9 @@ const FEW_DIGITS: usize = 6;
 
 // The least number that has more.
 const FEW_DIGITS_END: u64 = 1_000_000;
+
+// How many bytes the answer `0` to a client's line has at most, if its number has few digits.
+const MOST_OF_DONE: usize = 18;
 
 /// What a line is answered: the outcome of an accepted call, or why it is not accepted.
 #[derive(Clone, Copy, Debug, PartialEq, Eq)]
@@ -185,11 +188,27 @@ fn write_any<A: Allocator + Copy>(
     Ok(())
 }
 
-/// Appends the answer to the client's line of this number, `who` if it is in a script.
-/// ENOMEM if a growth was refused: nothing is appended. A line for which there is room is never
-/// refused.  [profile]
+// Appends the answer `0` to a client's line, for which there is room. Most answers are such.
+#[inline(never)]
 #[tactic(auto, using(crate::proofs::DigitLemmas::few_digits))]
-pub fn write_reply<A: Allocator + Copy>(
+fn append_done<A: Allocator + Copy>(out: &mut Vec<u8, A>, name: &ClientName, n: u64)
+    requires below { n < 1000000 }
+    requires room { vec_len out.old + 18 ≤ vec_capacity out.old }
+    ensures { out.new.items ≡ out.old.items
+        ++ reply_line (Some (Who.Named name.now)) n (Word.Outcome Outcome.Done) }
+{
+    append(out, name.as_bytes());
+    out.push_reserved(b' ');
+    append_number(out, n);
+    out.push_reserved(b' ');
+    out.push_reserved(b'0');
+    out.push_reserved(b'\n');
+}
+
+// Appends an answer. It isn't inlined: most answers are the `0` of an accepted call.
+#[inline(never)]
+#[tactic(auto, using(crate::proofs::DigitLemmas::few_digits))]
+fn write_other<A: Allocator + Copy>(
     out: &mut Vec<u8, A>,
     who: Option<&Who>,
     n: u64,
@@ -213,4 +232,31 @@ pub fn write_reply<A: Allocator + Copy>(
     append(out, text);
     out.push_reserved(b'\n');
     Ok(())
+}
+
+/// Appends the answer to the client's line of this number, `who` if it is in a script.
+/// ENOMEM if a growth was refused: nothing is appended. A line for which there is room is never
+/// refused.  [profile]
+#[inline(always)]
+pub fn write_reply<A: Allocator + Copy>(
+    out: &mut Vec<u8, A>,
+    who: Option<&Who>,
+    n: u64,
+    word: Word,
+) -> Result<(), Refusal>
+    ensures ok { OnOk result
+        (out.new.items ≡ out.old.items ++ reply_line (option_copied who.entry) n word) }
+    ensures err { OnErr result (out.new.items ≡ out.old.items) }
+    ensures why { IfErr result (λ refusal. refusal ≡ Refusal.Enomem) }
+    ensures enough { vec_len out.old + length (reply_line (option_copied who.entry) n word)
+        ≤ vec_capacity out.old → IsOk result }
+{
+    if let (Some(Who::Named(name)), Word::Outcome(Outcome::Done)) = (who, word)
+        && n < FEW_DIGITS_END
+        && out.capacity() - out.len() >= MOST_OF_DONE
+    {
+        append_done(out, name, n);
+        return Ok(());
+    }
+    write_other(out, who, n, word)
 }

@@ -105,6 +105,9 @@ fn read_other_client(text: &[u8]) -> (Who, Option<&[u8]>)
     ensures who { result.0 ≡ who_named (before_space text.now) }
     ensures behind { option_copied result.1 ≡ behind_space text.now }
 {
+    if let [b'*', b' ', rest @ ..] = text {
+        return (Who::Star, Some(rest));
+    }
     let (name, rest) = split_at_space(text);
     (Who::named(name), rest)
 }

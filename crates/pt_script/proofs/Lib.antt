@@ -2,6 +2,8 @@
 mod Counted
 -- Rows: rows of names, after one that was written
 mod Rows
+-- Places: where the rows of names are
+mod Places
 -- Texts: texts of answers, and how they are written
 mod Texts
 -- Opened: the core to which an event's entries are added

@@ -16,7 +16,7 @@ use Rattle.pt_lines.specs.declared.client.Who.{Who}
 use Rattle.pt_lines.specs.declared.client.Who.TheVariants.{Named, Star, Unknown}
 use Rattle.pt_script.specs.Scripts.{number_named, number_of}
 use Rattle.pt_script.specs.Names.{Known, Counted, lines_in, client_in, client_counted, row_of}
-use Rattle.pt_script.specs.Names.{IsAt, IsRowRaised}
+use Rattle.pt_script.specs.Names.{IsAt, IsRowRaised, AreRowsAlike}
 use Rattle.pt_script.specs.Names.{IsRowGiven, IsGiven, AreCounted}
 use Rattle.pt_script.proofs.Counted.{ap_cond, lookup_push}
 
@@ -50,6 +50,27 @@ row_raised old new name row set more same = record {
       ap client_in (set other)
       ∙ ap_cond client_in (bytes_eq name other) (Some row) (row_of old other)
       ∙ ap (λ c. cond (bytes_eq name other) c (client_in (row_of old other))) same
+      ∙ keep (λ n. client_in (row_of old n)) name other (bytes_eq name other)
+      (bytes_eq-Decides name other).0;
+}
+
+-- a row of no line is set where there was none
+pub begun_alike : (old new : List (List ℕ × Row)) (name : List ℕ) (row : Row)
+    → IsSet old name row new → row_of old name ≡ None → row.lines ≡ 0 → row.client ≡ None
+    → AreRowsAlike old new
+begun_alike old new name row set none no_line no_client = record {
+  lines = λ other.
+      ap lines_in (set other)
+      ∙ ap_cond lines_in (bytes_eq name other) (Some row) (row_of old other)
+      ∙ ap (λ n. cond (bytes_eq name other) n (lines_in (row_of old other)))
+      (no_line ∙ sym (ap lines_in none))
+      ∙ keep (λ n. lines_in (row_of old n)) name other (bytes_eq name other)
+      (bytes_eq-Decides name other).0;
+  clients = λ other.
+      ap client_in (set other)
+      ∙ ap_cond client_in (bytes_eq name other) (Some row) (row_of old other)
+      ∙ ap (λ c. cond (bytes_eq name other) c (client_in (row_of old other)))
+      (no_client ∙ sym (ap client_in none))
       ∙ keep (λ n. client_in (row_of old n)) name other (bytes_eq name other)
       (bytes_eq-Decides name other).0;
 }

@@ -50,6 +50,17 @@ abbrev pub client_counted : Counted → Who → Option ℕ
 client_counted k (Named name) = client_in (row_of k.rows name)
 client_counted k _ = None
 
+-- as many lines of each name, and the same clients: a row of no line is as good as none
+pub record AreRowsAlike (old new : List (List ℕ × Row)) : Type 0 where
+  pub lines : (other : List ℕ) → lines_in (row_of new other) ≡ lines_in (row_of old other)
+  pub clients : (other : List ℕ) → client_in (row_of new other) ≡ client_in (row_of old other)
+
+-- the same is counted of each client, named or not
+pub record AreAlike (old new : Counted) : Type 0 where
+  pub lines : (who : Who) → lines_counted new who ≡ lines_counted old who
+  pub clients :
+      (name : List ℕ) → client_in (row_of new.rows name) ≡ client_in (row_of old.rows name)
+
 -- one line more of this name, and all else of the rows as it was
 pub record IsRowRaised (old : List (List ℕ × Row)) (name : List ℕ)
     (new : List (List ℕ × Row)) : Type 0 where

@@ -24,6 +24,7 @@ pub type Calls = Log<u64, LineId>;
 
 /// Notes an accepted line, whose event was applied. It is stored for its client if its call waits,
 /// since all later answers are to calls that wait.
+#[inline(always)]
 pub fn note<A: Allocator + Copy>(
     names: &mut Names<A>,
     asked: &mut Asked<A>,
@@ -56,6 +57,7 @@ pub fn note<A: Allocator + Copy>(
 }
 
 /// An accepted hello is answered 0.
+#[inline(always)]
 pub fn greet<A: Allocator + Copy>(
     out: &mut Vec<u8, A>,
     mark: &Mark,
@@ -72,6 +74,7 @@ pub fn greet<A: Allocator + Copy>(
 
 /// Appends the answers that an event gave, whose mark and line these are. If no entry followed its
 /// own, it answered its own call alone, or none, and its answers need not be looked for.
+#[inline(always)]
 #[tactic(auto, using(crate::proofs::Alone::alone_text))]
 pub fn tell_from<'a, A: Allocator + Copy>(
     out: &mut Vec<u8, A>,

@@ -23,15 +23,20 @@ type Lines<A> = IndexMap<u64, LineId, BuildHasherDefault<FoldHasher>, A>;
 pub struct Asked<A: Allocator + Copy = Global> {
     lines: Lines<A>,
     hints: Hints<A>,
+    has_room: bool,
 }
 
 impl<A: Allocator + Copy> Model for Asked<A> {
+    ghost use Rattle.std.specs.Prelude.{◌<◌};
+    ghost use Rattle.std.specs.Bool.{OnTrue};
     ghost use Rattle.indexmap.specs.IndexMap.{spare};
     ghost use Rattle.pt_script.specs.Engines.{Stored};
 
     ghost Value = { Stored };
 
     ghost view = { λ a. record { entries = a.lines.entries; room = spare a.lines } };
+
+    ghost invariant = { λ a. OnTrue a.has_room (0 < spare a.lines) };
 }
 
 // The number of the client whose line is at an index, and the index.
@@ -53,11 +58,14 @@ impl<A: Allocator + Copy> Asked<A> {
         Asked {
             lines: IndexMap::new(alloc),
             hints: Hints::new(alloc),
+            has_room: false,
         }
     }
 
-    /// Makes room for one line more.
-    pub fn reserve(&mut self) -> Result<(), ScriptFault>
+    // Makes room for one line more, and more hints if there are too few.
+    #[cold]
+    #[inline(never)]
+    fn make_room(&mut self) -> Result<(), ScriptFault>
         ensures entries { self.new.entries ≡ self.old.entries }
         ensures room { OnOk result (0 < self.new.room) }
         ensures why { IfErr result (λ fault. fault ≡ ScriptFault.Memory) }
@@ -65,7 +73,21 @@ impl<A: Allocator + Copy> Asked<A> {
         if self.lines.reserve(1).is_err() || grow(&mut self.hints, &self.lines).is_err() {
             return Err(ScriptFault::Memory);
         }
+        self.has_room = true;
         Ok(())
+    }
+
+    /// Makes room for one line more.
+    #[inline(always)]
+    pub fn reserve(&mut self) -> Result<(), ScriptFault>
+        ensures entries { self.new.entries ≡ self.old.entries }
+        ensures room { OnOk result (0 < self.new.room) }
+        ensures why { IfErr result (λ fault. fault ≡ ScriptFault.Memory) }
+    {
+        if self.has_room {
+            return Ok(());
+        }
+        self.make_room()
     }
 
     /// The client's line, if one is stored.
@@ -107,6 +129,7 @@ impl<A: Allocator + Copy> Asked<A> {
         if let Some(index) = self.hinted(client) {
             return self.store_at(index, client, line);
         }
+        self.has_room = false;
         let (index, _) = self.lines.insert_full(client.0, line.copied()).unwrap();
         self.hints.set(client.0, index);
     }

@@ -5,14 +5,14 @@ use crate::accepting::{Calls, greet, note, tell_from};
 use crate::asked_lines::Asked;
 use crate::fault::ScriptFault;
 use crate::line_id::LineId;
-use crate::mark::mark_of;
+use crate::mark::{Mark, mark_of};
 use crate::names::{CountedLine, Names};
 use crate::text::refuse;
 use http_server::Log;
 use pt_core::Core;
-use pt_lines::{Rest, ScriptBody, ScriptLine, Who, named_at_start, read_client, wait_at_start};
+use pt_lines::{ScriptBody, ScriptLine, Who, read_client};
 use pt_model::Event;
-use pt_types::{Call, ClientId, Name, Priority, Refusal};
+use pt_types::{Call, ClientId, Priority, Refusal};
 use std::alloc::{Allocator, Global};
 use std::marker::Model;
 
@@ -50,9 +50,9 @@ impl<A: Allocator + Copy> Model for Engine<A> {
 impl<A: Allocator + Copy> Engine<A> {
     ghost use Rattle.pt_model.specs.Histories.{place};
     ghost use Rattle.pt_model.specs.Clients.{is_alive};
-    ghost use Rattle.pt_lines.specs.Script.{body_read, short_read};
+    ghost use Rattle.pt_lines.specs.Script.{short_read};
     ghost use Rattle.pt_core.specs.Cores.{past};
-    ghost use Rattle.pt_script.specs.Scripts.{begun, core_of, event_for, event_of_body, join_for};
+    ghost use Rattle.pt_script.specs.Scripts.{begun, core_of, event_for, join_for};
     ghost use Rattle.pt_script.specs.Scripts.{lines_of_who, number_of, of_client, refusal_of_hello};
     ghost use Rattle.pt_script.specs.Says.{Says, SaysOf, SaysTo};
     ghost use Rattle.pt_script.specs.Engines.{Adds, known_by, mark_of};
@@ -109,11 +109,18 @@ impl<A: Allocator + Copy> Engine<A> {
         }
     }
 
-    // Does what a counted line asks for, and appends its answer.
-    fn run(&mut self, event: &Event, line: &LineId, out: &mut Vec<u8, A>) -> Result<(), ScriptFault>
+    // Does what a counted line asks for, and appends its answer. The mark is that of the event.
+    #[inline(always)]
+    fn run_marked(
+        &mut self,
+        event: &Event,
+        mark: &Mark,
+        line: &LineId,
+        out: &mut Vec<u8, A>,
+    ) -> Result<(), ScriptFault>
+        requires mark { mark.now ≡ mark_of event.now }
         requires counted { 0 < lines_of_who self.old.seen line.now.who }
-        requires first { mark_of event.now ≡ Mark.Client
-            → number_of self.old.clients line.now.who ≡ None }
+        requires first { mark.now ≡ Mark.Client → number_of self.old.clients line.now.who ≡ None }
         ensures ok { OnOk result
             (Adds (SaysOf (known_by self.old) event.now line.now (known_by self.new))
             out.old.items out.new.items) }
@@ -122,17 +129,16 @@ impl<A: Allocator + Copy> Engine<A> {
         self.asked.reserve()?;
         match self.core.apply_event(event) {
             Ok(done) => {
-                let mark = mark_of(event);
                 note(
                     &mut self.names,
                     &mut self.asked,
                     &mut self.calls,
-                    &mark,
+                    mark,
                     line,
                     &done,
                 );
-                greet(out, &mark, line)?;
-                tell_from(out, &self.core, &self.asked, &mark, line, &done)?;
+                greet(out, mark, line)?;
+                tell_from(out, &self.core, &self.asked, mark, line, &done)?;
                 Ok(())
             }
             Err(refusal) => {
@@ -140,6 +146,44 @@ impl<A: Allocator + Copy> Engine<A> {
                 Ok(())
             }
         }
+    }
+
+    // Does what a counted line asks for, and appends its answer.
+    #[inline(never)]
+    pub(crate) fn run(
+        &mut self,
+        event: &Event,
+        line: &LineId,
+        out: &mut Vec<u8, A>,
+    ) -> Result<(), ScriptFault>
+        requires counted { 0 < lines_of_who self.old.seen line.now.who }
+        requires first { mark_of event.now ≡ Mark.Client
+            → number_of self.old.clients line.now.who ≡ None }
+        ensures ok { OnOk result
+            (Adds (SaysOf (known_by self.old) event.now line.now (known_by self.new))
+            out.old.items out.new.items) }
+        ensures why { IfErr result (λ fault. fault ≡ ScriptFault.Memory) }
+    {
+        self.run_marked(event, &mark_of(event), line, out)
+    }
+
+    // The same of a call of this client, which is what most lines ask for.
+    #[inline(never)]
+    fn run_call(
+        &mut self,
+        event: &Event,
+        client: ClientId,
+        line: &LineId,
+        out: &mut Vec<u8, A>,
+    ) -> Result<(), ScriptFault>
+        requires mark { mark_of event.now ≡ Mark.Call client }
+        requires counted { 0 < lines_of_who self.old.seen line.now.who }
+        ensures ok { OnOk result
+            (Adds (SaysOf (known_by self.old) event.now line.now (known_by self.new))
+            out.old.items out.new.items) }
+        ensures why { IfErr result (λ fault. fault ≡ ScriptFault.Memory) }
+    {
+        self.run_marked(event, &Mark::Call(client), line, out)
     }
 
     // Answers a hello under a name with which this client joined, if one did.
@@ -167,7 +211,7 @@ impl<A: Allocator + Copy> Engine<A> {
     // Answers a call of the client that joined under the line's name, if one did.
     #[inline(always)]
     #[tactic(auto, using(crate::proofs::Lines::says_refused))]
-    fn ask(
+    pub(crate) fn ask(
         &mut self,
         line: &LineId,
         client: Option<ClientId>,
@@ -181,7 +225,7 @@ impl<A: Allocator + Copy> Engine<A> {
         ensures why { IfErr result (λ fault. fault ≡ ScriptFault.Memory) }
     {
         match client {
-            Some(client) => self.run(&Event::Call(client, call), line, out),
+            Some(client) => self.run_call(&Event::Call(client, call), client, line, out),
             None => refuse(out, line, Refusal::Nohello),
         }
     }
@@ -209,7 +253,7 @@ impl<A: Allocator + Copy> Engine<A> {
     // Does what a counted line says, and appends its answer. The client is the one that joined
     // under the line's name.
     #[tactic(auto, using(crate::proofs::Lines::says_refused))]
-    fn answer_body(
+    pub(crate) fn answer_body(
         &mut self,
         line: &LineId,
         client: Option<ClientId>,
@@ -251,109 +295,6 @@ impl<A: Allocator + Copy> Engine<A> {
             Ok(body) => self.answer_body(&line, client, body, out),
             Err(refusal) => refuse(out, &line, refusal),
         }
-    }
-
-    // Answers what is said, be it a call or not. It isn't inlined, so that calls have no room to
-    // clear for it.
-    #[inline(never)]
-    #[tactic(auto, using(crate::proofs::Lines::says_refused))]
-    fn answer_said(
-        &mut self,
-        line: &LineId,
-        client: Option<ClientId>,
-        rest: Rest,
-        out: &mut Vec<u8, A>,
-    ) -> Result<(), ScriptFault>
-        requires counted { 0 < lines_of_who self.old.seen line.now.who }
-        requires client { client ≡ number_of self.old.clients line.now.who }
-        ensures ok { OnOk result (Adds (SaysTo (known_by self.old) line.now
-            (event_of_body (known_by self.old) line.now.who (body_read line.now.who rest.entry))
-            (known_by self.new)) out.old.items out.new.items) }
-        ensures why { IfErr result (λ fault. fault ≡ ScriptFault.Memory) }
-    {
-        match rest.body(&line.who) {
-            Ok(body) => self.answer_body(line, client, body, out),
-            Err(refusal) => refuse(out, line, refusal),
-        }
-    }
-
-    // Answers what is neither a call of one name nor a wait. It isn't inlined, so that these have
-    // no room to clear for it.
-    #[inline(never)]
-    #[tactic(auto, using(crate::proofs::Lines::says_refused))]
-    fn answer_rare(
-        &mut self,
-        line: &LineId,
-        client: Option<ClientId>,
-        rest: &[u8],
-        out: &mut Vec<u8, A>,
-    ) -> Result<(), ScriptFault>
-        requires counted { 0 < lines_of_who self.old.seen line.now.who }
-        requires client { client ≡ number_of self.old.clients line.now.who }
-        ensures ok { OnOk result (Adds (SaysTo (known_by self.old) line.now
-            (event_of_body (known_by self.old) line.now.who (body_read line.now.who rest.now))
-            (known_by self.new)) out.old.items out.new.items) }
-        ensures why { IfErr result (λ fault. fault ≡ ScriptFault.Memory) }
-    {
-        let rest = Rest::new(rest);
-        if let Who::Named(_) = line.who
-            && let Some(call) = rest.call()
-        {
-            return self.ask(line, client, call, out);
-        }
-        self.answer_said(line, client, rest, out)
-    }
-
-    // Answers what else is said than calls of one name. It isn't inlined, so that these have no
-    // room to clear for it.
-    #[inline(never)]
-    fn answer_other(
-        &mut self,
-        line: &LineId,
-        client: Option<ClientId>,
-        rest: &[u8],
-        out: &mut Vec<u8, A>,
-    ) -> Result<(), ScriptFault>
-        requires counted { 0 < lines_of_who self.old.seen line.now.who }
-        requires client { client ≡ number_of self.old.clients line.now.who }
-        ensures ok { OnOk result (Adds (SaysTo (known_by self.old) line.now
-            (event_of_body (known_by self.old) line.now.who (body_read line.now.who rest.now))
-            (known_by self.new)) out.old.items out.new.items) }
-        ensures why { IfErr result (λ fault. fault ≡ ScriptFault.Memory) }
-    {
-        let Who::Named(_) = line.who else {
-            return self.answer_said(line, client, Rest::new(rest), out);
-        };
-        if let Some((cond, mutex)) = wait_at_start(rest) {
-            return self.ask(line, client, Call::Wait(cond, mutex), out);
-        }
-        self.answer_rare(line, client, rest, out)
-    }
-
-    // Answers what is said after a client and a space. Most lines are calls of one name: these are
-    // moved once.
-    #[inline(always)]
-    fn answer_rest(
-        &mut self,
-        line: &LineId,
-        client: Option<ClientId>,
-        rest: &[u8],
-        out: &mut Vec<u8, A>,
-    ) -> Result<(), ScriptFault>
-        requires counted { 0 < lines_of_who self.old.seen line.now.who }
-        requires client { client ≡ number_of self.old.clients line.now.who }
-        ensures ok { OnOk result (Adds (SaysTo (known_by self.old) line.now
-            (event_of_body (known_by self.old) line.now.who (body_read line.now.who rest.now))
-            (known_by self.new)) out.old.items out.new.items) }
-        ensures why { IfErr result (λ fault. fault ≡ ScriptFault.Memory) }
-    {
-        if let Who::Named(_) = line.who
-            && let Some((verb, name)) = named_at_start(rest)
-            && let Some(name) = Name::new(name)
-        {
-            return self.ask(line, client, verb.call(name), out);
-        }
-        self.answer_other(line, client, rest, out)
     }
 
     // Answers the line of a text that is not too long, as `answer` does.

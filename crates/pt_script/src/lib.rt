@@ -28,6 +28,7 @@ mod line_id;
 mod mark;
 mod names;
 mod program;
+mod said;
 mod text;
 mod whole;
 

@@ -3,7 +3,7 @@ ghost use Rattle.std.specs.Prelude.{OnOk, OnErr, IfOk, IfErr, IfSome};
 ghost use Rattle.std.specs.Bool.{OnTrue};
 ghost use Rattle.std.specs.Str.{bytes_eq};
 ghost use Rattle.pt_script.specs.Names.{client_in, lines_in, row_of, IsAt, IsRowRaised};
-ghost use Rattle.pt_script.specs.Names.{IsRowGiven};
+ghost use Rattle.pt_script.specs.Names.{IsRowGiven, AreRowsAlike};
 
 use crate::fault::ScriptFault;
 use http_server::Log;
@@ -92,6 +92,7 @@ fn grow<A: Allocator + Copy>(hints: &mut Hints<A>, rows: &Rows<A>) -> Result<(),
 }
 
 // Whether two names are the same. They are short: a loop costs less than a call that compares.
+#[inline(always)]
 fn is_same(one: &[u8], other: &[u8]) -> bool
     ensures { result ≡ bytes_eq one.now other.now }
 {
@@ -107,6 +108,7 @@ fn is_same(one: &[u8], other: &[u8]) -> bool
 }
 
 // Whether the row at an index is a name's.
+#[inline(always)]
 fn is_at<A: Allocator + Copy>(rows: &Rows<A>, index: usize, name: &ClientName) -> bool
     ensures { OnTrue result (IsAt rows.now.entries index name.now) }
 {
@@ -117,6 +119,7 @@ fn is_at<A: Allocator + Copy>(rows: &Rows<A>, index: usize, name: &ClientName) -
 }
 
 // Counts a line of this name, whose row is at an index.
+#[inline(always)]
 fn count_at<A: Allocator + Copy>(rows: &mut Rows<A>, index: usize, name: &ClientName) -> CountedLine
     requires at { IsAt rows.old.entries index name.now }
     requires few { lines_in (row_of rows.old.entries name.now) < 2 ^ 53 }
@@ -132,51 +135,21 @@ fn count_at<A: Allocator + Copy>(rows: &mut Rows<A>, index: usize, name: &Client
     }
 }
 
-// Makes the row of a name's first line.
-fn begin<A: Allocator + Copy>(
-    rows: &mut Rows<A>,
-    name: &ClientName,
-) -> Result<CountedLine, ScriptFault>
+// Makes the row of a name of which no line is counted, and returns its index.
+fn begin<A: Allocator + Copy>(rows: &mut Rows<A>, name: &ClientName) -> Result<usize, ScriptFault>
     requires { row_of rows.old.entries name.now ≡ None }
-    ensures counted { IfOk result (λ n. (n.number ≡ 1) × (n.client ≡ None)) }
-    ensures ok { OnOk result (IsRowRaised rows.old.entries name.now rows.new.entries) }
-    ensures err { OnErr result (rows.new.entries ≡ rows.old.entries) }
+    ensures at { IfOk result (λ index. IsAt rows.new.entries index name.now) }
+    ensures alike { AreRowsAlike rows.old.entries rows.new.entries }
     ensures why { IfErr result (λ fault. fault ≡ ScriptFault.Memory) }
 {
     let row = Row {
-        lines: 1,
+        lines: 0,
         client: None,
     };
-    match rows.insert(name.copied(), row) {
-        Ok(_) => Ok(CountedLine {
-            number: 1,
-            client: None,
-        }),
+    match rows.insert_full(name.copied(), row) {
+        Ok((index, _)) => Ok(index),
         Err(_) => Err(ScriptFault::Memory),
     }
-}
-
-// Counts a line of this name.
-fn count_named<A: Allocator + Copy>(
-    rows: &mut Rows<A>,
-    name: &ClientName,
-) -> Result<CountedLine, ScriptFault>
-    requires { lines_in (row_of rows.old.entries name.now) < 2 ^ 53 }
-    ensures number { IfOk result (λ n.
-        n.number ≡ suc (lines_in (row_of rows.old.entries name.now))) }
-    ensures client { IfOk result (λ n. n.client ≡ client_in (row_of rows.old.entries name.now)) }
-    ensures ok { OnOk result (IsRowRaised rows.old.entries name.now rows.new.entries) }
-    ensures err { OnErr result (rows.new.entries ≡ rows.old.entries) }
-    ensures why { IfErr result (λ fault. fault ≡ ScriptFault.Memory) }
-{
-    if let Some(row) = rows.get_mut(name) {
-        row.lines += 1;
-        return Ok(CountedLine {
-            number: row.lines,
-            client: row.client,
-        });
-    }
-    begin(rows, name)
 }
 
 // A line of the clocks, or of no client that can be read, by its number.
@@ -202,52 +175,65 @@ fn give<A: Allocator + Copy>(rows: &mut Rows<A>, name: &ClientName, client: Clie
 
 impl<A: Allocator + Copy> Counts<A> {
     ghost use Rattle.pt_script.specs.Names.{client_counted, lines_counted, IsRaised, IsGiven};
+    ghost use Rattle.pt_script.specs.Names.{AreAlike};
 
-    // The index of a name's row, if it has one. Its hint is right from then on.
-    fn find(&mut self, name: &ClientName) -> Option<usize>
-        ensures at { IfSome result (λ index. IsAt self.new.rows index name.now) }
-        ensures same { self.new ≡ self.old }
+    // The index of the row of a name to which no hint leads. The row is found by the hash of the
+    // name, or made. It isn't inlined: the rows of most lines are found by their hints.
+    #[cold]
+    #[inline(never)]
+    fn look_up(&mut self, name: &ClientName) -> Result<usize, ScriptFault>
+        ensures at { IfOk result (λ index. IsAt self.new.rows index name.now) }
+        ensures alike { AreAlike self.old self.new }
+        ensures why { IfErr result (λ fault. fault ≡ ScriptFault.Memory) }
     {
         let key = key_of(name.as_bytes());
-        let index = self.hints.get(key).unwrap_or(0);
-        if is_at(&self.rows, index, name) {
-            return Some(index);
+        if let Some(index) = self.rows.get_index_of(name) {
+            self.hints.set(key, index);
+            return Ok(index);
         }
-        let index = self.rows.get_index_of(name)?;
+        grow(&mut self.hints, &self.rows)?;
+        let index = begin(&mut self.rows, name)?;
         self.hints.set(key, index);
+        Ok(index)
+    }
+
+    // The index of a name's row, which is made if there is none.
+    #[inline(always)]
+    fn index_of(&mut self, name: &ClientName) -> Result<usize, ScriptFault>
+        ensures at { IfOk result (λ index. IsAt self.new.rows index name.now) }
+        ensures alike { AreAlike self.old self.new }
+        ensures why { IfErr result (λ fault. fault ≡ ScriptFault.Memory) }
+    {
+        let index = self.hints.get(key_of(name.as_bytes())).unwrap_or(0);
         if is_at(&self.rows, index, name) {
-            return Some(index);
+            return Ok(index);
         }
-        None
+        self.look_up(name)
     }
 
     // Counts a line of this name.
+    #[inline(always)]
     fn raise_named(&mut self, name: &ClientName) -> Result<CountedLine, ScriptFault>
         requires { lines_in (row_of self.old.rows name.now) < 2 ^ 53 }
         ensures number { IfOk result (λ n.
             n.number ≡ suc (lines_in (row_of self.old.rows name.now))) }
         ensures client { IfOk result (λ n. n.client ≡ client_in (row_of self.old.rows name.now)) }
-        ensures ok { OnOk result (IsRowRaised self.old.rows name.now self.new.rows) }
-        ensures others { (self.new.star ≡ self.old.star) × (self.new.unknown ≡ self.old.unknown) }
-        ensures err { OnErr result (self.new.rows ≡ self.old.rows) }
+        ensures ok { OnOk result (IsRaised self.old (Who.Named name.now) self.new) }
+        ensures err { OnErr result (AreAlike self.old self.new) }
         ensures why { IfErr result (λ fault. fault ≡ ScriptFault.Memory) }
     {
-        match self.find(name) {
-            Some(index) => Ok(count_at(&mut self.rows, index, name)),
-            None => {
-                grow(&mut self.hints, &self.rows)?;
-                count_named(&mut self.rows, name)
-            }
-        }
+        let index = self.index_of(name)?;
+        Ok(count_at(&mut self.rows, index, name))
     }
 
     // Counts a line.
+    #[inline(always)]
     fn raise(&mut self, who: &Who) -> Result<CountedLine, ScriptFault>
         requires { lines_counted self.old who.now < 2 ^ 53 }
         ensures number { IfOk result (λ n. n.number ≡ suc (lines_counted self.old who.now)) }
         ensures client { IfOk result (λ n. n.client ≡ client_counted self.old who.now) }
         ensures ok { OnOk result (IsRaised self.old who.now self.new) }
-        ensures err { OnErr result (self.new ≡ self.old) }
+        ensures err { OnErr result (AreAlike self.old self.new) }
         ensures why { IfErr result (λ fault. fault ≡ ScriptFault.Memory) }
     {
         match who {
@@ -302,6 +288,7 @@ impl<A: Allocator + Copy> Names<A> {
     }
 
     /// Counts a line. A refused growth is a fault, and changes nothing.
+    #[inline(always)]
     pub fn count(&mut self, who: &Who) -> Result<CountedLine, ScriptFault>
         requires { length self.old.seen < 2 ^ 53 }
         ensures number { IfOk result (λ n. n.number ≡ suc (lines_of_who self.old.seen who.now)) }

@@ -17,6 +17,7 @@ use pt_types::{ClientId, Outcome, Refusal};
 use std::alloc::Allocator;
 
 /// Appends the answer to a line.
+#[inline(always)]
 pub fn tell<A: Allocator + Copy>(
     out: &mut Vec<u8, A>,
     line: &LineId,
@@ -84,6 +85,7 @@ fn tell_reply<A: Allocator + Copy>(
 }
 
 /// Appends the answer of the event's own call, if it has one.
+#[inline(always)]
 pub fn tell_own<A: Allocator + Copy>(
     out: &mut Vec<u8, A>,
     mark: &Mark,

@@ -29,6 +29,15 @@ pub struct ScriptEnd {
     pub entries: u64,
 }
 
+// No answers, with room for those to most pieces. If that room is refused, they grow as they need.
+fn no_answers<A: Allocator + Copy>(alloc: A) -> Vec<u8, A>
+    ensures { result.items ≡ [] }
+{
+    let mut out = Vec::new(alloc);
+    let _ = out.reserve(2 * PIECE);
+    out
+}
+
 // Takes in a piece of the input, and writes the answers to the lines that it ends.
 fn take_in<W: Sink, A: Allocator + Copy>(
     alloc: A,
@@ -56,7 +65,7 @@ fn take_in<W: Sink, A: Allocator + Copy>(
     let Ok(()) = cutter.feed(piece) else {
         return Err(ScriptFault::Memory);
     };
-    let mut out = Vec::new(alloc);
+    let mut out = no_answers(alloc);
     engine.answer_all(cutter, &mut out)?;
     deliver(writer, &out)?;
     Ok(())

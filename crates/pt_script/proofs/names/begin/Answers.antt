@@ -1,13 +1,25 @@
-use Rattle.std.proofs.Common.{suc, None, sym, ap}
+use Rattle.std.proofs.Common.{None, refl}
 use Rattle.pt_script.specs.declared.names.Row.{Row}
-use Rattle.pt_script.specs.Names.{lines_in, client_in}
-use Rattle.pt_script.proofs.Rows.{row_raised}
+use Rattle.pt_script.proofs.Places.{inserted_at, set_own}
+use Rattle.pt_script.proofs.Rows.{begun_alike}
 use Rattle.pt_script.proofs.names.begin.Goals as goal
 
-pub returns-in-Ok-clause-ok : goal.returns-in-Ok-clause-ok
-returns-in-Ok-clause-ok g c =
-    let row : Row = record { lines = 1; client = None } in
+pub returns-in-Ok-clause-at : goal.returns-in-Ok-clause-at
+returns-in-Ok-clause-at g c =
+    let row : Row = record { lines = 0; client = None } in
     let set = rw c.copied.ensures at c.in-Ok.ensures.updates.0 in
-    let first = c.requires in
-    row_raised c.args.rows.now.entries c.insert.new.self.entries c.args.name.now row set
-    (sym (ap (λ r. suc (lines_in r)) first)) (sym (ap client_in first))
+    record {
+      row = row;
+      at =
+          rw (c.in-Ok.ensures.entries, c.in-Ok.ensures.index, c.copied.ensures)
+          (inserted_at c.args.rows.now.entries c.args.name.now row c.requires);
+      own =
+          set_own c.args.rows.now.entries c.insert_full.new.self.entries c.args.name.now row set;
+    }
+
+pub returns-in-Ok-clause-alike : goal.returns-in-Ok-clause-alike
+returns-in-Ok-clause-alike g c =
+    let row : Row = record { lines = 0; client = None } in
+    let set = rw c.copied.ensures at c.in-Ok.ensures.updates.0 in
+    begun_alike c.args.rows.now.entries c.insert_full.new.self.entries c.args.name.now row set
+    c.requires refl refl

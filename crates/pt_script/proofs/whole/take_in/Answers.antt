@@ -22,7 +22,7 @@ returns-in_err-deliver-clause-err g c =
     } in
     told_fault c.from_residual-in_err-deliver.result Write
     (λ fault. IsStopped fault held (known_by c.args.engine.now) old writing) (rw why at gives.1)
-    (cut_off held c.feed.new.self (known_by c.args.engine.now) c.new-out.result.items
+    (cut_off held c.feed.new.self (known_by c.args.engine.now) c.no_answers-out.result.items
     c.answer_all.new.cutter (known_by c.answer_all.new.self) c.answer_all.new.out.items
     c.deref.result.now old writing c.in_ok-answer_all.ensures.ok c.in-Ok.ensures.ok
-    c.new-out.ensures.items c.deref.ensures.value c.in_err-deliver.ensures.err)
+    c.no_answers-out.ensures c.deref.ensures.value c.in_err-deliver.ensures.err)

@@ -6,10 +6,10 @@ use Rattle.pt_lines.specs.Script.{body_read}
 use Rattle.pt_script.specs.Scripts.{event_of_body, number_of, of_client}
 use Rattle.pt_script.specs.Says.{SaysTo}
 use Rattle.pt_script.specs.Engines.{Adds, known_by}
-use Rattle.pt_script.proofs.engine.Engine.answer_other.Goals as goal
+use Rattle.pt_script.proofs.engine.Engine.answer_wait.Goals as goal
 
-pub returns-in-Some-clause-ok : goal.returns-in-Some-clause-ok
-returns-in-Some-clause-ok g c =
+pub returns-clause-ok : goal.returns-clause-ok
+returns-clause-ok g c =
     let s = known_by c.args.self.now in
     let who = c.in-Named.is in
     let client = Named c.in-Named.field-0 in

@@ -4,16 +4,16 @@ use Rattle.pt_script.specs.Engines.{IsAsked, known_by}
 use Rattle.pt_script.proofs.Accepted.{accepted, refused}
 use Rattle.pt_script.proofs.Alone.{answers_alone}
 use Rattle.pt_script.proofs.Asked.{kept_lines, told_alike}
-use Rattle.pt_script.proofs.engine.Engine.run.Goals as goal
+use Rattle.pt_script.proofs.engine.Engine.run_marked.Goals as goal
 
 pub invariant_of-self-in_err-greet-in-Ok : goal.invariant_of-self-in_err-greet-in-Ok
 invariant_of-self-in_err-greet-in-Ok g c =
     kept_lines (shown c.self.inside.core) _ c.args.event.now c.in-Ok.done c.self.invariant.0
     c.in-Ok.ensures.ok c.self.inside.asked.entries c.note.new.asked.entries
-    c.self.inside.calls.items c.note.new.calls.items c.args.line.now c.mark_of-mark.result
-    c.self.invariant.1 c.mark_of-mark.ensures
+    c.self.inside.calls.items c.note.new.calls.items c.args.line.now c.args.mark.now
+    c.self.invariant.1 c.requires.mark
     (subst
-    (λ rows. IsAsked c.in-Ok.done.outcome c.mark_of-mark.result c.args.line.now rows
+    (λ rows. IsAsked c.in-Ok.done.outcome c.args.mark.now c.args.line.now rows
     c.note.new.asked.entries)
     c.reserve.ensures.entries c.note.ensures.asked)
     c.note.ensures.calls
@@ -22,10 +22,10 @@ pub invariant_of-self-in_err-tell_from-in-Ok : goal.invariant_of-self-in_err-tel
 invariant_of-self-in_err-tell_from-in-Ok g c =
     kept_lines (shown c.self.inside.core) _ c.args.event.now c.in-Ok.done c.self.invariant.0
     c.in-Ok.ensures.ok c.self.inside.asked.entries c.note.new.asked.entries
-    c.self.inside.calls.items c.note.new.calls.items c.args.line.now c.mark_of-mark.result
-    c.self.invariant.1 c.mark_of-mark.ensures
+    c.self.inside.calls.items c.note.new.calls.items c.args.line.now c.args.mark.now
+    c.self.invariant.1 c.requires.mark
     (subst
-    (λ rows. IsAsked c.in-Ok.done.outcome c.mark_of-mark.result c.args.line.now rows
+    (λ rows. IsAsked c.in-Ok.done.outcome c.args.mark.now c.args.line.now rows
     c.note.new.asked.entries)
     c.reserve.ensures.entries c.note.ensures.asked)
     c.note.ensures.calls
@@ -34,10 +34,10 @@ pub invariant_of-self-in-Ok : goal.invariant_of-self-in-Ok
 invariant_of-self-in-Ok g c =
     kept_lines (shown c.self.inside.core) _ c.args.event.now c.in-Ok.done c.self.invariant.0
     c.in-Ok.ensures.ok c.self.inside.asked.entries c.note.new.asked.entries
-    c.self.inside.calls.items c.note.new.calls.items c.args.line.now c.mark_of-mark.result
-    c.self.invariant.1 c.mark_of-mark.ensures
+    c.self.inside.calls.items c.note.new.calls.items c.args.line.now c.args.mark.now
+    c.self.invariant.1 c.requires.mark
     (subst
-    (λ rows. IsAsked c.in-Ok.done.outcome c.mark_of-mark.result c.args.line.now rows
+    (λ rows. IsAsked c.in-Ok.done.outcome c.args.mark.now c.args.line.now rows
     c.note.new.asked.entries)
     c.reserve.ensures.entries c.note.ensures.asked)
     c.note.ensures.calls
@@ -46,28 +46,28 @@ pub tell_from-requires : goal.tell_from-requires
 tell_from-requires g c = record {
   alone = λ same.
       answers_alone (shown c.self.inside.core) _ c.args.event.now c.in-Ok.done
-      c.mark_of-mark.result c.self.invariant.0 c.in-Ok.ensures.ok c.mark_of-mark.ensures same;
+      c.args.mark.now c.self.invariant.0 c.in-Ok.ensures.ok c.requires.mark same;
 }
 
 pub returns-in_ok-tell_from-in-Ok-clause-ok : goal.returns-in_ok-tell_from-in-Ok-clause-ok
 returns-in_ok-tell_from-in-Ok-clause-ok g c =
     let sets =
     subst
-    (λ rows. IsAsked c.in-Ok.done.outcome c.mark_of-mark.result c.args.line.now rows
+    (λ rows. IsAsked c.in-Ok.done.outcome c.args.mark.now c.args.line.now rows
     c.note.new.asked.entries)
     c.reserve.ensures.entries c.note.ensures.asked in
     accepted (known_by c.args.self.now) (shown c.self.inside.core)
     _ c.self.inside.names
     c.note.new.names c.self.inside.calls.items c.note.new.calls.items c.args.event.now
-    c.args.line.now c.in-Ok.done c.mark_of-mark.result c.args.out.now.items
+    c.args.line.now c.in-Ok.done c.args.mark.now c.args.out.now.items
     c.greet.new.out.items c.tell_from.new.out.items (ap known_by (sym c.self.view_is))
     c.self.invariant.0.limit
-    c.mark_of-mark.ensures c.in-Ok.ensures.ok c.note.ensures.names c.note.ensures.calls
+    c.requires.mark c.in-Ok.ensures.ok c.note.ensures.names c.note.ensures.calls
     c.in_ok-greet-in-Ok.ensures.ok
     (told_alike (shown c.self.inside.core) _ c.args.event.now c.in-Ok.done
     c.self.invariant.0 c.in-Ok.ensures.ok c.self.inside.asked.entries
     c.note.new.asked.entries c.self.inside.calls.items c.note.new.calls.items
-    c.args.line.now c.mark_of-mark.result c.self.invariant.1 c.mark_of-mark.ensures
+    c.args.line.now c.args.mark.now c.self.invariant.1 c.requires.mark
     sets c.note.ensures.calls c.greet.new.out.items c.tell_from.new.out.items
     c.in_ok-tell_from-in-Ok.ensures.ok)
 

@@ -1,0 +1,193 @@
+//! What is said after a client and a space, read and answered.
+
+ghost use Rattle.std.specs.Prelude.{◌≡◌, ◌<◌, OnOk, IfErr};
+
+use crate::engine::Engine;
+use crate::fault::ScriptFault;
+use crate::line_id::LineId;
+use crate::text::refuse;
+use pt_lines::{Rest, Who, moment_at_start, named_at_start, timed_at_start, wait_at_start};
+use pt_model::Event;
+use pt_types::{Call, ClientId, Clock, Name};
+use std::alloc::Allocator;
+
+impl<A: Allocator + Copy> Engine<A> {
+    ghost use Rattle.pt_lines.specs.Script.{body_read};
+    ghost use Rattle.pt_script.specs.Scripts.{event_of_body, lines_of_who, number_of};
+    ghost use Rattle.pt_script.specs.Says.{SaysTo};
+    ghost use Rattle.pt_script.specs.Engines.{Adds, known_by};
+
+    // Answers what is said, be it a call or not. It isn't inlined, so that calls have no room to
+    // clear for it.
+    #[inline(never)]
+    #[tactic(auto, using(crate::proofs::Lines::says_refused))]
+    fn answer_said(
+        &mut self,
+        line: &LineId,
+        client: Option<ClientId>,
+        rest: Rest,
+        out: &mut Vec<u8, A>,
+    ) -> Result<(), ScriptFault>
+        requires counted { 0 < lines_of_who self.old.seen line.now.who }
+        requires client { client ≡ number_of self.old.clients line.now.who }
+        ensures ok { OnOk result (Adds (SaysTo (known_by self.old) line.now
+            (event_of_body (known_by self.old) line.now.who (body_read line.now.who rest.entry))
+            (known_by self.new)) out.old.items out.new.items) }
+        ensures why { IfErr result (λ fault. fault ≡ ScriptFault.Memory) }
+    {
+        match rest.body(&line.who) {
+            Ok(body) => self.answer_body(line, client, body, out),
+            Err(refusal) => refuse(out, line, refusal),
+        }
+    }
+
+    // Answers what is seldom said. It isn't inlined, so that what is said more often has no room to
+    // clear for it.
+    #[inline(never)]
+    #[tactic(auto, using(crate::proofs::Lines::says_refused))]
+    fn answer_rare(
+        &mut self,
+        line: &LineId,
+        client: Option<ClientId>,
+        rest: &[u8],
+        out: &mut Vec<u8, A>,
+    ) -> Result<(), ScriptFault>
+        requires counted { 0 < lines_of_who self.old.seen line.now.who }
+        requires client { client ≡ number_of self.old.clients line.now.who }
+        ensures ok { OnOk result (Adds (SaysTo (known_by self.old) line.now
+            (event_of_body (known_by self.old) line.now.who (body_read line.now.who rest.now))
+            (known_by self.new)) out.old.items out.new.items) }
+        ensures why { IfErr result (λ fault. fault ≡ ScriptFault.Memory) }
+    {
+        let rest = Rest::new(rest);
+        if let Who::Named(_) = line.who
+            && let Some(call) = rest.call()
+        {
+            return self.ask(line, client, call, out);
+        }
+        self.answer_said(line, client, rest, out)
+    }
+
+    // Answers what begins as a wait may. It isn't inlined, so that other lines have no room to
+    // clear for it; nor are the next two.
+    #[inline(never)]
+    fn answer_wait(
+        &mut self,
+        line: &LineId,
+        client: Option<ClientId>,
+        rest: &[u8],
+        out: &mut Vec<u8, A>,
+    ) -> Result<(), ScriptFault>
+        requires counted { 0 < lines_of_who self.old.seen line.now.who }
+        requires client { client ≡ number_of self.old.clients line.now.who }
+        ensures ok { OnOk result (Adds (SaysTo (known_by self.old) line.now
+            (event_of_body (known_by self.old) line.now.who (body_read line.now.who rest.now))
+            (known_by self.new)) out.old.items out.new.items) }
+        ensures why { IfErr result (λ fault. fault ≡ ScriptFault.Memory) }
+    {
+        if let Who::Named(_) = line.who
+            && let Some((cond, mutex)) = wait_at_start(rest)
+        {
+            return self.ask(line, client, Call::Wait(cond, mutex), out);
+        }
+        self.answer_rare(line, client, rest, out)
+    }
+
+    // Answers what begins as a call with a deadline may.
+    #[inline(never)]
+    fn answer_timed(
+        &mut self,
+        line: &LineId,
+        client: Option<ClientId>,
+        rest: &[u8],
+        out: &mut Vec<u8, A>,
+    ) -> Result<(), ScriptFault>
+        requires counted { 0 < lines_of_who self.old.seen line.now.who }
+        requires client { client ≡ number_of self.old.clients line.now.who }
+        ensures ok { OnOk result (Adds (SaysTo (known_by self.old) line.now
+            (event_of_body (known_by self.old) line.now.who (body_read line.now.who rest.now))
+            (known_by self.new)) out.old.items out.new.items) }
+        ensures why { IfErr result (λ fault. fault ≡ ScriptFault.Memory) }
+    {
+        if let Who::Named(_) = line.who
+            && let Some(call) = timed_at_start(rest)
+        {
+            return self.ask(line, client, call, out);
+        }
+        self.answer_rare(line, client, rest, out)
+    }
+
+    // Answers what the clocks say: most often a moment.
+    #[inline(never)]
+    fn answer_moment(
+        &mut self,
+        line: &LineId,
+        client: Option<ClientId>,
+        rest: &[u8],
+        out: &mut Vec<u8, A>,
+    ) -> Result<(), ScriptFault>
+        requires counted { 0 < lines_of_who self.old.seen line.now.who }
+        requires client { client ≡ number_of self.old.clients line.now.who }
+        ensures ok { OnOk result (Adds (SaysTo (known_by self.old) line.now
+            (event_of_body (known_by self.old) line.now.who (body_read line.now.who rest.now))
+            (known_by self.new)) out.old.items out.new.items) }
+        ensures why { IfErr result (λ fault. fault ≡ ScriptFault.Memory) }
+    {
+        if let Who::Star = line.who
+            && let Some(moment) = moment_at_start(rest)
+        {
+            return self.run(&Event::Moment(Clock::Real, moment), line, out);
+        }
+        self.answer_rare(line, client, rest, out)
+    }
+
+    // Answers what else is said than calls of one name.
+    #[inline(never)]
+    fn answer_other(
+        &mut self,
+        line: &LineId,
+        client: Option<ClientId>,
+        rest: &[u8],
+        out: &mut Vec<u8, A>,
+    ) -> Result<(), ScriptFault>
+        requires counted { 0 < lines_of_who self.old.seen line.now.who }
+        requires client { client ≡ number_of self.old.clients line.now.who }
+        ensures ok { OnOk result (Adds (SaysTo (known_by self.old) line.now
+            (event_of_body (known_by self.old) line.now.who (body_read line.now.who rest.now))
+            (known_by self.new)) out.old.items out.new.items) }
+        ensures why { IfErr result (λ fault. fault ≡ ScriptFault.Memory) }
+    {
+        match (&line.who, rest.first()) {
+            (Who::Star, _) => self.answer_moment(line, client, rest, out),
+            (_, Some(b'w')) => self.answer_wait(line, client, rest, out),
+            (_, Some(b't')) => self.answer_timed(line, client, rest, out),
+            _ => self.answer_rare(line, client, rest, out),
+        }
+    }
+
+    // Answers what is said after a client and a space. Most lines are calls of one name: these are
+    // moved once.
+    #[inline(always)]
+    pub(crate) fn answer_rest(
+        &mut self,
+        line: &LineId,
+        client: Option<ClientId>,
+        rest: &[u8],
+        out: &mut Vec<u8, A>,
+    ) -> Result<(), ScriptFault>
+        requires counted { 0 < lines_of_who self.old.seen line.now.who }
+        requires client { client ≡ number_of self.old.clients line.now.who }
+        ensures ok { OnOk result (Adds (SaysTo (known_by self.old) line.now
+            (event_of_body (known_by self.old) line.now.who (body_read line.now.who rest.now))
+            (known_by self.new)) out.old.items out.new.items) }
+        ensures why { IfErr result (λ fault. fault ≡ ScriptFault.Memory) }
+    {
+        if let Who::Named(_) = line.who
+            && let Some((verb, name)) = named_at_start(rest)
+            && let Some(name) = Name::new(name)
+        {
+            return self.ask(line, client, verb.call(name), out);
+        }
+        self.answer_other(line, client, rest, out)
+    }
+}
