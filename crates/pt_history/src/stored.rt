@@ -165,7 +165,7 @@ impl<A: Allocator + Copy> History<A> {
         self.push_borrowed(&entry);
     }
 
-    // The same of a borrowed entry.
+    // Appends a borrowed entry, in room that was made for it. It takes no memory.
     fn push_borrowed(&mut self, entry: &Entry)
         requires { 0 < self.old.room }
         ensures { self.new ≡ pushed entry.now self.old }

@@ -38,7 +38,7 @@ fn first_equal<const N: usize>(one: &[u8], other: &[u8]) -> bool
     ensures same { result ≡ true → take N one.now ≡ take N other.now }
 {
     match (one.first_chunk::<N>(), other.first_chunk::<N>()) {
-        (Some(first), Some(wanted)) => first == wanted,
+        (Some(first), Some(second)) => first == second,
         _ => false,
     }
 }
@@ -51,7 +51,7 @@ fn last_equal<const N: usize>(one: &[u8], other: &[u8]) -> bool
         → drop (length one.now - N) one.now ≡ drop (length other.now - N) other.now }
 {
     match (one.last_chunk::<N>(), other.last_chunk::<N>()) {
-        (Some(last), Some(wanted)) => last == wanted,
+        (Some(last), Some(second)) => last == second,
         _ => false,
     }
 }

@@ -154,8 +154,8 @@ fn timed_word_at_start(text: &[u8]) -> Option<(TimedVerb, &[u8])>
     Some((TimedVerb::Timedwrlock, rest))
 }
 
-/// The call of one name and a deadline, if a text begins with the word of one and a client that
-/// says this makes it.
+/// The call of one name and a deadline, if a text begins with the word of one and a client's line
+/// that says this makes it.
 #[inline(always)]
 pub fn timed_at_start(text: &[u8]) -> Option<Call>
     ensures { IfSome result (λ asked. (client : List ℕ) → body_read (who.Named client) text.now
@@ -166,8 +166,8 @@ pub fn timed_at_start(text: &[u8]) -> Option<Call>
     Some(verb.on(name, deadline))
 }
 
-/// The moment of the real clock, if a text begins with `moment` and is read as that where the
-/// clocks say it.
+/// The moment of the real clock, if a text begins with the word of one and a line of the clocks
+/// that says this gives it.
 #[inline(always)]
 pub fn moment_at_start(text: &[u8]) -> Option<Moment>
     ensures { IfSome result (λ moment. body_read who.Star text.now

@@ -97,7 +97,8 @@ fn push_had<A: Allocator + Copy>(
     }
 }
 
-// Pushes a call that waits, and then its Grant. ENOMEM if there is no memory for its row in a read-write lock: then nothing is pushed.
+// Pushes a call that waits, and then its Grant. ENOMEM if there is no memory for its row in a
+// read-write lock: then nothing is pushed.
 // [XSH pthread_rwlock_rdlock, pthread_rwlock_wrlock]
 fn push_left_and_granted<A: Allocator + Copy>(
     state: &mut State<A>,

@@ -167,7 +167,8 @@ impl<A: Allocator + Copy> Engine<A> {
         self.run_marked(event, &mark_of(event), line, out)
     }
 
-    // The same of a call of this client, which is what most lines ask for.
+    // Does what a counted line of this client asks for, which is a call, and appends its answer.
+    // Most lines are such.
     #[inline(never)]
     fn run_call(
         &mut self,

@@ -69,7 +69,7 @@ impl<A: Allocator + Copy> Engine<A> {
     }
 
     // Answers what begins as a wait may. It isn't inlined, so that other lines have no room to
-    // clear for it; nor are the next two.
+    // clear for it.
     #[inline(never)]
     fn answer_wait(
         &mut self,
@@ -93,7 +93,8 @@ impl<A: Allocator + Copy> Engine<A> {
         self.answer_rare(line, client, rest, out)
     }
 
-    // Answers what begins as a call with a deadline may.
+    // Answers what begins as a call with a deadline may. It isn't inlined, so that other lines have
+    // no room to clear for it.
     #[inline(never)]
     fn answer_timed(
         &mut self,
@@ -117,7 +118,8 @@ impl<A: Allocator + Copy> Engine<A> {
         self.answer_rare(line, client, rest, out)
     }
 
-    // Answers what the clocks say: most often a moment.
+    // Answers what the clocks say, most often a moment. It isn't inlined, so that other lines have
+    // no room to clear for it.
     #[inline(never)]
     fn answer_moment(
         &mut self,

@@ -60,10 +60,10 @@ returns-in_ok-push_granted_at_once-in-Call-clause-told g c = λ u st.
     let begins = begins-both s c.args.event.now c.requires.open c.requires.accepted new
     (subst (λ (e : Entry). AddsBoth s e new) (sym known)
     c.in_ok-push_granted_at_once-in-Call.ensures.ok) in
-    subst (λ (v : Event). IsToldStill v (Some c.in_ok-push_granted_at_once-in-Call.field-0) (past_of u)
-    (place (past s)))
+    let x = c.in_ok-push_granted_at_once-in-Call.field-0 in
+    subst (λ (v : Event). IsToldStill v (Some x) (past_of u) (place (past s)))
     (sym c.in-Call.is)
-    (told-settled new.stored u (place (past s)) c.in_ok-push_granted_at_once-in-Call.field-0
+    (told-settled new.stored u (place (past s)) x
     begins.roomy.read.follows st.settling c.in_ok-push_granted_at_once-in-Call.ensures.told)
 
 pub returns-in_ok-push_outer-in_default-clause-told :
