@@ -20,6 +20,7 @@ use pt_waitq::WaitList;
 use std::alloc::Allocator;
 
 /// The answer that an event's own call has by now.
+#[inline(always)]
 pub fn told<Q: WaitList, A: Allocator + Copy>(
     body: &Body<Q, A>,
     event: &Event,
@@ -36,6 +37,7 @@ pub fn told<Q: WaitList, A: Allocator + Copy>(
 }
 
 // The answer that an event's own call has by now: the one that it had as it came, if it had one.
+#[inline(always)]
 fn outcome_by_answer<Q: WaitList, A: Allocator + Copy>(
     body: &Body<Q, A>,
     event: &Event,
@@ -54,6 +56,7 @@ fn outcome_by_answer<Q: WaitList, A: Allocator + Copy>(
 
 /// An accepted event with its plan, and all that must follow it, without a seal. A refusal changes
 /// nothing.  [profile]
+#[inline(always)]
 pub fn write<Q: WaitList, A: Allocator + Copy>(
     body: &mut Body<Q, A>,
     event: &Event,

@@ -58,6 +58,7 @@ impl<Q: WaitList, A: Allocator + Copy> Body<Q, A> {
 
     /// The answer to the call at a place, which is likely the latest call of this client.
     /// [XSH, the call's page]
+    #[inline(always)]
     pub fn outcome_of(&self, c: ClientId, place: u64) -> Option<Outcome>
         requires { AreTables self.now }
         ensures { result ≡ said (past self.now) place }

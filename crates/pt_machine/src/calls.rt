@@ -28,6 +28,7 @@ use std::alloc::Allocator;
 
 /// Pushes a call that waits, and puts it into its queue. ENOMEM if there is no memory for its row
 /// in a read-write lock; no other call needs memory.  [XSH, the call's page]
+#[inline(always)]
 pub(crate) fn push_left<Q: WaitList, A: Allocator + Copy>(
     state: &mut State<A>,
     queues: &mut Q,
@@ -55,6 +56,7 @@ pub(crate) fn push_left<Q: WaitList, A: Allocator + Copy>(
 
 // Pushes a call that is answered 0, and does what it asks for. ENOMEM if there is no memory for the
 // object that it makes.  [XSH, the call's page]
+#[inline(always)]
 fn push_done<Q: WaitList, A: Allocator + Copy>(
     state: &mut State<A>,
     queues: &mut Q,
@@ -112,6 +114,7 @@ fn push_done<Q: WaitList, A: Allocator + Copy>(
 
 /// Pushes a call with its answer. ENOMEM if there is no memory for the object that it makes.
 /// [XSH, the call's page]
+#[inline(always)]
 pub(crate) fn push_answered<Q: WaitList, A: Allocator + Copy>(
     state: &mut State<A>,
     queues: &mut Q,
@@ -140,6 +143,7 @@ pub(crate) fn push_answered<Q: WaitList, A: Allocator + Copy>(
 
 impl<Q: WaitList, A: Allocator + Copy> Body<Q, A> {
     /// The answer that a client's call gets at once, or that it waits.  [XSH, the call's page]
+    #[inline(always)]
     pub fn verdict(&self, c: ClientId, request: &Request<'_>) -> Verdict
         requires read { AreTables self.now }
         requires asks { IsRequest (past self.now) (shown_operation request.now.operation)

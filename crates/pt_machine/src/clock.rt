@@ -47,6 +47,7 @@ fn push_moment<Q: WaitList, A: Allocator + Copy>(
 }
 
 // The deadline of an operation, if it is a time.  [XSH pthread_mutex_timedlock, EINVAL]
+#[inline(always)]
 pub(crate) fn good_deadline(operation: &Operation<'_>) -> Option<Deadline>
     ensures { result ≡ good_of (asked (shown_operation operation.now)) }
 {
@@ -141,6 +142,7 @@ fn push_timed<Q: WaitList, A: Allocator + Copy>(
 
 // Pushes a call that waits, with its deadline if that is a time. ENOMEM if a growth is refused.
 // [XSH, the call's page]
+#[inline(always)]
 fn push_left<Q: WaitList, A: Allocator + Copy>(
     state: &mut State<A>,
     queues: &mut Q,
@@ -167,6 +169,7 @@ fn push_left<Q: WaitList, A: Allocator + Copy>(
 }
 
 // Whether an operation can move waits.  [XSH pthread_cond_broadcast]
+#[inline(always)]
 fn can_move_waits(operation: &Operation<'_>) -> bool
     ensures { result ≡ can_move_waits_in (shown_operation operation.now) }
 {
@@ -175,6 +178,7 @@ fn can_move_waits(operation: &Operation<'_>) -> bool
 
 // Pushes a call with its answer, and drops the deadlines of the waits that it moves. ENOMEM if
 // there is no memory for the object that it makes.  [XSH, the call's page]
+#[inline(always)]
 fn push_answered<Q: WaitList, A: Allocator + Copy>(
     state: &mut State<A>,
     queues: &mut Q,
@@ -226,6 +230,7 @@ fn push_death<Q: WaitList, A: Allocator + Copy>(
 
 // Pushes a call, with the answer that it gets at once. ENOMEM if a growth is refused.
 // [XSH, the call's page]
+#[inline(always)]
 fn push_call<Q: WaitList, A: Allocator + Copy>(
     state: &mut State<A>,
     queues: &mut Q,
@@ -255,6 +260,7 @@ fn push_call<Q: WaitList, A: Allocator + Copy>(
 /// Pushes the entry of an event, given the request of its call and the answer that it gets at once.
 /// ENOMEM if a growth is refused: then nothing is pushed. An entry that needs no memory is never
 /// refused.  [profile]
+#[inline(always)]
 pub(crate) fn push_outer<Q: WaitList, A: Allocator + Copy>(
     state: &mut State<A>,
     queues: &mut Q,
@@ -295,6 +301,7 @@ pub(crate) fn push_outer<Q: WaitList, A: Allocator + Copy>(
 
 /// A call is served, and its deadline dropped.
 /// [XSH pthread_barrier_wait, pthread_mutex_unlock, pthread_rwlock_unlock]
+#[inline(always)]
 pub(crate) fn push_served<Q: WaitList, A: Allocator + Copy>(
     state: &mut State<A>,
     queues: &mut Q,

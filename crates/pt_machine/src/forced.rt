@@ -33,6 +33,7 @@ use std::alloc::Allocator;
 
 // A call gets what it is for, and leaves its queue.
 // [XSH pthread_mutex_unlock, pthread_rwlock_unlock]
+#[inline(always)]
 fn push_granted<Q: WaitList, A: Allocator + Copy>(
     state: &mut State<A>,
     queues: &mut Q,
@@ -50,6 +51,7 @@ fn push_granted<Q: WaitList, A: Allocator + Copy>(
 }
 
 // A call is served.  [XSH pthread_barrier_wait, pthread_mutex_unlock, pthread_rwlock_unlock]
+#[inline(always)]
 pub(crate) fn push_served<Q: WaitList, A: Allocator + Copy>(
     state: &mut State<A>,
     queues: &mut Q,

@@ -34,6 +34,7 @@ use std::alloc::Allocator;
 
 // Whether nobody's lock keeps a call for a read-write lock from it.
 // [XSH pthread_rwlock_rdlock, pthread_rwlock_wrlock]
+#[inline(always)]
 fn is_free_lock<A: Allocator + Copy>(kind: LockKind, lock: &RwObj<A>) -> bool
     ensures { OnTrue result (IsFreeLock kind lock.now) }
 {
@@ -46,6 +47,7 @@ fn is_free_lock<A: Allocator + Copy>(kind: LockKind, lock: &RwObj<A>) -> bool
 
 // Whether nobody's lock keeps a call for this lock from it.
 // [XSH pthread_mutex_lock, pthread_rwlock_rdlock, pthread_rwlock_wrlock]
+#[inline(always)]
 fn is_free<A: Allocator + Copy>(state: &State<A>, kind: LockKind, o: ObjectId) -> bool
     requires { AreTables state.now }
     ensures { OnTrue result (IsFree (past state.now) kind o) }
@@ -67,6 +69,7 @@ struct Granted {
 
 // How many entries are no longer reserved once a call got its mutex: one is, for a Yield, if the
 // mutex is robust and had no owner.  [XSH pthread_mutex_lock, EOWNERDEAD]
+#[inline(always)]
 fn used_by_had(had: Had) -> u64
     ensures { result ≡ if had.robust && is_acquired_it had.outcome then 2 else 3 }
 {
@@ -78,6 +81,7 @@ fn used_by_had(had: Had) -> u64
 }
 
 // Pushes a call for a mutex that is granted as it comes, with its Grant.  [XSH pthread_mutex_lock]
+#[inline(always)]
 fn push_had<A: Allocator + Copy>(
     state: &mut State<A>,
     c: ClientId,
@@ -126,6 +130,7 @@ fn push_left_and_granted<A: Allocator + Copy>(
 
 // Pushes a call that is granted as it comes, with its Grant. A mutex needs no row of the client, so
 // its call is never left waiting.
+#[inline(always)]
 fn push_both<A: Allocator + Copy>(
     state: &mut State<A>,
     c: ClientId,
@@ -154,6 +159,7 @@ impl<Q: WaitList, A: Allocator + Copy> Body<Q, A> {
     /// Whether a call is one for a lock that is granted as it comes: the lock is free, no call
     /// waits for it, and the call has no deadline that could pass.
     /// [XSH pthread_mutex_lock, pthread_rwlock_rdlock, pthread_rwlock_wrlock]
+    #[inline(always)]
     pub fn is_granted_at_once(&self, c: ClientId, call: &Call, plan: &Plan<'_>) -> bool
         requires read { AreTables self.now }
         requires planned { IsPlanned (past self.now) (event_is.Call c call.now) plan.now }
@@ -174,6 +180,7 @@ impl<Q: WaitList, A: Allocator + Copy> Body<Q, A> {
     /// The entry of a call that is granted as it comes, and its Grant. The outcome is returned.
     /// ENOMEM if there is no memory for its row in a read-write lock: then nothing is pushed.
     /// [XSH pthread_mutex_lock, pthread_rwlock_rdlock, pthread_rwlock_wrlock]
+    #[inline(always)]
     pub fn push_granted_at_once(
         &mut self,
         c: ClientId,

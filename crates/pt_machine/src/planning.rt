@@ -60,6 +60,7 @@ const NO_CHANGE: Change = Change {
 
 impl<Q: WaitList, A: Allocator + Copy> Body<Q, A> {
     // How many Yields are reserved no longer: 1 if this is the last lock on a robust mutex.
+    #[inline(always)]
     fn last_lock(&self, c: ClientId, m: ObjectId) -> u64
         requires { AreTables self.now }
         ensures { result ≡ last_lock (past self.now) c m }
@@ -100,6 +101,7 @@ impl<Q: WaitList, A: Allocator + Copy> Body<Q, A> {
 
     // What a call changes if it has to wait.
     // [XSH pthread_mutex_lock, pthread_cond_wait, pthread_barrier_wait]
+    #[inline(always)]
     fn change_if_waiting(&self, c: ClientId, call: &Call, request: &Request<'_>) -> Change
         requires read { AreTables self.now }
         requires asks { IsRequest (past self.now) (operation call.now) request.now }
@@ -129,6 +131,7 @@ impl<Q: WaitList, A: Allocator + Copy> Body<Q, A> {
     }
 
     // What an `unlock` changes if it is answered 0.  [XSH pthread_mutex_unlock]
+    #[inline(always)]
     fn change_by_unlock(&self, c: ClientId, object: Option<ObjectId>) -> Change
         requires { AreTables self.now }
         ensures adds { result.added ≡ 0 }
@@ -189,6 +192,7 @@ impl<Q: WaitList, A: Allocator + Copy> Body<Q, A> {
 
     // What a call changes if it is answered 0.
     // [XSH pthread_mutex_unlock, pthread_rwlock_unlock, pthread_cond_signal]
+    #[inline(always)]
     fn change_if_done(&self, c: ClientId, request: &Request<'_>) -> Change
         requires read { AreTables self.now }
         requires asks { IsRequest (past self.now) (shown_operation request.now.operation)
@@ -214,6 +218,7 @@ impl<Q: WaitList, A: Allocator + Copy> Body<Q, A> {
     }
 
     // What a call changes, with the answer that it has at once.
+    #[inline(always)]
     fn change_by_call(
         &self,
         c: ClientId,
@@ -252,6 +257,7 @@ impl<Q: WaitList, A: Allocator + Copy> Body<Q, A> {
     }
 
     // What an event's entry changes, with the answer that its call has at once.
+    #[inline(always)]
     fn change_by(
         &self,
         event: &Event,
@@ -285,6 +291,7 @@ impl<Q: WaitList, A: Allocator + Copy> Body<Q, A> {
 
     // The answer that an event's call gets at once, if it is a call and gets one.
     // [XSH, the call's page]
+    #[inline(always)]
     fn answer_at_once(&self, event: &Event, request: &Option<Request<'_>>) -> Option<Outcome>
         requires read { AreTables self.now }
         requires asks { HasRequest (past self.now) event.now request.now }
@@ -297,6 +304,7 @@ impl<Q: WaitList, A: Allocator + Copy> Body<Q, A> {
     }
 
     // What an event's call asks for, if it is a call.
+    #[inline(always)]
     fn request<'e>(&self, event: &'e Event) -> Option<Request<'e>>
         requires { AreTables self.now }
         ensures { HasRequest (past self.now) event.now result }
@@ -308,6 +316,7 @@ impl<Q: WaitList, A: Allocator + Copy> Body<Q, A> {
     }
 
     /// What is known of an event's entry before it is pushed.  [profile]
+    #[inline(always)]
     pub fn plan<'e>(&self, event: &'e Event) -> Plan<'e>
         requires read { AreTables self.now }
         requires step { Step (past self.now) (entry_for (past self.now) event.now) }

@@ -30,6 +30,7 @@ use pt_waitq::WaitList;
 use std::alloc::Allocator;
 
 // Whether the Grant of a call gives an owner to a robust mutex: one is reserved for its Yield.
+#[inline(always)]
 fn gives_owner<A: Allocator + Copy>(state: &State<A>, open: &Open) -> bool
     requires read { AreTables state.now }
     requires known { In «open».now (opens_of state.now.clients) }
@@ -43,6 +44,7 @@ fn gives_owner<A: Allocator + Copy>(state: &State<A>, open: &Open) -> bool
 }
 
 /// The entries that are no longer reserved as a call is granted.
+#[inline(always)]
 pub(crate) fn used_by_grant<A: Allocator + Copy>(state: &State<A>, open: &Open) -> u64
     requires read { AreTables state.now }
     requires known { In «open».now (opens_of state.now.clients) }
@@ -70,6 +72,7 @@ impl<Q: WaitList, A: Allocator + Copy> Body<Q, A> {
     /// Makes room for so many entries more. FULL exactly if the history would pass its limit
     /// with them; else ENOMEM if the growth is refused. A refusal changes nothing. Room that is
     /// there already is never refused.
+    #[inline(always)]
     pub fn reserve_for(&mut self, room: u64) -> Result<(), Refusal>
         ensures ok { OnOk result (self.new
             ≡ record self.old { stored = record self.old.stored { room = room } }) }
@@ -84,6 +87,7 @@ impl<Q: WaitList, A: Allocator + Copy> Body<Q, A> {
 
     /// Makes room for so many answers more. ENOMEM if the growth is refused; room that is there
     /// already is never refused.
+    #[inline(always)]
     pub fn reserve_answers(&mut self, many: u64) -> Result<(), Refusal>
         ensures same { self.new ≡ record self.old { answers = self.new.answers } }
         ensures told { self.new.answers.items ≡ self.old.answers.items }
@@ -106,6 +110,7 @@ impl<Q: WaitList, A: Allocator + Copy> Body<Q, A> {
     }
 
     /// Why an event is refused for its sender, or at 1,024 living clients; or none.
+    #[inline(always)]
     pub fn refusal(&self, event: &Event) -> Option<Refusal>
         requires { AreTables self.now }
         ensures { result ≡ refusal_in (past self.now) event.now }
@@ -114,6 +119,7 @@ impl<Q: WaitList, A: Allocator + Copy> Body<Q, A> {
     }
 
     // The entries that are no longer reserved as a full barrier trips, or a call is granted.
+    #[inline(always)]
     pub(crate) fn used_by_service(&self, open: &Open) -> u64
         requires read { AreTables self.now }
         requires step { Step (past self.now) (service (past self.now) (called «open».now)) }

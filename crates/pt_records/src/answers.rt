@@ -88,6 +88,7 @@ pub fn recent_outcome<A: Allocator + Copy>(answers: &AnswerLog<A>, place: u64) -
 }
 
 /// Adds an answer, in room that was made for it.
+#[inline(always)]
 pub fn tell<A: Allocator + Copy>(answers: &mut AnswerLog<A>, answer: Answered)
     requires { length answers.old.items < answers.old.capacity }
     ensures told { map logged answers.new.items

@@ -13,6 +13,7 @@ use pt_types::{ClientId, Outcome, Priority, Refusal};
 use std::alloc::Allocator;
 
 /// The client's latest call came at this place, and was answered at once.
+#[inline(always)]
 pub fn note_call<A: Allocator + Copy>(
     clients: &mut Clients<Caller, A>,
     c: ClientId,

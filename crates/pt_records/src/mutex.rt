@@ -40,6 +40,7 @@ pub fn is_robust_mutex<A: Allocator + Copy>(object: &Object<A>) -> bool
 
 /// Whether an object is a robust mutex on which the client has one lock.
 /// [XSH pthread_mutex_unlock]
+#[inline(always)]
 pub fn is_last<A: Allocator + Copy>(object: &Object<A>, c: ClientId) -> bool
     ensures { result ≡ is_last_lock c object.now }
 {
@@ -50,6 +51,7 @@ pub fn is_last<A: Allocator + Copy>(object: &Object<A>, c: ClientId) -> bool
 }
 
 /// What becomes of a client's call for this mutex.  [XSH pthread_mutex_lock]
+#[inline(always)]
 pub fn lock_verdict(m: &MutexObj, c: ClientId, how: &How) -> Verdict
     ensures { result ≡ lock_table m.now.seen c how.now }
 {
@@ -61,6 +63,7 @@ pub fn lock_verdict(m: &MutexObj, c: ClientId, how: &How) -> Verdict
 }
 
 /// Whether nothing but the order of calls keeps a call from a mutex.  [XSH pthread_mutex_unlock]
+#[inline(always)]
 pub fn may_lock(mutex: &MutexObj) -> bool
     ensures { result ≡ may_lock_it mutex.now.seen true }
 {
@@ -68,6 +71,7 @@ pub fn may_lock(mutex: &MutexObj) -> bool
 }
 
 // The mutex counts one lock more of the client.  [XSH pthread_mutex_lock]
+#[inline(always)]
 fn lock<A: Allocator + Copy>(objects: &mut Objects<Object<A>, A>, m: ObjectId, c: ClientId)
     requires there { IsSome (mutex_in (object_value objects.old m)) }
     requires may { (x : MutexState) → object_value objects.old m ≡ Some (Mutex x)
@@ -85,6 +89,7 @@ fn lock<A: Allocator + Copy>(objects: &mut Objects<Object<A>, A>, m: ObjectId, c
 }
 
 // The mutex counts one lock less of the client.  [XSH pthread_mutex_unlock]
+#[inline(always)]
 fn unlock<A: Allocator + Copy>(objects: &mut Objects<Object<A>, A>, m: ObjectId, c: ClientId)
     requires there { IsSome (mutex_in (object_value objects.old m)) }
     requires owned { (x : MutexState) → object_value objects.old m ≡ Some (Mutex x)
@@ -140,6 +145,7 @@ pub fn acquire<A: Allocator + Copy>(
 
 /// As `acquire`, of a mutex that is not a robust one without an owner: it comes into no chain.
 /// [XSH pthread_mutex_lock]
+#[inline(always)]
 pub fn acquire_plain<A: Allocator + Copy>(
     objects: &mut Objects<Object<A>, A>,
     m: ObjectId,
@@ -160,6 +166,7 @@ pub fn acquire_plain<A: Allocator + Copy>(
 
 /// The client gives one lock on the mutex back, and with the last one the mutex.
 /// [XSH pthread_mutex_unlock]
+#[inline(always)]
 pub fn release<A: Allocator + Copy>(
     clients: &mut Clients<Caller, A>,
     objects: &mut Objects<Object<A>, A>,

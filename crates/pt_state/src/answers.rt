@@ -30,6 +30,7 @@ fn is_latest(caller: &Caller, place: u64) -> bool
 
 impl<A: Allocator + Copy> State<A> {
     // The call is open no more, and is answered.
+    #[inline(always)]
     pub(crate) fn answer(&mut self, found: &Open, outcome: Outcome)
         requires there { has_client self.old.clients found.now.call.client ≡ true }
         requires spare { length self.old.answers.items < self.old.answers.capacity }
@@ -75,6 +76,7 @@ impl<A: Allocator + Copy> State<A> {
 
     /// The answer to the call at a place. The client's row has it if that is its latest call.
     /// [XSH, the call's page]
+    #[inline(always)]
     pub fn outcome_of(&self, c: ClientId, place: u64) -> Option<Outcome>
         requires { AreTables self.now }
         ensures { result ≡ said (past self.now) place }

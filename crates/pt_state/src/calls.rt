@@ -70,6 +70,7 @@ impl<A: Allocator + Copy> State<A> {
     }
 
     /// The call is noted, answered, and pushed.
+    #[inline(always)]
     pub fn finish(&mut self, c: ClientId, call: &Call, outcome: Outcome)
         requires { IsNearly self.old c call.now (Some outcome) }
         ensures { Adds self.old (entry.Call c call.now (Some outcome)) self.new }

@@ -51,6 +51,7 @@ impl<A: Allocator + Copy> State<A> {
     }
 
     // The call goes on, now that its object is written.
+    #[inline(always)]
     pub(crate) fn grant(&mut self, found: &Open, outcome: Outcome)
         requires { IsGranted self.old found.now outcome }
         ensures { Adds self.old (entry.Grant found.now.call.place outcome) self.new }
@@ -61,6 +62,7 @@ impl<A: Allocator + Copy> State<A> {
 
     /// A call that waits at no barrier gets what it is for.
     /// [XSH pthread_mutex_unlock, pthread_rwlock_unlock]
+    #[inline(always)]
     pub fn push_granted(&mut self, found: &Open)
         requires ready { IsReadyFor self.old (service (past self.old) (called found.now)) }
         requires known { In found.now (opens_of self.old.clients) }
@@ -77,6 +79,7 @@ impl<A: Allocator + Copy> State<A> {
     }
 
     // What a call is answered when it is granted, by its role.  [XSH, its page]
+    #[inline(always)]
     fn outcome_by_role(&self, open: &Open) -> Outcome
         ensures { result ≡ outcome_by_role_in self.now.objects «open».now }
     {
@@ -88,6 +91,7 @@ impl<A: Allocator + Copy> State<A> {
     }
 
     /// What an open call is answered when it is granted.  [XSH, the call's page]
+    #[inline(always)]
     pub fn grant_outcome(&self, open: &Open) -> Outcome
         requires read { AreTables self.now }
         requires known { In «open».now (opens_of self.now.clients) }

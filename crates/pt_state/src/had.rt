@@ -42,6 +42,7 @@ pub struct Had {
 
 impl<A: Allocator + Copy> State<A> {
     // What a call for a mutex gets if it is granted now.  [XSH pthread_mutex_lock]
+    #[inline(always)]
     fn had_at(&self, m: ObjectId) -> Had
         requires read { AreTables self.now }
         ensures row { result.robust ≡ passes is_robust_free (object_value self.now.objects m) }
@@ -62,6 +63,7 @@ impl<A: Allocator + Copy> State<A> {
     }
 
     // The client gets the mutex, if its call is answered so.  [XSH pthread_mutex_lock]
+    #[inline(always)]
     fn take(&mut self, m: ObjectId, c: ClientId, had: Had)
         requires there { IsSome (mutex_in (object_value self.old.objects m)) }
         requires may { is_acquired_it had.outcome ≡ true → (x : MutexState)
@@ -98,6 +100,7 @@ impl<A: Allocator + Copy> State<A> {
     /// The entry of a call for a mutex that is granted as it comes, and its Grant. What it gets is
     /// returned. The call is never open, so the row of its client is written once.
     /// [XSH pthread_mutex_lock]
+    #[inline(always)]
     pub fn push_had(&mut self, c: ClientId, call: &Call, m: ObjectId) -> Had
         requires ready { IsReadyFor self.old (entry.Call c call.now None) }
         requires had { (o : Open) × IsHad self.old c call.now m o }

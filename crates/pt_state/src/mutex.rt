@@ -72,6 +72,7 @@ impl<A: Allocator + Copy> State<A> {
     }
 
     /// The owner of a mutex gives one lock back.  [XSH pthread_mutex_unlock]
+    #[inline(always)]
     pub fn push_unlock(&mut self, c: ClientId, call: &Call, n: &Name, object: Option<ObjectId>)
         requires ready { IsReadyFor self.old (entry.Call c call.now (Some told.Done)) }
         requires operation { operation call.now ≡ Unlocks n.now }
@@ -96,6 +97,7 @@ impl<A: Allocator + Copy> State<A> {
     }
 
     /// Whether the object is a robust mutex that nobody owns.  [XSH pthread_mutex_lock]
+    #[inline(always)]
     pub fn is_robust_free(&self, m: ObjectId) -> bool
         requires { AreTables self.now }
         ensures { let h = past self.now in
@@ -117,6 +119,7 @@ impl<A: Allocator + Copy> State<A> {
     }
 
     /// A call gets its mutex, or is answered that the mutex is lost.  [XSH pthread_mutex_lock]
+    #[inline(always)]
     pub(crate) fn push_grant_mutex(&mut self, found: &Open, m: ObjectId)
         requires ready { IsReadyFor self.old (entry.Grant found.now.call.place
             (grant_outcome_in (past self.old) (called found.now))) }
@@ -136,6 +139,7 @@ impl<A: Allocator + Copy> State<A> {
     }
 
     // Its consistency.  [XSH pthread_mutex_consistent]
+    #[inline(always)]
     fn consistency_at(&self, m: ObjectId) -> Consistency
         ensures { result ≡ consistency_in_row (object_value self.now.objects m) }
     {
@@ -146,6 +150,7 @@ impl<A: Allocator + Copy> State<A> {
     }
 
     // What a mutex answers to a call with this move.  [XSH pthread_mutex_lock]
+    #[inline(always)]
     pub(crate) fn told_at(&self, m: ObjectId, moved: Option<Move>) -> Outcome
         ensures { result ≡ told_at_in self.now.objects m moved }
     {
@@ -153,6 +158,7 @@ impl<A: Allocator + Copy> State<A> {
     }
 
     /// The mutex with this number, if it is one.
+    #[inline(always)]
     pub fn mutex_at(&self, m: ObjectId) -> Option<&MutexObj>
         ensures { option_copied result ≡ mutex_in (object_value self.now.objects m) }
     {
@@ -163,6 +169,7 @@ impl<A: Allocator + Copy> State<A> {
     }
 
     /// The mutex that a name means, with its number.
+    #[inline(always)]
     pub fn mutex_found(&self, n: &Name, object: Option<ObjectId>) -> Option<(ObjectId, &MutexObj)>
         requires read { AreTables self.now }
         requires found { object ≡ find_in (past self.now) n.now MutexClass }
@@ -179,6 +186,7 @@ impl<A: Allocator + Copy> State<A> {
     }
 
     /// A client's call for a mutex.  [XSH pthread_mutex_lock]
+    #[inline(always)]
     pub fn mutex_verdict(
         &self,
         c: ClientId,
@@ -212,6 +220,7 @@ impl<A: Allocator + Copy> State<A> {
     }
 
     /// A client's call on a mutex that it may own.  [XSH pthread_mutex_unlock]
+    #[inline(always)]
     pub fn unlocks_verdict(&self, c: ClientId, n: &Name, object: Option<ObjectId>) -> Verdict
         requires read { AreTables self.now }
         requires found { object ≡ find_in (past self.now) n.now MutexClass }

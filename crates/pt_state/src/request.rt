@@ -36,6 +36,7 @@ pub(crate) fn or_zero(object: Option<ObjectId>) -> ObjectId
 
 impl<A: Allocator + Copy> State<A> {
     // The object that an operation's first name means; None for an operation that makes one.
+    #[inline(always)]
     fn object_of(&self, operation: &Operation<'_>) -> Option<ObjectId>
         requires { AreTables self.now }
         ensures { result ≡ object_meant (past self.now) (shown_operation operation.now) }
@@ -55,6 +56,7 @@ impl<A: Allocator + Copy> State<A> {
     }
 
     /// What a call asks for, with each of its names looked up once.  [XSH, the call's page]
+    #[inline(always)]
     pub fn request<'c>(&self, call: &'c Call) -> Request<'c>
         requires { AreTables self.now }
         ensures { IsRequest (past self.now) (operation_meant call.now) result }

@@ -41,6 +41,7 @@ impl<A: Allocator + Copy> State<A> {
     }
 
     // Why a client's call is refused: the client doesn't live, or has an open call; or none.
+    #[inline(always)]
     fn refusal_of_call(&self, c: ClientId) -> Option<Refusal>
         requires { AreTables self.now }
         ensures { let h = past self.now in result
@@ -54,6 +55,7 @@ impl<A: Allocator + Copy> State<A> {
     }
 
     /// Why an event is refused for its sender, or at 1,024 living clients; or none.
+    #[inline(always)]
     pub fn refusal(&self, event: &Event) -> Option<Refusal>
         requires { AreTables self.now }
         ensures { result ≡ refusal_in (past self.now) event.now }

@@ -17,6 +17,7 @@ use slab::Slab;
 use std::alloc::Allocator;
 
 // The slot of a number's row, if the number's hint is right.
+#[inline(always)]
 pub(crate) fn slot_by_hint<T, A: Allocator + Copy>(
     rows: &Slab<ObjectRow<T>, A>,
     numbers: &Numbers<A>,
@@ -33,6 +34,7 @@ pub(crate) fn slot_by_hint<T, A: Allocator + Copy>(
 }
 
 // The row of a number, which is looked for by the number's hint first.
+#[inline(always)]
 pub(crate) fn row_of<'a, T, A: Allocator + Copy>(
     rows: &'a Slab<ObjectRow<T>, A>,
     numbers: &Numbers<A>,
@@ -95,6 +97,7 @@ pub(crate) fn row_named<'a, T, A: Allocator + Copy>(
 }
 
 // The slot of an object's row, which is looked for in this slot first.
+#[inline(always)]
 pub(crate) fn slot_by<T, A: Allocator + Copy>(
     rows: &Slab<ObjectRow<T>, A>,
     numbers: &Numbers<A>,

@@ -43,6 +43,7 @@ pub enum Operation<'a> {
 }
 
 /// What a call word does.  [XSH, the call's page]
+#[inline(always)]
 pub fn operation_of(call: &Call) -> Operation<'_>
     ensures { shown_operation result ≡ operation_meant call.now }
 {
