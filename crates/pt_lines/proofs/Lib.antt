@@ -27,3 +27,5 @@ pub mod StartLemmas
 pub mod DigitLemmas
 -- ScriptLemmas: a line of a script is read as just what it spells
 pub mod ScriptLemmas
+-- WordLemmas: a verb's word, a space and fields are read as what the verb and the fields are
+pub mod WordLemmas

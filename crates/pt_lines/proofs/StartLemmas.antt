@@ -146,7 +146,7 @@ newline_lowest xs k set below =
     )
 
 pub newlines_first :
-    (xs : List ℕ) → length xs ≡ 32 → newlines xs ≢ 0
+    (xs : List ℕ) → length xs ≤ 64 → newlines xs ≢ 0
     → IsFirstByte (is_byte 10) xs (Some (trailing_zeros w64 (newlines xs)))
 newlines_first xs long some =
     let lanes = map (is_byte 10) xs in

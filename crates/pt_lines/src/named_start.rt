@@ -8,11 +8,12 @@ ghost use Rattle.pt_types.specs.NamedVerbs.{call_on};
 ghost use Rattle.pt_lines.specs.declared.client.Who.TheVariants as who;
 ghost use Rattle.pt_lines.specs.declared.script_line.ScriptBody.TheVariants as body;
 ghost use Rattle.pt_lines.specs.Script.{body_read};
-ghost use Rattle.pt_lines.specs.Verbs.{named_word, timed_word};
+ghost use Rattle.pt_lines.specs.Verbs.{named_word, timed_word, word_of};
 
 use crate::arguments::{name_and_deadline, only_moment, two_names};
+use crate::call_line::read_asked;
 use crate::fields::Fields;
-use crate::verb::TimedVerb;
+use crate::verb::{TimedVerb, Verb};
 use pt_types::{Call, Moment, Name, NamedVerb};
 
 // What is after these bytes, if a text begins with them.
@@ -164,6 +165,31 @@ pub fn timed_at_start(text: &[u8]) -> Option<Call>
     let (verb, args) = timed_word_at_start(text)?;
     let (name, deadline) = name_and_deadline(Fields::new(args))?;
     Some(verb.on(name, deadline))
+}
+
+// The call that this verb makes of what is after its word and a space, if a text begins with them.
+#[inline(always)]
+fn asked_by(text: &[u8], verb: Verb, start: &[u8]) -> Option<Call>
+    requires { start.now ≡ word_of verb ++ 32 ∷ [] }
+    ensures { IfSome result (λ asked. (client : List ℕ) → body_read (who.Named client) text.now
+        ≡ Ok (body.Ask asked)) }
+{
+    let args = after(text, start)?;
+    read_asked(verb, Fields::new(args))
+}
+
+/// The making of a mutex or a barrier, or the wait with a deadline, if a text begins with the word
+/// of one and a client's line that says this asks for it.
+#[inline(always)]
+pub fn asked_at_start(text: &[u8]) -> Option<Call>
+    ensures { IfSome result (λ asked. (client : List ℕ) → body_read (who.Named client) text.now
+        ≡ Ok (body.Ask asked)) }
+{
+    match text.first() {
+        Some(b'm') => asked_by(text, Verb::MutexInit, b"mutex-init "),
+        Some(b't') => asked_by(text, Verb::Timedwait, b"timedwait "),
+        _ => asked_by(text, Verb::BarrierInit, b"barrier-init "),
+    }
 }
 
 /// The moment of the real clock, if a text begins with the word of one and a line of the clocks

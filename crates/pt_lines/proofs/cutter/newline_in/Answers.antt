@@ -16,4 +16,4 @@ returns c =
     let block = c.args.block.now in
     let is = bitmask_splat w8 eqb block 32 10 c.told-block (omega arith) in
     subst (λ m. IsFirstByte (is_byte 10) block (Some (trailing_zeros w64 m))) (sym is)
-    (newlines_first block c.told-block (λ z. c.if-mask-eq0.false (is ∙ z)))
+    (newlines_first block (omega (arith, c.told-block)) (λ z. c.if-mask-eq0.false (is ∙ z)))
