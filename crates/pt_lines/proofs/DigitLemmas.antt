@@ -86,7 +86,8 @@ joined out o1 o2 o3 a b c e1 e2 e3 =
 
 -- what is kept of bytes that are appended
 pub take-appended :
-    (out bytes : List ℕ) (n k : ℕ) → n ≡ length out + k → take n (out ++ bytes) ≡ out ++ take k bytes
+    (out bytes : List ℕ) (n k : ℕ) → n ≡ length out + k
+    → take n (out ++ bytes) ≡ out ++ take k bytes
 take-appended [] bytes n k e = ap (λ m. take m bytes) (e ∙ zero-add k)
 take-appended (b ∷ out) bytes zero k e = absurd (omega arith)
 take-appended (b ∷ out) bytes (suc n) k e =

@@ -1,6 +1,6 @@
 -- WordLemmas: a verb's word, a space and fields are read as what the verb and the fields are.
-use Rattle.std.proofs.Common.{◌≡◌, ◌∙◌, ℕ, List, [], ◌∷◌, ◌++◌, Option, IfSome, Ok, ap, true, nat_le}
-use Rattle.std.proofs.Common.{length, append_assoc}
+use Rattle.std.proofs.Common.{◌≡◌, ◌∙◌, ℕ, List, [], ◌∷◌, ◌++◌, Option, IfSome, Ok, ap, true}
+use Rattle.std.proofs.Common.{nat_le, length, append_assoc}
 use Rattle.std.specs.Option.{option_and_then}
 use Rattle.pt_types.specs.declared.call.Call.{Call}
 use Rattle.pt_lines.specs.declared.verb.Verb.{Verb}
