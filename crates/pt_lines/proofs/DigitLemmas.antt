@@ -1,7 +1,8 @@
--- DigitLemmas: a number's digits, two at a time.
+-- DigitLemmas: a number's digits, two at a time, and pieces that are appended.
 use Rattle.std.proofs.Common.{◌≡◌, ◌<◌, ◌≤◌, ◌+◌, ◌*◌, ◌/◌, ◌%◌, ◌^◌, ◌∙◌, ◌&&◌, ◌⊎◌, ◌==◌, ℕ}
 use Rattle.std.proofs.Common.{zero, suc, Bool, true, List, [], ◌∷◌, ◌++◌, length, get_or, refl, ap}
-use Rattle.std.proofs.Common.{subst, arith, inl, inr, decimal, append_assoc, length-append}
+use Rattle.std.proofs.Common.{subst, arith, inl, inr, decimal, append_assoc, length-append, take}
+use Rattle.std.proofs.Common.{zero-add}
 use Rattle.std.proofs.lemmas.Bool.{cases_lt, eqb-true}
 use Rattle.std.proofs.lemmas.Fmt.{decimal_digit, length-decimal-le}
 use Rattle.itoa.proofs.Decimal.{decimal_two, decimal_pair}
@@ -82,3 +83,12 @@ joined out o1 o2 o3 a b c e1 e2 e3 =
     ∙ ap (λ xs. xs ++ c) (e2 ∙ ap (λ xs. xs ++ b) e1)
     ∙ append_assoc (out ++ a) b c
     ∙ append_assoc out a (b ++ c)
+
+-- what is kept of bytes that are appended
+pub take-appended :
+    (out bytes : List ℕ) (n k : ℕ) → n ≡ length out + k
+    → take n (out ++ bytes) ≡ out ++ take k bytes
+take-appended [] bytes n k e = ap (λ m. take m bytes) (e ∙ zero-add k)
+take-appended (b ∷ out) bytes zero k e = absurd (omega arith)
+take-appended (b ∷ out) bytes (suc n) k e =
+    ap (λ t. b ∷ t) (take-appended out bytes n k (omega arith))

@@ -20,10 +20,13 @@ pub mod CallLemmas
 pub mod GrammarLemmas
 -- ClientLemmas: a line's client, and what is after it
 pub mod ClientLemmas
--- StartLemmas: the bytes of a client by the table, the client that a line begins with, and newlines
--- among lanes
+-- StartLemmas: the bytes of a client by the table, and the client that a line begins with
 pub mod StartLemmas
 -- DigitLemmas: a number's digits, two at a time
 pub mod DigitLemmas
 -- ScriptLemmas: a line of a script is read as just what it spells
 pub mod ScriptLemmas
+-- WordLemmas: a verb's word, a space and fields are read as what the verb and the fields are
+pub mod WordLemmas
+-- LaneLemmas: a byte among lanes, and among the first of more bytes
+pub mod LaneLemmas

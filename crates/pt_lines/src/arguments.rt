@@ -8,6 +8,7 @@ ghost use Rattle.pt_lines.specs.Numbers.{number_of, IsNumber};
 
 use crate::fields::Fields;
 use crate::number::read_number;
+use crate::verbs::is_same;
 use pt_types::{Clock, Deadline, Moment, MutexKind, Name, Priority};
 
 // A name.
@@ -21,11 +22,11 @@ fn read_name(field: &[u8]) -> Option<Name>
 fn read_kind(field: &[u8]) -> Option<MutexKind>
     ensures { result ≡ kind_of field.now }
 {
-    if field == b"normal".as_slice() || field == b"default".as_slice() {
+    if is_same(field, b"normal") || is_same(field, b"default") {
         Some(MutexKind::Normal)
-    } else if field == b"errorcheck".as_slice() {
+    } else if is_same(field, b"errorcheck") {
         Some(MutexKind::Errorcheck)
-    } else if field == b"recursive".as_slice() {
+    } else if is_same(field, b"recursive") {
         Some(MutexKind::Recursive)
     } else {
         None
@@ -36,9 +37,9 @@ fn read_kind(field: &[u8]) -> Option<MutexKind>
 fn read_robust(field: &[u8]) -> Option<bool>
     ensures { result ≡ robust_of field.now }
 {
-    if field == b"robust".as_slice() {
+    if is_same(field, b"robust") {
         Some(true)
-    } else if field == b"stalled".as_slice() {
+    } else if is_same(field, b"stalled") {
         Some(false)
     } else {
         None
@@ -49,9 +50,9 @@ fn read_robust(field: &[u8]) -> Option<bool>
 fn read_clock(field: &[u8]) -> Option<Clock>
     ensures { result ≡ clock_named field.now }
 {
-    if field == b"real".as_slice() {
+    if is_same(field, b"real") {
         Some(Clock::Real)
-    } else if field == b"mono".as_slice() {
+    } else if is_same(field, b"mono") {
         Some(Clock::Mono)
     } else {
         None

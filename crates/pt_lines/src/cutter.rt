@@ -21,6 +21,9 @@ use std::simd::prelude::*;
 // How many bytes are searched first for a newline.
 const SHORT_LINE: usize = 32;
 
+// How many are searched then.
+const LONG_LINE: usize = 64;
+
 /// What is given of a line: its text without the newline, or that it has more than 128 bytes.
 /// [profile]
 #[derive(Debug, PartialEq, Eq, Drop)]
@@ -115,6 +118,18 @@ fn newline_in(block: &[u8; SHORT_LINE]) -> Option<usize>
     Some(mask.trailing_zeros() as usize)
 }
 
+// The same of a longer block.
+fn newline_in_long(block: &[u8; LONG_LINE]) -> Option<usize>
+    ensures { IsFirstByte (is_byte 10) block.now result }
+{
+    let newline = u8x64::splat(b'\n');
+    let mask = u8x64::from_array(*block).simd_eq(newline).to_bitmask();
+    if mask == 0 {
+        return None;
+    }
+    Some(mask.trailing_zeros() as usize)
+}
+
 impl<A: Allocator + Copy> Cutter<A> {
     ghost use Rattle.pt_lines.specs.Lines.{IsFront, past_line};
     ghost use Rattle.pt_lines.specs.Reading.{IsNextCallLine};
@@ -184,6 +199,28 @@ impl<A: Allocator + Copy> Cutter<A> {
         }
     }
 
+    // The same of twice as many bytes.
+    fn newline_far(&self) -> Option<usize>
+        requires { self.now.dropping ≡ false }
+        ensures { IfSome result (IsFront self.now) }
+    {
+        let block = self.held.as_slice().first_chunk::<LONG_LINE>()?;
+        newline_in_long(block)
+    }
+
+    // The same of all bytes that a line and its newline may have. It isn't inlined: most lines are
+    // short.
+    #[inline(never)]
+    fn newline_later(&self) -> Option<usize>
+        requires { self.now.dropping ≡ false }
+        ensures { IfSome result (IsFront self.now) }
+    {
+        match self.newline_far() {
+            Some(end) => Some(end),
+            None => self.newline_within(MOST_IN_LINE + 1),
+        }
+    }
+
     // The place of the newline of the first line, if that is whole and not too long. Few bytes are
     // searched in fewer steps, and most lines are short.
     #[inline(always)]
@@ -195,7 +232,7 @@ impl<A: Allocator + Copy> Cutter<A> {
         }
         match self.newline_near() {
             Some(end) => Some(end),
-            None => self.newline_within(MOST_IN_LINE + 1),
+            None => self.newline_later(),
         }
     }
 

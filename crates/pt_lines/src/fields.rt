@@ -1,19 +1,51 @@
-ghost use Rattle.std.specs.Prelude.{◌≡◌, [], ◌∷◌, MatchOption};
-ghost use Rattle.memchr.specs.Find.{IsFirstByte, is_byte};
+ghost use Rattle.std.specs.Prelude.{◌≡◌, ◌≤◌, [], ◌∷◌, MatchOption, length};
+ghost use Rattle.memchr.specs.Find.{IsFirstByte, Nowhere, Passes, is_byte};
 ghost use Rattle.pt_lines.specs.Fields.{fields, fields_left};
 
 use std::marker::Model;
+use std::simd::prelude::*;
 
-/// The place of the first space.
-pub fn first_space(text: &[u8]) -> Option<usize>
+// How many bytes are searched first for a space.
+const BLOCK: usize = 16;
+
+// The place of the first space of a block, whose bytes are tested at once.
+#[inline(always)]
+fn space_in(block: &[u8; BLOCK]) -> Option<usize>
+    ensures { IsFirstByte (is_byte 32) block.now result }
+{
+    let space = u8x16::splat(b' ');
+    let mask = u8x16::from_array(*block).simd_eq(space).to_bitmask();
+    if mask == 0 {
+        return None;
+    }
+    Some(mask.trailing_zeros() as usize)
+}
+
+// The place of the first space of a text that has none before this place.
+fn space_from(text: &[u8], start: usize) -> Option<usize>
+    requires within { start ≤ length text.now }
+    requires none { Nowhere (Passes (is_byte 32) text.now) 0 start }
     ensures { IsFirstByte (is_byte 32) text.now result }
 {
-    for place in 0..text.len() {
+    for place in start..text.len() {
         if text[place] == b' ' {
             return Some(place);
         }
     }
     None
+}
+
+/// The place of the first space.
+pub fn first_space(text: &[u8]) -> Option<usize>
+    ensures { IsFirstByte (is_byte 32) text.now result }
+{
+    let Some(block) = text.first_chunk::<BLOCK>() else {
+        return space_from(text, 0);
+    };
+    match space_in(block) {
+        Some(place) => Some(place),
+        None => space_from(text, BLOCK),
+    }
 }
 
 /// The fields of a line that are left, one after another.

@@ -1,6 +1,7 @@
 //! Calls that are often made, and moments, by the bytes that a line begins with.
 
-ghost use Rattle.std.specs.Prelude.{◌≡◌, ◌++◌, [], ◌∷◌, IfSome, List, Ok, ℕ};
+ghost use Rattle.std.specs.Prelude.{◌≡◌, ◌≤◌, ◌++◌, [], ◌∷◌, IfSome, List, Ok, ℕ, length, take};
+ghost use Rattle.std.specs.Bool.{OnTrue};
 ghost use Rattle.pt_types.specs.declared.call.Call.TheVariants as call;
 ghost use Rattle.pt_types.specs.Names.{IsName};
 ghost use Rattle.pt_types.specs.declared.time.Clock.TheVariants as clock;
@@ -8,22 +9,43 @@ ghost use Rattle.pt_types.specs.NamedVerbs.{call_on};
 ghost use Rattle.pt_lines.specs.declared.client.Who.TheVariants as who;
 ghost use Rattle.pt_lines.specs.declared.script_line.ScriptBody.TheVariants as body;
 ghost use Rattle.pt_lines.specs.Script.{body_read};
-ghost use Rattle.pt_lines.specs.Verbs.{named_word, timed_word};
+ghost use Rattle.pt_lines.specs.Verbs.{named_word, timed_word, word_of};
 
 use crate::arguments::{name_and_deadline, only_moment, two_names};
+use crate::call_line::read_asked;
 use crate::fields::Fields;
-use crate::verb::TimedVerb;
+use crate::verb::{TimedVerb, Verb};
 use pt_types::{Call, Moment, Name, NamedVerb};
 
-// What is after these bytes, if a text begins with them.
+// Whether two blocks are the same, which are compared as numbers.
+#[inline(always)]
+fn are_same(one: &[u8; 4], other: &[u8; 4]) -> bool
+    ensures { OnTrue result (one.now ≡ other.now) }
+{
+    u32::from_le_bytes(*one) == u32::from_le_bytes(*other)
+}
+
+// Whether two texts begin with the same four bytes.
+#[inline(always)]
+fn begin_alike(one: &[u8], other: &[u8]) -> bool
+    ensures { OnTrue result (take 4 one.now ≡ take 4 other.now) }
+{
+    match (one.first_chunk::<4>(), other.first_chunk::<4>()) {
+        (Some(one), Some(other)) => are_same(one, other),
+        _ => false,
+    }
+}
+
+// What is after these bytes, of which there are at least four, if a text begins with them.
 #[inline(always)]
 fn after<'a>(text: &'a [u8], start: &[u8]) -> Option<&'a [u8]>
+    requires { 4 ≤ length start.now }
     ensures { IfSome result (λ rest. text.now ≡ start.now ++ rest.now) }
 {
-    if text.len() < start.len() {
+    if text.len() < start.len() || !begin_alike(text, start) {
         return None;
     }
-    for place in 0..start.len() {
+    for place in 4..start.len() {
         if text[place] != start[place] {
             return None;
         }
@@ -34,7 +56,8 @@ fn after<'a>(text: &'a [u8], start: &[u8]) -> Option<&'a [u8]>
 // This word and what is after it and a space, if a text begins with them.
 #[inline(always)]
 fn said<'a>(text: &'a [u8], verb: NamedVerb, start: &[u8]) -> Option<(NamedVerb, &'a [u8])>
-    requires { start.now ≡ named_word verb ++ 32 ∷ [] }
+    requires is { start.now ≡ named_word verb ++ 32 ∷ [] }
+    requires long { 4 ≤ length start.now }
     ensures { IfSome result (λ said. text.now ≡ named_word said.0 ++ 32 ∷ said.1.now) }
 {
     let rest = after(text, start)?;
@@ -164,6 +187,32 @@ pub fn timed_at_start(text: &[u8]) -> Option<Call>
     let (verb, args) = timed_word_at_start(text)?;
     let (name, deadline) = name_and_deadline(Fields::new(args))?;
     Some(verb.on(name, deadline))
+}
+
+// The call that this verb makes of what is after its word and a space, if a text begins with them.
+#[inline(always)]
+fn asked_by(text: &[u8], verb: Verb, start: &[u8]) -> Option<Call>
+    requires is { start.now ≡ word_of verb ++ 32 ∷ [] }
+    requires long { 4 ≤ length start.now }
+    ensures { IfSome result (λ asked. (client : List ℕ) → body_read (who.Named client) text.now
+        ≡ Ok (body.Ask asked)) }
+{
+    let args = after(text, start)?;
+    read_asked(verb, Fields::new(args))
+}
+
+/// The making of a mutex or a barrier, or the wait with a deadline, if a text begins with the word
+/// of one and a client's line that says this asks for it.
+#[inline(always)]
+pub fn asked_at_start(text: &[u8]) -> Option<Call>
+    ensures { IfSome result (λ asked. (client : List ℕ) → body_read (who.Named client) text.now
+        ≡ Ok (body.Ask asked)) }
+{
+    match text.first() {
+        Some(b'm') => asked_by(text, Verb::MutexInit, b"mutex-init "),
+        Some(b't') => asked_by(text, Verb::Timedwait, b"timedwait "),
+        _ => asked_by(text, Verb::BarrierInit, b"barrier-init "),
+    }
 }
 
 /// The moment of the real clock, if a text begins with the word of one and a line of the clocks

@@ -1,21 +1,25 @@
 ghost use Rattle.std.specs.Prelude.{◌≡◌, ◌≤◌, ◌<◌, ◌+◌, ◌++◌, IsOk, OnOk, OnErr, IfErr, length};
-ghost use Rattle.std.specs.Prelude.{vec_len, vec_capacity, decimal, ◌/◌, ◌%◌, ◌∷◌, [], Some};
+ghost use Rattle.std.specs.Prelude.{vec_len, vec_capacity, decimal, ◌/◌, ◌%◌, ◌∷◌, [], Some, take};
 ghost use Rattle.std.specs.Option.{option_copied};
-ghost use Rattle.pt_lines.specs.Replies.{reply_line, sender};
+ghost use Rattle.pt_types.specs.Words.{outcome_word, refusal_word};
+ghost use Rattle.pt_lines.specs.Replies.{answer_word, reply_line, sender};
 
 use crate::client::{ClientName, Who};
 use itoa::Buffer;
 use pt_types::{Outcome, Refusal};
 use std::alloc::Allocator;
 
-// How many digits most numbers have at most.
-const FEW_DIGITS: usize = 6;
-
-// The least number that has more.
+// The least number that has more than six digits, as few have.
 const FEW_DIGITS_END: u64 = 1_000_000;
 
 // How many bytes the answer `0` to a client's line has at most, if its number has few digits.
 const MOST_OF_DONE: usize = 18;
+
+// How many bytes a word and a newline have at most.
+const MOST_OF_WORD: usize = 16;
+
+// How many bytes are behind the client at most, if the number has few digits.
+const MOST_BEHIND: usize = 23;
 
 /// What a line is answered: the outcome of an accepted call, or why it is not accepted.
 #[derive(Clone, Copy, Debug, PartialEq, Eq)]
@@ -143,6 +147,7 @@ fn append_below_1000000<A: Allocator + Copy>(out: &mut Vec<u8, A>, n: u64)
 }
 
 // Appends a number of at most six digits, for which there is room.
+#[inline(always)]
 fn append_number<A: Allocator + Copy>(out: &mut Vec<u8, A>, n: u64)
     requires below { n < 1000000 }
     requires room { vec_len out.old + length (decimal n) ≤ vec_capacity out.old }
@@ -155,6 +160,65 @@ fn append_number<A: Allocator + Copy>(out: &mut Vec<u8, A>, n: u64)
     } else {
         append_below_1000000(out, n);
     }
+}
+
+// The word of an outcome and a newline, with what fills them up, and how many bytes they have.
+fn filled_outcome(outcome: Outcome) -> (&'static [u8; MOST_OF_WORD], usize)
+    ensures short { result.1 ≤ 16 }
+    ensures value { take result.1 result.0.now ≡ outcome_word outcome ++ 10 ∷ [] }
+{
+    match outcome {
+        Outcome::Done => (b"0\n..............", 2),
+        Outcome::Serial => (b"SERIAL\n.........", 7),
+        Outcome::Eperm => (b"EPERM\n..........", 6),
+        Outcome::Einval => (b"EINVAL\n.........", 7),
+        Outcome::Ebusy => (b"EBUSY\n..........", 6),
+        Outcome::Eagain => (b"EAGAIN\n.........", 7),
+        Outcome::Edeadlk => (b"EDEADLK\n........", 8),
+        Outcome::Etimedout => (b"ETIMEDOUT\n......", 10),
+        Outcome::Eownerdead => (b"EOWNERDEAD\n.....", 11),
+        Outcome::Enotrecoverable => (b"ENOTRECOVERABLE\n", 16),
+    }
+}
+
+// The same of a refusal.
+fn filled_refusal(refusal: Refusal) -> (&'static [u8; MOST_OF_WORD], usize)
+    ensures short { result.1 ≤ 16 }
+    ensures value { take result.1 result.0.now ≡ refusal_word refusal ++ 10 ∷ [] }
+{
+    match refusal {
+        Refusal::Syntax => (b"SYNTAX\n.........", 7),
+        Refusal::Long => (b"LONG\n...........", 5),
+        Refusal::Dead => (b"DEAD\n...........", 5),
+        Refusal::Nohello => (b"NOHELLO\n........", 8),
+        Refusal::Blocked => (b"BLOCKED\n........", 8),
+        Refusal::Limit => (b"LIMIT\n..........", 6),
+        Refusal::Full => (b"FULL\n...........", 5),
+        Refusal::Enomem => (b"ENOMEM\n.........", 7),
+    }
+}
+
+// The same of any word.
+fn filled(word: Word) -> (&'static [u8; MOST_OF_WORD], usize)
+    ensures short { result.1 ≤ 16 }
+    ensures value { take result.1 result.0.now ≡ answer_word word ++ 10 ∷ [] }
+{
+    match word {
+        Word::Outcome(outcome) => filled_outcome(outcome),
+        Word::Refusal(refusal) => filled_refusal(refusal),
+    }
+}
+
+// Appends a word and a newline, where there is room for what fills them up too: all is copied at
+// once, and what is too much is dropped.
+fn append_word<A: Allocator + Copy>(out: &mut Vec<u8, A>, word: Word)
+    requires { vec_len out.old + 16 ≤ vec_capacity out.old }
+    ensures { out.new.items ≡ out.old.items ++ (answer_word word ++ 10 ∷ []) }
+{
+    let (text, len) = filled(word);
+    let end = out.len() + len;
+    out.extend_from_slice(text).unwrap();
+    out.truncate(end);
 }
 
 // Makes room for an answer, and appends it. It isn't inlined: most answers have room, and their
@@ -221,16 +285,14 @@ fn write_other<A: Allocator + Copy>(
     ensures enough { vec_len out.old + length (reply_line (option_copied who.entry) n word)
         ≤ vec_capacity out.old → IsOk result }
 {
-    let text = word.text().as_bytes();
-    let most = sender_len(who) + FEW_DIGITS + text.len() + 2;
+    let most = sender_len(who) + MOST_BEHIND;
     if n >= FEW_DIGITS_END || out.capacity() - out.len() < most {
         return write_any(out, who, n, word);
     }
     append_sender(out, who);
     append_number(out, n);
     out.push_reserved(b' ');
-    append(out, text);
-    out.push_reserved(b'\n');
+    append_word(out, word);
     Ok(())
 }
 

@@ -10,6 +10,7 @@ use crate::client::{Who, client_at_start};
 use crate::cutter::Cut;
 use crate::fields::{Fields, first_space};
 use crate::verb::Verb;
+use crate::verbs::is_same;
 use pt_types::{Call, Clock, MOST_IN_LINE, Moment, Priority, Refusal};
 use std::marker::Model;
 
@@ -81,7 +82,7 @@ fn read_body(
 {
     match who {
         Who::Unknown => return Err(Refusal::Syntax),
-        Who::Named(_) if rest == b"die".as_slice() => return Ok(ScriptBody::Die),
+        Who::Named(_) if is_same(rest, b"die") => return Ok(ScriptBody::Die),
         _ => {}
     }
     let line = read_line(rest, verb, args)?;

@@ -76,8 +76,9 @@ fn verbs_of_length(len: usize) -> &'static [Verb]
     }
 }
 
-// Whether the bytes of two texts are the same. Most words differ in the first byte already.
-fn is_same(word: &[u8], text: &[u8]) -> bool
+/// Whether the bytes of two texts are the same. Most words differ in the first byte already.
+#[inline(always)]
+pub fn is_same(word: &[u8], text: &[u8]) -> bool
     ensures { result ≡ bytes_eq word.now text.now }
 {
     if word.len() != text.len() {

@@ -6,7 +6,9 @@ use crate::engine::Engine;
 use crate::fault::ScriptFault;
 use crate::line_id::LineId;
 use crate::text::refuse;
-use pt_lines::{Rest, Who, moment_at_start, named_at_start, timed_at_start, wait_at_start};
+use pt_lines::{
+    Rest, Who, asked_at_start, moment_at_start, named_at_start, timed_at_start, wait_at_start,
+};
 use pt_model::Event;
 use pt_types::{Call, ClientId, Clock, Name};
 use std::alloc::Allocator;
@@ -68,6 +70,31 @@ impl<A: Allocator + Copy> Engine<A> {
         self.answer_said(line, client, rest, out)
     }
 
+    // Answers what begins as a making of a mutex or a barrier may, or as a wait with a deadline. It
+    // isn't inlined, so that other lines have no room to clear for it.
+    #[inline(never)]
+    fn answer_asked(
+        &mut self,
+        line: &LineId,
+        client: Option<ClientId>,
+        rest: &[u8],
+        out: &mut Vec<u8, A>,
+    ) -> Result<(), ScriptFault>
+        requires counted { 0 < lines_of_who self.old.seen line.now.who }
+        requires client { client ≡ number_of self.old.clients line.now.who }
+        ensures ok { OnOk result (Adds (SaysTo (known_by self.old) line.now
+            (event_of_body (known_by self.old) line.now.who (body_read line.now.who rest.now))
+            (known_by self.new)) out.old.items out.new.items) }
+        ensures why { IfErr result (λ fault. fault ≡ ScriptFault.Memory) }
+    {
+        if let Who::Named(_) = line.who
+            && let Some(call) = asked_at_start(rest)
+        {
+            return self.ask(line, client, call, out);
+        }
+        self.answer_rare(line, client, rest, out)
+    }
+
     // Answers what begins as a wait may. It isn't inlined, so that other lines have no room to
     // clear for it.
     #[inline(never)]
@@ -115,7 +142,7 @@ impl<A: Allocator + Copy> Engine<A> {
         {
             return self.ask(line, client, call, out);
         }
-        self.answer_rare(line, client, rest, out)
+        self.answer_asked(line, client, rest, out)
     }
 
     // Answers what the clocks say, most often a moment. It isn't inlined, so that other lines have
@@ -163,6 +190,7 @@ impl<A: Allocator + Copy> Engine<A> {
             (Who::Star, _) => self.answer_moment(line, client, rest, out),
             (_, Some(b'w')) => self.answer_wait(line, client, rest, out),
             (_, Some(b't')) => self.answer_timed(line, client, rest, out),
+            (_, Some(b'm' | b'b')) => self.answer_asked(line, client, rest, out),
             _ => self.answer_rare(line, client, rest, out),
         }
     }

@@ -66,6 +66,7 @@ fn line_of<'a, A: Allocator + Copy>(
 }
 
 // Appends an answer of the core under the line that made the call.
+#[inline(always)]
 fn tell_reply<A: Allocator + Copy>(
     out: &mut Vec<u8, A>,
     asked: &Asked<A>,
@@ -104,6 +105,7 @@ pub fn tell_own<A: Allocator + Copy>(
 
 /// Appends answers of the core, each under the line that made the call. The line of a call that is
 /// noted just now is at hand, and is not looked up.
+#[inline(always)]
 #[tactic(auto, using(crate::proofs::Texts::latest_next))]
 pub fn tell_all<'a, A: Allocator + Copy>(
     out: &mut Vec<u8, A>,

@@ -1,0 +1,105 @@
+-- LaneLemmas: a byte among lanes, and among the first of more bytes.
+use Rattle.std.proofs.Common.{◌≡◌, ◌≢◌, ◌<◌, ◌≤◌, ◌^◌, ◌∙◌, ◌⊎◌, ℕ, Bool, true, false, cond}
+use Rattle.std.proofs.Common.{List, length, take, get_or, map, refl, ap, sym, arith, inl, inr}
+use Rattle.std.proofs.Common.{Some, None}
+use Rattle.std.proofs.Common.{w64, pow_mono}
+use Rattle.std.proofs.lemmas.Bool.{cases_lt}
+use Rattle.std.proofs.lemmas.Grind.{common_steps}
+use Rattle.std.proofs.lemmas.List.{length-map, length-take-le, get_or_past, get_or-take}
+use Rattle.std.proofs.lemmas.Nat.Bits.{bit_at-zero, bit_at-trailing_zeros}
+use Rattle.std.proofs.lemmas.Simd.{bit_mask_l, mask_l-lt}
+use Rattle.std.proofs.Math.ListN.{get_or-map}
+use Rattle.std.specs.Int.{bit_at, trailing_zeros}
+use Rattle.std.specs.Simd.Lanes.{mask_l}
+use Rattle.memchr.specs.Find.{IsFirstByte, Nowhere, Passes, is_byte}
+
+-- the mask of a byte among some bytes
+abbrev pub mask_of : ℕ → List ℕ → ℕ
+mask_of b xs = mask_l (map (is_byte b) xs)
+
+bit_is :
+    (b : ℕ) (xs : List ℕ) (k : ℕ) → is_byte b 0 ≡ false
+    → bit_at (mask_of b xs) k ≡ cond (is_byte b (get_or xs k 0)) 1 0
+bit_is b xs k other =
+    bit_mask_l (map (is_byte b) xs) k
+    ∙ ap (λ t. cond (get_or (map (is_byte b) xs) k t) 1 0) (sym other)
+    ∙ ap (λ t. cond t 1 0) (get_or-map (is_byte b) xs k 0)
+
+set_is : (b : Bool) → cond {A = ℕ} b 1 0 ≡ 1 → b ≡ true
+set_is true h = refl
+set_is false h = cc
+
+unset_is : (b : Bool) → cond {A = ℕ} b 1 0 ≡ 0 → b ≡ true → ⊥
+unset_is true h e = cc
+unset_is false h e = cc
+
+-- no such byte is past the end, where zeros are read
+within :
+    (b : ℕ) (xs : List ℕ) (k : ℕ) → is_byte b 0 ≡ false → is_byte b (get_or xs k 0) ≡ true
+    → k < length xs
+within b xs k other h = by (cases_lt k (length xs))
+  where
+    by : (k < length xs) ⊎ (length xs ≤ k) → k < length xs
+    by (inl lt) = lt
+    by (inr le) = absurd (false_is (sym other ∙ sym (ap (is_byte b) (get_or_past xs k 0 le)) ∙ h))
+      where
+        false_is : false ≡ true → ⊥
+        false_is e = cc
+
+-- no bit is set where the byte is nowhere
+pub byte_nowhere :
+    (b : ℕ) (xs : List ℕ) → is_byte b 0 ≡ false → mask_of b xs ≡ 0
+    → IsFirstByte (is_byte b) xs None
+byte_nowhere b xs other none k low high e =
+    unset_is (is_byte b (get_or xs k 0))
+    (sym (bit_is b xs k other) ∙ ap (λ m. bit_at m k) none ∙ bit_at-zero k) e
+
+-- the lowest bit is the first such byte
+byte_lowest :
+    (b : ℕ) (xs : List ℕ) (k : ℕ) → is_byte b 0 ≡ false → bit_at (mask_of b xs) k ≡ 1
+    → ((j : ℕ) → j < k → bit_at (mask_of b xs) j ≡ 0) → IsFirstByte (is_byte b) xs (Some k)
+byte_lowest b xs k other set below =
+    let here = set_is (is_byte b (get_or xs k 0)) (sym (bit_is b xs k other) ∙ set) in (
+      record {
+        low = omega arith;
+        high = within b xs k other here;
+        before = λ j low lt e.
+            unset_is (is_byte b (get_or xs j 0)) (sym (bit_is b xs j other) ∙ below j lt) e;
+      },
+      here,
+    )
+
+pub byte_first :
+    (b : ℕ) (xs : List ℕ) → is_byte b 0 ≡ false → length xs ≤ 64 → mask_of b xs ≢ 0
+    → IsFirstByte (is_byte b) xs (Some (trailing_zeros w64 (mask_of b xs)))
+byte_first b xs other long some =
+    let lanes = map (is_byte b) xs in
+    let few = length-map xs (is_byte b) in
+    let most = pow_mono {i = length lanes} {j = 64} (omega (arith, few)) in
+    let fits : mask_of b xs < 2 ^ 64 = omega (arith, mask_l-lt lanes, few, most) in
+    let h = bit_at-trailing_zeros w64 (mask_of b xs) (omega (arith, some)) fits in
+    byte_lowest b xs (trailing_zeros w64 (mask_of b xs)) other h.1 h.2
+
+-- what is found in the first n bytes is found in all
+pub first_of_front :
+    (b : ℕ) (xs : List ℕ) (n k : ℕ) → IsFirstByte (is_byte b) (take n xs) (Some k)
+    → IsFirstByte (is_byte b) xs (Some k)
+first_of_front b xs n k h =
+    let high : k < length (take n xs) = h.0.high in
+    let small : k < n = grind (arith, common_steps) in (
+      record {
+        low = omega arith;
+        high = grind (arith, common_steps);
+        before = λ j low lt e.
+            h.0.before j low lt (ap (is_byte b) (get_or-take n xs j 0 (omega arith)) ∙ e);
+      },
+      sym (ap (is_byte b) (get_or-take n xs k 0 small)) ∙ h.1,
+    )
+
+-- where none is found in the first n bytes, there is none before n
+pub none_in_front :
+    (b : ℕ) (xs : List ℕ) (n : ℕ) → n ≤ length xs → IsFirstByte (is_byte b) (take n xs) None
+    → Nowhere (Passes (is_byte b) xs) 0 n
+none_in_front b xs n le h k low lt e =
+    h k low (omega (arith, length-take-le n xs le))
+    (ap (is_byte b) (get_or-take n xs k 0 lt) ∙ e)

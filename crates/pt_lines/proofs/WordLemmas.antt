@@ -1,0 +1,37 @@
+-- WordLemmas: a verb's word, a space and fields are read as what the verb and the fields are.
+use Rattle.std.proofs.Common.{◌≡◌, ◌∙◌, ℕ, List, [], ◌∷◌, ◌++◌, Option, IfSome, Ok, ap, true}
+use Rattle.std.proofs.Common.{nat_le, length, append_assoc}
+use Rattle.std.specs.Option.{option_and_then}
+use Rattle.pt_types.specs.declared.call.Call.{Call}
+use Rattle.pt_lines.specs.declared.verb.Verb.{Verb}
+use Rattle.pt_lines.specs.declared.client.Who.TheVariants.{Named}
+use Rattle.pt_lines.specs.declared.script_line.ScriptBody.TheVariants.{Ask}
+use Rattle.pt_lines.specs.Fields.{fields}
+use Rattle.pt_lines.specs.Reading.{line_read, line_of, line_of_fields, IsAsked}
+use Rattle.pt_lines.specs.Script.{body_read}
+use Rattle.pt_lines.specs.Verbs.{word_of}
+use Rattle.pt_lines.proofs.FieldLemmas.{is_word, fields-word}
+use Rattle.pt_lines.proofs.ScriptLemmas.{call_said}
+use Rattle.pt_lines.proofs.TestLemmas.{and_parts}
+use Rattle.pt_lines.proofs.VerbLemmas.{verb_of-word, word_is_short}
+
+word_is_word : (verb : Verb) → is_word (word_of verb) ≡ true
+word_is_word verb =
+    (and_parts (nat_le (length (word_of verb)) 15) (is_word (word_of verb)) (word_is_short verb)).1
+
+read_by_word :
+    (text args start : List ℕ) (verb : Verb) → start ≡ word_of verb ++ 32 ∷ []
+    → text ≡ start ++ args → line_read text ≡ line_of verb (fields args)
+read_by_word text args start verb begins is =
+    ap line_read
+    (is ∙ ap (λ s. s ++ args) begins ∙ append_assoc (word_of verb) (32 ∷ []) args)
+    ∙ ap line_of_fields (fields-word (word_of verb) args (word_is_word verb))
+    ∙ ap (option_and_then (λ v. line_of v (fields args))) (verb_of-word verb)
+
+-- what a client asks for by a word, a space and fields
+pub word_said :
+    (text args start : List ℕ) (verb : Verb) (o : Option Call)
+    → start ≡ word_of verb ++ 32 ∷ [] → text ≡ start ++ args → IsAsked verb (fields args) o
+    → IfSome o (λ asked. (client : List ℕ) → body_read (Named client) text ≡ Ok (Ask asked))
+word_said text args start verb o begins is asked =
+    call_said text (fields args) verb o (read_by_word text args start verb begins is) asked
