@@ -119,6 +119,7 @@ impl<A: Allocator + Copy> WaitList for Chains<A> {
         sides::discard(&mut self.queues, object.0);
     }
 
+    #[inline(always)]
     fn insert(&mut self, object: ObjectId, waiter: Waiter) {
         let client = waiter.client;
         let node = nodes::home_of(&self.homes, client.0);
@@ -135,6 +136,7 @@ impl<A: Allocator + Copy> WaitList for Chains<A> {
         self.log = self.log.and(&Some(object.0), &waiter);
     }
 
+    #[inline(always)]
     fn remove(&mut self, client: ClientId) -> Option<(ObjectId, Waiter)> {
         let place = nodes::place_of(&self.homes, &self.nodes, client.0)?;
         let waiter = place.waiter;
@@ -158,10 +160,12 @@ impl<A: Allocator + Copy> WaitList for Chains<A> {
         Some((ObjectId(place.object), place.waiter))
     }
 
+    #[inline(always)]
     fn first(&self, object: ObjectId) -> Option<Waiter> {
         nodes::waiter_of(&self.nodes, sides::first_of(&self.queues, object.0))
     }
 
+    #[inline(always)]
     fn first_writer(&self, object: ObjectId) -> Option<Waiter> {
         nodes::waiter_of(&self.nodes, sides::first_writer_of(&self.queues, object.0))
     }

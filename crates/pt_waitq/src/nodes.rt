@@ -183,13 +183,16 @@ pub(crate) fn place_of<A: Allocator + Copy>(
     nodes: &Slab<Node, A>,
     client: u64,
 ) -> Option<Place>
+    requires { (c n : ℕ)
+        → home_of homes.now.entries c ≡ Some n
+        → IsSome (node_in nodes.now.slots n) }
     ensures none { IfNone result (entry_of homes.now.entries nodes.now.slots client ≡ None) }
     ensures home { IfSome result (λ p. home_of homes.now.entries client ≡ Some p.node) }
     ensures node { IfSome result (λ p. node_in nodes.now.slots p.node
         ≡ Some (record { entry = Some (p.object, p.waiter); next = p.next; before = p.before })) }
 {
     let index = *row_of(homes, client)?;
-    let node = *nodes.get(index.get())?;
+    let node = nodes.get(index.get()).unwrap();
     let (object, waiter) = node.entry?;
     Some(Place {
         node: index,

@@ -16,7 +16,7 @@ ghost use Rattle.pt_waitq.specs.Chains.{IsFirst, IsFirstWriter, HasWriterFrom};
 use crate::boxed::BoxedQueue;
 use crate::link::{Link, NodeIndex};
 use crate::marked::MarkedQueue;
-use crate::rows::{Rows, index_by_distance, row_of};
+use crate::rows::{Rows, index_of, row_of};
 use crate::spares::Spares;
 use pt_types::MOST_PRIORITY;
 use std::alloc::Allocator;
@@ -221,16 +221,9 @@ pub(crate) fn insert<A: Allocator + Copy>(
     ensures capacity { vec_capacity spares.new ≡ vec_capacity spares.old }
     ensures empty { Each (λ b. HasNone b.value) spares.new.items }
 {
-    match index_by_distance(queues, object) {
-        Some(index) => queues
-            .get_index_mut(index)
-            .unwrap()
-            .put_in(spares, writer, p, node),
-        None => queues
-            .get_mut(&object)
-            .unwrap()
-            .put_in(spares, writer, p, node),
-    }
+    let index = index_of(queues, object).unwrap();
+    let queue = queues.get_index_mut(index).unwrap();
+    queue.put_in(spares, writer, p, node)
 }
 
 /// Takes a node out of a chain of a queue that there is, if it was between these two. Returns the
@@ -257,16 +250,9 @@ pub(crate) fn remove<A: Allocator + Copy>(
         → lookup (nat_eq object) queues.new.entries ≡ Some new
         → IsEmptied writer p before next old new (option_map (λ b. b.value) result) }
 {
-    match index_by_distance(queues, object) {
-        Some(index) => queues
-            .get_index_mut(index)
-            .unwrap()
-            .take_out(writer, p, before, next),
-        None => queues
-            .get_mut(&object)
-            .unwrap()
-            .take_out(writer, p, before, next),
-    }
+    let index = index_of(queues, object).unwrap();
+    let queue = queues.get_index_mut(index).unwrap();
+    queue.take_out(writer, p, before, next)
 }
 
 /// Adds an empty queue, and returns whether there was memory.
