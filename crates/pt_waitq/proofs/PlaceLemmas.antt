@@ -1,7 +1,8 @@
 -- A map's entry that is found at its index.
 use Rattle.std.proofs.Common.{◌≡◌, ℕ, zero, suc, ◌==◌, true, false, cond, List, [], ◌∷◌}
 use Rattle.std.proofs.Common.{Some, Option, None, arith, refl, sym, ap, nat_eq, ◌<◌, length}
-use Rattle.std.proofs.Common.{slice_index_or, subst}
+use Rattle.std.proofs.Common.{slice_index_or, subst, ◌∙◌}
+use Rattle.std.specs.Option.{option_map}
 use Rattle.std.proofs.lemmas.Bool.Decides.{nat_tests}
 use Rattle.std.proofs.lemmas.List.Quantifiers.{position-Some}
 use Rattle.std.specs.List.{AllByRecursion as Each, IsDistinct, position}
@@ -90,3 +91,12 @@ pub listed-at : {X : Type 0} (es : List (ℕ × X)) (o : ℕ) (found : Option �
     → slice_get (numbers es) i ≡ Some o
 listed-at es o found i at is =
     subst (λ f. IfSome f (λ j. slice_get (numbers es) j ≡ Some o)) is at
+
+-- the number that an entry has
+pub number-at : {X : Type 0} (es : List (ℕ × X)) (i o n : ℕ) (x : X)
+    → Some (n, x) ≡ slice_get es i → n ≡ o → slice_get (numbers es) i ≡ Some o
+number-at [] i o n x at same = cc
+number-at (e ∷ es) zero o n x at same =
+    let own : n ≡ e.0 = ap (λ f. unwrap_or (option_map (λ e. e.0) f) n) at in
+    ap (λ m. Some m) (sym own ∙ same)
+number-at (e ∷ es) (suc i) o n x at same = number-at es i o n x at same

@@ -8,9 +8,9 @@ use Rattle.pt_waitq.proofs.sides.remove.Goals as goal
 
 pub take_out-requires-clause-stands : goal.take_out-requires-clause-stands
 take_out-requires-clause-stands g c =
-    let there = listed-at c.args.queues.now.entries c.args.object c.index_of.result
+    let there = listed-at c.args.queues.now.map.entries c.args.object c.index_of.result
     c.unwrap-index.result c.index_of.ensures.found c.unwrap-index.ensures in
-    let at = found-at c.args.queues.now.entries c.unwrap-index.result c.args.object
+    let at = found-at c.args.queues.now.map.entries c.unwrap-index.result c.args.object
     c.get_index_mut.ensures.unique there in
     let lent = sym c.get_index_mut.ensures.value ∙ ap option_copied_mut c.unwrap-queue.ensures in
     subst (λ o. IfSome o (λ q. 1 ≤ slice_index (side_of c.args.writer q).counts c.args.p))
@@ -18,32 +18,32 @@ take_out-requires-clause-stands g c =
 
 pub take_out-requires-clause-len : goal.take_out-requires-clause-len
 take_out-requires-clause-len g c =
-    let there = listed-at c.args.queues.now.entries c.args.object c.index_of.result
+    let there = listed-at c.args.queues.now.map.entries c.args.object c.index_of.result
     c.unwrap-index.result c.index_of.ensures.found c.unwrap-index.ensures in
-    let at = found-at c.args.queues.now.entries c.unwrap-index.result c.args.object
+    let at = found-at c.args.queues.now.map.entries c.unwrap-index.result c.args.object
     c.get_index_mut.ensures.unique there in
     let lent = sym c.get_index_mut.ensures.value ∙ ap option_copied_mut c.unwrap-queue.ensures in
     subst (λ o. IfSome o (λ q. 1 ≤ q.len)) (at ∙ lent) c.requires.len
 
 pub returns-clause-numbers : goal.returns-clause-numbers
 returns-clause-numbers g c =
-    numbers-set c.args.queues.now.entries c.unwrap-index.result c.take_out.new.self
+    numbers-set c.args.queues.now.map.entries c.unwrap-index.result c.take_out.new.self
 
 pub returns-clause-others : goal.returns-clause-others
 returns-clause-others g c = λ x other.
-    let there = listed-at c.args.queues.now.entries c.args.object c.index_of.result
+    let there = listed-at c.args.queues.now.map.entries c.args.object c.index_of.result
     c.unwrap-index.result c.index_of.ensures.found c.unwrap-index.ensures in
-    others-set c.args.queues.now.entries c.unwrap-index.result c.args.object x c.take_out.new.self
-    there other
+    others-set c.args.queues.now.map.entries c.unwrap-index.result c.args.object x
+    c.take_out.new.self there other
 
 pub returns-clause-queue : goal.returns-clause-queue
 returns-clause-queue g c = λ old new was is.
-    let there = listed-at c.args.queues.now.entries c.args.object c.index_of.result
+    let there = listed-at c.args.queues.now.map.entries c.args.object c.index_of.result
     c.unwrap-index.result c.index_of.ensures.found c.unwrap-index.ensures in
-    let at = found-at c.args.queues.now.entries c.unwrap-index.result c.args.object
+    let at = found-at c.args.queues.now.map.entries c.unwrap-index.result c.args.object
     c.get_index_mut.ensures.unique there in
     let lent = sym c.get_index_mut.ensures.value ∙ ap option_copied_mut c.unwrap-queue.ensures in
-    let set = found-set c.args.queues.now.entries c.unwrap-index.result c.args.object
+    let set = found-set c.args.queues.now.map.entries c.unwrap-index.result c.args.object
     c.take_out.new.self c.get_index_mut.ensures.unique there in
     let before : c.unwrap-queue.result.now ≡ old =
     ap (λ q. unwrap_or q old) (sym (at ∙ lent) ∙ was) in

@@ -11,8 +11,9 @@ returns g c =
     let es = waiting_by c.self.inside.log.items in
     let found = c.first_writer_of.ensures in
     c.waiter_of.ensures
-    ∙ (writer-told c.self.inside.homes.entries c.self.inside.nodes.slots
-    c.self.inside.queues.entries es c.self.invariant.0 c.object.inside.0 _ found.none found.queue
+    ∙ (writer-told c.self.inside.homes.map.entries c.self.inside.nodes.slots
+    c.self.inside.queues.map.entries es c.self.invariant.0 c.object.inside.0 _ found.none
+    found.queue
     ∙ (ap (λ o. first_writer_of (queue_of o es)) c.object.view_is
     ∙ ap first_writer_of
     (read-as _ _ es es _ c.self.view_is c.self.invariant.0.stand refl c.args.object)))
