@@ -85,15 +85,17 @@ pub(crate) fn set_node<A: Allocator + Copy>(nodes: &mut Slab<Node, A>, node: Nod
     *nodes.get_mut(node.get()).unwrap() = value;
 }
 
-/// The waiter of a node that is in a chain.
+/// The waiter of a node, which is in a chain.
 pub(crate) fn waiter_of<A: Allocator + Copy>(
     nodes: &Slab<Node, A>,
     node: Option<NodeIndex>,
 ) -> Option<Waiter>
+    requires { IfSome node (λ n. IsSome (entry_in nodes.now.slots n)) }
     ensures { result
         ≡ option_map (λ e. e.1) (option_and_then (λ n. entry_in nodes.now.slots n) node) }
 {
-    let (_, waiter) = nodes.get(node?.get())?.entry?;
+    let node = nodes.get(node?.get()).unwrap();
+    let (_, waiter) = node.entry.unwrap();
     Some(waiter)
 }
 
