@@ -71,7 +71,18 @@ impl<A: Allocator + Copy> Timers<A> {
     }
 
     /// Takes the deadline of a place away, if it has one. It takes no memory.
+    #[inline(always)]
     pub fn cancel(&mut self, place: u64)
+        ensures { (p : ℕ)
+            → deadline_at self.new p ≡ (if place == p then None else deadline_at self.old p) }
+    {
+        if !self.places.is_empty() {
+            self.take_away(place);
+        }
+    }
+
+    // Takes the deadline of a place away, if it has one.
+    fn take_away(&mut self, place: u64)
         ensures { (p : ℕ)
             → deadline_at self.new p ≡ (if place == p then None else deadline_at self.old p) }
     {

@@ -1,5 +1,5 @@
 -- Boxes: enough for all that wait, as waiters and clients come and go.
-use Rattle.std.proofs.Common.{◌≡◌, ℕ, ◌==◌, ◌+◌, ◌≤◌, ◌<◌, min, Bool, true, false, cond, ◌&&◌}
+use Rattle.std.proofs.Common.{◌≡◌, ◌≢◌, ℕ, ◌==◌, ◌+◌, ◌≤◌, ◌<◌, min, Bool, true, false, cond, ◌&&◌}
 use Rattle.std.proofs.Common.{not, List, [], ◌∷◌, ◌++◌, length}
 use Rattle.std.proofs.Common.{filter, Option, Some, None, is_some, nat_eq}
 use Rattle.std.proofs.Common.{slice_index_or, inl, inr, refl, sym, ap, ◌∙◌, subst, arith}
@@ -80,7 +80,7 @@ pub if-boxed : {X : Type 0} (P : Queue → Type 0) (f : X → Queue) (o : Option
 if-boxed P f None h = tt
 if-boxed P f (Some x) h = h
 
-pub some-mapped : {X : Type 0} (f : X → Queue) (o : Option X)
+pub some-mapped : {X Y : Type 0} (f : X → Y) (o : Option X)
     → is_some (option_map f o) ≡ is_some o
 some-mapped f None = refl
 some-mapped f (Some x) = refl
@@ -94,6 +94,22 @@ each-last {X} P xs ys o x is some a =
     go : (zs : List X) → Each P (zs ++ x ∷ []) → P x
     go [] b = b.0
     go (z ∷ zs) b = go zs b.1
+
+-- the box of a queue, or a spare one if it has none
+pub opened : {X : Type 0} (f : X → Queue) (old new : Option X) (queue : Queue) (box : X)
+    → unwrap_or (option_map f old) no_queue ≡ queue → IfSome old (λ b. (f b).len ≢ 0)
+    → IfSome old (λ b. new ≡ Some b) → (old ≡ None → IfSome new (λ b. HasNone (f b)))
+    → new ≡ Some box → IsOpened queue (f box)
+opened f None new queue box view some own spare is =
+    inr (
+      none-waits f None queue view refl,
+      subst (λ o. IfSome o (λ b. HasNone (f b))) is (spare refl),
+    )
+opened f (Some b) new queue box view some own spare is =
+    inl (
+      subst (λ (q : Queue). q.len ≢ 0) view some,
+      ap (λ o. unwrap_or (option_map f o) no_queue) (sym is ∙ own) ∙ view,
+    )
 
 pub opened-empty : (queue box : Queue) → IsOpened queue box → box.len ≡ 0 → HasNone box
 opened-empty queue box (inl h) z =

@@ -2,8 +2,8 @@
 use Rattle.std.proofs.Common.{◌≡◌, ◌≢◌, ℕ, ◌==◌, nat_lt, nat_le, ◌<◌, ◌≤◌, ◌+◌, ◌-◌, Bool, true}
 use Rattle.std.proofs.Common.{false, cond, ◌&&◌, ◌||◌, List, [], ◌∷◌, map, length, filter, Option}
 use Rattle.std.proofs.Common.{Some, None, is_some, slice_index_or, nat_eq, inl, inr, refl, sym, ap}
-use Rattle.std.proofs.Common.{◌∙◌, arith, eq-eqb}
-use Rattle.std.specs.Prelude.{slice_index, IsTrue, ◌↔◌}
+use Rattle.std.proofs.Common.{◌∙◌, arith, eq-eqb, subst}
+use Rattle.std.specs.Prelude.{slice_index, IsTrue, IfSome, IsSome, ◌↔◌}
 use Rattle.std.specs.Option.{option_map, option_and_then}
 use Rattle.std.specs.Map.{lookup}
 use Rattle.std.specs.List.{AllByRecursion as Each, list_any}
@@ -75,6 +75,12 @@ more (d ∷ ds) e f i h = absurd (omega (arith, h))
 none_in : (ds : List (ℕ × Waiter)) (u : ℕ × Waiter) → In u ds → None ≡ first_entry ds → ⊥
 none_in [] u i h = absurd i
 none_in (d ∷ ds) u i h = cc
+
+-- an entry that is found is that of a node
+some-entry : (f : ℕ → Option (ℕ × Waiter)) (head : Option ℕ) (u : ℕ × Waiter)
+    → option_and_then f head ≡ Some u → IfSome head (λ n. IsSome (f n))
+some-entry f None u is = tt
+some-entry f (Some n) u is = ap is_some is
 
 module _ (homes : List (ℕ × ℕ)) (nodes : List (Option Node)) (queues : List (ℕ × Queue))
     (es : List (ℕ × Waiter)) (a : AreChains homes nodes queues es) (o : ℕ) where
@@ -209,6 +215,24 @@ module _ (homes : List (ℕ × ℕ)) (nodes : List (Option Node)) (queues : List
         all-true [] = refl
         all-true (w ∷ ws) = ap (λ vs. w ∷ vs) (all-true ws)
 
+    -- the node of the first has an entry
+    pub first-stands : (head : Option ℕ) → IsFirst q head
+        → IfSome head (λ n. IsSome (entry_in nodes n))
+    first-stands head (inl f) =
+        let u = chain-head f.0 f.1 head f.2.within f.2.some f.3 in
+        some-entry (entry_in nodes) head u.0 u.1
+    first-stands head (inr f) =
+        subst (λ h. IfSome h (λ n. IsSome (entry_in nodes n))) (sym f.1) tt
+
+    -- and that of the first writer
+    pub writer-stands : (head : Option ℕ) → IsFirstWriter q head
+        → IfSome head (λ n. IsSome (entry_in nodes n))
+    writer-stands head (inl f) =
+        let u = chain-head true f.0 head f.1 f.2 f.4 in
+        some-entry (entry_in nodes) head u.0 u.1
+    writer-stands head (inr f) =
+        subst (λ h. IfSome h (λ n. IsSome (entry_in nodes n))) (sym f.1) tt
+
     writer-chain : (e : ℕ × Waiter) (j : ℕ) → e.1.writer ≡ true
         → (slice_index (side_of e.1.writer q).counts j ≢ 0) → slice_index q.writers.counts j ≢ 0
     writer-chain e j t h z = h (ap (λ k. slice_index (side_of k q).counts j) t ∙ z)
@@ -322,6 +346,26 @@ module _ (homes : List (ℕ × ℕ)) (nodes : List (Option Node)) (queues : List
           ap (λ x. option_map (λ (y : ℕ × Waiter). y.1) (option_and_then (entry_in nodes) x))
           (none e)
           ∙ sym (ap head_of (absent-empty homes nodes queues es a o e))
+
+  pub first-known : (head : Option ℕ) → (lookup (nat_eq o) queues ≡ None → head ≡ None)
+      → ((q : Queue) → lookup (nat_eq o) queues ≡ Some q → IsFirst q head)
+      → IfSome head (λ n. IsSome (entry_in nodes n))
+  first-known head none some = go (lookup (nat_eq o) queues) refl
+    where
+      go : (x : Option Queue) → lookup (nat_eq o) queues ≡ x
+          → IfSome head (λ n. IsSome (entry_in nodes n))
+      go (Some q) e = first-stands homes nodes queues es a o q e head (some q e)
+      go None e = subst (λ h. IfSome h (λ n. IsSome (entry_in nodes n))) (sym (none e)) tt
+
+  pub writer-known : (head : Option ℕ) → (lookup (nat_eq o) queues ≡ None → head ≡ None)
+      → ((q : Queue) → lookup (nat_eq o) queues ≡ Some q → IsFirstWriter q head)
+      → IfSome head (λ n. IsSome (entry_in nodes n))
+  writer-known head none some = go (lookup (nat_eq o) queues) refl
+    where
+      go : (x : Option Queue) → lookup (nat_eq o) queues ≡ x
+          → IfSome head (λ n. IsSome (entry_in nodes n))
+      go (Some q) e = writer-stands homes nodes queues es a o q e head (some q e)
+      go None e = subst (λ h. IfSome h (λ n. IsSome (entry_in nodes n))) (sym (none e)) tt
 
   pub writer-told : (head : Option ℕ) → (lookup (nat_eq o) queues ≡ None → head ≡ None)
       → ((q : Queue) → lookup (nat_eq o) queues ≡ Some q → IsFirstWriter q head)

@@ -1,9 +1,12 @@
 -- A map's entry that is found at its index.
 use Rattle.std.proofs.Common.{◌≡◌, ℕ, zero, suc, ◌==◌, true, false, cond, List, [], ◌∷◌}
-use Rattle.std.proofs.Common.{Some, arith, refl, ap, nat_eq}
+use Rattle.std.proofs.Common.{Some, Option, None, arith, refl, sym, ap, nat_eq, ◌<◌, length}
+use Rattle.std.proofs.Common.{slice_index_or, subst, ◌∙◌}
+use Rattle.std.specs.Option.{option_map}
 use Rattle.std.proofs.lemmas.Bool.Decides.{nat_tests}
-use Rattle.std.specs.List.{AllByRecursion as Each, IsDistinct}
-use Rattle.std.specs.Prelude.{slice_get, unwrap_or}
+use Rattle.std.proofs.lemmas.List.Quantifiers.{position-Some}
+use Rattle.std.specs.List.{AllByRecursion as Each, IsDistinct, position}
+use Rattle.std.specs.Prelude.{slice_get, unwrap_or, IfSome}
 use Rattle.std.specs.Map.{lookup, values_of}
 use Rattle.indexmap.specs.IndexMap.{set_value_at}
 use Rattle.pt_waitq.specs.Chains.{numbers}
@@ -63,3 +66,37 @@ module _ {X : Type 0} where
       rw far refl
   others-set (e ∷ es) (suc i) o x w at other =
       ap (λ found. cond (x == e.0) (Some e.1) found) (others-set es i o x w at other)
+
+-- the number that is listed at an index
+listed : (ns : List ℕ) (i o : ℕ) → i < length ns → nat_eq o (slice_index_or ns i o) ≡ true
+    → slice_get ns i ≡ Some o
+listed [] i o within at = absurd (omega (arith, within))
+listed (n ∷ ns) zero o within at =
+    let same : n ≡ o = grind (arith, nat_tests) in
+    ap (λ m. Some m) same
+listed (n ∷ ns) (suc i) o within at = listed ns i o (omega (arith, within)) at
+
+-- a number is listed at the index that is found for it
+pub found-index : {X : Type 0} (es : List (ℕ × X)) (o : ℕ) (found : Option ℕ)
+    → found ≡ position (nat_eq o) (numbers es)
+    → IfSome found (λ i. slice_get (numbers es) i ≡ Some o)
+found-index es o None is = tt
+found-index es o (Some i) is =
+    let at = position-Some (nat_eq o) (numbers es) i o (sym is) in
+    listed (numbers es) i o at.0 at.1
+
+-- if it is there
+pub listed-at : {X : Type 0} (es : List (ℕ × X)) (o : ℕ) (found : Option ℕ) (i : ℕ)
+    → IfSome found (λ j. slice_get (numbers es) j ≡ Some o) → found ≡ Some i
+    → slice_get (numbers es) i ≡ Some o
+listed-at es o found i at is =
+    subst (λ f. IfSome f (λ j. slice_get (numbers es) j ≡ Some o)) is at
+
+-- the number that an entry has
+pub number-at : {X : Type 0} (es : List (ℕ × X)) (i o n : ℕ) (x : X)
+    → Some (n, x) ≡ slice_get es i → n ≡ o → slice_get (numbers es) i ≡ Some o
+number-at [] i o n x at same = cc
+number-at (e ∷ es) zero o n x at same =
+    let own : n ≡ e.0 = ap (λ f. unwrap_or (option_map (λ e. e.0) f) n) at in
+    ap (λ m. Some m) (sym own ∙ same)
+number-at (e ∷ es) (suc i) o n x at same = number-at es i o n x at same

@@ -1,13 +1,13 @@
 //! Queues that have a box only while one waits in them.
 
 ghost use Rattle.std.specs.Prelude.{◌≡◌, ◌≢◌, ◌↔◌, ◌+◌, ◌<◌, ◌≤◌, ◌^◌, ◌==◌, IfSome};
-ghost use Rattle.std.specs.Prelude.{IsTrue, None, unwrap_or, slice_index, if◌then◌else◌};
-ghost use Rattle.std.specs.Prelude.{vec_len, vec_capacity};
+ghost use Rattle.std.specs.Prelude.{IsTrue, IsSome, Some, None, is_some, unwrap_or, slice_index};
+ghost use Rattle.std.specs.Prelude.{vec_len, vec_capacity, if◌then◌else◌};
 ghost use Rattle.std.specs.List.{AllByRecursion as Each};
 ghost use Rattle.std.specs.Option.{option_map};
 ghost use Rattle.pt_types.specs.Limits.{most_priority};
 ghost use Rattle.pt_waitq.specs.declared.sides.Queue.{Queue};
-ghost use Rattle.pt_waitq.specs.Boxes.{no_queue, IsOpened, IsEmptied};
+ghost use Rattle.pt_waitq.specs.Boxes.{no_queue, IsEmptied};
 ghost use Rattle.pt_waitq.specs.Chains.{side_of, HasNone, IsPut};
 ghost use Rattle.pt_waitq.specs.Chains.{IsFirst, IsFirstWriter, HasWriterFrom};
 
@@ -36,6 +36,22 @@ impl<A: Allocator> Model for BoxedQueue<A> {
     ghost invariant = { λ q. IfSome q.boxed (λ b. b.value.len ≢ 0) };
 }
 
+// Takes a spare box if there is none.
+fn open<A: Allocator>(boxed: &mut Option<Box<MarkedQueue, A>>, spares: &mut Spares<A>)
+    requires spare { boxed.old ≡ None → 0 < vec_len spares.old }
+    requires empty { Each (λ b. HasNone b.value) spares.old.items }
+    ensures there { IsSome boxed.new }
+    ensures own { IfSome boxed.old (λ b. boxed.new ≡ Some b) }
+    ensures spare { boxed.old ≡ None → IfSome boxed.new (λ b. HasNone b.value) }
+    ensures len { vec_len spares.new + (if is_some boxed.old then 0 else 1) ≡ vec_len spares.old }
+    ensures capacity { vec_capacity spares.new ≡ vec_capacity spares.old }
+    ensures empty { Each (λ b. HasNone b.value) spares.new.items }
+{
+    if boxed.is_none() {
+        *boxed = spares.pop();
+    }
+}
+
 impl<A: Allocator + Copy> BoxedQueue<A> {
     /// A queue with no waiter. It takes no memory.
     pub(crate) fn new() -> Self
@@ -51,22 +67,6 @@ impl<A: Allocator + Copy> BoxedQueue<A> {
         match &self.boxed {
             Some(queue) => queue.len(),
             None => 0,
-        }
-    }
-
-    // Its box, or a spare one if it has none.
-    fn open(&mut self, spares: &mut Spares<A>) -> Box<MarkedQueue, A>
-        requires spare { self.old.len ≡ 0 → 0 < vec_len spares.old }
-        requires empty { Each (λ b. HasNone b.value) spares.old.items }
-        ensures opened { IsOpened self.old result.value }
-        ensures len { vec_len spares.new + (if self.old.len == 0 then 1 else 0)
-            ≡ vec_len spares.old }
-        ensures capacity { vec_capacity spares.new ≡ vec_capacity spares.old }
-        ensures empty { Each (λ b. HasNone b.value) spares.new.items }
-    {
-        match self.boxed.take() {
-            Some(queue) => queue,
-            None => spares.pop().unwrap(),
         }
     }
 
@@ -89,10 +89,8 @@ impl<A: Allocator + Copy> BoxedQueue<A> {
         ensures capacity { vec_capacity spares.new ≡ vec_capacity spares.old }
         ensures empty { Each (λ b. HasNone b.value) spares.new.items }
     {
-        let mut queue = self.open(spares);
-        let tail = queue.put_in(writer, p, node);
-        self.boxed = Some(queue);
-        tail
+        open(&mut self.boxed, spares);
+        self.boxed.as_mut().unwrap().put_in(writer, p, node)
     }
 
     /// Takes a node, which is between these two, out of one of its chains. Returns its box if no
@@ -110,13 +108,12 @@ impl<A: Allocator + Copy> BoxedQueue<A> {
         ensures { IsEmptied writer p before next self.old self.new
             (option_map (λ b. b.value) result) }
     {
-        let mut queue = self.boxed.take()?;
-        queue.take_out(writer, p, before, next);
-        if queue.len() == 0 {
-            return Some(queue);
+        let queue = self.boxed.as_mut().unwrap();
+        if queue.take_out(writer, p, before, next) {
+            self.boxed.take()
+        } else {
+            None
         }
-        self.boxed = Some(queue);
-        None
     }
 
     /// The first waiter's node: of the highest chain, writers first.

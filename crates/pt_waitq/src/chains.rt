@@ -11,7 +11,6 @@ use crate::spares::{self, Spares};
 use crate::wait_list::WaitList;
 use crate::waiter::Waiter;
 use http_server::Log;
-use indexmap::IndexMap;
 use pt_types::{ClientId, ObjectId, Priority, Refusal};
 use slab::Slab;
 use std::alloc::{Allocator, Global};
@@ -43,12 +42,12 @@ impl<A: Allocator + Copy> Model for Chains<A> {
 
     ghost Value = { Waits };
 
-    ghost view = { λ p. waits_of (numbers p.homes.entries) (numbers p.queues.entries)
+    ghost view = { λ p. waits_of (numbers p.homes.map.entries) (numbers p.queues.map.entries)
         (waiting_by p.log.items) };
 
-    ghost invariant = { λ p. AreChains p.homes.entries p.nodes.slots p.queues.entries
+    ghost invariant = { λ p. AreChains p.homes.map.entries p.nodes.slots p.queues.map.entries
         (waiting_by p.log.items)
-        × AreBoxes (length p.homes.entries) (length (numbers p.queues.entries))
+        × AreBoxes (length p.homes.map.entries) (length (numbers p.queues.map.entries))
         (waiting_by p.log.items) (vec_len p.spares) (vec_capacity p.spares) p.boxes
         × Each (λ b. HasNone b.value) p.spares.items };
 }
@@ -59,9 +58,9 @@ impl<A: Allocator + Copy> Chains<A> {
         ensures { result ≡ no_waits }
     {
         Chains {
-            homes: IndexMap::new(alloc),
+            homes: Rows::new(alloc),
             nodes: Slab::new(alloc),
-            queues: IndexMap::new(alloc),
+            queues: Rows::new(alloc),
             spares: Vec::new(alloc),
             boxes: 0,
             log: Log::new(),
@@ -89,7 +88,7 @@ impl<A: Allocator + Copy> WaitList for Chains<A> {
         let Ok(()) = nodes::make_room(&mut self.homes, &mut self.nodes) else {
             return Err(Refusal::Enomem);
         };
-        let wanted = self.queues.len().min(self.homes.len() + 1);
+        let wanted = self.queues.map.len().min(self.homes.map.len() + 1);
         let Ok(boxes) = spares::grow(&mut self.spares, self.boxes, wanted) else {
             return Err(Refusal::Enomem);
         };
@@ -103,7 +102,7 @@ impl<A: Allocator + Copy> WaitList for Chains<A> {
     }
 
     fn make(&mut self, object: ObjectId) -> Result<(), Refusal> {
-        let wanted = self.homes.len().min(self.queues.len() + 1);
+        let wanted = self.homes.map.len().min(self.queues.map.len() + 1);
         let Ok(boxes) = spares::grow(&mut self.spares, self.boxes, wanted) else {
             return Err(Refusal::Enomem);
         };
@@ -119,6 +118,7 @@ impl<A: Allocator + Copy> WaitList for Chains<A> {
         sides::discard(&mut self.queues, object.0);
     }
 
+    #[inline(always)]
     fn insert(&mut self, object: ObjectId, waiter: Waiter) {
         let client = waiter.client;
         let node = nodes::home_of(&self.homes, client.0);
@@ -135,6 +135,7 @@ impl<A: Allocator + Copy> WaitList for Chains<A> {
         self.log = self.log.and(&Some(object.0), &waiter);
     }
 
+    #[inline(always)]
     fn remove(&mut self, client: ClientId) -> Option<(ObjectId, Waiter)> {
         let place = nodes::place_of(&self.homes, &self.nodes, client.0)?;
         let waiter = place.waiter;
@@ -158,10 +159,12 @@ impl<A: Allocator + Copy> WaitList for Chains<A> {
         Some((ObjectId(place.object), place.waiter))
     }
 
+    #[inline(always)]
     fn first(&self, object: ObjectId) -> Option<Waiter> {
         nodes::waiter_of(&self.nodes, sides::first_of(&self.queues, object.0))
     }
 
+    #[inline(always)]
     fn first_writer(&self, object: ObjectId) -> Option<Waiter> {
         nodes::waiter_of(&self.nodes, sides::first_writer_of(&self.queues, object.0))
     }

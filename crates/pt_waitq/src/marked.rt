@@ -1,7 +1,7 @@
 //! Queues, each with its highest chain of each kind.
 
-ghost use Rattle.std.specs.Prelude.{◌≡◌, ◌≢◌, ◌↔◌, ◌+◌, ◌<◌, ◌≤◌, ◌^◌, Some, max, slice_index};
-ghost use Rattle.std.specs.Prelude.{IsTrue, MatchOption, None};
+ghost use Rattle.std.specs.Prelude.{◌≡◌, ◌≢◌, ◌↔◌, ◌+◌, ◌<◌, ◌≤◌, ◌^◌, ◌==◌, Some, max};
+ghost use Rattle.std.specs.Prelude.{IsTrue, MatchOption, None, slice_index};
 ghost use Rattle.pt_types.specs.Limits.{most_priority};
 ghost use Rattle.pt_waitq.specs.declared.sides.Queue.{Queue};
 ghost use Rattle.pt_waitq.specs.Chains.{side_of, HasNone, IsPut, IsTaken};
@@ -99,22 +99,25 @@ impl MarkedQueue {
         sides::put_in(&mut self.queue, writer, p, node)
     }
 
-    /// Takes a node, which is between these two, out of one of its chains.
-    pub(crate) fn take_out(&mut self, writer: bool, p: usize, before: Link, next: Link)
+    /// Takes a node, which is between these two, out of one of its chains. Returns whether no one
+    /// waits any more.
+    pub(crate) fn take_out(&mut self, writer: bool, p: usize, before: Link, next: Link) -> bool
         requires index { p < most_priority }
         requires stands { 1 ≤ slice_index (side_of writer self.old).counts p }
         requires len { 1 ≤ self.old.len }
-        ensures { IsTaken writer p before next self.old self.new }
+        ensures taken { IsTaken writer p before next self.old self.new }
+        ensures last { result ≡ (self.new.len == 0) }
     {
         sides::take_out(&mut self.queue, writer, p, before, next);
         if self.queue.len == 0 {
-            return;
+            return true;
         }
         if writer {
             self.writer = lowered(&self.queue.writers.counts, self.writer);
         } else {
             self.reader = lowered(&self.queue.readers.counts, self.reader);
         }
+        false
     }
 
     /// The first waiter's node: of the highest chain, writers first.

@@ -85,15 +85,17 @@ pub(crate) fn set_node<A: Allocator + Copy>(nodes: &mut Slab<Node, A>, node: Nod
     *nodes.get_mut(node.get()).unwrap() = value;
 }
 
-/// The waiter of a node that is in a chain.
+/// The waiter of a node, which is in a chain.
 pub(crate) fn waiter_of<A: Allocator + Copy>(
     nodes: &Slab<Node, A>,
     node: Option<NodeIndex>,
 ) -> Option<Waiter>
+    requires { IfSome node (λ n. IsSome (entry_in nodes.now.slots n)) }
     ensures { result
         ≡ option_map (λ e. e.1) (option_and_then (λ n. entry_in nodes.now.slots n) node) }
 {
-    let (_, waiter) = nodes.get(node?.get())?.entry?;
+    let node = nodes.get(node?.get()).unwrap();
+    let (_, waiter) = node.entry.unwrap();
     Some(waiter)
 }
 
@@ -171,8 +173,8 @@ pub(crate) fn remove<A: Allocator + Copy>(
 
 /// The index of a client's node, which it has.
 pub(crate) fn home_of<A: Allocator + Copy>(homes: &Rows<NodeIndex, A>, client: u64) -> NodeIndex
-    requires { IsSome (home_of homes.now.entries client) }
-    ensures { home_of homes.now.entries client ≡ Some result }
+    requires { IsSome (home_of homes.now.map.entries client) }
+    ensures { home_of homes.now.map.entries client ≡ Some result }
 {
     *row_of(homes, client).unwrap()
 }
@@ -183,13 +185,16 @@ pub(crate) fn place_of<A: Allocator + Copy>(
     nodes: &Slab<Node, A>,
     client: u64,
 ) -> Option<Place>
-    ensures none { IfNone result (entry_of homes.now.entries nodes.now.slots client ≡ None) }
-    ensures home { IfSome result (λ p. home_of homes.now.entries client ≡ Some p.node) }
+    requires { (c n : ℕ)
+        → home_of homes.now.map.entries c ≡ Some n
+        → IsSome (node_in nodes.now.slots n) }
+    ensures none { IfNone result (entry_of homes.now.map.entries nodes.now.slots client ≡ None) }
+    ensures home { IfSome result (λ p. home_of homes.now.map.entries client ≡ Some p.node) }
     ensures node { IfSome result (λ p. node_in nodes.now.slots p.node
         ≡ Some (record { entry = Some (p.object, p.waiter); next = p.next; before = p.before })) }
 {
     let index = *row_of(homes, client)?;
-    let node = *nodes.get(index.get())?;
+    let node = nodes.get(index.get()).unwrap();
     let (object, waiter) = node.entry?;
     Some(Place {
         node: index,
@@ -205,17 +210,17 @@ pub(crate) fn make_room<A: Allocator + Copy>(
     homes: &mut Rows<NodeIndex, A>,
     nodes: &mut Slab<Node, A>,
 ) -> Result<(), AllocError>
-    ensures homes { homes.new.entries ≡ homes.old.entries }
-    ensures few { OnOk result (length homes.old.entries + 1 < 2 ^ 32) }
+    ensures homes { homes.new.map.entries ≡ homes.old.map.entries }
+    ensures few { OnOk result (length homes.old.map.entries + 1 < 2 ^ 32) }
     ensures nodes { nodes.new.slots ≡ nodes.old.slots }
-    ensures home_room { OnOk result (0 < spare homes.new) }
+    ensures home_room { OnOk result (0 < spare homes.new.map) }
     ensures node_room { OnOk result (HasRoomFor nodes.new 1) }
     ensures index { OnOk result (nodes.new.vacant_key < 2 ^ 32 - 1) }
 {
-    if homes.len() >= MOST_NODES || nodes.vacant_key() >= MOST_NODES {
+    if homes.map.len() >= MOST_NODES || nodes.vacant_key() >= MOST_NODES {
         return Err(AllocError);
     }
-    homes.reserve(1)?;
+    homes.map.reserve(1)?;
     nodes.reserve(1)
 }
 
@@ -225,11 +230,11 @@ pub(crate) fn admit<A: Allocator + Copy>(
     nodes: &mut Slab<Node, A>,
     client: u64,
 ) -> NodeIndex
-    requires new { lookup (nat_eq client) homes.old.entries ≡ None }
-    requires home_room { 0 < spare homes.old }
+    requires new { lookup (nat_eq client) homes.old.map.entries ≡ None }
+    requires home_room { 0 < spare homes.old.map }
     requires node_room { HasRoomFor nodes.old 1 }
     requires index { nodes.old.vacant_key < 2 ^ 32 - 1 }
-    ensures homes { homes.new.entries ≡ homes.old.entries ++ (client, result) ∷ [] }
+    ensures homes { homes.new.map.entries ≡ homes.old.map.entries ++ (client, result) ∷ [] }
     ensures vacant { node_in nodes.old.slots result ≡ None }
     ensures node { node_in nodes.new.slots result
         ≡ Some (record { entry = None; next = None; before = None }) }
@@ -243,7 +248,8 @@ pub(crate) fn admit<A: Allocator + Copy>(
         before: Link::none(),
     };
     let node = NodeIndex::new(nodes.insert_reserved(value));
-    homes.insert(client, node).unwrap();
+    homes.map.insert(client, node).unwrap();
+    homes.note_first(client);
     node
 }
 
@@ -254,14 +260,14 @@ pub(crate) fn dismiss<A: Allocator + Copy>(
     client: u64,
 )
     ensures homes { (d : ℕ)
-        → home_of homes.new.entries d
-        ≡ (if client == d then None else home_of homes.old.entries d) }
+        → home_of homes.new.map.entries d
+        ≡ (if client == d then None else home_of homes.old.map.entries d) }
     ensures nodes { (n : ℕ)
-        → is_at n (home_of homes.old.entries client) ≡ false
+        → is_at n (home_of homes.old.map.entries client) ≡ false
         → node_in nodes.new.slots n ≡ node_in nodes.old.slots n }
-    ensures len { length homes.new.entries ≤ length homes.old.entries }
+    ensures len { length homes.new.map.entries ≤ length homes.old.map.entries }
 {
-    if let Some(node) = homes.swap_remove(&client) {
+    if let Some(node) = homes.map.swap_remove(&client) {
         nodes.try_remove(node.get());
     }
 }

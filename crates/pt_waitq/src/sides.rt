@@ -16,7 +16,7 @@ ghost use Rattle.pt_waitq.specs.Chains.{IsFirst, IsFirstWriter, HasWriterFrom};
 use crate::boxed::BoxedQueue;
 use crate::link::{Link, NodeIndex};
 use crate::marked::MarkedQueue;
-use crate::rows::{Rows, index_by_distance, row_of};
+use crate::rows::{Rows, index_of, row_of};
 use crate::spares::Spares;
 use pt_types::MOST_PRIORITY;
 use std::alloc::Allocator;
@@ -181,7 +181,7 @@ pub(crate) fn take_out(queue: &mut Queue, writer: bool, p: usize, before: Link, 
 /// How many wait in a queue.
 pub(crate) fn len_of<A: Allocator + Copy>(queues: &Rows<BoxedQueue<A>, A>, object: u64) -> usize
     ensures { result
-        ≡ unwrap_or (option_map (λ q. q.len) (lookup (nat_eq object) queues.now.entries)) 0 }
+        ≡ unwrap_or (option_map (λ q. q.len) (lookup (nat_eq object) queues.now.map.entries)) 0 }
 {
     match row_of(queues, object) {
         Some(boxed) => boxed.len(),
@@ -200,37 +200,31 @@ pub(crate) fn insert<A: Allocator + Copy>(
     node: NodeIndex,
 ) -> Link
     requires index { p < most_priority }
-    requires there { IsSome (lookup (nat_eq object) queues.old.entries) }
-    requires room { IfSome (lookup (nat_eq object) queues.old.entries) (λ q.
+    requires there { IsSome (lookup (nat_eq object) queues.old.map.entries) }
+    requires room { IfSome (lookup (nat_eq object) queues.old.map.entries) (λ q.
         slice_index (side_of writer q).counts p + 1 < 2 ^ 32) }
-    requires len { IfSome (lookup (nat_eq object) queues.old.entries) (λ q. q.len + 1 < 2 ^ 64) }
-    requires spare { IfSome (lookup (nat_eq object) queues.old.entries) (λ q.
+    requires len { IfSome (lookup (nat_eq object) queues.old.map.entries) (λ q.
+        q.len + 1 < 2 ^ 64) }
+    requires spare { IfSome (lookup (nat_eq object) queues.old.map.entries) (λ q.
         q.len ≡ 0 → 0 < vec_len spares.old) }
     requires empty { Each (λ b. HasNone b.value) spares.old.items }
-    ensures numbers { numbers queues.new.entries ≡ numbers queues.old.entries }
+    ensures numbers { numbers queues.new.map.entries ≡ numbers queues.old.map.entries }
     ensures others { (x : ℕ)
         → (object == x) ≡ false
-        → lookup (nat_eq x) queues.new.entries ≡ lookup (nat_eq x) queues.old.entries }
+        → lookup (nat_eq x) queues.new.map.entries ≡ lookup (nat_eq x) queues.old.map.entries }
     ensures queue { (old new : Queue)
-        → lookup (nat_eq object) queues.old.entries ≡ Some old
-        → lookup (nat_eq object) queues.new.entries ≡ Some new
+        → lookup (nat_eq object) queues.old.map.entries ≡ Some old
+        → lookup (nat_eq object) queues.new.map.entries ≡ Some new
         → IsPut writer p node result old new }
     ensures spares { (old : Queue)
-        → lookup (nat_eq object) queues.old.entries ≡ Some old
+        → lookup (nat_eq object) queues.old.map.entries ≡ Some old
         → vec_len spares.new + (if old.len == 0 then 1 else 0) ≡ vec_len spares.old }
     ensures capacity { vec_capacity spares.new ≡ vec_capacity spares.old }
     ensures empty { Each (λ b. HasNone b.value) spares.new.items }
 {
-    match index_by_distance(queues, object) {
-        Some(index) => queues
-            .get_index_mut(index)
-            .unwrap()
-            .put_in(spares, writer, p, node),
-        None => queues
-            .get_mut(&object)
-            .unwrap()
-            .put_in(spares, writer, p, node),
-    }
+    let index = index_of(queues, object).unwrap();
+    let queue = queues.map.get_index_mut(index).unwrap();
+    queue.put_in(spares, writer, p, node)
 }
 
 /// Takes a node out of a chain of a queue that there is, if it was between these two. Returns the
@@ -244,47 +238,43 @@ pub(crate) fn remove<A: Allocator + Copy>(
     next: Link,
 ) -> Option<Box<MarkedQueue, A>>
     requires index { p < most_priority }
-    requires there { IsSome (lookup (nat_eq object) queues.old.entries) }
-    requires stands { IfSome (lookup (nat_eq object) queues.old.entries) (λ q.
+    requires there { IsSome (lookup (nat_eq object) queues.old.map.entries) }
+    requires stands { IfSome (lookup (nat_eq object) queues.old.map.entries) (λ q.
         1 ≤ slice_index (side_of writer q).counts p) }
-    requires len { IfSome (lookup (nat_eq object) queues.old.entries) (λ q. 1 ≤ q.len) }
-    ensures numbers { numbers queues.new.entries ≡ numbers queues.old.entries }
+    requires len { IfSome (lookup (nat_eq object) queues.old.map.entries) (λ q. 1 ≤ q.len) }
+    ensures numbers { numbers queues.new.map.entries ≡ numbers queues.old.map.entries }
     ensures others { (x : ℕ)
         → (object == x) ≡ false
-        → lookup (nat_eq x) queues.new.entries ≡ lookup (nat_eq x) queues.old.entries }
+        → lookup (nat_eq x) queues.new.map.entries ≡ lookup (nat_eq x) queues.old.map.entries }
     ensures queue { (old new : Queue)
-        → lookup (nat_eq object) queues.old.entries ≡ Some old
-        → lookup (nat_eq object) queues.new.entries ≡ Some new
+        → lookup (nat_eq object) queues.old.map.entries ≡ Some old
+        → lookup (nat_eq object) queues.new.map.entries ≡ Some new
         → IsEmptied writer p before next old new (option_map (λ b. b.value) result) }
 {
-    match index_by_distance(queues, object) {
-        Some(index) => queues
-            .get_index_mut(index)
-            .unwrap()
-            .take_out(writer, p, before, next),
-        None => queues
-            .get_mut(&object)
-            .unwrap()
-            .take_out(writer, p, before, next),
-    }
+    let index = index_of(queues, object).unwrap();
+    let queue = queues.map.get_index_mut(index).unwrap();
+    queue.take_out(writer, p, before, next)
 }
 
 /// Adds an empty queue, and returns whether there was memory.
 pub(crate) fn make<A: Allocator + Copy>(queues: &mut Rows<BoxedQueue<A>, A>, object: u64) -> bool
-    requires { lookup (nat_eq object) queues.old.entries ≡ None }
-    ensures numbers { numbers queues.new.entries
+    requires { lookup (nat_eq object) queues.old.map.entries ≡ None }
+    ensures numbers { numbers queues.new.map.entries
         ≡ (if result
-        then numbers queues.old.entries ++ object ∷ []
-        else numbers queues.old.entries) }
+        then numbers queues.old.map.entries ++ object ∷ []
+        else numbers queues.old.map.entries) }
     ensures others { (x : ℕ)
         → (object == x) ≡ false
-        → lookup (nat_eq x) queues.new.entries ≡ lookup (nat_eq x) queues.old.entries }
+        → lookup (nat_eq x) queues.new.map.entries ≡ lookup (nat_eq x) queues.old.map.entries }
     ensures queue { (new : Queue)
-        → lookup (nat_eq object) queues.new.entries ≡ Some new
+        → lookup (nat_eq object) queues.new.map.entries ≡ Some new
         → new ≡ no_queue }
 {
-    match queues.insert(object, BoxedQueue::new()) {
-        Ok(_) => true,
+    match queues.map.insert(object, BoxedQueue::new()) {
+        Ok(_) => {
+            queues.note_first(object);
+            true
+        }
         Err(_) => false,
     }
 }
@@ -292,11 +282,11 @@ pub(crate) fn make<A: Allocator + Copy>(queues: &mut Rows<BoxedQueue<A>, A>, obj
 /// Takes a queue away, if it is there.
 pub(crate) fn discard<A: Allocator + Copy>(queues: &mut Rows<BoxedQueue<A>, A>, object: u64)
     ensures queues { (x : ℕ)
-        → lookup (nat_eq x) queues.new.entries
-        ≡ (if object == x then None else lookup (nat_eq x) queues.old.entries) }
-    ensures len { length queues.new.entries ≤ length queues.old.entries }
+        → lookup (nat_eq x) queues.new.map.entries
+        ≡ (if object == x then None else lookup (nat_eq x) queues.old.map.entries) }
+    ensures len { length queues.new.map.entries ≤ length queues.old.map.entries }
 {
-    queues.swap_remove(&object);
+    queues.map.swap_remove(&object);
 }
 
 /// The node of the first of a queue.
@@ -304,9 +294,9 @@ pub(crate) fn first_of<A: Allocator + Copy>(
     queues: &Rows<BoxedQueue<A>, A>,
     object: u64,
 ) -> Option<NodeIndex>
-    ensures none { lookup (nat_eq object) queues.now.entries ≡ None → result ≡ None }
+    ensures none { lookup (nat_eq object) queues.now.map.entries ≡ None → result ≡ None }
     ensures queue { (queue : Queue)
-        → lookup (nat_eq object) queues.now.entries ≡ Some queue
+        → lookup (nat_eq object) queues.now.map.entries ≡ Some queue
         → IsFirst queue result }
 {
     row_of(queues, object)?.first()
@@ -317,9 +307,9 @@ pub(crate) fn first_writer_of<A: Allocator + Copy>(
     queues: &Rows<BoxedQueue<A>, A>,
     object: u64,
 ) -> Option<NodeIndex>
-    ensures none { lookup (nat_eq object) queues.now.entries ≡ None → result ≡ None }
+    ensures none { lookup (nat_eq object) queues.now.map.entries ≡ None → result ≡ None }
     ensures queue { (queue : Queue)
-        → lookup (nat_eq object) queues.now.entries ≡ Some queue
+        → lookup (nat_eq object) queues.now.map.entries ≡ Some queue
         → IsFirstWriter queue result }
 {
     row_of(queues, object)?.first_writer()
@@ -331,9 +321,9 @@ pub(crate) fn has_writer_from<A: Allocator + Copy>(
     object: u64,
     p: usize,
 ) -> bool
-    ensures none { lookup (nat_eq object) queues.now.entries ≡ None → result ≡ false }
+    ensures none { lookup (nat_eq object) queues.now.map.entries ≡ None → result ≡ false }
     ensures queue { (queue : Queue)
-        → lookup (nat_eq object) queues.now.entries ≡ Some queue
+        → lookup (nat_eq object) queues.now.map.entries ≡ Some queue
         → IsTrue result ↔ HasWriterFrom queue p }
 {
     match row_of(queues, object) {

@@ -10,7 +10,7 @@ use Rattle.pt_waitq.proofs.chains.ChainsWaitList.admit.Goals as goal
 
 pub admit-requires-clause-new : goal.admit-requires-clause-new
 admit-requires-clause-new g c =
-    let homes = c.self.inside.homes.entries in
+    let homes = c.self.inside.homes.map.entries in
     let k = c.client.inside.0 in
     let out = ap (λ s. is_admitted s k) c.self.view_is
     ∙ (ap (is_admitted c.args.self.now) c.client.view_is ∙ c.requires) in
@@ -21,7 +21,7 @@ admit-requires-clause-new g c =
 
 pub invariant_of-self-2 : goal.invariant_of-self-2
 invariant_of-self-2 g c =
-    let homes = c.self.inside.homes.entries in
+    let homes = c.self.inside.homes.map.entries in
     let k = c.client.inside.0 in
     let es = waiting_by c.self.inside.log.items in
     let out = ap (λ s. is_admitted s k) c.self.view_is
@@ -31,10 +31,10 @@ invariant_of-self-2 g c =
     let room = c.make_room.ensures in
     let done = c.admit.ensures in
     let grown = c.in-Ok-grow.ensures in
-    let queues = c.self.inside.queues.entries in
+    let queues = c.self.inside.queues.map.entries in
     let longer = ap length (done.homes ∙ ap (λ hs. hs ++ (k, c.admit.result) ∷ []) room.homes)
     ∙ length-more homes (k, c.admit.result) in
-    let enough : min (length c.admit.new.homes.entries) (length (numbers queues))
+    let enough : min (length c.admit.new.homes.map.entries) (length (numbers queues))
     ≤ c.in-Ok-grow.boxes =
     omega (
       arith,
@@ -46,7 +46,7 @@ invariant_of-self-2 g c =
       longer,
       length-numbers queues,
     ) in (
-      chains-joined homes c.make_room.new.homes.entries c.admit.new.homes.entries
+      chains-joined homes c.make_room.new.homes.map.entries c.admit.new.homes.map.entries
           c.self.inside.nodes.slots c.make_room.new.nodes.slots c.admit.new.nodes.slots queues es
           k c.admit.result c.self.invariant.0 none c.in-Ok.ensures.few room.homes room.nodes
           done.homes done.vacant done.node done.others,

@@ -12,7 +12,7 @@ pub returns-in_err-place-clause-nowhere : goal.returns-in_err-place-clause-nowhe
 returns-in_err-place-clause-nowhere g c =
     let es = waiting_by c.self.inside.log.items in
     let client = c.args.client in
-    let homes = c.self.inside.homes.entries in
+    let homes = c.self.inside.homes.map.entries in
     let nodes = c.self.inside.nodes.slots in
     let is = sym c.in_err-place.ensures.none
     ∙ (ap (entry_of homes nodes) c.client.view_is ∙ c.self.invariant.0.own client) in
@@ -27,7 +27,7 @@ pub returns-clause-found : goal.returns-clause-found
 returns-clause-found g c =
     let es = waiting_by c.self.inside.log.items in
     let client = c.args.client in
-    let homes = c.self.inside.homes.entries in
+    let homes = c.self.inside.homes.map.entries in
     let nodes = c.self.inside.nodes.slots in
     let place = c.in_ok-place.place in
     let there = place-entry homes nodes c.client.inside.0 place.node _

@@ -13,15 +13,15 @@ invariant_of-self g c =
     let empty = ap (λ o. queue_of o es) c.object.view_is
     ∙ (read-as _ _ es es _ c.self.view_is c.self.invariant.0.stand refl c.args.object
     ∙ c.requires.empty) in (
-      chains-discarded _ _ c.self.inside.queues.entries _ es c.object.inside.0
+      chains-discarded _ _ c.self.inside.queues.map.entries _ es c.object.inside.0
           c.self.invariant.0 c.discard.ensures.queues empty,
-      boxes-kept _ _ (length (numbers c.self.inside.queues.entries)) _ es _ _ _ _
+      boxes-kept _ _ (length (numbers c.self.inside.queues.map.entries)) _ es _ _ _ _
           c.self.inside.boxes c.self.invariant.1 (omega arith)
           (omega (
             arith,
             c.discard.ensures.len,
-            length-numbers c.self.inside.queues.entries,
-            length-numbers c.discard.new.queues.entries,
+            length-numbers c.self.inside.queues.map.entries,
+            length-numbers c.discard.new.queues.map.entries,
           )) refl (omega arith),
       c.self.invariant.2,
     )
@@ -32,9 +32,9 @@ returns-clause-made g c = λ q.
     let empty = ap (λ o. queue_of o es) c.object.view_is
     ∙ (read-as _ _ es es _ c.self.view_is c.self.invariant.0.stand refl c.args.object
     ∙ c.requires.empty) in
-    discard-made _ _ c.self.inside.queues.entries _ es c.object.inside.0 c.self.invariant.0
+    discard-made _ _ c.self.inside.queues.map.entries _ es c.object.inside.0 c.self.invariant.0
     c.discard.ensures.queues empty q
-    ∙ (ap (λ o. not (o == q) && is_listed q (numbers c.self.inside.queues.entries))
+    ∙ (ap (λ o. not (o == q) && is_listed q (numbers c.self.inside.queues.map.entries))
     c.object.view_is
     ∙ ap (λ w. not (c.args.object == q) && is_made w q) c.self.view_is)
 
@@ -44,6 +44,6 @@ returns-clause-queues g c = λ q.
     let stand = c.self.invariant.0.stand in
     let empty = ap (λ o. queue_of o es) c.object.view_is
     ∙ (read-as _ _ es es _ c.self.view_is stand refl c.args.object ∙ c.requires.empty) in
-    let now = discard-stand _ _ c.self.inside.queues.entries _ es c.object.inside.0
+    let now = discard-stand _ _ c.self.inside.queues.map.entries _ es c.object.inside.0
     c.self.invariant.0 c.discard.ensures.queues empty in
     queue-change _ _ _ es es _ c.self.view_is stand now (λ ws. ws) q refl

@@ -12,10 +12,10 @@ invariant_of-self g c =
     let stand = c.self.invariant.0.stand in
     let none = none-stands _ _ es _ c.args.client c.self.view_is stand c.requires.nowhere in
     let gone = c.dismiss.ensures in (
-      chains-dismissed c.self.inside.homes.entries _ c.self.inside.nodes.slots _
-          c.self.inside.queues.entries es c.client.inside.0 c.self.invariant.0 gone.homes
+      chains-dismissed c.self.inside.homes.map.entries _ c.self.inside.nodes.slots _
+          c.self.inside.queues.map.entries es c.client.inside.0 c.self.invariant.0 gone.homes
           gone.nodes gone.len (ap (λ n. has_waiter n es) c.client.view_is ∙ none),
-      boxes-kept (length c.self.inside.homes.entries) _ _ _ es _ _ _ _ c.self.inside.boxes
+      boxes-kept (length c.self.inside.homes.map.entries) _ _ _ es _ _ _ _ c.self.inside.boxes
           c.self.invariant.1 gone.len (omega arith) refl (omega arith),
       c.self.invariant.2,
     )
@@ -26,8 +26,8 @@ returns-clause-admitted g c = λ d.
     let stand = c.self.invariant.0.stand in
     let none = none-stands _ _ es _ c.args.client c.self.view_is stand c.requires.nowhere in
     let gone = c.dismiss.ensures in
-    let homes = c.self.inside.homes.entries in
-    dismissed-admits homes _ c.self.inside.nodes.slots _ c.self.inside.queues.entries es
+    let homes = c.self.inside.homes.map.entries in
+    dismissed-admits homes _ c.self.inside.nodes.slots _ c.self.inside.queues.map.entries es
     c.client.inside.0 c.self.invariant.0 gone.homes gone.nodes gone.len
     (ap (λ n. has_waiter n es) c.client.view_is ∙ none) d
     ∙ (ap (λ n. not (n == d) && (is_listed d (numbers homes) || has_waiter d es))

@@ -17,7 +17,7 @@ use Rattle.pt_waitq.proofs.chains.ChainsWaitList.insert.Goals as goal
 pub home_of-node-requires : goal.home_of-node-requires
 home_of-node-requires g c =
     let es = waiting_by c.self.inside.log.items in
-    let homes = c.self.inside.homes.entries in
+    let homes = c.self.inside.homes.map.entries in
     let w = c.args.waiter in
     let none = none-stands _ _ es _ w.client c.self.view_is c.self.invariant.0.stand
     c.requires.nowhere in
@@ -31,17 +31,17 @@ insert-last-requires-clause-there g c =
     let o = c.object.inside.0 in
     let made = ap (λ s. is_made s o) c.self.view_is
     ∙ (ap (is_made c.args.self.now) c.object.view_is ∙ c.requires.made) in
-    sym (listed-lookup o c.self.inside.queues.entries) ∙ made
+    sym (listed-lookup o c.self.inside.queues.map.entries) ∙ made
 
 pub insert-last-requires-clause-room : goal.insert-last-requires-clause-room
 insert-last-requires-clause-room g c =
     let es = waiting_by c.self.inside.log.items in
-    let homes = c.self.inside.homes.entries in
+    let homes = c.self.inside.homes.map.entries in
     let w = c.args.waiter in
     let none = none-stands _ _ es _ w.client c.self.view_is c.self.invariant.0.stand
     c.requires.nowhere in
     let nodes = c.self.inside.nodes.slots in
-    let queues = c.self.inside.queues.entries in
+    let queues = c.self.inside.queues.map.entries in
     let o = c.object.inside.0 in
     let n = c.home_of-node.result in
     let home = ap (home_of homes) (sym c.client.view_is) ∙ c.home_of-node.ensures in
@@ -56,12 +56,12 @@ insert-last-requires-clause-room g c =
 pub insert-last-requires-clause-len : goal.insert-last-requires-clause-len
 insert-last-requires-clause-len g c =
     let es = waiting_by c.self.inside.log.items in
-    let homes = c.self.inside.homes.entries in
+    let homes = c.self.inside.homes.map.entries in
     let w = c.args.waiter in
     let none = none-stands _ _ es _ w.client c.self.view_is c.self.invariant.0.stand
     c.requires.nowhere in
     let nodes = c.self.inside.nodes.slots in
-    let queues = c.self.inside.queues.entries in
+    let queues = c.self.inside.queues.map.entries in
     let o = c.object.inside.0 in
     let n = c.home_of-node.result in
     let home = ap (home_of homes) (sym c.client.view_is) ∙ c.home_of-node.ensures in
@@ -70,7 +70,7 @@ insert-last-requires-clause-len g c =
 pub insert-last-requires-clause-spare : goal.insert-last-requires-clause-spare
 insert-last-requires-clause-spare g c =
     let es = waiting_by c.self.inside.log.items in
-    let homes = c.self.inside.homes.entries in
+    let homes = c.self.inside.homes.map.entries in
     let w = c.args.waiter in
     let none = none-stands _ _ es _ w.client c.self.view_is c.self.invariant.0.stand
     c.requires.nowhere in
@@ -78,19 +78,19 @@ insert-last-requires-clause-spare g c =
     let o = c.object.inside.0 in
     let made = ap (λ s. is_made s o) c.self.view_is
     ∙ (ap (is_made c.args.self.now) c.object.view_is ∙ c.requires.made) in
-    spare-there homes c.self.inside.nodes.slots c.self.inside.queues.entries es _ _
+    spare-there homes c.self.inside.nodes.slots c.self.inside.queues.map.entries es _ _
     c.self.inside.boxes c.self.invariant.0 c.self.invariant.1 w.client c.home_of-node.result o home
     none made
 
 pub insert-requires-clause-last : goal.insert-requires-clause-last
 insert-requires-clause-last g c =
     let es = waiting_by c.self.inside.log.items in
-    let homes = c.self.inside.homes.entries in
+    let homes = c.self.inside.homes.map.entries in
     let w = c.args.waiter in
     let none = none-stands _ _ es _ w.client c.self.view_is c.self.invariant.0.stand
     c.requires.nowhere in
     let nodes = c.self.inside.nodes.slots in
-    let queues = c.self.inside.queues.entries in
+    let queues = c.self.inside.queues.map.entries in
     let o = c.object.inside.0 in
     let n = c.home_of-node.result in
     let home = ap (home_of homes) (sym c.client.view_is) ∙ c.home_of-node.ensures in
@@ -101,19 +101,19 @@ insert-requires-clause-last g c =
     let within : c.level.result - 1 < most_priority = omega (arith, least, most) in
     let made = ap (λ s. is_made s o) c.self.view_is
     ∙ (ap (is_made c.args.self.now) c.object.view_is ∙ c.requires.made) in
-    last-there homes nodes nodes queues c.insert-last.new.queues.entries es o
+    last-there homes nodes nodes queues c.insert-last.new.queues.map.entries es o
     (c.level.result - 1) n w c.insert-last.result c.self.invariant.0 none home level within made
     c.insert-last.ensures.numbers c.insert-last.ensures.others c.insert-last.ensures.queue
 
 pub invariant_of-self : goal.invariant_of-self
 invariant_of-self g c =
     let es = waiting_by c.self.inside.log.items in
-    let homes = c.self.inside.homes.entries in
+    let homes = c.self.inside.homes.map.entries in
     let w = c.args.waiter in
     let none = none-stands _ _ es _ w.client c.self.view_is c.self.invariant.0.stand
     c.requires.nowhere in
     let nodes = c.self.inside.nodes.slots in
-    let queues = c.self.inside.queues.entries in
+    let queues = c.self.inside.queues.map.entries in
     let o = c.object.inside.0 in
     let n = c.home_of-node.result in
     let home = ap (home_of homes) (sym c.client.view_is) ∙ c.home_of-node.ensures in
@@ -132,14 +132,15 @@ invariant_of-self g c =
     let done = c.insert.ensures in
     let last = c.insert-last.ensures in
     let old = is-listed queues o made in (
-      subst (AreChains homes c.insert.new.nodes.slots c.insert-last.new.queues.entries)
+      subst (AreChains homes c.insert.new.nodes.slots c.insert-last.new.queues.map.entries)
           (sym logged)
-          (step-put homes nodes c.insert.new.nodes.slots queues c.insert-last.new.queues.entries
+          (step-put homes nodes c.insert.new.nodes.slots queues c.insert-last.new.queues.map.entries
           es o (c.level.result - 1) n w c.insert-last.result c.self.invariant.0 none home level
           within made last.numbers last.others last.queue
           done.there done.next done.before done.entry latest),
       subst (λ ds. AreBoxes (length homes)
-          (length (numbers c.insert-last.new.queues.entries)) ds (vec_len c.insert-last.new.spares)
+          (length (numbers c.insert-last.new.queues.map.entries)) ds
+          (vec_len c.insert-last.new.spares)
           (vec_capacity c.insert-last.new.spares) c.self.inside.boxes) (sym logged)
           (boxes-put homes nodes queues es _ _ c.self.inside.boxes c.self.invariant.0
           c.self.invariant.1 o w old.0 _ _ _ (ap length last.numbers) old.1
@@ -150,12 +151,12 @@ invariant_of-self g c =
 pub returns-clause-queues : goal.returns-clause-queues
 returns-clause-queues g c = λ q.
     let es = waiting_by c.self.inside.log.items in
-    let homes = c.self.inside.homes.entries in
+    let homes = c.self.inside.homes.map.entries in
     let w = c.args.waiter in
     let none = none-stands _ _ es _ w.client c.self.view_is c.self.invariant.0.stand
     c.requires.nowhere in
     let nodes = c.self.inside.nodes.slots in
-    let queues = c.self.inside.queues.entries in
+    let queues = c.self.inside.queues.map.entries in
     let o = c.object.inside.0 in
     let n = c.home_of-node.result in
     let home = ap (home_of homes) (sym c.client.view_is) ∙ c.home_of-node.ensures in
@@ -168,8 +169,8 @@ returns-clause-queues g c = λ q.
     ∙ (ap (is_made c.args.self.now) c.object.view_is ∙ c.requires.made) in
     let logged = ap waiting_by c.and-self-inside.ensures
     ∙ waiting-more c.self.inside.log.items (Some o, w) in
-    let stand = subst (AllStand (numbers c.insert-last.new.queues.entries)) (sym logged)
-    (put-stand homes nodes c.insert.new.nodes.slots queues c.insert-last.new.queues.entries es o
+    let stand = subst (AllStand (numbers c.insert-last.new.queues.map.entries)) (sym logged)
+    (put-stand homes nodes c.insert.new.nodes.slots queues c.insert-last.new.queues.map.entries es o
     (c.level.result - 1) n w c.insert-last.result c.self.invariant.0 none home level within made
     c.insert-last.ensures.numbers c.insert-last.ensures.others c.insert-last.ensures.queue) in
     let step = ap (queue_of q) logged
@@ -182,7 +183,7 @@ returns-clause-queues g c = λ q.
 pub returns-clause-admitted : goal.returns-clause-admitted
 returns-clause-admitted g c = λ d.
     let es = waiting_by c.self.inside.log.items in
-    let homes = c.self.inside.homes.entries in
+    let homes = c.self.inside.homes.map.entries in
     let w = c.args.waiter in
     let o = c.object.inside.0 in
     let home = ap (home_of homes) (sym c.client.view_is) ∙ c.home_of-node.ensures in

@@ -24,7 +24,7 @@ pub returns-in_err-place-clause-nowhere : goal.returns-in_err-place-clause-nowhe
 returns-in_err-place-clause-nowhere g c =
     let es = waiting_by c.self.inside.log.items in
     let client = c.args.client in
-    let homes = c.self.inside.homes.entries in
+    let homes = c.self.inside.homes.map.entries in
     let nodes = c.self.inside.nodes.slots in
     let is = sym c.in_err-place.ensures.none
     ∙ (ap (entry_of homes nodes) c.client.view_is ∙ c.self.invariant.0.own client) in
@@ -39,7 +39,7 @@ pub returns-in_err-place-clause-queues : goal.returns-in_err-place-clause-queues
 returns-in_err-place-clause-queues g c = λ q.
     let es = waiting_by c.self.inside.log.items in
     let client = c.args.client in
-    let homes = c.self.inside.homes.entries in
+    let homes = c.self.inside.homes.map.entries in
     let nodes = c.self.inside.nodes.slots in
     let is = sym c.in_err-place.ensures.none
     ∙ (ap (entry_of homes nodes) c.client.view_is ∙ c.self.invariant.0.own client) in
@@ -52,9 +52,9 @@ returns-in_err-place-clause-queues g c = λ q.
 pub remove-emptied-requires-clause-there : goal.remove-emptied-requires-clause-there
 remove-emptied-requires-clause-there g c =
     let es = waiting_by c.self.inside.log.items in
-    let homes = c.self.inside.homes.entries in
+    let homes = c.self.inside.homes.map.entries in
     let nodes = c.self.inside.nodes.slots in
-    let queues = c.self.inside.queues.entries in
+    let queues = c.self.inside.queues.map.entries in
     let place = c.in_ok-place.place in
     let w = place.waiter in
     let there = place-entry homes nodes c.client.inside.0 place.node _
@@ -69,9 +69,9 @@ remove-emptied-requires-clause-there g c =
 pub remove-emptied-requires-clause-stands : goal.remove-emptied-requires-clause-stands
 remove-emptied-requires-clause-stands g c =
     let es = waiting_by c.self.inside.log.items in
-    let homes = c.self.inside.homes.entries in
+    let homes = c.self.inside.homes.map.entries in
     let nodes = c.self.inside.nodes.slots in
-    let queues = c.self.inside.queues.entries in
+    let queues = c.self.inside.queues.map.entries in
     let place = c.in_ok-place.place in
     let w = place.waiter in
     let there = place-entry homes nodes c.client.inside.0 place.node _
@@ -93,9 +93,9 @@ remove-emptied-requires-clause-stands g c =
 pub remove-emptied-requires-clause-len : goal.remove-emptied-requires-clause-len
 remove-emptied-requires-clause-len g c =
     let es = waiting_by c.self.inside.log.items in
-    let homes = c.self.inside.homes.entries in
+    let homes = c.self.inside.homes.map.entries in
     let nodes = c.self.inside.nodes.slots in
-    let queues = c.self.inside.queues.entries in
+    let queues = c.self.inside.queues.map.entries in
     let place = c.in_ok-place.place in
     let w = place.waiter in
     let there = place-entry homes nodes c.client.inside.0 place.node _
@@ -117,9 +117,9 @@ remove-emptied-requires-clause-len g c =
 pub remove-requires-clause-before : goal.remove-requires-clause-before
 remove-requires-clause-before g c =
     let es = waiting_by c.self.inside.log.items in
-    let homes = c.self.inside.homes.entries in
+    let homes = c.self.inside.homes.map.entries in
     let nodes = c.self.inside.nodes.slots in
-    let queues = c.self.inside.queues.entries in
+    let queues = c.self.inside.queues.map.entries in
     let place = c.in_ok-place.place in
     let w = place.waiter in
     let there = place-entry homes nodes c.client.inside.0 place.node _
@@ -143,9 +143,9 @@ remove-requires-clause-before g c =
 pub remove-requires-clause-next : goal.remove-requires-clause-next
 remove-requires-clause-next g c =
     let es = waiting_by c.self.inside.log.items in
-    let homes = c.self.inside.homes.entries in
+    let homes = c.self.inside.homes.map.entries in
     let nodes = c.self.inside.nodes.slots in
-    let queues = c.self.inside.queues.entries in
+    let queues = c.self.inside.queues.map.entries in
     let place = c.in_ok-place.place in
     let w = place.waiter in
     let there = place-entry homes nodes c.client.inside.0 place.node _
@@ -169,9 +169,9 @@ remove-requires-clause-next g c =
 pub put_back-requires-clause-emptied : goal.put_back-requires-clause-emptied
 put_back-requires-clause-emptied g c =
     let es = waiting_by c.self.inside.log.items in
-    let homes = c.self.inside.homes.entries in
+    let homes = c.self.inside.homes.map.entries in
     let nodes = c.self.inside.nodes.slots in
-    let queues = c.self.inside.queues.entries in
+    let queues = c.self.inside.queues.map.entries in
     let place = c.in_ok-place.place in
     let w = place.waiter in
     let there = place-entry homes nodes c.client.inside.0 place.node _
@@ -189,7 +189,7 @@ put_back-requires-clause-emptied g c =
     let done = c.remove.ensures in
     let out = c.remove-emptied.ensures in
     let emptied = step-emptied homes nodes c.remove.new.nodes.slots queues
-    c.remove-emptied.new.queues.entries es place.object (c.level.result - 1) place.node w
+    c.remove-emptied.new.queues.map.entries es place.object (c.level.result - 1) place.node w
     place.next place.before c.self.invariant.0 found.0 home c.in_ok-place.ensures.node level within
     made out.numbers out.others done.there done.next done.before done.entry
     (option_map (λ b. b.value) c.remove-emptied.result) out.queue in
@@ -198,9 +198,9 @@ put_back-requires-clause-emptied g c =
 pub put_back-requires-clause-room : goal.put_back-requires-clause-room
 put_back-requires-clause-room g c =
     let es = waiting_by c.self.inside.log.items in
-    let homes = c.self.inside.homes.entries in
+    let homes = c.self.inside.homes.map.entries in
     let nodes = c.self.inside.nodes.slots in
-    let queues = c.self.inside.queues.entries in
+    let queues = c.self.inside.queues.map.entries in
     let place = c.in_ok-place.place in
     let w = place.waiter in
     let there = place-entry homes nodes c.client.inside.0 place.node _
@@ -218,7 +218,7 @@ put_back-requires-clause-room g c =
     let done = c.remove.ensures in
     let out = c.remove-emptied.ensures in
     let emptied = step-emptied homes nodes c.remove.new.nodes.slots queues
-    c.remove-emptied.new.queues.entries es place.object (c.level.result - 1) place.node w
+    c.remove-emptied.new.queues.map.entries es place.object (c.level.result - 1) place.node w
     place.next place.before c.self.invariant.0 found.0 home c.in_ok-place.ensures.node level within
     made out.numbers out.others done.there done.next done.before done.entry
     (option_map (λ b. b.value) c.remove-emptied.result) out.queue in
@@ -230,9 +230,9 @@ put_back-requires-clause-room g c =
 pub invariant_of-self : goal.invariant_of-self
 invariant_of-self g c =
     let es = waiting_by c.self.inside.log.items in
-    let homes = c.self.inside.homes.entries in
+    let homes = c.self.inside.homes.map.entries in
     let nodes = c.self.inside.nodes.slots in
-    let queues = c.self.inside.queues.entries in
+    let queues = c.self.inside.queues.map.entries in
     let place = c.in_ok-place.place in
     let w = place.waiter in
     let there = place-entry homes nodes c.client.inside.0 place.node _
@@ -250,17 +250,18 @@ invariant_of-self g c =
     let done = c.remove.ensures in
     let out = c.remove-emptied.ensures in
     let emptied = step-emptied homes nodes c.remove.new.nodes.slots queues
-    c.remove-emptied.new.queues.entries es place.object (c.level.result - 1) place.node w
+    c.remove-emptied.new.queues.map.entries es place.object (c.level.result - 1) place.node w
     place.next place.before c.self.invariant.0 found.0 home c.in_ok-place.ensures.node level within
     made out.numbers out.others done.there done.next done.before done.entry
     (option_map (λ b. b.value) c.remove-emptied.result) out.queue in
     let logged = ap waiting_by c.and-self-inside.ensures
     ∙ waiting-more c.self.inside.log.items (None, w) in
     let back = c.put_back.ensures in (
-      subst (AreChains homes c.remove.new.nodes.slots c.remove-emptied.new.queues.entries)
+      subst (AreChains homes c.remove.new.nodes.slots c.remove-emptied.new.queues.map.entries)
           (sym logged) emptied.chains,
       subst (λ ds. AreBoxes (length homes)
-          (length (numbers c.remove-emptied.new.queues.entries)) ds (vec_len c.put_back.new.spares)
+          (length (numbers c.remove-emptied.new.queues.map.entries)) ds
+          (vec_len c.put_back.new.spares)
           (vec_capacity c.put_back.new.spares) c.self.inside.boxes) (sym logged)
           (boxes-taken homes nodes queues es _ _ c.self.inside.boxes c.self.invariant.0
           c.self.invariant.1 place.object w (is_some c.remove-emptied.result) found.0
@@ -274,7 +275,7 @@ pub returns-clause-found : goal.returns-clause-found
 returns-clause-found g c =
     let es = waiting_by c.self.inside.log.items in
     let client = c.args.client in
-    let homes = c.self.inside.homes.entries in
+    let homes = c.self.inside.homes.map.entries in
     let nodes = c.self.inside.nodes.slots in
     let place = c.in_ok-place.place in
     let there = place-entry homes nodes c.client.inside.0 place.node _
@@ -290,9 +291,9 @@ returns-clause-found g c =
 pub returns-clause-queues : goal.returns-clause-queues
 returns-clause-queues g c = λ q.
     let es = waiting_by c.self.inside.log.items in
-    let homes = c.self.inside.homes.entries in
+    let homes = c.self.inside.homes.map.entries in
     let nodes = c.self.inside.nodes.slots in
-    let queues = c.self.inside.queues.entries in
+    let queues = c.self.inside.queues.map.entries in
     let place = c.in_ok-place.place in
     let w = place.waiter in
     let there = place-entry homes nodes c.client.inside.0 place.node _
@@ -310,13 +311,13 @@ returns-clause-queues g c = λ q.
     let done = c.remove.ensures in
     let out = c.remove-emptied.ensures in
     let emptied = step-emptied homes nodes c.remove.new.nodes.slots queues
-    c.remove-emptied.new.queues.entries es place.object (c.level.result - 1) place.node w
+    c.remove-emptied.new.queues.map.entries es place.object (c.level.result - 1) place.node w
     place.next place.before c.self.invariant.0 found.0 home c.in_ok-place.ensures.node level within
     made out.numbers out.others done.there done.next done.before done.entry
     (option_map (λ b. b.value) c.remove-emptied.result) out.queue in
     let logged = ap waiting_by c.and-self-inside.ensures
     ∙ waiting-more c.self.inside.log.items (None, w) in
-    let stand = subst (AllStand (numbers c.remove-emptied.new.queues.entries)) (sym logged)
+    let stand = subst (AllStand (numbers c.remove-emptied.new.queues.map.entries)) (sym logged)
     emptied.chains.stand in
     let step = ap (queue_of q) logged
     ∙ (queue_of-without w.client q es
@@ -327,9 +328,9 @@ returns-clause-queues g c = λ q.
 pub returns-clause-admitted : goal.returns-clause-admitted
 returns-clause-admitted g c = λ d.
     let es = waiting_by c.self.inside.log.items in
-    let homes = c.self.inside.homes.entries in
+    let homes = c.self.inside.homes.map.entries in
     let nodes = c.self.inside.nodes.slots in
-    let queues = c.self.inside.queues.entries in
+    let queues = c.self.inside.queues.map.entries in
     let place = c.in_ok-place.place in
     let w = place.waiter in
     let there = place-entry homes nodes c.client.inside.0 place.node _

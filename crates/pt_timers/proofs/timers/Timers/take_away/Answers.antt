@@ -3,7 +3,7 @@ use Rattle.pt_timers.specs.Deadlines.{deadline_at}
 use Rattle.pt_timers.specs.Orders.{due_at}
 use Rattle.pt_timers.proofs.PlaceLemmas.{as-found, as-changed}
 use Rattle.pt_timers.proofs.TimerLemmas.{one-less}
-use Rattle.pt_timers.proofs.timers.Timers.cancel.Goals as goal
+use Rattle.pt_timers.proofs.timers.Timers.take_away.Goals as goal
 
 pub invariant_of-self : goal.invariant_of-self
 invariant_of-self g c =
