@@ -147,6 +147,7 @@ pub(crate) fn both_found<A: Allocator + Copy>(
 
 // Stores a name, and returns its length and where it begins. None if that takes more than 32
 // bits, and then nothing changes.
+#[inline(always)]
 pub(crate) fn one_text<A: Allocator + Copy>(
     texts: &mut Vec<u8, A>,
     hints: &mut Hints<A>,
@@ -171,6 +172,7 @@ pub(crate) fn one_text<A: Allocator + Copy>(
 
 // Stores two names, one after the other, and returns their lengths and where the first begins. The
 // hint is the first name's.
+#[inline(always)]
 pub(crate) fn two_texts<A: Allocator + Copy>(
     texts: &mut Vec<u8, A>,
     hints: &mut Hints<A>,
