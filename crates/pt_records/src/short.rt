@@ -8,7 +8,6 @@ ghost use Rattle.pt_records.specs.AnswerLogs.{AreReadable, IsThere, Shortens, Sh
 ghost use Rattle.pt_records.specs.AnswerLogs.{lengthened, lengthened_all};
 
 use crate::answers::Answered;
-use pt_history::near;
 use pt_types::{ClientId, Outcome};
 use std::alloc::Allocator;
 use std::mem::size_of;
@@ -25,7 +24,9 @@ pub(crate) enum Short {
 const _: () = prove!(size_of::<Short>() == 16);
 
 // The base for answers of which the first comes at a place: 2^31 before it, if that leaves room
-// for 32 bits.
+// for 32 bits. It is seldom needed, so it is not inlined.
+#[cold]
+#[inline(never)]
 fn base_before(at: u64) -> u64
     ensures { result ≤ most_places }
 {
@@ -48,13 +49,29 @@ pub(crate) fn base_with(base: u64, shorts: &[Short], at: u64) -> u64
     }
 }
 
+// A number counted from the base; None if it is before the base, or takes more than 32 bits.
+#[inline(always)]
+fn from_base(base: u64, number: u64) -> Option<u32>
+    requires { base ≤ most_places }
+    ensures { IfSome result (λ n. base + n ≡ number) }
+{
+    // A number before the base wraps around to a large one, so that one test is enough.
+    let count = number.wrapping_sub(base);
+    if count > 4_294_967_295 {
+        return None;
+    }
+    Some(count as u32)
+}
+
 // An answer in short, if its numbers fit.
+#[inline(always)]
 fn near_answer(base: u64, answer: &Answered) -> Option<Short>
+    requires { base ≤ most_places }
     ensures { IfSome result (λ s. ShortensAlone base answer.now s) }
 {
-    let at = near(base, answer.at)?;
-    let client = near(base, answer.client.0)?;
-    let place = near(base, answer.place)?;
+    let at = from_base(base, answer.at)?;
+    let client = from_base(base, answer.client.0)?;
+    let place = from_base(base, answer.place)?;
     Some(Short::Near(answer.outcome, at, client, place))
 }
 
@@ -65,7 +82,8 @@ pub(crate) fn shortened<A: Allocator + Copy>(
     wholes: &mut Vec<Answered, A>,
     answer: &Answered,
 ) -> Short
-    requires { vec_len wholes.old < vec_capacity wholes.old }
+    requires base { base ≤ most_places }
+    requires room { vec_len wholes.old < vec_capacity wholes.old }
     ensures { Shortens base answer.now wholes.old wholes.new result }
 {
     match near_answer(base, answer) {
