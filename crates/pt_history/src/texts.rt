@@ -64,7 +64,20 @@ fn ends_equal<const N: usize>(one: &[u8], other: &[u8]) -> bool
     requires all { length other.now ≤ 2 * N }
     ensures { result ≡ true → one.now ≡ other.now }
 {
-    first_equal::<N>(one, other) && last_equal::<N>(one, other)
+    // Names of one length mostly differ at their ends.
+    last_equal::<N>(one, other) && first_equal::<N>(one, other)
+}
+
+// Whether texts of one length, of 16 to 32 bytes, are equal.
+#[inline(always)]
+fn halves_equal(one: &[u8], other: &[u8]) -> bool
+    requires same { length one.now ≡ length other.now }
+    requires enough { 16 ≤ length other.now }
+    requires few { length other.now ≤ 32 }
+    ensures { result ≡ true → one.now ≡ other.now }
+{
+    let from = other.len() - 16;
+    ends_equal::<8>(&one[from..], &other[from..]) && ends_equal::<8>(&one[..16], &other[..16])
 }
 
 // Whether texts of one length, that of a name, are equal. It needs no call.
@@ -78,7 +91,7 @@ fn are_equal(one: &[u8], other: &[u8]) -> bool
         0..=3 => one == other,
         4..=8 => ends_equal::<4>(one, other),
         9..=16 => ends_equal::<8>(one, other),
-        _ => ends_equal::<16>(one, other),
+        _ => halves_equal(one, other),
     }
 }
 
@@ -134,6 +147,7 @@ pub(crate) fn both_found<A: Allocator + Copy>(
 
 // Stores a name, and returns its length and where it begins. None if that takes more than 32
 // bits, and then nothing changes.
+#[inline(always)]
 pub(crate) fn one_text<A: Allocator + Copy>(
     texts: &mut Vec<u8, A>,
     hints: &mut Hints<A>,
@@ -158,6 +172,7 @@ pub(crate) fn one_text<A: Allocator + Copy>(
 
 // Stores two names, one after the other, and returns their lengths and where the first begins. The
 // hint is the first name's.
+#[inline(always)]
 pub(crate) fn two_texts<A: Allocator + Copy>(
     texts: &mut Vec<u8, A>,
     hints: &mut Hints<A>,

@@ -1,7 +1,7 @@
 -- Parts of the logged answers: what a loop from their end has seen.
 use Rattle.std.proofs.Common.{◌≡◌, ℕ, zero, suc, ◌-◌, ◌<◌, ◌≤◌, Bool, true, false, cond, List, []}
 use Rattle.std.proofs.Common.{◌∷◌, ◌++◌, Option, Some, None, map, length, take, drop, get_or, refl}
-use Rattle.std.proofs.Common.{sym, ap, ◌∙◌, subst, arith, append_assoc}
+use Rattle.std.proofs.Common.{sym, ap, ◌∙◌, subst, arith}
 use Rattle.std.specs.Prelude.{◌==◌, nat_le, find, option_map}
 use Rattle.std.proofs.lemmas.Bool.{lt-leb}
 use Rattle.std.proofs.lemmas.List.{map-append, take-append-drop}
@@ -105,12 +105,9 @@ said-found j xs ps same =
     go None = refl
     go (Some a) = refl
 
--- what was told behind the answers of late was told behind the whole log
-pub told-behind : (front recent new all : List Answered) (ps : List (ℕ × Told))
-    → front ++ recent ≡ all → map logged new ≡ map logged recent ++ ps
-    → map logged (front ++ new) ≡ map logged all ++ ps
-told-behind front recent new all ps whole told =
-    map-append logged front new
-    ∙ (ap (λ qs. map logged front ++ qs) told
-    ∙ (sym (append_assoc (map logged front) (map logged recent) ps)
-    ∙ ap (λ qs. qs ++ ps) (sym (map-append logged front recent) ∙ ap (map logged) whole)))
+-- what is told by more answers
+pub told-after : (old new all : List Answered) (ps : List (ℕ × Told)) → all ≡ old ++ new
+    → map logged new ≡ ps → map logged all ≡ map logged old ++ ps
+told-after old new all ps whole told =
+    ap (map logged) whole
+    ∙ (map-append logged old new ∙ ap (λ qs. map logged old ++ qs) told)

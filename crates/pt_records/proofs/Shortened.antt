@@ -1,9 +1,9 @@
 -- Answers in short: they stay readable as more come, and what a log reads of them.
 use Rattle.std.proofs.Common.{ℕ, zero, suc, ◌≡◌, ◌-◌, List, [], ◌∷◌, ◌++◌, length}
-use Rattle.std.proofs.Common.{take, drop, min, slice_index_or, refl, sym, ap, ◌∙◌, arith, subst}
+use Rattle.std.proofs.Common.{take, drop, slice_index_or, refl, sym, ap, ◌∙◌, arith, subst}
 use Rattle.std.proofs.Common.{length-append, length-drop}
 use Rattle.std.specs.List.{All}
-use Rattle.std.proofs.lemmas.List.{get_or_append_left, map-append, length-map, drop-map}
+use Rattle.std.proofs.lemmas.List.{get_or_append_left, map-append, drop-map}
 use Rattle.std.proofs.lemmas.List.{take_all}
 use Rattle.std.proofs.lemmas.List.Elements.{All-append}
 use Rattle.pt_records.specs.declared.answers.Answered.{Answered}
@@ -64,37 +64,12 @@ readable-tail b ws s shorts r = record {
   there = λ k d l. r.there (suc k) d (omega arith);
 }
 
-drop-parts : {X : Type 0} (xs ys : List X) (i : ℕ)
-    → drop (min i (length xs)) xs ++ drop (i - length xs) ys ≡ drop i (xs ++ ys)
-drop-parts [] ys i =
-    let none : min i 0 ≡ 0 = omega arith in
-    let all : i - 0 ≡ i = omega arith in
-    rw (none, all) refl
-drop-parts (x ∷ xs) ys zero =
-    let none : min 0 (suc (length xs)) ≡ 0 = omega arith in
-    let all : 0 - suc (length xs) ≡ 0 = omega arith in
-    rw (none, all) refl
-drop-parts (x ∷ xs) ys (suc i) =
-    let less : min (suc i) (suc (length xs)) ≡ suc (min i (length xs)) = omega arith in
-    let more : suc i - suc (length xs) ≡ i - length xs = omega arith in
-    rw (less, more) (drop-parts xs ys i)
-
-slice-rest : {X : Type 0} (xs : List X) (n : ℕ) → take (length xs - n) (drop n xs) ≡ drop n xs
-slice-rest xs n = take_all (length xs - n) (drop n xs) (omega (arith, length-drop n xs))
-
--- what slices of both parts show is the rest of the log
-pub parts-from : (b : ℕ) (ws vs : List Answered) (shorts ss : List Short)
-    (recent rs items : List Answered) (i n m k : ℕ)
-    → vs ≡ ws → ss ≡ shorts → rs ≡ recent → n ≡ length shorts → m ≡ min i n → k ≡ i - n
-    → lengthened_all b ws shorts ++ recent ≡ items
-    → lengthened_all b vs (take (length ss - m) (drop m ss)) ++ take (length rs - k) (drop k rs)
-    ≡ drop i items
-parts-from b ws vs shorts ss recent rs items i n m k v s r len less more all =
-    rw (v, s, r, more, less, len, sym all, slice-rest shorts (min i (length shorts)))
-    (ap (λ xs. lengthened_all b ws (drop (min i (length shorts)) shorts) ++ xs)
-    (slice-rest recent (i - length shorts))
-    ∙ (ap (λ xs. xs ++ drop (i - length shorts) recent)
-    (sym (drop-map (lengthened b ws) (min i (length shorts)) shorts))
-    ∙ (ap (λ j. drop (min i j) (lengthened_all b ws shorts) ++ drop (i - j) recent)
-    (sym (length-map shorts (lengthened b ws)))
-    ∙ drop-parts (lengthened_all b ws shorts) recent i)))
+-- what a slice of the short answers shows is the rest of the log
+pub slice-from : (b : ℕ) (ws vs : List Answered) (shorts ss : List Short) (items : List Answered)
+    (i : ℕ)
+    → vs ≡ ws → ss ≡ shorts → lengthened_all b ws shorts ≡ items
+    → lengthened_all b vs (take (length ss - i) (drop i ss)) ≡ drop i items
+slice-from b ws vs shorts ss items i v s all =
+    let rest : take (length shorts - i) (drop i shorts) ≡ drop i shorts =
+    take_all (length shorts - i) (drop i shorts) (omega (arith, length-drop i shorts)) in
+    rw (v, s, sym all, rest) (sym (drop-map (lengthened b ws) i shorts))

@@ -1,13 +1,13 @@
-//! The log of answers. Those of late are stored as they are, and older ones in short.
+//! The log of answers, which are stored in short.
 
 use crate::answers::Answered;
-use crate::short::{Short, answer_of, base_before, shorten_all};
+use crate::short::{Short, answer_of, base_with, shortened};
 use pt_history::take_memory;
 use std::alloc::{AllocError, Allocator, Global};
 use std::marker::Model;
 
-// Room is made for so many answers more than there has to be, so that recent ones are seldom stored
-// in short.
+// For how many more answers than there has to be room memory is asked for, so that it is seldom
+// asked for.
 const BATCH: usize = 64;
 
 /// All answers since the Start, in order.
@@ -18,21 +18,25 @@ pub struct AnswerLog<A: Allocator + Copy = Global> {
     pub(crate) base: u64,
     pub(crate) shorts: Vec<Short, A>,
     pub(crate) wholes: Vec<Answered, A>,
-    pub(crate) recent: Vec<Answered, A>,
+    /// The answers of a Trip before they are stored; else none.
+    pub(crate) trip: Vec<Answered, A>,
+    /// For how many more answers there is memory, whatever they are.
+    pub(crate) room: usize,
 }
 
 impl<A: Allocator + Copy> Model for AnswerLog<A> {
-    ghost use Rattle.std.specs.Prelude.{◌+◌, ◌++◌, vec_len, vec_capacity};
-    ghost use Rattle.pt_records.specs.AnswerLogs.{AreReadable, StoredLog, lengthened_all};
+    ghost use Rattle.std.specs.Prelude.{◌+◌, vec_len};
+    ghost use Rattle.pt_records.specs.AnswerLogs.{AreReadable, HasRoom, StoredLog, lengthened_all};
 
     ghost Value = { StoredLog };
 
     ghost view = { λ l. record {
-      items = lengthened_all l.base l.wholes.items l.shorts.items ++ l.recent.items;
-      capacity = vec_len l.shorts + vec_capacity l.recent;
+      items = lengthened_all l.base l.wholes.items l.shorts.items;
+      capacity = vec_len l.shorts + l.room;
     } };
 
-    ghost invariant = { λ l. AreReadable l.base l.wholes.items l.shorts.items };
+    ghost invariant = { λ l. AreReadable l.base l.wholes.items l.shorts.items
+        × HasRoom l.shorts l.wholes l.trip l.room };
 }
 
 /// The answers that are left of those in a log, one after another.
@@ -41,17 +45,16 @@ pub struct LoggedAnswers<'a> {
     base: u64,
     shorts: &'a [Short],
     wholes: &'a [Answered],
-    recent: &'a [Answered],
 }
 
 impl<'a> Model for LoggedAnswers<'a> {
-    ghost use Rattle.std.specs.Prelude.{List, ◌++◌};
+    ghost use Rattle.std.specs.Prelude.{List};
     ghost use Rattle.pt_records.specs.declared.answers.Answered.{Answered};
     ghost use Rattle.pt_records.specs.AnswerLogs.{AreReadable, lengthened_all};
 
     ghost Value = { List Answered };
 
-    ghost view = { λ l. lengthened_all l.base l.wholes.now l.shorts.now ++ l.recent.now };
+    ghost view = { λ l. lengthened_all l.base l.wholes.now l.shorts.now };
 
     ghost invariant = { λ l. AreReadable l.base l.wholes.now l.shorts.now };
 }
@@ -65,14 +68,9 @@ impl<'a> LoggedAnswers<'a> {
         ensures { MatchOption result ((self.old ≡ []) × (self.new ≡ []))
             (λ a. self.old ≡ a ∷ self.new) }
     {
-        if let Some((first, rest)) = self.shorts.split_first() {
-            let answer = answer_of(self.base, self.wholes, *first);
-            self.shorts = rest;
-            return Some(answer);
-        }
-        let (first, rest) = self.recent.split_first()?;
-        self.recent = rest;
-        Some(*first)
+        let (first, rest) = self.shorts.split_first()?;
+        self.shorts = rest;
+        Some(answer_of(self.base, self.wholes, *first))
     }
 }
 
@@ -89,7 +87,8 @@ impl<A: Allocator + Copy> AnswerLog<A> {
             base: 0,
             shorts: Vec::new(alloc),
             wholes: Vec::new(alloc),
-            recent: Vec::new(alloc),
+            trip: Vec::new(alloc),
+            room: 0,
         }
     }
 
@@ -100,30 +99,26 @@ impl<A: Allocator + Copy> AnswerLog<A> {
     {
         Ok(AnswerLog {
             base: 0,
-            shorts: Vec::new(alloc),
-            wholes: Vec::new(alloc),
-            recent: Vec::with_capacity(alloc, room)?,
+            shorts: Vec::with_capacity(alloc, room)?,
+            wholes: Vec::with_capacity(alloc, room)?,
+            trip: Vec::with_capacity(alloc, room)?,
+            room,
         })
     }
 
-    // Stores the answers of late in short. Their memory stays, for more.
-    fn shorten(&mut self) -> Result<(), AllocError>
+    // Asks for memory for so many answers more.
+    #[cold]
+    #[inline(never)]
+    fn grow(&mut self, many: usize) -> Result<(), AllocError>
+        requires { self.old.capacity ≤ length self.old.items + many }
         ensures items { self.new.items ≡ self.old.items }
         ensures capacity { self.old.capacity ≤ self.new.capacity }
+        ensures ok { OnOk result (length self.new.items + many ≤ self.new.capacity) }
     {
-        let many = self.recent.len();
         self.shorts.reserve(many)?;
         self.wholes.reserve(many)?;
-        if self.shorts.is_empty() && many > 0 {
-            self.base = base_before(self.recent[0].at);
-        }
-        shorten_all(
-            self.base,
-            &mut self.shorts,
-            &mut self.wholes,
-            self.recent.as_slice(),
-        );
-        self.recent.clear();
+        self.trip.reserve(many)?;
+        self.room = many;
         Ok(())
     }
 
@@ -134,11 +129,10 @@ impl<A: Allocator + Copy> AnswerLog<A> {
         ensures ok { OnOk result (length self.new.items + many ≤ self.new.capacity) }
         ensures enough { length self.old.items + many ≤ self.old.capacity → IsOk result }
     {
-        if many <= self.recent.capacity() - self.recent.len() {
+        if many <= self.room {
             return Ok(());
         }
-        self.shorten()?;
-        self.recent.reserve(many.saturating_add(BATCH))
+        self.grow(many.saturating_add(BATCH))
     }
 
     /// Adds an answer, in room that was made for it.
@@ -147,7 +141,10 @@ impl<A: Allocator + Copy> AnswerLog<A> {
         ensures items { self.new.items ≡ self.old.items ++ answer ∷ [] }
         ensures capacity { self.new.capacity ≡ self.old.capacity }
     {
-        self.recent.push_reserved(answer);
+        self.base = base_with(self.base, self.shorts.as_slice(), answer.at);
+        let short = shortened(self.base, &mut self.wholes, &answer);
+        self.shorts.push_reserved(short);
+        self.room -= 1;
     }
 
     /// Forgets the answers. The room for more stays, and so does the memory.
@@ -157,7 +154,6 @@ impl<A: Allocator + Copy> AnswerLog<A> {
     {
         self.shorts.clear();
         self.wholes.clear();
-        self.recent.clear();
     }
 
     /// Moves the answers into the memory of a log that is needed no more, if that has as much.
@@ -167,14 +163,14 @@ impl<A: Allocator + Copy> AnswerLog<A> {
     {
         take_memory(&mut self.shorts, other.shorts);
         take_memory(&mut self.wholes, other.wholes);
-        take_memory(&mut self.recent, other.recent);
+        take_memory(&mut self.trip, other.trip);
     }
 
     /// The number of answers.
     pub fn len(&self) -> usize
         ensures { result ≡ length self.now.items }
     {
-        self.shorts.len() + self.recent.len()
+        self.shorts.len()
     }
 
     /// The place of the entry that gave the answer at an index.
@@ -183,12 +179,7 @@ impl<A: Allocator + Copy> AnswerLog<A> {
         requires { i < length self.now.items }
         ensures { result ≡ (slice_index_or self.now.items i no_answer).at }
     {
-        let older = self.shorts.len();
-        if i < older {
-            answer_of(self.base, self.wholes.as_slice(), self.shorts[i]).at
-        } else {
-            self.recent[i - older].at
-        }
+        answer_of(self.base, self.wholes.as_slice(), self.shorts[i]).at
     }
 
     /// The answers from an index on.
@@ -197,12 +188,10 @@ impl<A: Allocator + Copy> AnswerLog<A> {
         requires { i ≤ length self.now.items }
         ensures { result ≡ drop i self.now.items }
     {
-        let older = self.shorts.len();
         LoggedAnswers {
             base: self.base,
-            shorts: &self.shorts[i.min(older)..],
+            shorts: &self.shorts[i..],
             wholes: self.wholes.as_slice(),
-            recent: &self.recent[i.saturating_sub(older)..],
         }
     }
 }

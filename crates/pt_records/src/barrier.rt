@@ -16,6 +16,7 @@ ghost use Rattle.pt_history.specs.Stored.{past_of};
 use crate::answer_log::AnswerLog;
 use crate::answers::Answered;
 use crate::clients::Caller;
+use crate::short::{base_with, shorten_all};
 use pt_history::History;
 use pt_table::Clients;
 use pt_types::{ObjectId, Outcome};
@@ -104,6 +105,8 @@ fn tell_trip<Q: WaitList, A: Allocator + Copy>(
     ensures told { let past = past_of history.now in
         map logged answers.new.items
         ≡ map logged answers.old.items ++ told_at (place past) (told past (AnyEntry.Trip b)) }
+    ensures len { vec_len answers.new
+        ≤ vec_len answers.old + length (at_barrier b (open_calls (past_of history.now))) }
     ensures capacity { vec_capacity answers.new ≡ vec_capacity answers.old }
     ensures emptied { Empties b (Q.seen queues.old) (Q.seen queues.new) }
 {
@@ -136,7 +139,15 @@ pub fn trip<Q: WaitList, A: Allocator + Copy>(
         (closed_at b (map logged answers.new.items)) }
     ensures emptied { Empties b (Q.seen queues.old) (Q.seen queues.new) }
 {
-    let from = answers.recent.len();
-    tell_trip(history, queues, &mut answers.recent, b);
-    close_all(clients, &answers.recent[from..]);
+    tell_trip(history, queues, &mut answers.trip, b);
+    close_all(clients, &answers.trip);
+    answers.base = base_with(answers.base, answers.shorts.as_slice(), history.len());
+    shorten_all(
+        answers.base,
+        &mut answers.shorts,
+        &mut answers.wholes,
+        answers.trip.as_slice(),
+    );
+    answers.room -= answers.trip.len();
+    answers.trip.clear();
 }

@@ -1,13 +1,13 @@
 //! Answers in short: their numbers count from a base, in 32 bits.
 
-ghost use Rattle.std.specs.Prelude.{◌≡◌, ◌+◌, ◌<◌, ◌≤◌, ◌++◌, IfSome, length, vec_len};
-ghost use Rattle.std.specs.Prelude.{vec_capacity};
+ghost use Rattle.std.specs.Prelude.{◌≡◌, ◌+◌, ◌<◌, ◌≤◌, ◌++◌, IfSome, List, length};
+ghost use Rattle.std.specs.Prelude.{vec_capacity, vec_len};
+ghost use Rattle.pt_records.specs.declared.answers.Answered.{Answered as AnyAnswer};
 ghost use Rattle.pt_types.specs.Limits.{most_places};
 ghost use Rattle.pt_records.specs.AnswerLogs.{AreReadable, IsThere, Shortens, ShortensAlone};
 ghost use Rattle.pt_records.specs.AnswerLogs.{lengthened, lengthened_all};
 
 use crate::answers::Answered;
-use pt_history::near;
 use pt_types::{ClientId, Outcome};
 use std::alloc::Allocator;
 use std::mem::size_of;
@@ -23,32 +23,67 @@ pub(crate) enum Short {
 
 const _: () = prove!(size_of::<Short>() == 16);
 
-/// The base for answers of which the first comes at a place: 2^31 before it, if that leaves room
-/// for 32 bits.
-pub(crate) fn base_before(at: u64) -> u64
+// The base for answers of which the first comes at a place: 2^31 before it, if that leaves room
+// for 32 bits. It is seldom needed, so it is not inlined.
+#[cold]
+#[inline(never)]
+fn base_before(at: u64) -> u64
     ensures { result ≤ most_places }
 {
     at.saturating_sub(2_147_483_648)
         .min(4_611_686_018_427_387_904)
 }
 
+/// The base of answers with one more, which is given at a place: as it was, if there are any yet.
+#[inline(always)]
+pub(crate) fn base_with(base: u64, shorts: &[Short], at: u64) -> u64
+    requires { base ≤ most_places }
+    ensures base { result ≤ most_places }
+    ensures same { (ws : List AnyAnswer) → lengthened_all result ws shorts.now
+        ≡ lengthened_all base ws shorts.now }
+{
+    if shorts.is_empty() {
+        base_before(at)
+    } else {
+        base
+    }
+}
+
+// A number counted from the base; None if it is before the base, or takes more than 32 bits.
+#[inline(always)]
+fn from_base(base: u64, number: u64) -> Option<u32>
+    requires { base ≤ most_places }
+    ensures { IfSome result (λ n. base + n ≡ number) }
+{
+    // A number before the base wraps around to a large one, so that one test is enough.
+    let count = number.wrapping_sub(base);
+    if count > 4_294_967_295 {
+        return None;
+    }
+    Some(count as u32)
+}
+
 // An answer in short, if its numbers fit.
+#[inline(always)]
 fn near_answer(base: u64, answer: &Answered) -> Option<Short>
+    requires { base ≤ most_places }
     ensures { IfSome result (λ s. ShortensAlone base answer.now s) }
 {
-    let at = near(base, answer.at)?;
-    let client = near(base, answer.client.0)?;
-    let place = near(base, answer.place)?;
+    let at = from_base(base, answer.at)?;
+    let client = from_base(base, answer.client.0)?;
+    let place = from_base(base, answer.place)?;
     Some(Short::Near(answer.outcome, at, client, place))
 }
 
-// An answer in short. It is stored whole, in room that was made for it, if its numbers don't fit.
-fn shortened<A: Allocator + Copy>(
+/// An answer in short. It is stored whole, in room that was made for it, if its numbers don't fit.
+#[inline(always)]
+pub(crate) fn shortened<A: Allocator + Copy>(
     base: u64,
     wholes: &mut Vec<Answered, A>,
     answer: &Answered,
 ) -> Short
-    requires { vec_len wholes.old < vec_capacity wholes.old }
+    requires base { base ≤ most_places }
+    requires room { vec_len wholes.old < vec_capacity wholes.old }
     ensures { Shortens base answer.now wholes.old wholes.new result }
 {
     match near_answer(base, answer) {
@@ -75,6 +110,9 @@ pub(crate) fn shorten_all<A: Allocator + Copy>(
     ensures same { lengthened_all base wholes.new.items shorts.new.items
         ≡ lengthened_all base wholes.old.items shorts.old.items ++ answers.now }
     ensures len { vec_len shorts.new ≡ vec_len shorts.old + length answers.now }
+    ensures wholes { vec_len wholes.new ≤ vec_len wholes.old + length answers.now }
+    ensures capacity { vec_capacity shorts.new ≡ vec_capacity shorts.old }
+    ensures wholes_capacity { vec_capacity wholes.new ≡ vec_capacity wholes.old }
 {
     for answer in answers {
         let short = shortened(base, wholes, answer);

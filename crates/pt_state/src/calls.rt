@@ -116,6 +116,7 @@ impl<A: Allocator + Copy> State<A> {
     }
 
     /// The call is noted, opened, and pushed.
+    #[inline(always)]
     pub fn leave(&mut self, c: ClientId, call: &Call, open: Open)
         requires { IsNearlyLeft self.old c call.now «open» }
         ensures { Adds self.old (entry.Call c call.now None) self.new }
@@ -127,6 +128,7 @@ impl<A: Allocator + Copy> State<A> {
 
     /// A call that changes no object as it begins to wait.
     /// [XSH pthread_mutex_lock, pthread_rwlock_wrlock, pthread_barrier_wait]
+    #[inline(always)]
     pub fn push_waiting(&mut self, c: ClientId, call: &Call, open: Open)
         requires ready { IsReadyFor self.old (entry.Call c call.now None) }
         requires left { IsLeft (past self.old) c call.now «open» }

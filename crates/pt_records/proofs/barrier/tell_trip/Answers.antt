@@ -1,7 +1,7 @@
 use Rattle.std.proofs.Common.{◌≡◌, ◌+◌, ◌++◌, List, drop, take, map, length, length-append, sym, ap}
 use Rattle.std.proofs.Common.{◌∙◌, subst, arith}
 use Rattle.std.specs.List.Sorted.{IsPermutation}
-use Rattle.std.proofs.lemmas.List.{map-append}
+use Rattle.std.proofs.lemmas.List.{length-map, map-append}
 use Rattle.std.proofs.lemmas.List.Sorted.{length_permutation}
 use Rattle.pt_history.specs.Stored.{past_of}
 use Rattle.pt_history.proofs.Places.{place_of_next}
@@ -64,6 +64,16 @@ returns g c =
           ∙ ap (λ ps. map logged old ++ ps)
           (said ∙ ap (λ n. told_at n (told_by_trip (at_barrier c.args.b (open_calls h))))
           (c.len.ensures ∙ sym (place_of_next c.args.history.now)))));
+      len = omega (
+        arith,
+        ap length c.tell_queue.ensures.told,
+        length-append old told,
+        length-map vs (passed_to at),
+        arrivals-room h c.args.b at vs c.requires.arrived
+            (λ d. g.met.Q.WaitList.once c.args.queues.now d c.args.b),
+        c.tell_queue.new.answers.ok.0,
+        c.args.answers.now.ok.0,
+      );
       capacity = c.tell_queue.ensures.capacity;
       emptied = c.tell_queue.ensures.emptied;
     }

@@ -5,6 +5,7 @@ use Rattle.pt_records.proofs.answer_log.LoggedAnswers.next.Goals as goal
 
 pub invariant_of-self : goal.invariant_of-self
 invariant_of-self c =
-    readable-tail c.self.inside.base c.self.inside.wholes.now c.in-Some.first.now c.in-Some.rest.now
+    readable-tail c.self.inside.base c.self.inside.wholes.now c.in_ok-first.first.now
+    c.in_ok-first.rest.now
     (subst (λ ss. AreReadable c.self.inside.base c.self.inside.wholes.now ss)
-    c.in-Some.ensures.cases.0 c.self.invariant)
+    c.in_ok-first.ensures.cases.0 c.self.invariant)
