@@ -27,6 +27,7 @@ pub struct ClientRow<T> {
 impl<T> ClientRow<T> {
     ghost use Rattle.pt_table.specs.ClientLends.{lends_value};
 
+    #[inline(always)]
     fn value_mut(&mut self) -> &mut T
         ensures* lends { sem 𝓛 (lends_value T.row self.entry result) }
         ensures value { result.now ≡ self.old.value }
@@ -36,6 +37,7 @@ impl<T> ClientRow<T> {
 }
 
 // The slot of a number's row, if the number's hint is right.
+#[inline(always)]
 fn slot_by_hint<T, A: Allocator + Copy>(
     rows: &Slab<ClientRow<T>, A>,
     numbers: &Numbers<A>,
@@ -44,7 +46,7 @@ fn slot_by_hint<T, A: Allocator + Copy>(
     requires { IsNumbered (λ row. row.number) rows.now.slots numbers.now.entries most_clients }
     ensures { IfSome result (λ slot. lookup (nat_eq number) numbers.now.entries ≡ Some slot) }
 {
-    let hint = numbers.hint(number)?;
+    let hint = numbers.hint(number);
     match rows.get(hint) {
         Some(row) if row.number == number => Some(hint),
         _ => None,
@@ -52,6 +54,7 @@ fn slot_by_hint<T, A: Allocator + Copy>(
 }
 
 // The row of a number, which is looked for by the number's hint first.
+#[inline(always)]
 fn row_of<'a, T, A: Allocator + Copy>(
     rows: &'a Slab<ClientRow<T>, A>,
     numbers: &Numbers<A>,
@@ -68,6 +71,7 @@ fn row_of<'a, T, A: Allocator + Copy>(
 }
 
 // The slot of a client's row, which is looked for in this slot first.
+#[inline(always)]
 fn slot_by<T, A: Allocator + Copy>(
     rows: &Slab<ClientRow<T>, A>,
     numbers: &Numbers<A>,
@@ -128,6 +132,7 @@ impl<T, A: Allocator + Copy> Clients<T, A> {
     }
 
     /// The value of the client with this number.
+    #[inline(always)]
     pub fn at(&self, number: u64) -> Option<&T>
         ensures { option_copied result ≡ client_value self.now number }
     {
@@ -183,6 +188,7 @@ impl<T, A: Allocator + Copy> Clients<T, A> {
     }
 
     // The value of a client, whose row is looked for in this slot first.
+    #[inline(always)]
     fn value_mut(&mut self, slot: usize, number: u64) -> &mut T
         requires { IsSome (client_at self.old number) }
         ensures* lends { sem 𝓛 (lends_at T.row A.row A.Allocator self.entry number result) }
@@ -208,6 +214,7 @@ impl<T, A: Allocator + Copy> Clients<T, A> {
     }
 
     // The slot of a client's row, if its number's hint is right.
+    #[inline(always)]
     fn hinted(&self, number: u64) -> Option<usize>
         ensures { OnSome result (IsSome (client_at self.now number)) }
     {
@@ -215,6 +222,7 @@ impl<T, A: Allocator + Copy> Clients<T, A> {
     }
 
     /// The value of the client with this number, to be changed.
+    #[inline(always)]
     pub fn at_mut(&mut self, number: u64) -> Option<&mut T>
         ensures* lends { sem 𝓛 (lends_if_at T.row A.row A.Allocator self.entry number result) }
         ensures value { option_copied_mut result ≡ client_value self.old number }

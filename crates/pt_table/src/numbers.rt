@@ -7,8 +7,8 @@ ghost use Rattle.std.specs.Option.{option_and_then};
 ghost use Rattle.std.specs.Map.{lookup};
 ghost use Rattle.pt_table.specs.Slots.{left_of, with_slot, without_number, Distinct, IsLeftAt};
 
+use crate::slot_hints::SlotHints;
 use indexmap::IndexMap;
-use pt_hints::Hints;
 use std::alloc::{AllocError, Allocator};
 use std::hash::{BuildHasherDefault, FoldHasher};
 use std::marker::Model;
@@ -29,7 +29,7 @@ pub(crate) struct Numbers<A: Allocator + Copy> {
     order: Vec<(u64, Option<usize>), A>,
     /// How many entries of the order are struck out.
     struck: usize,
-    hints: Hints<A>,
+    hints: SlotHints,
     slots: IndexMap<u64, usize, BuildHasherDefault<FoldHasher>, A>,
 }
 
@@ -95,11 +95,6 @@ fn slot_by_distance(entries: &[Listed], number: u64) -> Option<usize>
     let (first, _) = entry_at(entries, 0)?;
     let distance = number.checked_sub(first)?;
     slot_at(entries, distance as usize, number)
-}
-
-// Makes more hints if there are too few for the numbers.
-fn grow<A: Allocator + Copy>(hints: &mut Hints<A>, entries: &[Listed]) -> Result<(), AllocError> {
-    hints.grow_for(entries.len(), |index| with_slot(entry_at(entries, index)))
 }
 
 // The index of a number that is listed, found by a look at each entry.
@@ -188,7 +183,7 @@ impl<A: Allocator + Copy> Numbers<A> {
         Numbers {
             order: Vec::new(alloc),
             struck: 0,
-            hints: Hints::new(alloc),
+            hints: SlotHints::new(),
             slots: IndexMap::new(alloc),
         }
     }
@@ -201,7 +196,8 @@ impl<A: Allocator + Copy> Numbers<A> {
     }
 
     /// The slot in which the row of a number is looked for first. It may be another's.
-    pub(crate) fn hint(&self, number: u64) -> Option<usize> {
+    #[inline(always)]
+    pub(crate) fn hint(&self, number: u64) -> usize {
         self.hints.get(number)
     }
 
@@ -234,8 +230,7 @@ impl<A: Allocator + Copy> Numbers<A> {
         ensures room { OnOk result (0 < self.new.room) }
     {
         self.order.reserve(1)?;
-        self.slots.reserve(1)?;
-        grow(&mut self.hints, self.order.as_slice())
+        self.slots.reserve(1)
     }
 
     /// Adds a new number with its slot, if there is room.

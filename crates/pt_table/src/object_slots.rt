@@ -17,6 +17,7 @@ use slab::Slab;
 use std::alloc::Allocator;
 
 // The slot of a number's row, if the number's hint is right.
+#[inline(always)]
 pub(crate) fn slot_by_hint<T, A: Allocator + Copy>(
     rows: &Slab<ObjectRow<T>, A>,
     numbers: &Numbers<A>,
@@ -25,7 +26,7 @@ pub(crate) fn slot_by_hint<T, A: Allocator + Copy>(
     requires { IsNumbered (λ row. row.number) rows.now.slots numbers.now.entries most_objects }
     ensures { IfSome result (λ slot. lookup (nat_eq number) numbers.now.entries ≡ Some slot) }
 {
-    let hint = numbers.hint(number)?;
+    let hint = numbers.hint(number);
     match rows.get(hint) {
         Some(row) if row.number == number => Some(hint),
         _ => None,
@@ -33,6 +34,7 @@ pub(crate) fn slot_by_hint<T, A: Allocator + Copy>(
 }
 
 // The row of a number, which is looked for by the number's hint first.
+#[inline(always)]
 pub(crate) fn row_of<'a, T, A: Allocator + Copy>(
     rows: &'a Slab<ObjectRow<T>, A>,
     numbers: &Numbers<A>,
@@ -57,7 +59,7 @@ fn slot_by_name_hint<T, A: Allocator + Copy>(
     requires { IsNamed rows.now.slots names.now.entries }
     ensures { IfSome result (λ slot. lookup (same_name name.now) names.now.entries ≡ Some slot) }
 {
-    let hint = names.hint(name)?;
+    let hint = names.hint(name);
     match rows.get(hint) {
         Some(row) if row.name == *name => Some(hint),
         _ => None,
@@ -95,6 +97,7 @@ pub(crate) fn row_named<'a, T, A: Allocator + Copy>(
 }
 
 // The slot of an object's row, which is looked for in this slot first.
+#[inline(always)]
 pub(crate) fn slot_by<T, A: Allocator + Copy>(
     rows: &Slab<ObjectRow<T>, A>,
     numbers: &Numbers<A>,

@@ -36,6 +36,7 @@ pub struct ObjectRow<T> {
 impl<T> ObjectRow<T> {
     ghost use Rattle.pt_table.specs.ObjectLends.{lends_value};
 
+    #[inline(always)]
     fn value_mut(&mut self) -> &mut T
         ensures* lends { sem 𝓛 (lends_value T.row self.entry result) }
         ensures value { result.now ≡ self.old.value }
@@ -130,6 +131,7 @@ impl<T, A: Allocator + Copy> Objects<T, A> {
     }
 
     /// The value of the object with this number.
+    #[inline(always)]
     pub fn at(&self, number: u64) -> Option<&T>
         ensures { option_copied result ≡ object_value self.now number }
     {
@@ -202,6 +204,7 @@ impl<T, A: Allocator + Copy> Objects<T, A> {
     }
 
     // The value of an object, whose row is looked for in this slot first.
+    #[inline(always)]
     fn value_mut(&mut self, slot: usize, number: u64) -> &mut T
         requires { IsSome (object_at self.old number) }
         ensures* lends { sem 𝓛 (lends_at T.row A.row A.Allocator self.entry number result) }
@@ -227,6 +230,7 @@ impl<T, A: Allocator + Copy> Objects<T, A> {
     }
 
     // The slot of an object's row, if its number's hint is right.
+    #[inline(always)]
     fn hinted(&self, number: u64) -> Option<usize>
         ensures { OnSome result (IsSome (object_at self.now number)) }
     {
@@ -234,6 +238,7 @@ impl<T, A: Allocator + Copy> Objects<T, A> {
     }
 
     /// The value of the object with this number, to be changed.
+    #[inline(always)]
     pub fn at_mut(&mut self, number: u64) -> Option<&mut T>
         ensures* lends { sem 𝓛 (lends_if_at T.row A.row A.Allocator self.entry number result) }
         ensures value { option_copied_mut result ≡ object_value self.old number }
