@@ -30,6 +30,8 @@ pub(crate) struct Numbers<A: Allocator + Copy> {
     /// How many entries of the order are struck out.
     struck: usize,
     hints: SlotHints,
+    /// Where in the order a number is looked for first, to be struck out.
+    places: SlotHints,
     slots: IndexMap<u64, usize, BuildHasherDefault<FoldHasher>, A>,
 }
 
@@ -111,7 +113,9 @@ fn scan(entries: &[Listed], number: u64) -> usize
 }
 
 // The index of a number that is listed. It is found by a binary search if the numbers rise.
-fn index_of(entries: &[Listed], number: u64) -> usize
+#[cold]
+#[inline(never)]
+fn search(entries: &[Listed], number: u64) -> usize
     requires { IsSome (lookup (nat_eq number) (left_of entries.now)) }
     ensures { IsLeftAt entries.now number result }
 {
@@ -119,6 +123,17 @@ fn index_of(entries: &[Listed], number: u64) -> usize
     match entry_at(entries, near) {
         Some(listed) if is_left(&listed, number) => near,
         _ => scan(entries, number),
+    }
+}
+
+// The index of a number that is listed. It is looked for at this index first.
+fn index_of(entries: &[Listed], hint: usize, number: u64) -> usize
+    requires { IsSome (lookup (nat_eq number) (left_of entries.now)) }
+    ensures { IsLeftAt entries.now number result }
+{
+    match entry_at(entries, hint) {
+        Some(listed) if is_left(&listed, number) => hint,
+        _ => search(entries, number),
     }
 }
 
@@ -139,29 +154,38 @@ fn nth_left(entries: &[Listed], index: usize) -> Option<(u64, usize)>
 }
 
 // Strikes a number out that is listed.
-fn strike<A: Allocator + Copy>(order: &mut Vec<(u64, Option<usize>), A>, number: u64)
+fn strike<A: Allocator + Copy>(order: &mut Vec<(u64, Option<usize>), A>, hint: usize, number: u64)
     requires listed { IsSome (lookup (nat_eq number) (left_of order.old.items)) }
     requires once { Distinct (left_of order.old.items) }
     ensures left { left_of order.new.items ≡ without_number (left_of order.old.items) number }
     ensures count { length (left_of order.old.items) ≡ length (left_of order.new.items) + 1 }
     ensures len { vec_len order.new ≡ vec_len order.old }
 {
-    let index = index_of(order.as_slice(), number);
+    let index = index_of(order.as_slice(), hint, number);
     order[index] = (number, None);
 }
 
-// Takes those that are struck out from the order.
-fn pack<A: Allocator + Copy>(order: &mut Vec<(u64, Option<usize>), A>)
+// Notes where in the order each number is.
+fn note_places(places: &mut SlotHints, entries: &[Listed]) {
+    for i in 0..entries.len() {
+        places.set(entries[i].0, i);
+    }
+}
+
+// Takes those that are struck out from the order, and notes where the others are.
+fn pack<A: Allocator + Copy>(order: &mut Vec<(u64, Option<usize>), A>, places: &mut SlotHints)
     ensures left { left_of order.new.items ≡ left_of order.old.items }
     ensures len { vec_len order.new ≡ length (left_of order.old.items) }
 {
     order.retain(|entry| entry.1.is_some());
+    note_places(places, order.as_slice());
 }
 
 // Takes those that are struck out from the order if they are more than the others, and returns how
 // many are struck out then.
 fn pack_if_sparse<A: Allocator + Copy>(
     order: &mut Vec<(u64, Option<usize>), A>,
+    places: &mut SlotHints,
     struck: usize,
 ) -> usize
     requires { vec_len order.old ≡ struck + length (left_of order.old.items) }
@@ -171,7 +195,7 @@ fn pack_if_sparse<A: Allocator + Copy>(
     if struck <= order.len() - struck {
         return struck;
     }
-    pack(order);
+    pack(order, places);
     0
 }
 
@@ -184,6 +208,7 @@ impl<A: Allocator + Copy> Numbers<A> {
             order: Vec::new(alloc),
             struck: 0,
             hints: SlotHints::new(),
+            places: SlotHints::new(),
             slots: IndexMap::new(alloc),
         }
     }
@@ -240,6 +265,7 @@ impl<A: Allocator + Copy> Numbers<A> {
         ensures { self.new.entries ≡ self.old.entries ++ (number, slot) ∷ [] }
     {
         self.hints.set(number, slot);
+        self.places.set(number, self.order.len());
         self.order.push_reserved((number, Some(slot)));
         self.slots.insert(number, slot).unwrap();
     }
@@ -251,8 +277,8 @@ impl<A: Allocator + Copy> Numbers<A> {
         ensures left { OnSome result (self.new.entries ≡ without_number self.old.entries number) }
     {
         let slot = self.slots.swap_remove(&number)?;
-        strike(&mut self.order, number);
-        self.struck = pack_if_sparse(&mut self.order, self.struck + 1);
+        strike(&mut self.order, self.places.get(number), number);
+        self.struck = pack_if_sparse(&mut self.order, &mut self.places, self.struck + 1);
         Some(slot)
     }
 
@@ -261,7 +287,7 @@ impl<A: Allocator + Copy> Numbers<A> {
         ensures { self.new.entries ≡ self.old.entries }
     {
         if self.struck > 0 {
-            pack(&mut self.order);
+            pack(&mut self.order, &mut self.places);
             self.struck = 0;
         }
     }

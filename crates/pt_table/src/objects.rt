@@ -1,6 +1,6 @@
 ghost use Rattle.std.specs.Prelude.{◌≡◌, ◌↔◌, ◌≤◌, ◌<◌, ◌++◌, [], ◌∷◌, Some, None, IsSome, IfSome};
-ghost use Rattle.std.specs.Prelude.{IfErr, OnOk, OnErr, OnSome, IsTrue, false, is_some, nat_eq, length};
-ghost use Rattle.std.specs.Prelude.{slice_get};
+ghost use Rattle.std.specs.Prelude.{IfErr, OnOk, OnErr, OnSome, IsTrue, is_some, nat_eq, length};
+ghost use Rattle.std.specs.Prelude.{false, slice_get};
 ghost use Rattle.std.specs.Option.{option_map, option_copied, option_copied_mut};
 ghost use Rattle.std.specs.Borrow.{sem};
 ghost use Rattle.std.specs.Map.{lookup};
