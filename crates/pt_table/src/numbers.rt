@@ -172,13 +172,12 @@ fn note_places(places: &mut SlotHints, entries: &[Listed]) {
     }
 }
 
-// Takes those that are struck out from the order, and notes where the others are.
-fn pack<A: Allocator + Copy>(order: &mut Vec<(u64, Option<usize>), A>, places: &mut SlotHints)
+// Takes those that are struck out from the order.
+fn pack<A: Allocator + Copy>(order: &mut Vec<(u64, Option<usize>), A>)
     ensures left { left_of order.new.items ≡ left_of order.old.items }
     ensures len { vec_len order.new ≡ length (left_of order.old.items) }
 {
     order.retain(|entry| entry.1.is_some());
-    note_places(places, order.as_slice());
 }
 
 // Takes those that are struck out from the order if they are more than the others, and returns how
@@ -195,7 +194,8 @@ fn pack_if_sparse<A: Allocator + Copy>(
     if struck <= order.len() - struck {
         return struck;
     }
-    pack(order, places);
+    pack(order);
+    note_places(places, order.as_slice());
     0
 }
 
@@ -287,7 +287,7 @@ impl<A: Allocator + Copy> Numbers<A> {
         ensures { self.new.entries ≡ self.old.entries }
     {
         if self.struck > 0 {
-            pack(&mut self.order, &mut self.places);
+            pack(&mut self.order);
             self.struck = 0;
         }
     }
