@@ -53,6 +53,7 @@ pub fn make<A: Allocator + Copy>(kind: ObjectKind, alloc: A) -> Object<A>
 }
 
 /// A new object gets its row. ENOMEM if there is no memory for it.
+#[inline(always)]
 pub fn add<A: Allocator + Copy>(
     objects: &mut Objects<Object<A>, A>,
     o: ObjectId,
@@ -66,7 +67,7 @@ pub fn add<A: Allocator + Copy>(
     ensures err { OnErr result (objects.new ≡ objects.old) }
     ensures reason { IfErr result (λ refusal. refusal ≡ Refusal.Enomem) }
 {
-    match objects.add(o.0, name, object) {
+    match objects.add_new(o.0, name, object) {
         Ok(()) => Ok(()),
         Err(_) => Err(Refusal::Enomem),
     }

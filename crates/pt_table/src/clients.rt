@@ -46,7 +46,7 @@ fn slot_by_hint<T, A: Allocator + Copy>(
     requires { IsNumbered (λ row. row.number) rows.now.slots numbers.now.entries most_clients }
     ensures { IfSome result (λ slot. lookup (nat_eq number) numbers.now.entries ≡ Some slot) }
 {
-    let hint = numbers.hint(number)?;
+    let hint = numbers.hint(number);
     match rows.get(hint) {
         Some(row) if row.number == number => Some(hint),
         _ => None,
@@ -188,6 +188,7 @@ impl<T, A: Allocator + Copy> Clients<T, A> {
     }
 
     // The value of a client, whose row is looked for in this slot first.
+    #[inline(always)]
     fn value_mut(&mut self, slot: usize, number: u64) -> &mut T
         requires { IsSome (client_at self.old number) }
         ensures* lends { sem 𝓛 (lends_at T.row A.row A.Allocator self.entry number result) }

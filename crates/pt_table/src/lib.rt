@@ -16,6 +16,7 @@ mod numbers;
 mod object_slots;
 mod objects;
 mod rows;
+mod slot_hints;
 mod sorting;
 
 pub use clients::{ClientRow, Clients};

@@ -5,8 +5,9 @@ ghost use Rattle.std.specs.Map.{lookup};
 ghost use Rattle.pt_types.specs.Names.{same_name};
 ghost use Rattle.pt_table.specs.NameSlots.{IsForgotten};
 
+use crate::slot_hints::SlotHints;
 use indexmap::IndexMap;
-use pt_hints::{Hints, key_of};
+use pt_hints::key_of;
 use pt_types::Name;
 use std::alloc::{AllocError, Allocator};
 use std::hash::{BuildHasherDefault, FoldHasher};
@@ -20,7 +21,7 @@ type NameMap<A> = IndexMap<Name, usize, BuildHasherDefault<FoldHasher>, A>;
 /// A name's row is first looked for in the slot that its hint gives, and else by the name's hash.
 #[derive(Drop)]
 pub(crate) struct Names<A: Allocator + Copy> {
-    hints: Hints<A>,
+    hints: SlotHints,
     slots: NameMap<A>,
 }
 
@@ -33,30 +34,20 @@ impl<A: Allocator + Copy> Model for Names<A> {
     ghost view = { λ n. record { entries = n.slots.entries; room = spare n.slots } };
 }
 
-// The key of a name, and its slot, at an index.
-fn keyed<A: Allocator + Copy>(slots: &NameMap<A>, index: usize) -> Option<(u64, usize)> {
-    let (name, slot) = slots.get_index(index)?;
-    Some((key_of(name.as_bytes()), *slot))
-}
-
-// Makes more hints if there are too few for the names.
-fn grow<A: Allocator + Copy>(hints: &mut Hints<A>, slots: &NameMap<A>) -> Result<(), AllocError> {
-    hints.grow_for(slots.len(), |index| keyed(slots, index))
-}
-
 impl<A: Allocator + Copy> Names<A> {
     /// No name. It takes no memory.
     pub(crate) fn new(alloc: A) -> Self
         ensures { result.entries ≡ [] }
     {
         Names {
-            hints: Hints::new(alloc),
+            hints: SlotHints::new(),
             slots: IndexMap::new(alloc),
         }
     }
 
     /// The slot in which the row of a name is looked for first. It may be another's.
-    pub(crate) fn hint(&self, name: &Name) -> Option<usize> {
+    #[inline(always)]
+    pub(crate) fn hint(&self, name: &Name) -> usize {
         self.hints.get(key_of(name.as_bytes()))
     }
 
@@ -72,8 +63,7 @@ impl<A: Allocator + Copy> Names<A> {
         ensures entries { self.new.entries ≡ self.old.entries }
         ensures room { OnOk result (0 < self.new.room) }
     {
-        self.slots.reserve(1)?;
-        grow(&mut self.hints, &self.slots)
+        self.slots.reserve(1)
     }
 
     /// Adds a new name with its slot, if there is room.

@@ -7,8 +7,8 @@ ghost use Rattle.std.specs.Option.{option_and_then};
 ghost use Rattle.std.specs.Map.{lookup};
 ghost use Rattle.pt_table.specs.Slots.{left_of, with_slot, without_number, Distinct, IsLeftAt};
 
+use crate::slot_hints::SlotHints;
 use indexmap::IndexMap;
-use pt_hints::Hints;
 use std::alloc::{AllocError, Allocator};
 use std::hash::{BuildHasherDefault, FoldHasher};
 use std::marker::Model;
@@ -29,7 +29,9 @@ pub(crate) struct Numbers<A: Allocator + Copy> {
     order: Vec<(u64, Option<usize>), A>,
     /// How many entries of the order are struck out.
     struck: usize,
-    hints: Hints<A>,
+    hints: SlotHints,
+    /// Where in the order a number is looked for first, to be struck out.
+    places: SlotHints,
     slots: IndexMap<u64, usize, BuildHasherDefault<FoldHasher>, A>,
 }
 
@@ -97,11 +99,6 @@ fn slot_by_distance(entries: &[Listed], number: u64) -> Option<usize>
     slot_at(entries, distance as usize, number)
 }
 
-// Makes more hints if there are too few for the numbers.
-fn grow<A: Allocator + Copy>(hints: &mut Hints<A>, entries: &[Listed]) -> Result<(), AllocError> {
-    hints.grow_for(entries.len(), |index| with_slot(entry_at(entries, index)))
-}
-
 // The index of a number that is listed, found by a look at each entry.
 fn scan(entries: &[Listed], number: u64) -> usize
     requires { IsSome (lookup (nat_eq number) (left_of entries.now)) }
@@ -116,7 +113,9 @@ fn scan(entries: &[Listed], number: u64) -> usize
 }
 
 // The index of a number that is listed. It is found by a binary search if the numbers rise.
-fn index_of(entries: &[Listed], number: u64) -> usize
+#[cold]
+#[inline(never)]
+fn search(entries: &[Listed], number: u64) -> usize
     requires { IsSome (lookup (nat_eq number) (left_of entries.now)) }
     ensures { IsLeftAt entries.now number result }
 {
@@ -124,6 +123,17 @@ fn index_of(entries: &[Listed], number: u64) -> usize
     match entry_at(entries, near) {
         Some(listed) if is_left(&listed, number) => near,
         _ => scan(entries, number),
+    }
+}
+
+// The index of a number that is listed. It is looked for at this index first.
+fn index_of(entries: &[Listed], hint: usize, number: u64) -> usize
+    requires { IsSome (lookup (nat_eq number) (left_of entries.now)) }
+    ensures { IsLeftAt entries.now number result }
+{
+    match entry_at(entries, hint) {
+        Some(listed) if is_left(&listed, number) => hint,
+        _ => search(entries, number),
     }
 }
 
@@ -144,15 +154,22 @@ fn nth_left(entries: &[Listed], index: usize) -> Option<(u64, usize)>
 }
 
 // Strikes a number out that is listed.
-fn strike<A: Allocator + Copy>(order: &mut Vec<(u64, Option<usize>), A>, number: u64)
+fn strike<A: Allocator + Copy>(order: &mut Vec<(u64, Option<usize>), A>, hint: usize, number: u64)
     requires listed { IsSome (lookup (nat_eq number) (left_of order.old.items)) }
     requires once { Distinct (left_of order.old.items) }
     ensures left { left_of order.new.items ≡ without_number (left_of order.old.items) number }
     ensures count { length (left_of order.old.items) ≡ length (left_of order.new.items) + 1 }
     ensures len { vec_len order.new ≡ vec_len order.old }
 {
-    let index = index_of(order.as_slice(), number);
+    let index = index_of(order.as_slice(), hint, number);
     order[index] = (number, None);
+}
+
+// Notes where in the order each number is.
+fn note_places(places: &mut SlotHints, entries: &[Listed]) {
+    for i in 0..entries.len() {
+        places.set(entries[i].0, i);
+    }
 }
 
 // Takes those that are struck out from the order.
@@ -167,6 +184,7 @@ fn pack<A: Allocator + Copy>(order: &mut Vec<(u64, Option<usize>), A>)
 // many are struck out then.
 fn pack_if_sparse<A: Allocator + Copy>(
     order: &mut Vec<(u64, Option<usize>), A>,
+    places: &mut SlotHints,
     struck: usize,
 ) -> usize
     requires { vec_len order.old ≡ struck + length (left_of order.old.items) }
@@ -177,6 +195,7 @@ fn pack_if_sparse<A: Allocator + Copy>(
         return struck;
     }
     pack(order);
+    note_places(places, order.as_slice());
     0
 }
 
@@ -188,7 +207,8 @@ impl<A: Allocator + Copy> Numbers<A> {
         Numbers {
             order: Vec::new(alloc),
             struck: 0,
-            hints: Hints::new(alloc),
+            hints: SlotHints::new(),
+            places: SlotHints::new(),
             slots: IndexMap::new(alloc),
         }
     }
@@ -201,7 +221,8 @@ impl<A: Allocator + Copy> Numbers<A> {
     }
 
     /// The slot in which the row of a number is looked for first. It may be another's.
-    pub(crate) fn hint(&self, number: u64) -> Option<usize> {
+    #[inline(always)]
+    pub(crate) fn hint(&self, number: u64) -> usize {
         self.hints.get(number)
     }
 
@@ -234,8 +255,7 @@ impl<A: Allocator + Copy> Numbers<A> {
         ensures room { OnOk result (0 < self.new.room) }
     {
         self.order.reserve(1)?;
-        self.slots.reserve(1)?;
-        grow(&mut self.hints, self.order.as_slice())
+        self.slots.reserve(1)
     }
 
     /// Adds a new number with its slot, if there is room.
@@ -245,6 +265,7 @@ impl<A: Allocator + Copy> Numbers<A> {
         ensures { self.new.entries ≡ self.old.entries ++ (number, slot) ∷ [] }
     {
         self.hints.set(number, slot);
+        self.places.set(number, self.order.len());
         self.order.push_reserved((number, Some(slot)));
         self.slots.insert(number, slot).unwrap();
     }
@@ -256,8 +277,8 @@ impl<A: Allocator + Copy> Numbers<A> {
         ensures left { OnSome result (self.new.entries ≡ without_number self.old.entries number) }
     {
         let slot = self.slots.swap_remove(&number)?;
-        strike(&mut self.order, number);
-        self.struck = pack_if_sparse(&mut self.order, self.struck + 1);
+        strike(&mut self.order, self.places.get(number), number);
+        self.struck = pack_if_sparse(&mut self.order, &mut self.places, self.struck + 1);
         Some(slot)
     }
 

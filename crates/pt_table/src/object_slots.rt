@@ -26,7 +26,7 @@ pub(crate) fn slot_by_hint<T, A: Allocator + Copy>(
     requires { IsNumbered (λ row. row.number) rows.now.slots numbers.now.entries most_objects }
     ensures { IfSome result (λ slot. lookup (nat_eq number) numbers.now.entries ≡ Some slot) }
 {
-    let hint = numbers.hint(number)?;
+    let hint = numbers.hint(number);
     match rows.get(hint) {
         Some(row) if row.number == number => Some(hint),
         _ => None,
@@ -59,7 +59,7 @@ fn slot_by_name_hint<T, A: Allocator + Copy>(
     requires { IsNamed rows.now.slots names.now.entries }
     ensures { IfSome result (λ slot. lookup (same_name name.now) names.now.entries ≡ Some slot) }
 {
-    let hint = names.hint(name)?;
+    let hint = names.hint(name);
     match rows.get(hint) {
         Some(row) if row.name == *name => Some(hint),
         _ => None,

@@ -1,6 +1,6 @@
 ghost use Rattle.std.specs.Prelude.{◌≡◌, ◌↔◌, ◌≤◌, ◌<◌, ◌++◌, [], ◌∷◌, Some, None, IsSome, IfSome};
 ghost use Rattle.std.specs.Prelude.{IfErr, OnOk, OnErr, OnSome, IsTrue, is_some, nat_eq, length};
-ghost use Rattle.std.specs.Prelude.{slice_get};
+ghost use Rattle.std.specs.Prelude.{false, slice_get};
 ghost use Rattle.std.specs.Option.{option_map, option_copied, option_copied_mut};
 ghost use Rattle.std.specs.Borrow.{sem};
 ghost use Rattle.std.specs.Map.{lookup};
@@ -87,6 +87,7 @@ fn make_room_named<T, A: Allocator + Copy>(
 }
 
 // Puts a row with a new number and a new name in, if there is room, and returns its slot.
+#[inline(always)]
 fn put_named<T, A: Allocator + Copy>(
     rows: &mut Slab<ObjectRow<T>, A>,
     numbers: &mut Numbers<A>,
@@ -204,6 +205,7 @@ impl<T, A: Allocator + Copy> Objects<T, A> {
     }
 
     // The value of an object, whose row is looked for in this slot first.
+    #[inline(always)]
     fn value_mut(&mut self, slot: usize, number: u64) -> &mut T
         requires { IsSome (object_at self.old number) }
         ensures* lends { sem 𝓛 (lends_at T.row A.row A.Allocator self.entry number result) }
@@ -306,6 +308,31 @@ impl<T, A: Allocator + Copy> Objects<T, A> {
         ensures { self.new ≡ self.old }
     {
         self.numbers.pack();
+    }
+
+    /// Adds an object whose number and name are new, if there are fewer than 4,096 objects.
+    ///
+    /// # Errors
+    ///
+    /// A growth was refused. The table stays as it was, and the value is dropped.
+    #[inline(always)]
+    pub fn add_new(&mut self, number: u64, name: Name, value: T) -> Result<(), AllocError>
+    where
+        T: Drop,
+        requires new { is_taken self.old number name ≡ false }
+        requires room { length self.old < most_objects }
+        ensures ok { OnOk result (self.new ≡ and_object self.old number name value) }
+        ensures err { OnErr result (self.new ≡ self.old) }
+    {
+        make_room_named(&mut self.rows, &mut self.numbers, &mut self.names)?;
+        let row = ObjectRow {
+            number,
+            name,
+            value,
+            link: Link::out(),
+        };
+        put_named(&mut self.rows, &mut self.numbers, &mut self.names, row);
+        Ok(())
     }
 
     /// Adds an object with its value, or returns the value.

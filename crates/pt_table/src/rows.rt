@@ -79,6 +79,7 @@ pub(crate) fn make_room<R, A: Allocator + Copy>(
 }
 
 // Puts a row with a new number in, if there is room, and returns its slot.
+#[inline(always)]
 pub(crate) fn put<R, A: Allocator + Copy>(
     rows: &mut Slab<R, A>,
     numbers: &mut Numbers<A>,

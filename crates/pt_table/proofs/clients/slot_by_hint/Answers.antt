@@ -4,5 +4,5 @@ use Rattle.pt_table.proofs.clients.slot_by_hint.Goals as goal
 
 pub returns-in-Some : goal.returns-in-Some
 returns-in-Some g c =
-    c.requires.numbered c.in_ok-hint.hint c.args.number
+    c.requires.numbered c.hint-hint.result c.args.number
     (ap (option_map (λ row. row.number)) (sym c.in-Some.ensures) ∙ ap Some c.if-row-number.true)

@@ -6,5 +6,5 @@ use Rattle.pt_table.proofs.object_slots.slot_by_name_hint.Goals as goal
 pub returns-in-Some : goal.returns-in-Some
 returns-in-Some g c =
     let same = true-same c.in-Some.row.now.name c.args.name.now (sym c.eq.ensures ∙ c.if-eq.true) in
-    c.requires.listed c.in_ok-hint.hint c.args.name.now
+    c.requires.listed c.hint-hint.result c.args.name.now
     (ap (option_map (λ row. row.name)) (sym c.in-Some.ensures) ∙ ap Some same)

@@ -1,0 +1,57 @@
+use Rattle.std.proofs.Common.{◌<◌, ◌∙◌, [], ◌∷◌, ◌++◌, ap, sym, arith, length}
+use Rattle.pt_types.specs.Limits.{most_objects}
+use Rattle.pt_table.specs.declared.link.Link.{Link}
+use Rattle.pt_table.specs.declared.objects.ObjectRow.{ObjectRow}
+use Rattle.pt_table.proofs.Added.{new_number, numbered_added, view_added}
+use Rattle.pt_table.proofs.Named.{number_free, unnamed, new_name, named_added}
+use Rattle.pt_table.proofs.objects.Objects.add_new.Goals as goal
+
+pub put_named-requires-clause-number_new : goal.put_named-requires-clause-number_new
+put_named-requires-clause-number_new g c =
+    new_number c.self.invariant.0 c.args.self.now c.self.view_is c.make_room_named.new.rows.slots
+    c.make_room_named.new.numbers.entries c.make_room_named.ensures.rows
+    c.make_room_named.ensures.numbers c.args.number
+    (number_free c.args.self.now c.args.number c.args.name
+    c.requires.new)
+
+pub put_named-requires-clause-name_new : goal.put_named-requires-clause-name_new
+put_named-requires-clause-name_new g c =
+    new_name c.self.invariant.0 c.self.invariant.1 c.args.self.now c.self.view_is
+    c.make_room_named.new.names.entries c.make_room_named.ensures.names c.args.name
+    (unnamed c.args.self.now c.args.number c.args.name
+    c.requires.new)
+
+pub invariant_of-self-2 : goal.invariant_of-self-2
+invariant_of-self-2 g c = (
+  numbered_added c.self.invariant.0 c.args.self.now c.self.view_is
+      c.make_room_named.new.rows.slots c.make_room_named.new.numbers.entries
+      c.make_room_named.ensures.rows c.make_room_named.ensures.numbers
+      c.put_named.new.rows.slots c.put_named.new.numbers.entries _ c.put_named.result
+      c.put_named.ensures.vacant c.put_named.ensures.row c.put_named.ensures.others
+      c.put_named.ensures.numbers
+      (number_free c.args.self.now c.args.number c.args.name
+      c.requires.new) c.requires.room,
+  named_added c.self.invariant.1 c.make_room_named.new.rows.slots
+      c.make_room_named.new.names.entries c.make_room_named.ensures.rows
+      c.make_room_named.ensures.names c.put_named.new.rows.slots c.put_named.new.names.entries _
+      c.put_named.result c.put_named.ensures.vacant c.put_named.ensures.row
+      c.put_named.ensures.others c.put_named.ensures.names
+      (new_name c.self.invariant.0 c.self.invariant.1 c.args.self.now c.self.view_is
+      c.make_room_named.new.names.entries c.make_room_named.ensures.names c.args.name
+      (unnamed c.args.self.now c.args.number c.args.name
+      c.requires.new)),
+)
+
+pub returns-clause-ok : goal.returns-clause-ok
+returns-clause-ok g c =
+    let row : Link → ObjectRow g.row.T.Denot = λ link.
+    record { number = c.args.number; name = c.args.name; value = c.args.value; link = link } in
+    view_added c.self.invariant.0 c.args.self.now c.self.view_is
+    c.make_room_named.new.rows.slots c.make_room_named.new.numbers.entries
+    c.make_room_named.ensures.rows c.make_room_named.ensures.numbers
+    c.put_named.new.rows.slots c.put_named.new.numbers.entries _ c.put_named.result
+    c.put_named.ensures.vacant c.put_named.ensures.row c.put_named.ensures.others
+    c.put_named.ensures.numbers
+    (number_free c.args.self.now c.args.number c.args.name
+    c.requires.new) c.requires.room
+    ∙ ap (λ link. c.args.self.now ++ row link ∷ []) c.out.ensures

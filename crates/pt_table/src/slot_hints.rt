@@ -1,0 +1,38 @@
+//! For each value of a key's low bits, the slot in which a row with such a key was last.
+
+ghost use Rattle.std.specs.Prelude.{◌<◌, ◌^◌};
+
+/// How many hints there are.
+const COUNT: usize = 4096;
+
+/// For each value of a key's low 12 bits, the slot that was noted last with such a key.
+///
+/// The hints lie in the value itself, so that one is read without a look at where they are and how
+/// many. A hint may be wrong: whoever takes it compares the key of the row in that slot.
+#[derive(Drop)]
+pub(crate) struct SlotHints {
+    slots: [u16; COUNT],
+}
+
+impl SlotHints {
+    /// Hints that all lead to slot 0.
+    pub(crate) fn new() -> Self {
+        SlotHints { slots: [0; COUNT] }
+    }
+
+    /// The slot in which the row with a key is looked for first.
+    #[inline(always)]
+    pub(crate) fn get(&self, key: u64) -> usize
+        ensures { result < 2 ^ 16 }
+    {
+        self.slots[key as usize % COUNT] as usize
+    }
+
+    /// Notes the slot of the row with a key, if the slot fits 16 bits.
+    #[inline(always)]
+    pub(crate) fn set(&mut self, key: u64, slot: usize) {
+        if let Ok(slot) = u16::try_from(slot) {
+            self.slots[key as usize % COUNT] = slot;
+        }
+    }
+}
