@@ -9,11 +9,11 @@ ghost use Rattle.pt_types.specs.MutexTable.{is_number};
 ghost use Rattle.pt_types.specs.RwlockTable.{read_verdict, write_verdict, rwunlock_verdict, holds};
 ghost use Rattle.pt_types.specs.RwlockTable.{is_free};
 
+use crate::rows::Rows;
 use pt_lanes::any_from;
 use pt_types::{ClientId, How, MOST_PRIORITY, MOST_READS, Outcome, Priority, Refusal, Verdict};
 use pt_waitq::Waiter;
 use std::alloc::{Allocator, Global};
-use std::collections::BTreeMap;
 use std::marker::Model;
 
 /// How a client holds a lock.  [XSH pthread_rwlock_unlock]
@@ -39,50 +39,11 @@ pub enum Held {
 pub struct RwObj<A: Allocator + Copy = Global> {
     writer: Option<ClientId>,
     /// By the number of the client.
-    reads: BTreeMap<u64, u8, A>,
+    reads: Rows<A>,
     /// How many clients have read locks.
     readers: usize,
     /// Priority p is at index p - 1.
     waiting_writers: [u32; MOST_PRIORITY],
-}
-
-// Adds one to a row, and returns what it was.
-fn add_read<A: Allocator + Copy>(rows: &mut BTreeMap<u64, u8, A>, client: u64) -> u8
-    requires few { IfSome (lookup (is_at (nat_cmp client)) rows.old.entries)
-        (λ reads. reads < 255) }
-    requires there { IsSome (lookup (is_at (nat_cmp client)) rows.old.entries) }
-    ensures before { lookup (is_at (nat_cmp client)) rows.old.entries ≡ Some result }
-    ensures rows { rows.new.entries
-        ≡ set_value (is_at (nat_cmp client)) rows.old.entries (result + 1) }
-    ensures others { (other : ℕ)
-        → lookup (is_at (nat_cmp other)) rows.new.entries
-        ≡ (if client == other
-        then Some (result + 1)
-        else lookup (is_at (nat_cmp other)) rows.old.entries) }
-{
-    let reads = rows.get_mut(&client).unwrap();
-    let before = *reads;
-    *reads = before + 1;
-    before
-}
-
-// Takes one off a row, and returns what it was.
-fn take_read<A: Allocator + Copy>(rows: &mut BTreeMap<u64, u8, A>, client: u64) -> u8
-    requires some { IfSome (lookup (is_at (nat_cmp client)) rows.old.entries) (λ reads. 0 < reads) }
-    requires there { IsSome (lookup (is_at (nat_cmp client)) rows.old.entries) }
-    ensures before { lookup (is_at (nat_cmp client)) rows.old.entries ≡ Some result }
-    ensures rows { rows.new.entries
-        ≡ set_value (is_at (nat_cmp client)) rows.old.entries (result - 1) }
-    ensures others { (other : ℕ)
-        → lookup (is_at (nat_cmp other)) rows.new.entries
-        ≡ (if client == other
-        then Some (result - 1)
-        else lookup (is_at (nat_cmp other)) rows.old.entries) }
-{
-    let reads = rows.get_mut(&client).unwrap();
-    let before = *reads;
-    *reads = before - 1;
-    before
 }
 
 impl<A: Allocator + Copy> Model for RwObj<A> {
@@ -93,11 +54,11 @@ impl<A: Allocator + Copy> Model for RwObj<A> {
 
     ghost view = { λ r. record {
       writer = r.writer;
-      rows = r.reads.entries;
+      rows = r.reads;
       waiting = r.waiting_writers;
     } };
 
-    ghost invariant = { λ r. readers_in r.reads.entries ≡ r.readers };
+    ghost invariant = { λ r. readers_in r.reads ≡ r.readers };
 }
 
 impl<A: Allocator + Copy> RwObj<A> {
@@ -113,7 +74,7 @@ impl<A: Allocator + Copy> RwObj<A> {
     {
         RwObj {
             writer: None,
-            reads: BTreeMap::new(alloc),
+            reads: Rows::new(alloc),
             readers: 0,
             waiting_writers: [0; MOST_PRIORITY],
         }
@@ -132,17 +93,18 @@ impl<A: Allocator + Copy> RwObj<A> {
         if self.has_row(client) {
             return Ok(());
         }
-        match self.reads.insert(client.0, 0) {
-            Ok(_) => Ok(()),
+        match self.reads.insert(client.0) {
+            Ok(()) => Ok(()),
             Err(_) => Err(Refusal::Enomem),
         }
     }
 
     // Whether the client has a row.
-    fn has_row(&self, client: ClientId) -> bool
-        ensures { result ≡ is_some (row_of self.now client) }
+    fn has_row(&mut self, client: ClientId) -> bool
+        ensures found { result ≡ is_some (row_of self.old client) }
+        ensures same { self.new ≡ self.old }
     {
-        self.reads.contains_key(&client.0)
+        self.reads.has(client.0)
     }
 
     /// How the client holds the lock.  [XSH pthread_rwlock_unlock]
@@ -167,10 +129,10 @@ impl<A: Allocator + Copy> RwObj<A> {
 
     /// The rows of its readers, each by the number of its client, with its read locks; a row may
     /// have none.  [XSH pthread_rwlock_rdlock]
-    pub fn readers(&self) -> &BTreeMap<u64, u8, A>
-        ensures { result.now.entries ≡ self.now.rows }
+    pub fn readers(&self) -> &[(u64, u8)]
+        ensures { result.now ≡ self.now.rows }
     {
-        &self.reads
+        self.reads.as_slice()
     }
 
     fn is_writer(&self, client: ClientId) -> bool
@@ -182,7 +144,7 @@ impl<A: Allocator + Copy> RwObj<A> {
     fn reads_of(&self, client: ClientId) -> u8
         ensures { result ≡ reads_of self.now client }
     {
-        self.reads.get(&client.0).copied().unwrap_or(0)
+        self.reads.get(client.0).unwrap_or(0)
     }
 
     fn is_read(&self) -> bool
@@ -321,7 +283,7 @@ impl<A: Allocator + Copy> RwObj<A> {
     {
         // It is the length that says that one reader more can be counted.
         let _rows = self.reads.len();
-        if add_read(&mut self.reads, client.0) == 0 {
+        if self.reads.add_read(client.0) == 0 {
             self.readers += 1;
         }
     }
@@ -343,7 +305,7 @@ impl<A: Allocator + Copy> RwObj<A> {
     {
         if self.is_writer(client) {
             self.writer = None;
-        } else if take_read(&mut self.reads, client.0) == 1 {
+        } else if self.reads.take_read(client.0) == 1 {
             self.readers -= 1;
         }
     }

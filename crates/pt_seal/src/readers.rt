@@ -18,7 +18,8 @@ fn add_readers_of<A: Allocator + Copy>(
 ) -> Result<(), AllocError>
     ensures { OnOk result (rows.new.items ≡ rows.old.items ++ readers_of number lock.now.rows) }
 {
-    for (client, count) in lock.readers().iter() {
+    let readers = lock.readers();
+    for (client, count) in readers {
         rows.push(StartReader {
             lock: ObjectId(number),
             client: ClientId(*client),

@@ -6,7 +6,7 @@ pub overflow_add-self : goal.overflow_add-self
 overflow_add-self g c =
     omega (
       arith,
-      readers-most c.self.inside.reads.entries,
+      readers-most c.self.inside.reads,
       c.self.invariant,
       c.len-rows.ensures.len,
       c.len-rows.ensures.small,
@@ -15,11 +15,11 @@ overflow_add-self g c =
 pub invariant_of-self : goal.invariant_of-self
 invariant_of-self g c =
     (readers-added c.client.inside.0 c.add_read.result c.self.inside.readers
-    c.self.inside.reads.entries c.add_read.new.rows.entries c.self.invariant
+    c.self.inside.reads c.add_read.new.self c.self.invariant
     c.add_read.ensures.before c.add_read.ensures.rows).0 c.if-add_read-eq0.true
 
 pub invariant_of-self-else-add_read-eq0 : goal.invariant_of-self-else-add_read-eq0
 invariant_of-self-else-add_read-eq0 g c =
     (readers-added c.client.inside.0 c.add_read.result c.self.inside.readers
-    c.self.inside.reads.entries c.add_read.new.rows.entries c.self.invariant
+    c.self.inside.reads c.add_read.new.self c.self.invariant
     c.add_read.ensures.before c.add_read.ensures.rows).1 c.if-add_read-eq0.false

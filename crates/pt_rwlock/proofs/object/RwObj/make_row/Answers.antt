@@ -8,11 +8,11 @@ use Rattle.pt_rwlock.proofs.object.RwObj.make_row.Goals as goal
 
 pub invariant_of-self : goal.invariant_of-self
 invariant_of-self g c =
-    let rows = c.self.inside.reads.entries in
+    let rows = c.self.inside.reads in
     let none = none_of (lookup (is_at (nat_cmp c.client.inside.0)) rows)
     (ap (λ k. is_some (lookup (is_at (nat_cmp k)) rows)) c.client.view_is
-    ∙ ap (λ v. is_some (row_of v c.args.client)) c.self.view_is
-    ∙ sym c.has_row.ensures ∙ c.if-has_row.false) in
-    readers-kept c.insert.result c.client.inside.0 rows c.insert.new.self.entries none
-    c.insert.ensures.entries c.insert.ensures.err
+    ∙ ap (λ v. is_some (row_of v c.args.client)) (c.self.view_is ∙ c.has_row.ensures.same)
+    ∙ sym c.has_row.ensures.found ∙ c.if-has_row.false) in
+    readers-kept c.insert.result c.client.inside.0 rows c.insert.new.self none
+    c.insert.ensures.rows c.insert.ensures.err
     ∙ c.self.invariant

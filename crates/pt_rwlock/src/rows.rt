@@ -1,0 +1,272 @@
+//! The rows of a lock's readers.
+
+ghost use Rattle.std.specs.Prelude.{◌≡◌, ◌==◌, ◌<◌, ◌+◌, ◌-◌, ◌^◌, length, is_some, IfSome, IsSome};
+ghost use Rattle.std.specs.Prelude.{OnErr, OnOk, Some, None, [], if◌then◌else◌, ℕ};
+ghost use Rattle.std.specs.Prelude.{slice_get};
+ghost use Rattle.std.specs.BTreeMap.{insert_entry, is_at};
+ghost use Rattle.std.specs.Map.{lookup, set_value};
+ghost use Rattle.std.specs.Ordering.{nat_cmp};
+ghost use Rattle.pt_rwlock.specs.RowPlaces.{IsInOrder, place_in, reads_for};
+
+use pt_hints::Hints;
+use std::alloc::{AllocError, Allocator};
+use std::marker::Model;
+
+/// How many rows there may be before there are hints.
+const FEW: usize = 8;
+
+// The read locks in the row at a place, if it is the client's.
+#[inline(always)]
+fn reads_at(rows: &[(u64, u8)], place: usize, client: u64) -> Option<u8>
+    ensures { result ≡ reads_for client (slice_get rows.now place) }
+{
+    match rows.get(place) {
+        Some(row) if row.0 == client => Some(row.1),
+        _ => None,
+    }
+}
+
+// How many rows are of lower clients.
+#[inline(never)]
+fn count_below(rows: &[(u64, u8)], client: u64) -> usize
+    requires { IsInOrder rows.now }
+    ensures { result ≡ place_in rows.now client }
+{
+    let mut low = 0;
+    let mut high = rows.len();
+    while low < high {
+        let middle = low + (high - low) / 2;
+        if rows[middle].0 < client {
+            low = middle + 1;
+        } else {
+            high = middle;
+        }
+    }
+    low
+}
+
+// The place of a client's row, if it is the one of its hint.
+#[inline(always)]
+fn hinted(rows: &[(u64, u8)], hint: Option<usize>, client: u64) -> Option<usize>
+    requires { IsInOrder rows.now }
+    ensures { IfSome result (λ place. place ≡ place_in rows.now client) }
+{
+    let place = hint?;
+    match reads_at(rows, place, client) {
+        Some(_) => Some(place),
+        None => None,
+    }
+}
+
+// Makes hints for so many rows and one more, if they are not few.
+fn grow<A: Allocator + Copy>(hints: &mut Hints<A>, rows: &[(u64, u8)]) -> Result<(), AllocError> {
+    if rows.len() < FEW {
+        return Ok(());
+    }
+    hints.grow_for(rows.len(), |place| {
+        let row = rows.get(place)?;
+        Some((row.0, place))
+    })
+}
+
+// Adds a row with no read locks for a client that has none, in its place.
+fn insert_at<A: Allocator + Copy>(
+    rows: &mut Vec<(u64, u8), A>,
+    place: usize,
+    client: u64,
+) -> Result<(), AllocError>
+    requires ordered { IsInOrder rows.old.items }
+    requires place { place ≡ place_in rows.old.items client }
+    requires new { lookup (is_at (nat_cmp client)) rows.old.items ≡ None }
+    ensures rows { OnOk result (rows.new.items ≡ insert_entry nat_cmp rows.old.items client 0) }
+    ensures others { OnOk result ((other : ℕ)
+        → lookup (is_at (nat_cmp other)) rows.new.items
+        ≡ (if client == other
+        then Some 0
+        else lookup (is_at (nat_cmp other)) rows.old.items)) }
+    ensures err { OnErr result (rows.new.items ≡ rows.old.items) }
+    ensures order { IsInOrder rows.new.items }
+{
+    match rows.insert(place, (client, 0)) {
+        Ok(()) => Ok(()),
+        Err(_) => Err(AllocError),
+    }
+}
+
+/// The read locks of clients, in the order of the clients' numbers.
+///
+/// A row is looked for first where the client's hint says, which may be wrong.
+#[derive(Drop)]
+pub(crate) struct Rows<A: Allocator + Copy> {
+    rows: Vec<(u64, u8), A>,
+    hints: Hints<A>,
+}
+
+impl<A: Allocator + Copy> Model for Rows<A> {
+    ghost use Rattle.std.specs.Prelude.{List, ℕ};
+    ghost use Rattle.pt_rwlock.specs.RowPlaces.{IsInOrder};
+
+    ghost Value = { List (ℕ × ℕ) };
+
+    ghost view = { λ r. r.rows.items };
+
+    ghost invariant = { λ r. IsInOrder r.rows.items };
+}
+
+impl<A: Allocator + Copy> Rows<A> {
+    /// No rows. It takes no memory.
+    pub(crate) fn new(alloc: A) -> Self
+        ensures { result ≡ [] }
+    {
+        Rows {
+            rows: Vec::new(alloc),
+            hints: Hints::new(alloc),
+        }
+    }
+
+    /// Each row: its client's number and its read locks.
+    pub(crate) fn as_slice(&self) -> &[(u64, u8)]
+        ensures { result.now ≡ self.now }
+    {
+        self.rows.as_slice()
+    }
+
+    /// How many rows there are.
+    pub(crate) fn len(&self) -> usize
+        ensures len { result ≡ length self.now }
+        ensures small { result < 2 ^ 63 }
+        ensures ordered { IsInOrder self.now }
+    {
+        self.rows.len()
+    }
+
+    // The place of a client's row, or the one in which it would be.
+    #[inline(always)]
+    fn place_of(&self, client: u64) -> usize
+        ensures { result ≡ place_in self.now client }
+    {
+        let rows = self.rows.as_slice();
+        match hinted(rows, self.hints.get(client), client) {
+            Some(place) => place,
+            None => count_below(rows, client),
+        }
+    }
+
+    // The same, found without a hint and noted as one.
+    #[inline(never)]
+    fn search(&mut self, client: u64) -> usize
+        ensures place { result ≡ place_in self.old client }
+        ensures same { self.new ≡ self.old }
+    {
+        let place = count_below(self.rows.as_slice(), client);
+        self.hints.set(client, place);
+        place
+    }
+
+    // The same, which is noted as the client's hint.
+    #[inline(always)]
+    fn note_place_of(&mut self, client: u64) -> usize
+        ensures place { result ≡ place_in self.old client }
+        ensures same { self.new ≡ self.old }
+    {
+        match hinted(self.rows.as_slice(), self.hints.get(client), client) {
+            Some(place) => place,
+            None => self.search(client),
+        }
+    }
+
+    /// The read locks of a client, if it has a row.
+    #[inline(always)]
+    pub(crate) fn get(&self, client: u64) -> Option<u8>
+        ensures { result ≡ lookup (is_at (nat_cmp client)) self.now }
+    {
+        reads_at(self.rows.as_slice(), self.place_of(client), client)
+    }
+
+    /// Whether a client has a row. Its place is noted.
+    #[inline(always)]
+    pub(crate) fn has(&mut self, client: u64) -> bool
+        ensures found { result ≡ is_some (lookup (is_at (nat_cmp client)) self.old) }
+        ensures same { self.new ≡ self.old }
+    {
+        let place = self.note_place_of(client);
+        reads_at(self.rows.as_slice(), place, client).is_some()
+    }
+
+    /// Adds a row with no read locks for a client that has none.
+    pub(crate) fn insert(&mut self, client: u64) -> Result<(), AllocError>
+        requires { lookup (is_at (nat_cmp client)) self.old ≡ None }
+        ensures rows { OnOk result (self.new ≡ insert_entry nat_cmp self.old client 0) }
+        ensures others { OnOk result ((other : ℕ)
+            → lookup (is_at (nat_cmp other)) self.new
+            ≡ (if client == other then Some 0 else lookup (is_at (nat_cmp other)) self.old)) }
+        ensures err { OnErr result (self.new ≡ self.old) }
+    {
+        grow(&mut self.hints, self.rows.as_slice())?;
+        let place = count_below(self.rows.as_slice(), client);
+        insert_at(&mut self.rows, place, client)?;
+        self.hints.set(client, place);
+        Ok(())
+    }
+
+    // The read locks in a client's row, which is at this place.
+    #[inline(always)]
+    fn reads(&self, place: usize, client: u64) -> u8
+        requires place { place ≡ place_in self.now client }
+        requires there { IsSome (lookup (is_at (nat_cmp client)) self.now) }
+        ensures { lookup (is_at (nat_cmp client)) self.now ≡ Some result }
+    {
+        reads_at(self.rows.as_slice(), place, client).unwrap()
+    }
+
+    // Changes a client's row, which is at this place.
+    #[inline(always)]
+    fn set(&mut self, place: usize, client: u64, reads: u8)
+        requires place { place ≡ place_in self.old client }
+        requires there { IsSome (lookup (is_at (nat_cmp client)) self.old) }
+        ensures rows { self.new ≡ set_value (is_at (nat_cmp client)) self.old reads }
+        ensures others { (other : ℕ)
+            → lookup (is_at (nat_cmp other)) self.new
+            ≡ (if client == other then Some reads else lookup (is_at (nat_cmp other)) self.old) }
+    {
+        self.rows[place] = (client, reads);
+    }
+
+    /// Adds one to a row, and returns what it was.
+    #[inline(always)]
+    pub(crate) fn add_read(&mut self, client: u64) -> u8
+        requires few { IfSome (lookup (is_at (nat_cmp client)) self.old) (λ reads. reads < 255) }
+        requires there { IsSome (lookup (is_at (nat_cmp client)) self.old) }
+        ensures before { lookup (is_at (nat_cmp client)) self.old ≡ Some result }
+        ensures rows { self.new ≡ set_value (is_at (nat_cmp client)) self.old (result + 1) }
+        ensures others { (other : ℕ)
+            → lookup (is_at (nat_cmp other)) self.new
+            ≡ (if client == other
+            then Some (result + 1)
+            else lookup (is_at (nat_cmp other)) self.old) }
+    {
+        let place = self.note_place_of(client);
+        let before = self.reads(place, client);
+        self.set(place, client, before + 1);
+        before
+    }
+
+    /// Takes one off a row, and returns what it was.
+    #[inline(always)]
+    pub(crate) fn take_read(&mut self, client: u64) -> u8
+        requires some { IfSome (lookup (is_at (nat_cmp client)) self.old) (λ reads. 0 < reads) }
+        requires there { IsSome (lookup (is_at (nat_cmp client)) self.old) }
+        ensures before { lookup (is_at (nat_cmp client)) self.old ≡ Some result }
+        ensures rows { self.new ≡ set_value (is_at (nat_cmp client)) self.old (result - 1) }
+        ensures others { (other : ℕ)
+            → lookup (is_at (nat_cmp other)) self.new
+            ≡ (if client == other
+            then Some (result - 1)
+            else lookup (is_at (nat_cmp other)) self.old) }
+    {
+        let place = self.note_place_of(client);
+        let before = self.reads(place, client);
+        self.set(place, client, before - 1);
+        before
+    }
+}
