@@ -12,6 +12,7 @@ use crate::verbs::is_same;
 use pt_types::{Clock, Deadline, Moment, MutexKind, Name, Priority};
 
 // A name.
+#[inline(always)]
 fn read_name(field: &[u8]) -> Option<Name>
     ensures { result ≡ name_of field.now }
 {
@@ -71,6 +72,7 @@ fn only_field<'a>(mut args: Fields<'a>) -> Option<&'a [u8]>
 }
 
 /// A name, and no more. No name has a space, so what is left is one field or no name.
+#[inline(always)]
 #[tactic(auto, using(crate::proofs::WholeLemmas::whole_name))]
 pub fn only_name(args: Fields) -> Option<Name>
     ensures { result ≡ alone name_of args.entry }
@@ -95,6 +97,7 @@ pub fn only_priority(args: Fields) -> Option<Priority>
 }
 
 // Seconds and nanoseconds, and no more.
+#[inline(always)]
 fn only_time(mut args: Fields) -> Option<(u64, u64)>
     ensures value { result ≡ two_numbers args.entry }
     ensures fits { IfSome result (λ time. IsNumber time.0 × IsNumber time.1) }
@@ -105,6 +108,7 @@ fn only_time(mut args: Fields) -> Option<(u64, u64)>
 }
 
 /// A moment, and no more.
+#[inline(always)]
 pub fn only_moment(args: Fields) -> Option<Moment>
     ensures { result ≡ option_and_then moment_of (two_numbers args.entry) }
 {
@@ -113,6 +117,7 @@ pub fn only_moment(args: Fields) -> Option<Moment>
 }
 
 // A deadline, and no more.
+#[inline(always)]
 fn only_deadline(args: Fields) -> Option<Deadline>
     ensures { result ≡ one_deadline args.entry }
 {
@@ -149,6 +154,7 @@ pub fn name_clock_and_deadline(mut args: Fields) -> Option<(Name, (Clock, Deadli
 }
 
 /// Two names.
+#[inline(always)]
 pub fn two_names(mut args: Fields) -> Option<(Name, Name)>
     ensures { result ≡ first_then name_of (alone name_of) args.entry }
 {

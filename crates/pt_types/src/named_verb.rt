@@ -31,6 +31,7 @@ pub enum NamedVerb {
 impl NamedVerb {
     /// The word and the name of a call; None if other arguments follow its word.
     /// [XSH, the call's page]
+    #[inline(always)]
     pub fn of(call: &Call) -> Option<(NamedVerb, &Name)>
         ensures found { IfSome result (λ p. call_on p.0 p.1.now ≡ call.now) }
         ensures exact { (verb : NamedVerb) (name : List ℕ) →
