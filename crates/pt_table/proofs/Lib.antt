@@ -14,10 +14,10 @@ mod Named
 mod Links
 -- Chained: what the numbers of a chain lead to, as one is put in or taken out
 mod Chained
--- Places: where a number is listed, and what is left once it is added or taken out
-mod Places
 -- Struck: entries of which some are struck out, and the others
 mod Struck
+-- Rising: entries whose numbers rise, and where one of them is
+mod Rising
 -- Entered: a number put first in a chain
 mod Entered
 -- Taken: a number taken out of a chain

@@ -1,13 +1,15 @@
 -- Struck: entries of which some are struck out, and the others.
 use Rattle.std.proofs.Common.{◌≡◌, ◌≤◌, ◌+◌, ◌&&◌, ◌==◌, ◌∙◌, ℕ, zero, suc, Bool, true, false}
 use Rattle.std.proofs.Common.{true≢false, cond, nat_eq, List, [], ◌∷◌, ◌++◌, length, drop, arith}
-use Rattle.std.proofs.Common.{refl, ap, sym, subst, Option, None, Some, is_some, IsSome, IfSome}
+use Rattle.std.proofs.Common.{refl, ap, sym, subst, Option, None, Some, is_some, IsSome, get_or}
 use Rattle.std.proofs.Math.ListN.{set}
 use Rattle.std.specs.Prelude.{slice_get}
+use Rattle.std.specs.Bool.{OnFalse, OnTrue}
 use Rattle.std.specs.List.{filter, cons_option}
 use Rattle.std.specs.Option.{option_and_then}
 use Rattle.std.specs.Map.{lookup, remove_entry}
 use Rattle.std.proofs.lemmas.Bool.{eqb-true, eq-eqb}
+use Rattle.std.proofs.lemmas.Option.{get_or_from_slice_get}
 use Rattle.pt_table.specs.Slots.{left_of, with_slot, Distinct, IsLeftAt}
 use Rattle.pt_table.proofs.Lookups.{some_inj, none_some}
 use Rattle.pt_table.proofs.Chained.{differs}
@@ -75,13 +77,10 @@ found-left n s (suc i) ((m, Some t) ∷ es) once at =
     ap (λ b. cond b (Some t) (lookup (nat_eq n) (left_of es))) (other-first n s i m es once.0 at)
     ∙ found-left n s i es once.1 at
 
--- and so has an entry of the number, if it has one
-pub found-if-left : (n i : ℕ) (es : List (ℕ × Option ℕ)) → Distinct (left_of es) → (m : ℕ)
-    (slot : Option ℕ) → slice_get es i ≡ Some (m, slot) → m ≡ n
-    → IfSome slot (λ s. lookup (nat_eq n) (left_of es) ≡ Some s)
-found-if-left n i es once m None at same = tt
-found-if-left n i es once m (Some s) at same =
-    found-left n s i es once (at ∙ ap (λ k. Some (k, Some s)) same)
+-- and is what is read there
+pub read-left : (n i : ℕ) (es : List (ℕ × Option ℕ)) (l : IsLeftAt es n i)
+    → get_or es i (0, None) ≡ (n, Some l.0)
+read-left n i es l = get_or_from_slice_get es i (n, Some l.0) (0, None) l.1
 
 -- the others are left once a number is struck out
 pub left-struck : (n s i : ℕ) (es : List (ℕ × Option ℕ)) → Distinct (left_of es)
@@ -162,9 +161,24 @@ past-other n i es e at other =
         sym (ap (lookup (nat_eq n)) (left-from i es (m, Some s) at)
         ∙ ap (λ b. cond b (Some s) (lookup (nat_eq n) (left_of (drop (suc i) es)))) apart)
 
--- a number that is listed is not past the end
-pub not-past : (n i : ℕ) (es : List (ℕ × Option ℕ)) → length es ≤ i
+-- by the outcome of the test
+pub left-there : (n i : ℕ) (es : List (ℕ × Option ℕ)) (e : ℕ × Option ℕ)
+    → slice_get es i ≡ Some e → (b : Bool) → b ≡ ((e.0 == n) && is_some e.1)
+    → OnTrue b (IsLeftAt es n i)
+left-there n i es e at true is = left-at n i es e at (sym is)
+left-there n i es e at false is = tt
+
+pub left-other : (n i : ℕ) (es : List (ℕ × Option ℕ)) (e : ℕ × Option ℕ)
+    → slice_get es i ≡ Some e → (b : Bool) → b ≡ ((e.0 == n) && is_some e.1)
+    → OnFalse b (IsLeftAt es n i → ⊥)
+left-other n i es e at true is = tt
+left-other n i es e at false is = λ l.
+    let same : e ≡ (n, Some l.0) = some_inj (sym at ∙ l.1) in
+    let test = ap (λ (x : ℕ × Option ℕ). (x.0 == n) && is_some x.1) same in
+    true≢false (sym (ap (λ b. b && true) (eq-eqb n n refl)) ∙ sym test ∙ sym is)
+
+-- past the end no number is listed
+pub past-end : (n i : ℕ) (es : List (ℕ × Option ℕ)) → length es ≤ i
     → lookup (nat_eq n) (left_of (drop i es)) ≡ lookup (nat_eq n) (left_of es)
-    → IsSome (lookup (nat_eq n) (left_of es)) → ⊥
-not-past n i es past same listed =
-    true≢false (sym listed ∙ ap is_some (sym same ∙ ap (lookup (nat_eq n)) (none-from i es past)))
+    → lookup (nat_eq n) (left_of es) ≡ None
+past-end n i es past same = sym same ∙ ap (lookup (nat_eq n)) (none-from i es past)

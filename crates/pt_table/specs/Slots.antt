@@ -1,6 +1,8 @@
 -- Slots: where rows are, and the list of rows that they make.
-use Rattle.std.specs.Prelude.{◌≡◌, ◌≢◌, ◌≤◌, ◌+◌, ℕ, List, [], ◌∷◌, Option, Some, None, IsSome}
+use Rattle.std.specs.Prelude.{◌≡◌, ◌≢◌, ◌≤◌, ◌<◌, ◌+◌, ℕ, Bool, List, [], ◌∷◌}
+use Rattle.std.specs.Prelude.{Option, Some, None, IsSome}
 use Rattle.std.specs.Prelude.{length, nat_eq, filter_map, slice_get, slice_index_or, slice_set}
+use Rattle.std.specs.Bool.{OnTrue}
 use Rattle.std.specs.Option.{option_and_then, option_map}
 use Rattle.std.specs.Map.{lookup, remove_entry}
 
@@ -26,15 +28,21 @@ abbrev pub IsLeftAt : List (ℕ × Option ℕ) → ℕ → ℕ → Type 0
 IsLeftAt entries number index =
     (slot : ℕ) × (slice_get entries index ≡ Some (number, Some slot))
 
--- each number has the same slot in both lists, and the second has none twice
-abbrev pub AreNumbers : List (ℕ × ℕ) → List (ℕ × ℕ) → Type 0
-AreNumbers slots order =
-    ((n : ℕ) → lookup (nat_eq n) slots ≡ lookup (nat_eq n) order) × Distinct order
+-- a number is below that of each entry
+abbrev pub IsBelowAll : List (ℕ × Option ℕ) → ℕ → Type 0
+IsBelowAll [] n = Unit {0}
+IsBelowAll (e ∷ es) n = (n < e.0) × IsBelowAll es n
 
--- the same of those that are not struck out, and so many are
-abbrev pub AreListed : List (ℕ × ℕ) → List (ℕ × Option ℕ) → ℕ → Type 0
-AreListed slots order struck =
-    AreNumbers slots (left_of order) × (length order ≡ struck + length (left_of order))
+-- the numbers of the entries rise, those that are struck out too
+abbrev pub Rises : List (ℕ × Option ℕ) → Type 0
+Rises [] = Unit {0}
+Rises (e ∷ es) = IsBelowAll es e.0 × Rises es
+
+-- none that is left is listed twice, so many are struck out, and the numbers rise if it is said so
+pub record AreListed (order : List (ℕ × Option ℕ)) (struck : ℕ) (rises : Bool) : Type 0 where
+  pub distinct : Distinct (left_of order)
+  pub counted : length order ≡ struck + length (left_of order)
+  pub rising : OnTrue rises (Rises order)
 
 -- the numbers with their slots, in the order in which they were added, and for how many more there
 -- is room

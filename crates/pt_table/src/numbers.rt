@@ -1,16 +1,16 @@
 //! The numbers of the rows, and the slot of each row.
 
-ghost use Rattle.std.specs.Prelude.{◌≡◌, ◌<◌, ◌==◌, ◌+◌, ◌&&◌, ◌++◌, [], ◌∷◌, is_some, None};
-ghost use Rattle.std.specs.Prelude.{IsSome, IfNone, IfSome, Some, OnOk, OnSome, length, vec_len};
+ghost use Rattle.std.specs.Prelude.{◌≡◌, ◌==◌, ◌<◌, ◌+◌, ◌&&◌, ◌++◌, ℕ, [], ◌∷◌, is_some, Option};
+ghost use Rattle.std.specs.Prelude.{IfNone, IfSome, None, Some, OnOk, OnSome, length, vec_len};
 ghost use Rattle.std.specs.Prelude.{nat_eq, slice_get};
+ghost use Rattle.std.specs.Bool.{OnFalse, OnTrue};
 ghost use Rattle.std.specs.Option.{option_and_then};
 ghost use Rattle.std.specs.Map.{lookup};
 ghost use Rattle.pt_table.specs.Slots.{left_of, with_slot, without_number, Distinct, IsLeftAt};
+ghost use Rattle.pt_table.specs.Slots.{Rises};
 
 use crate::slot_hints::SlotHints;
-use indexmap::IndexMap;
 use std::alloc::{AllocError, Allocator};
-use std::hash::{BuildHasherDefault, FoldHasher};
 use std::marker::Model;
 
 /// A number in the order in which it was added, with the slot of its row; None if it was taken out.
@@ -18,8 +18,9 @@ type Listed = (u64, Option<usize>);
 
 /// The numbers in the order in which they were added, each with the slot of its row.
 ///
-/// A number's row is first looked for in the slot that its hint gives. Else numbers that follow one
-/// another are found by their distance from the first, and any other by its hash.
+/// A number's row is first looked for in the slot that its hint gives. Else the number is found in
+/// the order: where it was noted, or by a binary search if the numbers rise, as those that the
+/// server adds do, and by a look at each entry if not.
 ///
 /// A number that is taken out is struck out in the order, and those that are struck out leave it
 /// once they are more than the others: to move all entries after each one that is taken out would
@@ -29,25 +30,25 @@ pub(crate) struct Numbers<A: Allocator + Copy> {
     order: Vec<(u64, Option<usize>), A>,
     /// How many entries of the order are struck out.
     struck: usize,
+    /// Whether the numbers of the order rise, those that are struck out too.
+    rises: bool,
     hints: SlotHints,
-    /// Where in the order a number is looked for first, to be struck out.
+    /// Where in the order a number is looked for first.
     places: SlotHints,
-    slots: IndexMap<u64, usize, BuildHasherDefault<FoldHasher>, A>,
 }
 
 impl<A: Allocator + Copy> Model for Numbers<A> {
-    ghost use Rattle.std.specs.Prelude.{◌-◌, min, vec_capacity, vec_len};
-    ghost use Rattle.indexmap.specs.IndexMap.{spare};
+    ghost use Rattle.std.specs.Prelude.{◌-◌, vec_capacity, vec_len};
     ghost use Rattle.pt_table.specs.Slots.{left_of, AreListed, Numbering};
 
     ghost Value = { Numbering };
 
     ghost view = { λ n. record {
       entries = left_of n.order.items;
-      room = min (spare n.slots) (vec_capacity n.order - vec_len n.order);
+      room = vec_capacity n.order - vec_len n.order;
     } };
 
-    ghost invariant = { λ n. AreListed n.slots.entries n.order.items n.struck };
+    ghost invariant = { λ n. AreListed n.order.items n.struck n.rises };
 }
 
 // Whether an entry is the one of a number, and is not struck out.
@@ -78,62 +79,90 @@ fn entry_at(entries: &[Listed], index: usize) -> Option<Listed>
     }
 }
 
-// The slot of a number, if it is listed at an index.
-fn slot_at(entries: &[Listed], index: usize, number: u64) -> Option<usize>
-    requires { Distinct (left_of entries.now) }
-    ensures { IfSome result (λ slot. lookup (nat_eq number) (left_of entries.now) ≡ Some slot) }
+// Whether the entry at an index is the one of a number, and is not struck out.
+#[inline(always)]
+fn is_left_at(entries: &[Listed], index: usize, number: u64) -> bool
+    ensures there { OnTrue result (IsLeftAt entries.now number index) }
+    ensures other { OnFalse result (IsLeftAt entries.now number index → ⊥) }
 {
     match entry_at(entries, index) {
-        Some((listed, slot)) if listed == number => slot,
-        _ => None,
+        Some(listed) => is_left(&listed, number),
+        None => false,
     }
 }
 
-// The slot of a number that is listed as far after the first entry as it is above its number.
-fn slot_by_distance(entries: &[Listed], number: u64) -> Option<usize>
-    requires { Distinct (left_of entries.now) }
-    ensures { IfSome result (λ slot. lookup (nat_eq number) (left_of entries.now) ≡ Some slot) }
+// The slot of a number that is listed at an index.
+fn slot_at(entries: &[Listed], index: usize, number: u64) -> usize
+    requires listed { IsLeftAt entries.now number index }
+    requires once { Distinct (left_of entries.now) }
+    ensures { lookup (nat_eq number) (left_of entries.now) ≡ Some result }
 {
-    let (first, _) = entry_at(entries, 0)?;
-    let distance = number.checked_sub(first)?;
-    slot_at(entries, distance as usize, number)
+    entries[index].1.unwrap()
 }
 
-// The index of a number that is listed, found by a look at each entry.
-fn scan(entries: &[Listed], number: u64) -> usize
-    requires { IsSome (lookup (nat_eq number) (left_of entries.now)) }
-    ensures { IsLeftAt entries.now number result }
+// The index of a number, found by a look at each entry.
+fn scan(entries: &[Listed], number: u64) -> Option<usize>
+    ensures found { IfSome result (IsLeftAt entries.now number) }
+    ensures absent { IfNone result (lookup (nat_eq number) (left_of entries.now) ≡ None) }
 {
     for i in 0..entries.len() {
         if is_left(&entries[i], number) {
-            return i;
+            return Some(i);
         }
     }
-    unreachable!()
+    None
 }
 
-// The index of a number that is listed. It is found by a binary search if the numbers rise.
-#[cold]
-#[inline(never)]
-fn search(entries: &[Listed], number: u64) -> usize
-    requires { IsSome (lookup (nat_eq number) (left_of entries.now)) }
-    ensures { IsLeftAt entries.now number result }
+// The index of a number among numbers that rise.
+fn search(entries: &[Listed], number: u64) -> Option<usize>
+    requires { Rises entries.now }
+    ensures found { IfSome result (IsLeftAt entries.now number) }
+    ensures absent { IfNone result (lookup (nat_eq number) (left_of entries.now) ≡ None) }
 {
     let near = entries.partition_point(|entry| entry.0 < number);
-    match entry_at(entries, near) {
-        Some(listed) if is_left(&listed, number) => near,
-        _ => scan(entries, number),
+    if is_left_at(entries, near, number) {
+        Some(near)
+    } else {
+        None
     }
 }
 
-// The index of a number that is listed. It is looked for at this index first.
-fn index_of(entries: &[Listed], hint: usize, number: u64) -> usize
-    requires { IsSome (lookup (nat_eq number) (left_of entries.now)) }
-    ensures { IsLeftAt entries.now number result }
+// The index of a number that is not where it is looked for first.
+#[cold]
+#[inline(never)]
+fn index_far(entries: &[Listed], rises: bool, number: u64) -> Option<usize>
+    requires { OnTrue rises (Rises entries.now) }
+    ensures found { IfSome result (IsLeftAt entries.now number) }
+    ensures absent { IfNone result (lookup (nat_eq number) (left_of entries.now) ≡ None) }
 {
-    match entry_at(entries, hint) {
-        Some(listed) if is_left(&listed, number) => hint,
-        _ => search(entries, number),
+    if rises {
+        search(entries, number)
+    } else {
+        scan(entries, number)
+    }
+}
+
+// The index of a number. It is looked for at this index first.
+#[inline(always)]
+fn index_of(entries: &[Listed], hint: usize, rises: bool, number: u64) -> Option<usize>
+    requires { OnTrue rises (Rises entries.now) }
+    ensures found { IfSome result (IsLeftAt entries.now number) }
+    ensures absent { IfNone result (lookup (nat_eq number) (left_of entries.now) ≡ None) }
+{
+    if is_left_at(entries, hint, number) {
+        return Some(hint);
+    }
+    index_far(entries, rises, number)
+}
+
+// Whether the numbers rise with this one after them.
+fn rises_with(entries: &[Listed], rises: bool, number: u64) -> bool
+    requires { OnTrue rises (Rises entries.now) }
+    ensures { OnTrue result ((slot : Option ℕ) → Rises (entries.now ++ (number, slot) ∷ [])) }
+{
+    match entries.last() {
+        Some(last) => last.0 < number && rises,
+        None => true,
     }
 }
 
@@ -153,16 +182,23 @@ fn nth_left(entries: &[Listed], index: usize) -> Option<(u64, usize)>
     None
 }
 
-// Strikes a number out that is listed.
-fn strike<A: Allocator + Copy>(order: &mut Vec<(u64, Option<usize>), A>, hint: usize, number: u64)
-    requires listed { IsSome (lookup (nat_eq number) (left_of order.old.items)) }
+// Strikes out a number that is listed at an index, and returns its slot.
+fn strike<A: Allocator + Copy>(
+    order: &mut Vec<(u64, Option<usize>), A>,
+    index: usize,
+    number: u64,
+) -> usize
+    requires listed { IsLeftAt order.old.items number index }
     requires once { Distinct (left_of order.old.items) }
+    ensures slot { lookup (nat_eq number) (left_of order.old.items) ≡ Some result }
     ensures left { left_of order.new.items ≡ without_number (left_of order.old.items) number }
     ensures count { length (left_of order.old.items) ≡ length (left_of order.new.items) + 1 }
     ensures len { vec_len order.new ≡ vec_len order.old }
+    ensures rises { Rises order.old.items → Rises order.new.items }
 {
-    let index = index_of(order.as_slice(), hint, number);
+    let slot = slot_at(order.as_slice(), index, number);
     order[index] = (number, None);
+    slot
 }
 
 // Notes where in the order each number is.
@@ -176,6 +212,7 @@ fn note_places(places: &mut SlotHints, entries: &[Listed]) {
 fn pack<A: Allocator + Copy>(order: &mut Vec<(u64, Option<usize>), A>)
     ensures left { left_of order.new.items ≡ left_of order.old.items }
     ensures len { vec_len order.new ≡ length (left_of order.old.items) }
+    ensures rises { Rises order.old.items → Rises order.new.items }
 {
     order.retain(|entry| entry.1.is_some());
 }
@@ -190,6 +227,7 @@ fn pack_if_sparse<A: Allocator + Copy>(
     requires { vec_len order.old ≡ struck + length (left_of order.old.items) }
     ensures left { left_of order.new.items ≡ left_of order.old.items }
     ensures len { vec_len order.new ≡ result + length (left_of order.old.items) }
+    ensures rises { Rises order.old.items → Rises order.new.items }
 {
     if struck <= order.len() - struck {
         return struck;
@@ -207,9 +245,9 @@ impl<A: Allocator + Copy> Numbers<A> {
         Numbers {
             order: Vec::new(alloc),
             struck: 0,
+            rises: true,
             hints: SlotHints::new(),
             places: SlotHints::new(),
-            slots: IndexMap::new(alloc),
         }
     }
 
@@ -230,13 +268,9 @@ impl<A: Allocator + Copy> Numbers<A> {
     pub(crate) fn get(&self, number: u64) -> Option<usize>
         ensures value { result ≡ lookup (nat_eq number) self.now.entries }
     {
-        if let Some(slot) = slot_by_distance(self.order.as_slice(), number) {
-            return Some(slot);
-        }
-        match self.slots.get(&number) {
-            Some(slot) => Some(*slot),
-            None => None,
-        }
+        let hint = self.places.get(number);
+        let index = index_of(self.order.as_slice(), hint, self.rises, number)?;
+        Some(slot_at(self.order.as_slice(), index, number))
     }
 
     /// The number at an index, and its slot.
@@ -254,8 +288,7 @@ impl<A: Allocator + Copy> Numbers<A> {
         ensures entries { self.new.entries ≡ self.old.entries }
         ensures room { OnOk result (0 < self.new.room) }
     {
-        self.order.reserve(1)?;
-        self.slots.reserve(1)
+        self.order.reserve(1)
     }
 
     /// Adds a new number with its slot, if there is room.
@@ -266,8 +299,8 @@ impl<A: Allocator + Copy> Numbers<A> {
     {
         self.hints.set(number, slot);
         self.places.set(number, self.order.len());
+        self.rises = rises_with(self.order.as_slice(), self.rises, number);
         self.order.push_reserved((number, Some(slot)));
-        self.slots.insert(number, slot).unwrap();
     }
 
     /// Takes a number out, and returns its slot.
@@ -276,8 +309,9 @@ impl<A: Allocator + Copy> Numbers<A> {
         ensures kept { IfNone result (self.new.entries ≡ self.old.entries) }
         ensures left { OnSome result (self.new.entries ≡ without_number self.old.entries number) }
     {
-        let slot = self.slots.swap_remove(&number)?;
-        strike(&mut self.order, self.places.get(number), number);
+        let hint = self.places.get(number);
+        let index = index_of(self.order.as_slice(), hint, self.rises, number)?;
+        let slot = strike(&mut self.order, index, number);
         self.struck = pack_if_sparse(&mut self.order, &mut self.places, self.struck + 1);
         Some(slot)
     }

@@ -2,17 +2,19 @@ ghost use Rattle.std.specs.Prelude.{◌≡◌, ◌==◌};
 
 use crate::key::{TimerKey, sooner};
 use crate::orders::Orders;
+use indexmap::IndexMap;
 use pt_types::{Clock, Deadline, Moment, Refusal};
 use std::alloc::{Allocator, Global};
-use std::collections::BTreeMap;
+use std::hash::{BuildHasherDefault, FoldHasher};
 use std::marker::Model;
 
 /// Deadlines by the places of their calls. Only `set` takes memory. Each call takes time that
-/// grows with the logarithm of how many are set.
+/// grows with the logarithm of how many are set, but for a `set` now and then that makes the map of
+/// the places larger.
 #[derive(Drop)]
 pub struct Timers<A: Allocator + Copy = Global> {
     /// By the place: the clock, and the nanoseconds.
-    places: BTreeMap<u64, (Clock, u64), A>,
+    places: IndexMap<u64, (Clock, u64), BuildHasherDefault<FoldHasher>, A>,
     orders: Orders<A>,
 }
 
@@ -40,7 +42,7 @@ impl<A: Allocator + Copy> Timers<A> {
         ensures { (p : ℕ) → deadline_at result p ≡ None }
     {
         Timers {
-            places: BTreeMap::new(alloc),
+            places: IndexMap::new(alloc),
             orders: Orders::new(alloc),
         }
     }
@@ -86,7 +88,7 @@ impl<A: Allocator + Copy> Timers<A> {
         ensures { (p : ℕ)
             → deadline_at self.new p ≡ (if place == p then None else deadline_at self.old p) }
     {
-        if let Some((clock, nanos)) = self.places.remove(&place) {
+        if let Some((clock, nanos)) = self.places.swap_remove(&place) {
             self.orders.remove(clock, TimerKey { nanos, place });
         }
     }

@@ -1,6 +1,7 @@
-use Rattle.std.proofs.Common.{◌∙◌, ap, is_some, length, rules}
+use Rattle.std.proofs.Common.{◌∙◌, ap, is_some, length, rules, subst, sym}
 use Rattle.std.proofs.lemmas.Fn.{filter_same}
-use Rattle.pt_table.specs.Slots.{left_of}
+use Rattle.pt_table.specs.Slots.{left_of, Rises}
+use Rattle.pt_table.proofs.Rising.{rises-packed}
 use Rattle.pt_table.proofs.Struck.{left-packed, length-packed}
 use Rattle.pt_table.proofs.numbers.pack.Goals as goal
 
@@ -15,3 +16,9 @@ returns-clause-len g c =
     let packed = filter_same _ (λ e. is_some e.1) _ (λ x b f k. search rules) _ _
     c.retain.ensures.filtered in
     c.retain.new.self.ok.0 ∙ ap length packed ∙ length-packed c.args.order.now.items
+
+pub returns-clause-rises : goal.returns-clause-rises
+returns-clause-rises g c = λ rise.
+    let packed = filter_same _ (λ e. is_some e.1) _ (λ x b f k. search rules) _ _
+    c.retain.ensures.filtered in
+    subst Rises (sym packed) (rises-packed c.args.order.now.items rise)

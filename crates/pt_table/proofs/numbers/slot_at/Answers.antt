@@ -1,9 +1,17 @@
-use Rattle.std.proofs.Common.{◌∙◌, sym}
-use Rattle.pt_table.proofs.Struck.{found-if-left}
+use Rattle.std.proofs.Common.{ap, is_some}
+use Rattle.pt_table.proofs.Struck.{found-left, read-left}
 use Rattle.pt_table.proofs.numbers.slot_at.Goals as goal
 
-pub returns-in-Some : goal.returns-in-Some
-returns-in-Some c =
-    found-if-left c.args.number c.args.index c.args.entries.now c.requires
-    c.in-Some.listed c.in-Some.slot (sym c.entry_at.ensures ∙ c.in-Some.is)
-    c.if-listed-number.true
+pub unwrap-requires : goal.unwrap-requires
+unwrap-requires c =
+    ap (λ e. is_some e.1) (read-left c.args.number c.args.index c.args.entries.now
+    c.requires.listed)
+
+pub returns : goal.returns
+returns c =
+    let found = found-left c.args.number c.requires.listed.0 c.args.index c.args.entries.now
+    c.requires.once c.requires.listed.1 in
+    let there = ap (λ e. e.1) (read-left c.args.number c.args.index c.args.entries.now
+    c.requires.listed) in
+    let slot = c.unwrap.ensures in
+    cc

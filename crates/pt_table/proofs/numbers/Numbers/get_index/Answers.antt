@@ -9,7 +9,7 @@ pub returns : goal.returns
 returns g c =
     let items = c.self.inside.order.items in
     let whole : length items ≡ length (left_of items) =
-    omega (arith, c.if-self-gt0.false, c.self.invariant.1) in
+    omega (arith, c.if-self-gt0.false, c.self.invariant.counted) in
     c.with_slot.ensures
     ∙ ap (option_and_then with_slot)
     (c.entry_at.ensures ∙ ap (λ es. slice_get es c.args.index) c.as_slice-2.ensures.value)

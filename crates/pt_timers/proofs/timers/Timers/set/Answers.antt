@@ -20,7 +20,7 @@ invariant_of-self-in-Ok g c =
     one-more t.places.entries (due_at t.orders) c.self.invariant c.args.clock nanos c.args.place
     unset c.insert-2.new.self.entries (due_at c.insert.new.self) c.args.deadline
     (sym c.nanos-nanos.ensures) c.requires.good c.in_ok-insert.ensures.ok
-    (as-changed t.places c.insert-2.new.self c.args.place (Some (c.args.clock, nanos))
+    (as-changed t.places.entries c.insert-2.new.self.entries c.args.place (Some (c.args.clock, nanos))
     c.in-Ok.ensures.updates.0)
 
 -- the second growth is refused
@@ -38,7 +38,7 @@ pub returns-in-Ok-clause-ok : goal.returns-in-Ok-clause-ok
 returns-in-Ok-clause-ok g c p =
     let now = c.args.self.now in
     let nanos = c.nanos-nanos.result in
-    as-changed c.self.inside.places c.insert-2.new.self c.args.place
+    as-changed c.self.inside.places.entries c.insert-2.new.self.entries c.args.place
     (Some (c.args.clock, nanos)) c.in-Ok.ensures.updates.0 p
     ∙ (ap (λ ts. cond (c.args.place == p) (Some (c.args.clock, nanos)) (deadline_at ts p))
     c.self.view_is
