@@ -18,7 +18,7 @@ const MOST_OF_DONE: usize = 18;
 // How many bytes a word and a newline have at most.
 const MOST_OF_WORD: usize = 16;
 
-// How many bytes are behind the client at most, if the number has few digits.
+// How many bytes follow the client at most, if the number has few digits.
 const MOST_BEHIND: usize = 23;
 
 /// What a line is answered: the outcome of an accepted call, or why it is not accepted.
