@@ -28,6 +28,7 @@ fn as_four_digits(bytes: [u8; 4]) -> u64 {
 
 /// The key of a name. Names that end in consecutive numbers have consecutive keys, but for a step
 /// in a few rows of them.
+#[inline(always)]
 pub fn key_of(bytes: &[u8]) -> u64 {
     let end = match bytes.last_chunk::<4>() {
         Some(last) => as_four_digits(*last),

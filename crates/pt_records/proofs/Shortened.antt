@@ -3,13 +3,14 @@ use Rattle.std.proofs.Common.{ℕ, zero, suc, ◌≡◌, ◌-◌, List, [], ◌�
 use Rattle.std.proofs.Common.{take, drop, slice_index_or, refl, sym, ap, ◌∙◌, arith, subst}
 use Rattle.std.proofs.Common.{length-append, length-drop}
 use Rattle.std.specs.List.{All}
-use Rattle.std.proofs.lemmas.List.{get_or_append_left, map-append, drop-map}
+use Rattle.std.proofs.lemmas.List.{append-nil, get_or_append_left, map-append, drop-map}
 use Rattle.std.proofs.lemmas.List.{take_all}
 use Rattle.std.proofs.lemmas.List.Elements.{All-append}
 use Rattle.pt_records.specs.declared.answers.Answered.{Answered}
 use Rattle.pt_records.specs.declared.short.Short.{Short}
 use Rattle.pt_records.specs.declared.short.Short.TheVariants.{Near, Whole}
 use Rattle.pt_records.specs.AnswerLogs.{lengthened, lengthened_all, IsThere, AreReadable}
+use Rattle.pt_records.specs.AnswerLogs.{ShortensAlone}
 
 -- what a short answer refers to stays there, as more answers are stored whole
 there-stays : (ws more : List Answered) (s : Short) → IsThere ws s → IsThere (ws ++ more) s
@@ -55,6 +56,12 @@ readable-push b ws vs more shorts s grown r t = record {
       (there-stays ws more (slice_index_or shorts k d) (r.there k d l)))
       (one-there vs s t);
 }
+
+-- one more short answer, for which nothing more is stored whole
+pub readable_alone : (b : ℕ) (ws : List Answered) (shorts : List Short) (s : Short) (a : Answered)
+    → AreReadable b ws shorts → ShortensAlone b a s → AreReadable b ws (shorts ++ s ∷ [])
+readable_alone b ws shorts s a r one =
+    readable-push b ws ws [] shorts s (sym (append-nil ws)) r (one.there ws)
 
 -- all but the first
 pub readable-tail : (b : ℕ) (ws : List Answered) (s : Short) (shorts : List Short)

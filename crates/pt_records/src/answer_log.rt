@@ -1,7 +1,7 @@
 //! The log of answers, which are stored in short.
 
 use crate::answers::Answered;
-use crate::short::{Short, answer_of, base_with, shortened};
+use crate::short::{Short, answer_of, base_with, near_answer, shortened};
 use pt_history::take_memory;
 use std::alloc::{AllocError, Allocator, Global};
 use std::marker::Model;
@@ -135,14 +135,31 @@ impl<A: Allocator + Copy> AnswerLog<A> {
         self.grow(many.saturating_add(BATCH))
     }
 
-    /// Adds an answer, in room that was made for it.
-    pub fn push(&mut self, answer: Answered)
+    // Adds an answer whose numbers don't fit, for which an empty log takes another base. It is
+    // seldom needed, so it is not inlined.
+    #[cold]
+    #[inline(never)]
+    fn push_far(&mut self, answer: Answered)
         requires { length self.old.items < self.old.capacity }
         ensures items { self.new.items ≡ self.old.items ++ answer ∷ [] }
         ensures capacity { self.new.capacity ≡ self.old.capacity }
     {
         self.base = base_with(self.base, self.shorts.as_slice(), answer.at);
         let short = shortened(self.base, &mut self.wholes, &answer);
+        self.shorts.push_reserved(short);
+        self.room -= 1;
+    }
+
+    /// Adds an answer, in room that was made for it.
+    #[inline(always)]
+    pub fn push(&mut self, answer: Answered)
+        requires { length self.old.items < self.old.capacity }
+        ensures items { self.new.items ≡ self.old.items ++ answer ∷ [] }
+        ensures capacity { self.new.capacity ≡ self.old.capacity }
+    {
+        let Some(short) = near_answer(self.base, &answer) else {
+            return self.push_far(answer);
+        };
         self.shorts.push_reserved(short);
         self.room -= 1;
     }

@@ -43,6 +43,7 @@ fn is_locked_once<A: Allocator + Copy>(objects: &Objects<Object<A>, A>, m: Objec
 }
 
 // The mutex is one of those that the client owns.
+#[inline(never)]
 fn own<A: Allocator + Copy>(
     clients: &mut Clients<Caller, A>,
     objects: &mut Objects<Object<A>, A>,
@@ -66,6 +67,7 @@ fn own<A: Allocator + Copy>(
 }
 
 // The mutex is none of those that the client owns any more.
+#[inline(never)]
 fn disown<A: Allocator + Copy>(
     clients: &mut Clients<Caller, A>,
     objects: &mut Objects<Object<A>, A>,
@@ -90,6 +92,7 @@ fn disown<A: Allocator + Copy>(
 
 /// A mutex that is about to be locked is put with those that the client owns, if it is robust and
 /// nobody owns it yet.
+#[inline(always)]
 pub(crate) fn hold<A: Allocator + Copy>(
     clients: &mut Clients<Caller, A>,
     objects: &mut Objects<Object<A>, A>,
@@ -108,6 +111,7 @@ pub(crate) fn hold<A: Allocator + Copy>(
 
 /// A mutex of which the client is about to give one lock back is taken from those that it owns, if
 /// it is robust and that is its last lock.
+#[inline(always)]
 pub(crate) fn let_go<A: Allocator + Copy>(
     clients: &mut Clients<Caller, A>,
     objects: &mut Objects<Object<A>, A>,

@@ -63,9 +63,9 @@ fn from_base(base: u64, number: u64) -> Option<u32>
     Some(count as u32)
 }
 
-// An answer in short, if its numbers fit.
+/// An answer in short, if its numbers fit.
 #[inline(always)]
-fn near_answer(base: u64, answer: &Answered) -> Option<Short>
+pub(crate) fn near_answer(base: u64, answer: &Answered) -> Option<Short>
     requires { base ≤ most_places }
     ensures { IfSome result (λ s. ShortensAlone base answer.now s) }
 {

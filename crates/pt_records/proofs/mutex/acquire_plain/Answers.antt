@@ -1,7 +1,5 @@
 use Rattle.std.proofs.Common.{refl, inl}
-use Rattle.pt_mutex.specs.MutexState.{acquired}
 use Rattle.pt_table.specs.ObjectRows.{object_value}
-use Rattle.pt_records.specs.declared.objects.Object.TheVariants.{Mutex}
 use Rattle.pt_records.proofs.Holding.{mutex-found, locked-chained}
 use Rattle.pt_records.proofs.mutex.acquire_plain.Goals as goal
 
