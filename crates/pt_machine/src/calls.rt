@@ -106,7 +106,7 @@ fn push_done<Q: WaitList, A: Allocator + Copy>(
         }
         // These always wait.
         Operation::Awaits(..) | Operation::Arrives(_) => {
-            state.finish(c, call, Outcome::Done);
+            state.finish_seldom(c, call, Outcome::Done);
             Ok(())
         }
     }

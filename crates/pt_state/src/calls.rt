@@ -86,6 +86,16 @@ impl<A: Allocator + Copy> State<A> {
         self.stored.push_call(c, call, Some(outcome));
     }
 
+    /// As `finish`, for calls that are seldom answered so. It isn't inlined.
+    #[cold]
+    #[inline(never)]
+    pub fn finish_seldom(&mut self, c: ClientId, call: &Call, outcome: Outcome)
+        requires { IsNearly self.old c call.now (Some outcome) }
+        ensures { Adds self.old (entry.Call c call.now (Some outcome)) self.new }
+    {
+        self.finish(c, call, outcome);
+    }
+
     /// A client's call that is entered now.
     pub fn entered(
         &self,

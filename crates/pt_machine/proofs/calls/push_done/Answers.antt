@@ -49,8 +49,8 @@ either (inl a) f g = f a
 either (inr b) f g = g b
 
 -- a wait or an arrival that is answered 0 at once, which no verdict does, changes nothing
-pub finish-requires : goal.finish-requires
-finish-requires g c =
+pub finish_seldom-requires : goal.finish_seldom-requires
+finish_seldom-requires g c =
     let idle = nearly-done c.args.state.now c.args.c c.args.call.now (Some told.Done)
     c.requires.ready in
     let is = sym c.requires.asks.operation in
