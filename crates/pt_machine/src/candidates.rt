@@ -28,7 +28,7 @@ use pt_records::calls::{at_object, is_moved};
 use pt_records::mutex::may_lock;
 use pt_records::rwlock::may_read;
 use pt_records::{Object, Open};
-use pt_rwlock::RwObj;
+use pt_rwlock::Holders;
 use pt_types::{MutexKind, ObjectId};
 use pt_waitq::WaitList;
 use std::alloc::Allocator;
@@ -52,7 +52,7 @@ fn comes_back(m: ObjectId, open: &Open) -> bool
 
 // Whether a call at the lock is for a read lock, and its client holds one there already.
 // [XSH pthread_rwlock_rdlock]
-fn reads_more<A: Allocator + Copy>(r: ObjectId, lock: &RwObj<A>, open: &Open) -> bool
+fn reads_more<A: Allocator + Copy>(r: ObjectId, lock: &Holders<A>, open: &Open) -> bool
     ensures { result
         ≡ (object_of «open».now == r)
         && (is_read (called «open».now).role
@@ -110,7 +110,7 @@ impl<Q: WaitList, A: Allocator + Copy> Body<Q, A> {
 
     // The call that came last, if it waits at the lock to read and its client reads there already.
     // [XSH pthread_rwlock_rdlock]
-    fn reader_again(&self, r: ObjectId, lock: &RwObj<A>) -> Option<&Open>
+    fn reader_again(&self, r: ObjectId, lock: &Holders<A>) -> Option<&Open>
         requires read { AreTables self.now }
         requires stored { object_value self.now.objects r ≡ Some (row.Rwlock lock.now) }
         requires unwritten { lock.now.writer ≡ None }
@@ -131,7 +131,7 @@ impl<Q: WaitList, A: Allocator + Copy> Body<Q, A> {
     // The call that is served at a read-write lock: none if it is written; the first, unless that
     // is a writer and others read; then the call that came last, if its client reads already.
     // [XSH pthread_rwlock_unlock, pthread_rwlock_rdlock]
-    fn rwlock_candidate(&self, r: ObjectId, lock: &RwObj<A>) -> Option<&Open>
+    fn rwlock_candidate(&self, r: ObjectId, lock: &Holders<A>) -> Option<&Open>
         requires read { AreTables self.now }
         requires stored { object_value self.now.objects r ≡ Some (row.Rwlock lock.now) }
         ensures value { option_map called (option_copied result)

@@ -24,7 +24,7 @@ use crate::planning::Plan;
 use crate::room::used_by_grant;
 use pt_records::Object;
 use pt_records::mutex::may_lock;
-use pt_rwlock::RwObj;
+use pt_rwlock::Holders;
 use pt_state::{Had, Request, State};
 use pt_types::operations::{LockKind, Operation};
 use pt_types::views::is_acquired;
@@ -35,7 +35,7 @@ use std::alloc::Allocator;
 // Whether nobody's lock keeps a call for a read-write lock from it.
 // [XSH pthread_rwlock_rdlock, pthread_rwlock_wrlock]
 #[inline(always)]
-fn is_free_lock<A: Allocator + Copy>(kind: LockKind, lock: &RwObj<A>) -> bool
+fn is_free_lock<A: Allocator + Copy>(kind: LockKind, lock: &Holders<A>) -> bool
     ensures { OnTrue result (IsFreeLock kind lock.now) }
 {
     match kind {

@@ -12,7 +12,7 @@ ghost use Rattle.pt_table.specs.ObjectRows.{has_object, is_taken};
 use pt_barrier::BarrierObj;
 use pt_cond::CondObj;
 use pt_mutex::MutexObj;
-use pt_rwlock::RwObj;
+use pt_rwlock::Holders;
 use pt_table::Objects;
 use pt_types::operations::ObjectClass;
 use pt_types::{Name, ObjectId, ObjectKind, Refusal};
@@ -34,7 +34,7 @@ pub fn class_in_row<A: Allocator + Copy>(object: &Object<A>) -> ObjectClass
 #[derive(Drop)]
 pub enum Object<A: Allocator + Copy = Global> {
     Mutex(MutexObj),
-    Rwlock(RwObj<A>),
+    Rwlock(Holders<A>),
     Cond(CondObj),
     Barrier(BarrierObj),
 }
@@ -46,7 +46,7 @@ pub fn make<A: Allocator + Copy>(kind: ObjectKind, alloc: A) -> Object<A>
 {
     match kind {
         ObjectKind::Mutex(kind, robust) => Object::Mutex(MutexObj::new(kind, robust)),
-        ObjectKind::Rwlock => Object::Rwlock(RwObj::new(alloc)),
+        ObjectKind::Rwlock => Object::Rwlock(Holders::new(alloc)),
         ObjectKind::Cond => Object::Cond(CondObj::new()),
         ObjectKind::Barrier(count) => Object::Barrier(BarrierObj::new(count as u32)),
     }

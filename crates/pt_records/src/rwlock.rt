@@ -18,13 +18,13 @@ ghost use Rattle.std.specs.List.{list_any};
 
 use crate::clients::Caller;
 use crate::objects::Object;
-use pt_rwlock::RwObj;
+use pt_rwlock::Holders;
 use pt_table::{Clients, Objects};
 use pt_types::{ClientId, ObjectId, Refusal};
 use std::alloc::Allocator;
 
 /// Whether a client may read, with writers ahead or none.  [XSH pthread_rwlock_rdlock]
-pub fn may_read<A: Allocator + Copy>(lock: &RwObj<A>, c: ClientId, blocked: bool) -> bool
+pub fn may_read<A: Allocator + Copy>(lock: &Holders<A>, c: ClientId, blocked: bool) -> bool
     ensures { result ≡ may_read_it (seen_by lock.now c) blocked }
 {
     lock.writer().is_none() && (!blocked || lock.holds(c))
@@ -126,7 +126,11 @@ pub fn release_lock<A: Allocator + Copy>(
 }
 
 /// Whether the client in the row at an index holds the lock.  [XSH pthread_rwlock_unlock]
-fn holds_lock<A: Allocator + Copy>(clients: &Clients<Caller, A>, lock: &RwObj<A>, i: usize) -> bool
+fn holds_lock<A: Allocator + Copy>(
+    clients: &Clients<Caller, A>,
+    lock: &Holders<A>,
+    i: usize,
+) -> bool
     ensures { result ≡ passes (λ c. holds (seen_by lock.now c)) (nth_number clients.now i) }
 {
     match clients.nth(i) {
@@ -136,7 +140,7 @@ fn holds_lock<A: Allocator + Copy>(clients: &Clients<Caller, A>, lock: &RwObj<A>
 }
 
 /// Whether a client with a row holds the lock.  [XSH pthread_rwlock_destroy]
-pub fn any_holds<A: Allocator + Copy>(clients: &Clients<Caller, A>, lock: &RwObj<A>) -> bool
+pub fn any_holds<A: Allocator + Copy>(clients: &Clients<Caller, A>, lock: &Holders<A>) -> bool
     ensures { result ≡ list_any (λ row. holds (seen_by lock.now row.number)) clients.now }
 {
     for i in 0..clients.len() {

@@ -1,31 +1,28 @@
--- RwlockState: a read-write lock with its rows of read locks and its waiting writers.
-use Rattle.std.specs.Prelude.{ℕ, ◌≡◌, ◌<◌, ◌≤◌, length, Bool, true, false, not, ◌&&◌, ◌-◌, ◌+◌}
-use Rattle.std.specs.Prelude.{◌==◌, ◌↔◌, nat_lt, IsTrue, List, [], ◌∷◌, Option, Some, None, is_some}
-use Rattle.std.specs.Prelude.{is_none, unwrap_or, if◌then◌else◌, replicate, slice_index, slice_set}
+-- RwlockState: who holds a read-write lock, with its rows of read locks.
+use Rattle.std.specs.Prelude.{ℕ, ◌≡◌, ◌<◌, Bool, true, false, not, ◌&&◌, ◌-◌, ◌+◌, ◌==◌, ◌↔◌}
+use Rattle.std.specs.Prelude.{nat_lt, IsTrue, List, [], ◌∷◌, Option, Some, None, is_some}
+use Rattle.std.specs.Prelude.{is_none, unwrap_or, if◌then◌else◌}
 use Rattle.std.specs.List.{list_any}
 use Rattle.std.specs.Ordering.{nat_cmp}
 use Rattle.std.specs.Map.{lookup, set_value, keys_of}
 use Rattle.std.specs.BTreeMap.{is_at, insert_entry}
-use Rattle.pt_lanes.specs.Counts.{AnyFrom}
-use Rattle.pt_types.specs.Limits.{most_priority, most_reads}
+use Rattle.pt_types.specs.Limits.{most_reads}
 use Rattle.pt_types.specs.MutexTable.{is_number}
 use Rattle.pt_types.specs.RwlockTable.{may_read, may_write}
 use Rattle.pt_types.specs.declared.views.RwlockView.{RwlockView}
 use Rattle.pt_waitq.specs.declared.waiter.Waiter.{Waiter}
-use Rattle.pt_rwlock.specs.declared.object.Held.{Held}
-use Rattle.pt_rwlock.specs.declared.object.Held.TheVariants.{Nothing, Read, Write}
+use Rattle.pt_rwlock.specs.declared.holders.Held.{Held}
+use Rattle.pt_rwlock.specs.declared.holders.Held.TheVariants.{Nothing, Read, Write}
 
--- the writer; the clients that have a row, in order, each with its read locks; and how many writers
--- wait at each priority, that of priority p at index p - 1  [XSH pthread_rwlock_rdlock]
+-- the writer; and the clients that have a row, in order, each with its read locks
+-- [XSH pthread_rwlock_rdlock]
 pub record RwlockState : Type 0 where
   pub writer : Option ℕ
   pub rows : List (ℕ × ℕ)
-  pub waiting : List ℕ
 
--- a lock as it is made: nobody holds it, and no priority has a waiting writer
--- [XSH pthread_rwlock_init]
+-- a lock as it is made: nobody holds it  [XSH pthread_rwlock_init]
 abbrev pub made : RwlockState
-made = record { writer = None; rows = []; waiting = replicate most_priority 0 }
+made = record { writer = None; rows = [] }
 
 -- the read locks in the client's row, if it has one  [XSH pthread_rwlock_rdlock]
 abbrev pub row_of : RwlockState → (client : ℕ) → Option ℕ
@@ -60,31 +57,6 @@ seen_by r c = record {
   is_written = is_some r.writer;
   is_read = is_read r;
 }
-
--- the truth value says whether a writer of this priority or a higher one waits
--- [XSH pthread_rwlock_rdlock]
-abbrev pub SaysBlocked : RwlockState → (priority : ℕ) → Bool → Type 0
-SaysBlocked r p blocked = IsTrue blocked ↔ AnyFrom r.waiting (p - 1)
-
--- how many writers of this priority wait  [XSH pthread_rwlock_rdlock]
-abbrev pub writers_at : RwlockState → (priority : ℕ) → ℕ
-writers_at r p = slice_index r.waiting (p - 1)
-
--- a writer waits that is of this priority or a higher one exactly if their counts say so
--- [XSH pthread_rwlock_rdlock]
-abbrev pub BlockedByCounts : Type 0
-BlockedByCounts = (r : RwlockState) (p : ℕ) → length r.waiting ≡ most_priority → 1 ≤ p
-    → AnyFrom r.waiting (p - 1) ↔ ((q : ℕ) × (p ≤ q) × (q ≤ most_priority) × (0 < writers_at r q))
-
--- so many writers of this priority wait, and of each other one as many as before
-abbrev pub with_writers : RwlockState → (priority : ℕ) → ℕ → RwlockState
-with_writers r p n = record r { waiting = slice_set r.waiting (p - 1) n }
-
--- so many writers of this priority wait, and each other priority has its count
-abbrev pub ChangesCount : (old new : RwlockState) (priority count : ℕ) → Type 0
-ChangesCount old new p n =
-    (other : ℕ) → 1 ≤ other → other ≤ most_priority
-    → writers_at new other ≡ (if p == other then n else writers_at old other)
 
 -- the client has a row: its own as it was, or a new one without read locks
 abbrev pub with_row : RwlockState → (client : ℕ) → RwlockState

@@ -1,81 +1,50 @@
-ghost use Rattle.std.specs.Prelude.{◌≡◌, ◌==◌, ◌<◌, length, ◌+◌, ◌-◌, Bool, IsTrue, IsSome, IsOk};
-ghost use Rattle.std.specs.Prelude.{IfErr, IfSome, IfNone, OnOk, OnErr, Some, is_some, false};
-ghost use Rattle.std.specs.Prelude.{if◌then◌else◌, ℕ};
-ghost use Rattle.std.specs.Map.{lookup, set_value};
-ghost use Rattle.std.specs.Ordering.{nat_cmp};
-ghost use Rattle.std.specs.BTreeMap.{is_at};
+ghost use Rattle.std.specs.Prelude.{◌≡◌, ◌<◌, length, ◌+◌, ◌-◌, Bool, IsTrue, IsSome, IsOk};
+ghost use Rattle.std.specs.Prelude.{IfErr, IfSome, IfNone, OnOk, OnErr, Some, false};
 ghost use Rattle.pt_types.specs.Limits.{most_priority};
 ghost use Rattle.pt_types.specs.MutexTable.{is_number};
 ghost use Rattle.pt_types.specs.RwlockTable.{read_verdict, write_verdict, rwunlock_verdict, holds};
-ghost use Rattle.pt_types.specs.RwlockTable.{is_free};
 
-use crate::rows::Rows;
+use crate::holders::{Held, Holders};
 use pt_lanes::any_from;
-use pt_types::{ClientId, How, MOST_PRIORITY, MOST_READS, Outcome, Priority, Refusal, Verdict};
+use pt_types::{ClientId, How, MOST_PRIORITY, Priority, Refusal, Verdict};
 use pt_waitq::Waiter;
 use std::alloc::{Allocator, Global};
 use std::marker::Model;
-
-/// How a client holds a lock.  [XSH pthread_rwlock_unlock]
-#[derive(Clone, Copy, Debug, PartialEq, Eq)]
-pub enum Held {
-    Nothing,
-    /// This many read locks, at least one.
-    Read(u8),
-    Write,
-}
 
 // held by           a reader may have it             a writer may have it
 // nobody            no writer before it waits        yes
 // readers           the same, or it is one of them   no
 // a writer          no                               no
 
-/// A read-write lock: its writer, the read locks of its clients, and the writers that wait.
-/// [XSH 2.9]
-///
-/// A client gets its row by `make_row`, which alone takes memory; a lock is had and given back
-/// without.
+/// A read-write lock: who holds it, and the writers that wait.  [XSH 2.9]
 #[derive(Drop)]
 pub struct RwObj<A: Allocator + Copy = Global> {
-    writer: Option<ClientId>,
-    /// By the number of the client.
-    reads: Rows<A>,
-    /// How many clients have read locks.
-    readers: usize,
+    holders: Holders<A>,
     /// Priority p is at index p - 1.
     waiting_writers: [u32; MOST_PRIORITY],
 }
 
 impl<A: Allocator + Copy> Model for RwObj<A> {
-    ghost use Rattle.std.specs.Prelude.{◌≡◌};
-    ghost use Rattle.pt_rwlock.specs.RwlockState.{RwlockState, readers_in};
+    ghost use Rattle.pt_rwlock.specs.AwaitedLock.{AwaitedLock};
 
-    ghost Value = { RwlockState };
+    ghost Value = { AwaitedLock };
 
-    ghost view = { λ r. record {
-      writer = r.writer;
-      rows = r.reads;
-      waiting = r.waiting_writers;
-    } };
-
-    ghost invariant = { λ r. readers_in r.reads ≡ r.readers };
+    ghost view = { λ r. record { lock = r.holders; waiting = r.waiting_writers } };
 }
 
 impl<A: Allocator + Copy> RwObj<A> {
-    ghost use Rattle.pt_rwlock.specs.RwlockState.{made, row_of, reads_of, is_read, nobody_holds};
-    ghost use Rattle.pt_rwlock.specs.RwlockState.{seen_by, SaysBlocked, writers_at, with_writers};
-    ghost use Rattle.pt_rwlock.specs.RwlockState.{ChangesCount, with_row, with_reads};
-    ghost use Rattle.pt_rwlock.specs.RwlockState.{can_acquire_read, ChangesRow, released, may_have};
-    ghost use Rattle.pt_rwlock.specs.RwlockState.{held};
+    ghost use Rattle.pt_rwlock.specs.RwlockState.{row_of, reads_of, nobody_holds, seen_by, with_row};
+    ghost use Rattle.pt_rwlock.specs.RwlockState.{with_reads, can_acquire_read, ChangesRow};
+    ghost use Rattle.pt_rwlock.specs.RwlockState.{released, may_have, held};
+    ghost use Rattle.pt_rwlock.specs.AwaitedLock.{awaited_by_none, with_lock, SaysBlocked};
+    ghost use Rattle.pt_rwlock.specs.AwaitedLock.{writers_at, with_writers, ChangesCount};
 
     /// A lock that nobody holds.  [XSH pthread_rwlock_init]
     pub fn new(alloc: A) -> RwObj<A>
-        ensures { result ≡ made }
+        ensures { result ≡ awaited_by_none }
     {
         RwObj {
-            writer: None,
-            reads: Rows::new(alloc),
-            readers: 0,
+            holders: Holders::new(alloc),
             waiting_writers: [0; MOST_PRIORITY],
         }
     }
@@ -83,83 +52,43 @@ impl<A: Allocator + Copy> RwObj<A> {
     /// Makes room for the client's read locks; one that has its row keeps it. ENOMEM if there
     /// is no memory for a new one.
     pub fn make_row(&mut self, client: ClientId) -> Result<(), Refusal>
-        ensures ok { OnOk result (self.new ≡ with_row self.old client) }
-        ensures row { let reads = reads_of self.old client in
-            OnOk result (ChangesRow self.old self.new client (Some reads)) }
-        ensures again { IsSome (row_of self.old client) → IsOk result }
+        ensures ok { OnOk result (self.new ≡ with_lock self.old (with_row self.old.lock client)) }
+        ensures row { let reads = reads_of self.old.lock client in
+            OnOk result (ChangesRow self.old.lock self.new.lock client (Some reads)) }
+        ensures again { IsSome (row_of self.old.lock client) → IsOk result }
         ensures reason { IfErr result (λ refusal. refusal ≡ Refusal.Enomem) }
         ensures err { OnErr result (self.new ≡ self.old) }
     {
-        if self.has_row(client) {
-            return Ok(());
-        }
-        match self.reads.insert(client.0) {
-            Ok(()) => Ok(()),
-            Err(_) => Err(Refusal::Enomem),
-        }
-    }
-
-    // Whether the client has a row.
-    fn has_row(&mut self, client: ClientId) -> bool
-        ensures found { result ≡ is_some (row_of self.old client) }
-        ensures same { self.new ≡ self.old }
-    {
-        self.reads.has(client.0)
+        self.holders.make_row(client)
     }
 
     /// How the client holds the lock.  [XSH pthread_rwlock_unlock]
     pub fn held_by(&self, client: ClientId) -> Held
-        ensures { result ≡ held (seen_by self.now client) }
+        ensures { result ≡ held (seen_by self.now.lock client) }
     {
-        if self.is_writer(client) {
-            return Held::Write;
-        }
-        match self.reads_of(client) {
-            0 => Held::Nothing,
-            reads => Held::Read(reads),
-        }
+        self.holders.held_by(client)
     }
 
     /// The client that holds the write lock, dead or alive.  [XSH pthread_rwlock_wrlock]
     pub fn writer(&self) -> Option<ClientId>
-        ensures { result ≡ self.now.writer }
+        ensures { result ≡ self.now.lock.writer }
     {
-        self.writer
+        self.holders.writer()
     }
 
     /// The rows of its readers, each by the number of its client, with its read locks; a row may
     /// have none.  [XSH pthread_rwlock_rdlock]
     pub fn readers(&self) -> &[(u64, u8)]
-        ensures { result.now ≡ self.now.rows }
+        ensures { result.now ≡ self.now.lock.rows }
     {
-        self.reads.as_slice()
-    }
-
-    fn is_writer(&self, client: ClientId) -> bool
-        ensures { result ≡ (seen_by self.now client).writes }
-    {
-        self.writer == Some(client)
-    }
-
-    fn reads_of(&self, client: ClientId) -> u8
-        ensures { result ≡ reads_of self.now client }
-    {
-        self.reads.get(client.0).unwrap_or(0)
-    }
-
-    fn is_read(&self) -> bool
-        ensures { result ≡ is_read self.now }
-    {
-        // It is the length that says that the rows are in order.
-        let _rows = self.reads.len();
-        self.readers > 0
+        self.holders.readers()
     }
 
     /// Whether nobody holds the lock, dead or alive.  [XSH pthread_rwlock_wrlock]
     pub fn is_free(&self) -> bool
-        ensures { result ≡ nobody_holds self.now }
+        ensures { result ≡ nobody_holds self.now.lock }
     {
-        self.writer.is_none() && !self.is_read()
+        self.holders.is_free()
     }
 
     // Whether a writer of this priority or a higher one waits.
@@ -173,7 +102,7 @@ impl<A: Allocator + Copy> RwObj<A> {
     /// due is not asked here.  [XSH pthread_rwlock_rdlock, pthread_rwlock_timedrdlock]
     pub fn verdict_read(&self, caller: ClientId, priority: Priority, how: How) -> Verdict
         ensures { (blocked : Bool) → SaysBlocked self.now priority blocked
-            → result ≡ read_verdict (seen_by self.now caller) blocked how }
+            → result ≡ read_verdict (seen_by self.now.lock caller) blocked how }
     {
         self.verdict_read_behind(caller, self.is_blocked(priority), how)
     }
@@ -181,54 +110,31 @@ impl<A: Allocator + Copy> RwObj<A> {
     /// What becomes of a read lock's call, given whether such a writer waits.
     /// [XSH pthread_rwlock_rdlock]
     pub fn verdict_read_behind(&self, caller: ClientId, blocked: bool, how: How) -> Verdict
-        ensures { result ≡ read_verdict (seen_by self.now caller) blocked how }
+        ensures { result ≡ read_verdict (seen_by self.now.lock caller) blocked how }
     {
-        let reads = self.reads_of(caller);
-        let writes = self.is_writer(caller);
-        match how {
-            How::Try if writes => Verdict::Reply(Outcome::Ebusy),
-            _ if writes => Verdict::Reply(Outcome::Edeadlk),
-            _ if reads >= MOST_READS => Verdict::Reply(Outcome::Eagain),
-            _ if reads > 0 => Verdict::Stands,
-            _ if self.writer.is_none() && !blocked => Verdict::Stands,
-            How::Try => Verdict::Reply(Outcome::Ebusy),
-            How::Timed(deadline) if deadline.is_bad() => Verdict::Reply(Outcome::Einval),
-            _ => Verdict::Stands,
-        }
+        self.holders.verdict_read_behind(caller, blocked, how)
     }
 
     /// What becomes of the client's `wrlock`, `trywrlock` or `timedwrlock`. Whether a deadline is
     /// due is not asked here.  [XSH pthread_rwlock_wrlock, pthread_rwlock_timedwrlock]
     pub fn verdict_write(&self, caller: ClientId, how: How) -> Verdict
-        ensures { result ≡ write_verdict (seen_by self.now caller) how }
+        ensures { result ≡ write_verdict (seen_by self.now.lock caller) how }
     {
-        let holds = self.holds(caller);
-        match how {
-            How::Try if holds => Verdict::Reply(Outcome::Ebusy),
-            _ if holds => Verdict::Reply(Outcome::Edeadlk),
-            _ if self.is_free() => Verdict::Stands,
-            How::Try => Verdict::Reply(Outcome::Ebusy),
-            How::Timed(deadline) if deadline.is_bad() => Verdict::Reply(Outcome::Einval),
-            _ => Verdict::Stands,
-        }
+        self.holders.verdict_write(caller, how)
     }
 
     /// What becomes of the client's `rwunlock`; EPERM is profile.  [XSH pthread_rwlock_unlock]
     pub fn verdict_unlock(&self, caller: ClientId) -> Verdict
-        ensures { result ≡ rwunlock_verdict (seen_by self.now caller) }
+        ensures { result ≡ rwunlock_verdict (seen_by self.now.lock caller) }
     {
-        if self.holds(caller) {
-            Verdict::Reply(Outcome::Done)
-        } else {
-            Verdict::Reply(Outcome::Eperm)
-        }
+        self.holders.verdict_unlock(caller)
     }
 
     /// Whether the client holds the lock in either way.  [XSH pthread_rwlock_unlock]
     pub fn holds(&self, client: ClientId) -> bool
-        ensures { result ≡ holds (seen_by self.now client) }
+        ensures { result ≡ holds (seen_by self.now.lock client) }
     {
-        self.held_by(client) != Held::Nothing
+        self.holders.holds(client)
     }
 
     /// Whether the first waiter of its queue can have the lock now: a writer if nobody holds it;
@@ -238,14 +144,15 @@ impl<A: Allocator + Copy> RwObj<A> {
         ensures none { IfNone first (result ≡ false) }
         ensures some { (blocked : Bool)
             → IfSome first (λ waiter. SaysBlocked self.now waiter.prio blocked
-            → result ≡ may_have self.now waiter blocked) }
+            → result ≡ may_have self.now.lock waiter blocked) }
     {
         match first {
             None => false,
             Some(waiter) if waiter.writer => self.is_free(),
             Some(waiter) => {
-                let passes = self.reads_of(waiter.client) > 0 || !self.is_blocked(waiter.prio);
-                self.writer.is_none() && passes
+                let reads = self.holders.reads_of(waiter.client);
+                let passes = reads > 0 || !self.is_blocked(waiter.prio);
+                self.writer().is_none() && passes
             }
         }
     }
@@ -277,36 +184,32 @@ impl<A: Allocator + Copy> RwObj<A> {
     /// The client has one read lock more. No writer holds the lock, and the client has its row with
     /// fewer than 255 read locks.  [XSH pthread_rwlock_rdlock]
     pub fn acquire_read(&mut self, client: ClientId)
-        requires { IsTrue (can_acquire_read self.old client) }
-        ensures change { self.new ≡ with_reads self.old client (reads_of self.old client + 1) }
-        ensures row { ChangesRow self.old self.new client (Some (reads_of self.old client + 1)) }
+        requires { IsTrue (can_acquire_read self.old.lock client) }
+        ensures change { let reads = reads_of self.old.lock client in
+            self.new ≡ with_lock self.old (with_reads self.old.lock client (reads + 1)) }
+        ensures row { let reads = reads_of self.old.lock client in
+            ChangesRow self.old.lock self.new.lock client (Some (reads + 1)) }
     {
-        // It is the length that says that one reader more can be counted.
-        let _rows = self.reads.len();
-        if self.reads.add_read(client.0) == 0 {
-            self.readers += 1;
-        }
+        self.holders.acquire_read(client);
     }
 
     /// The client has the write lock.  [XSH pthread_rwlock_wrlock]
     pub fn acquire_write(&mut self, client: ClientId)
-        requires { IsTrue (nobody_holds self.old) }
-        ensures { self.new ≡ record self.old { writer = Some client } }
+        requires { IsTrue (nobody_holds self.old.lock) }
+        ensures { self.new
+            ≡ with_lock self.old (record self.old.lock { writer = Some client }) }
     {
-        self.writer = Some(client);
+        self.holders.acquire_write(client);
     }
 
     /// The client gives back the write lock, or one read lock.  [XSH pthread_rwlock_unlock]
     pub fn release(&mut self, client: ClientId)
-        requires { IsTrue (holds (seen_by self.old client)) }
-        ensures change { self.new ≡ released self.old client }
-        ensures row { is_number self.old.writer client ≡ false
-            → ChangesRow self.old self.new client (Some (reads_of self.old client - 1)) }
+        requires { IsTrue (holds (seen_by self.old.lock client)) }
+        ensures change { self.new ≡ with_lock self.old (released self.old.lock client) }
+        ensures row { let reads = reads_of self.old.lock client in
+            is_number self.old.lock.writer client ≡ false
+            → ChangesRow self.old.lock self.new.lock client (Some (reads - 1)) }
     {
-        if self.is_writer(client) {
-            self.writer = None;
-        } else if self.reads.take_read(client.0) == 1 {
-            self.readers -= 1;
-        }
+        self.holders.release(client);
     }
 }

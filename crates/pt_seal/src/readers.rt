@@ -5,7 +5,7 @@ ghost use Rattle.pt_seal.specs.Copies.{readers_at, readers_in, readers_of};
 
 use pt_model::StartReader;
 use pt_records::Object;
-use pt_rwlock::RwObj;
+use pt_rwlock::Holders;
 use pt_table::{ObjectRow, Objects};
 use pt_types::{ClientId, ObjectId};
 use std::alloc::{AllocError, Allocator};
@@ -14,7 +14,7 @@ use std::alloc::{AllocError, Allocator};
 fn add_readers_of<A: Allocator + Copy>(
     rows: &mut Vec<StartReader, A>,
     number: u64,
-    lock: &RwObj<A>,
+    lock: &Holders<A>,
 ) -> Result<(), AllocError>
     ensures { OnOk result (rows.new.items ≡ rows.old.items ++ readers_of number lock.now.rows) }
 {

@@ -27,7 +27,7 @@ ghost use Rattle.pt_state.specs.Left.{IsLeft};
 use crate::state::State;
 use pt_records::rwlock::{acquire_read, acquire_write, any_holds, make_row, release_lock};
 use pt_records::{Object, Open};
-use pt_rwlock::RwObj;
+use pt_rwlock::Holders;
 use pt_types::{Call, ClientId, How, Name, ObjectId, ObjectKind, Outcome, Refusal, Verdict};
 use std::alloc::Allocator;
 
@@ -85,7 +85,7 @@ impl<A: Allocator + Copy> State<A> {
     }
 
     /// The read-write lock with this number, if it is one.
-    pub fn rwlock_at(&self, r: ObjectId) -> Option<&RwObj<A>>
+    pub fn rwlock_at(&self, r: ObjectId) -> Option<&Holders<A>>
         ensures { option_copied result ≡ rwlock_in (object_value self.now.objects r) }
     {
         match self.objects.at(r.0) {
@@ -95,7 +95,11 @@ impl<A: Allocator + Copy> State<A> {
     }
 
     /// The read-write lock that a name means, with its number.
-    pub fn rwlock_found(&self, n: &Name, object: Option<ObjectId>) -> Option<(ObjectId, &RwObj<A>)>
+    pub fn rwlock_found(
+        &self,
+        n: &Name,
+        object: Option<ObjectId>,
+    ) -> Option<(ObjectId, &Holders<A>)>
         requires read { AreTables self.now }
         requires found { object ≡ find_in (past self.now) n.now RwlockClass }
         ensures number { option_map (λ found. found.0) result

@@ -3,7 +3,7 @@ use Rattle.std.proofs.Common.{refl, ap, arith}
 use Rattle.std.specs.Prelude.{replicate}
 use Rattle.std.proofs.lemmas.Grind.{common_steps}
 use Rattle.std.proofs.lemmas.List.{get_or-replicate, get_or_past, length-replicate}
-use Rattle.pt_rwlock.specs.RwlockState.{writers_at}
+use Rattle.pt_rwlock.specs.AwaitedLock.{writers_at}
 use Rattle.pt_object_tests.proofs.tests.rwlock.awaited.Goals as goal
 
 abbrev zeros : ℕ → List ℕ

@@ -7,6 +7,6 @@ use Rattle.pt_rwlock.proofs.object.RwObj.verdict_read.Goals as goal
 pub returns : goal.returns
 returns g c = λ blocked says.
     c.verdict_read_behind.ensures
-    ∙ ap (λ b. read_verdict (seen_by c.args.self.now c.args.caller) b c.args.how)
+    ∙ ap (λ b. read_verdict (seen_by c.args.self.now.lock c.args.caller) b c.args.how)
     (blocked-once c.args.self.now c.args.priority c.is_blocked.result blocked
     c.is_blocked.ensures says)

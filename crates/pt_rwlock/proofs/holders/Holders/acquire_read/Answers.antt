@@ -1,6 +1,6 @@
 use Rattle.std.proofs.Common.{arith}
 use Rattle.pt_rwlock.proofs.ReaderLemmas.{readers-added, readers-most}
-use Rattle.pt_rwlock.proofs.object.RwObj.acquire_read.Goals as goal
+use Rattle.pt_rwlock.proofs.holders.Holders.acquire_read.Goals as goal
 
 pub overflow_add-self : goal.overflow_add-self
 overflow_add-self g c =

@@ -1,5 +1,5 @@
 use Rattle.pt_rwlock.proofs.ReaderLemmas.{readers-taken}
-use Rattle.pt_rwlock.proofs.object.RwObj.release.Goals as goal
+use Rattle.pt_rwlock.proofs.holders.Holders.release.Goals as goal
 
 pub overflow_sub-self : goal.overflow_sub-self
 overflow_sub-self g c =

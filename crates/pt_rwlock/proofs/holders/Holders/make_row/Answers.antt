@@ -4,7 +4,7 @@ use Rattle.std.specs.Ordering.{nat_cmp}
 use Rattle.std.specs.BTreeMap.{is_at}
 use Rattle.pt_rwlock.specs.RwlockState.{row_of}
 use Rattle.pt_rwlock.proofs.ReaderLemmas.{none_of, readers-kept}
-use Rattle.pt_rwlock.proofs.object.RwObj.make_row.Goals as goal
+use Rattle.pt_rwlock.proofs.holders.Holders.make_row.Goals as goal
 
 pub invariant_of-self : goal.invariant_of-self
 invariant_of-self g c =

@@ -1,0 +1,230 @@
+ghost use Rattle.std.specs.Prelude.{◌≡◌, ◌+◌, ◌-◌, Bool, IsTrue, IsSome, IsOk, IfErr, OnOk, OnErr};
+ghost use Rattle.std.specs.Prelude.{Some, is_some, false};
+ghost use Rattle.pt_types.specs.MutexTable.{is_number};
+ghost use Rattle.pt_types.specs.RwlockTable.{read_verdict, write_verdict, rwunlock_verdict, holds};
+
+use crate::rows::Rows;
+use pt_types::{ClientId, How, MOST_READS, Outcome, Refusal, Verdict};
+use std::alloc::{Allocator, Global};
+use std::marker::Model;
+
+/// How a client holds a lock.  [XSH pthread_rwlock_unlock]
+#[derive(Clone, Copy, Debug, PartialEq, Eq)]
+pub enum Held {
+    Nothing,
+    /// This many read locks, at least one.
+    Read(u8),
+    Write,
+}
+
+/// Who holds a read-write lock: its writer, or the clients with read locks.  [XSH 2.9]
+///
+/// A client gets its row by `make_row`, which alone takes memory; a lock is had and given back
+/// without.
+#[derive(Drop)]
+pub struct Holders<A: Allocator + Copy = Global> {
+    writer: Option<ClientId>,
+    /// By the number of the client.
+    reads: Rows<A>,
+    /// How many clients have read locks.
+    readers: usize,
+}
+
+impl<A: Allocator + Copy> Model for Holders<A> {
+    ghost use Rattle.std.specs.Prelude.{◌≡◌};
+    ghost use Rattle.pt_rwlock.specs.RwlockState.{RwlockState, readers_in};
+
+    ghost Value = { RwlockState };
+
+    ghost view = { λ h. record { writer = h.writer; rows = h.reads } };
+
+    ghost invariant = { λ h. readers_in h.reads ≡ h.readers };
+}
+
+impl<A: Allocator + Copy> Holders<A> {
+    ghost use Rattle.pt_rwlock.specs.RwlockState.{made, row_of, reads_of, is_read, nobody_holds};
+    ghost use Rattle.pt_rwlock.specs.RwlockState.{seen_by, with_row, with_reads, can_acquire_read};
+    ghost use Rattle.pt_rwlock.specs.RwlockState.{ChangesRow, released, held};
+
+    /// A lock that nobody holds.  [XSH pthread_rwlock_init]
+    pub fn new(alloc: A) -> Holders<A>
+        ensures { result ≡ made }
+    {
+        Holders {
+            writer: None,
+            reads: Rows::new(alloc),
+            readers: 0,
+        }
+    }
+
+    /// Makes room for the client's read locks; one that has its row keeps it. ENOMEM if there
+    /// is no memory for a new one.
+    pub fn make_row(&mut self, client: ClientId) -> Result<(), Refusal>
+        ensures ok { OnOk result (self.new ≡ with_row self.old client) }
+        ensures row { let reads = reads_of self.old client in
+            OnOk result (ChangesRow self.old self.new client (Some reads)) }
+        ensures again { IsSome (row_of self.old client) → IsOk result }
+        ensures reason { IfErr result (λ refusal. refusal ≡ Refusal.Enomem) }
+        ensures err { OnErr result (self.new ≡ self.old) }
+    {
+        if self.has_row(client) {
+            return Ok(());
+        }
+        match self.reads.insert(client.0) {
+            Ok(()) => Ok(()),
+            Err(_) => Err(Refusal::Enomem),
+        }
+    }
+
+    // Whether the client has a row.
+    fn has_row(&mut self, client: ClientId) -> bool
+        ensures found { result ≡ is_some (row_of self.old client) }
+        ensures same { self.new ≡ self.old }
+    {
+        self.reads.has(client.0)
+    }
+
+    /// How the client holds the lock.  [XSH pthread_rwlock_unlock]
+    pub fn held_by(&self, client: ClientId) -> Held
+        ensures { result ≡ held (seen_by self.now client) }
+    {
+        if self.is_writer(client) {
+            return Held::Write;
+        }
+        match self.reads_of(client) {
+            0 => Held::Nothing,
+            reads => Held::Read(reads),
+        }
+    }
+
+    /// The client that holds the write lock, dead or alive.  [XSH pthread_rwlock_wrlock]
+    pub fn writer(&self) -> Option<ClientId>
+        ensures { result ≡ self.now.writer }
+    {
+        self.writer
+    }
+
+    /// The rows of its readers, each by the number of its client, with its read locks; a row may
+    /// have none.  [XSH pthread_rwlock_rdlock]
+    pub fn readers(&self) -> &[(u64, u8)]
+        ensures { result.now ≡ self.now.rows }
+    {
+        self.reads.as_slice()
+    }
+
+    fn is_writer(&self, client: ClientId) -> bool
+        ensures { result ≡ (seen_by self.now client).writes }
+    {
+        self.writer == Some(client)
+    }
+
+    pub(crate) fn reads_of(&self, client: ClientId) -> u8
+        ensures { result ≡ reads_of self.now client }
+    {
+        self.reads.get(client.0).unwrap_or(0)
+    }
+
+    fn is_read(&self) -> bool
+        ensures { result ≡ is_read self.now }
+    {
+        // It is the length that says that the rows are in order.
+        let _rows = self.reads.len();
+        self.readers > 0
+    }
+
+    /// Whether nobody holds the lock, dead or alive.  [XSH pthread_rwlock_wrlock]
+    pub fn is_free(&self) -> bool
+        ensures { result ≡ nobody_holds self.now }
+    {
+        self.writer.is_none() && !self.is_read()
+    }
+
+    /// What becomes of a read lock's call, given whether such a writer waits.
+    /// [XSH pthread_rwlock_rdlock]
+    pub fn verdict_read_behind(&self, caller: ClientId, blocked: bool, how: How) -> Verdict
+        ensures { result ≡ read_verdict (seen_by self.now caller) blocked how }
+    {
+        let reads = self.reads_of(caller);
+        let writes = self.is_writer(caller);
+        match how {
+            How::Try if writes => Verdict::Reply(Outcome::Ebusy),
+            _ if writes => Verdict::Reply(Outcome::Edeadlk),
+            _ if reads >= MOST_READS => Verdict::Reply(Outcome::Eagain),
+            _ if reads > 0 => Verdict::Stands,
+            _ if self.writer.is_none() && !blocked => Verdict::Stands,
+            How::Try => Verdict::Reply(Outcome::Ebusy),
+            How::Timed(deadline) if deadline.is_bad() => Verdict::Reply(Outcome::Einval),
+            _ => Verdict::Stands,
+        }
+    }
+
+    /// What becomes of the client's `wrlock`, `trywrlock` or `timedwrlock`. Whether a deadline is
+    /// due is not asked here.  [XSH pthread_rwlock_wrlock, pthread_rwlock_timedwrlock]
+    pub fn verdict_write(&self, caller: ClientId, how: How) -> Verdict
+        ensures { result ≡ write_verdict (seen_by self.now caller) how }
+    {
+        let holds = self.holds(caller);
+        match how {
+            How::Try if holds => Verdict::Reply(Outcome::Ebusy),
+            _ if holds => Verdict::Reply(Outcome::Edeadlk),
+            _ if self.is_free() => Verdict::Stands,
+            How::Try => Verdict::Reply(Outcome::Ebusy),
+            How::Timed(deadline) if deadline.is_bad() => Verdict::Reply(Outcome::Einval),
+            _ => Verdict::Stands,
+        }
+    }
+
+    /// What becomes of the client's `rwunlock`; EPERM is profile.  [XSH pthread_rwlock_unlock]
+    pub fn verdict_unlock(&self, caller: ClientId) -> Verdict
+        ensures { result ≡ rwunlock_verdict (seen_by self.now caller) }
+    {
+        if self.holds(caller) {
+            Verdict::Reply(Outcome::Done)
+        } else {
+            Verdict::Reply(Outcome::Eperm)
+        }
+    }
+
+    /// Whether the client holds the lock in either way.  [XSH pthread_rwlock_unlock]
+    pub fn holds(&self, client: ClientId) -> bool
+        ensures { result ≡ holds (seen_by self.now client) }
+    {
+        self.held_by(client) != Held::Nothing
+    }
+
+    /// The client has one read lock more. No writer holds the lock, and the client has its row with
+    /// fewer than 255 read locks.  [XSH pthread_rwlock_rdlock]
+    pub fn acquire_read(&mut self, client: ClientId)
+        requires { IsTrue (can_acquire_read self.old client) }
+        ensures change { self.new ≡ with_reads self.old client (reads_of self.old client + 1) }
+        ensures row { ChangesRow self.old self.new client (Some (reads_of self.old client + 1)) }
+    {
+        // It is the length that says that one reader more can be counted.
+        let _rows = self.reads.len();
+        if self.reads.add_read(client.0) == 0 {
+            self.readers += 1;
+        }
+    }
+
+    /// The client has the write lock.  [XSH pthread_rwlock_wrlock]
+    pub fn acquire_write(&mut self, client: ClientId)
+        requires { IsTrue (nobody_holds self.old) }
+        ensures { self.new ≡ record self.old { writer = Some client } }
+    {
+        self.writer = Some(client);
+    }
+
+    /// The client gives back the write lock, or one read lock.  [XSH pthread_rwlock_unlock]
+    pub fn release(&mut self, client: ClientId)
+        requires { IsTrue (holds (seen_by self.old client)) }
+        ensures change { self.new ≡ released self.old client }
+        ensures row { is_number self.old.writer client ≡ false
+            → ChangesRow self.old self.new client (Some (reads_of self.old client - 1)) }
+    {
+        if self.is_writer(client) {
+            self.writer = None;
+        } else if self.reads.take_read(client.0) == 1 {
+            self.readers -= 1;
+        }
+    }
+}
