@@ -141,6 +141,16 @@ module _ {T : Type 0} where
       go None e = cc
       go (Some r) e = refl
 
+  -- what is linked has a link
+  pub linked-link : (rows : List (ObjectRow T)) (n : ℕ) → is_linked rows n ≡ true
+      → (link : Link) × (link_of rows n ≡ Some link)
+  linked-link rows n e = go (link_of rows n) refl e
+    where
+      go : (o : Option Link) → link_of rows n ≡ o → linked_by o ≡ true
+          → (link : Link) × (link_of rows n ≡ Some link)
+      go None found e = cc
+      go (Some link) found e = (link, found)
+
   -- the link that is found says what the number leads to
   pub next-found : (rows : List (ObjectRow T)) (n : ℕ) (link : Link) → link_of rows n ≡ Some link
       → link.next ≡ next_number rows n

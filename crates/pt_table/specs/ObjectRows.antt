@@ -15,6 +15,14 @@ abbrev pub out_of_chains : Link
 out_of_chains =
     record { linked = false; next = None; next_slot = 0; before = None; before_slot = 0 }
 
+-- the link leads on as another does, and back as it did
+abbrev pub leading_on : Link → (other : Link) → Link
+leading_on its link = record its { next = link.next; next_slot = link.next_slot }
+
+-- the link leads back as another does, and on as it did
+abbrev pub leading_back : Link → (other : Link) → Link
+leading_back its link = record its { before = link.before; before_slot = link.before_slot }
+
 module _ {T : Type 0} where
   -- the row of the object with this number
   abbrev pub object_at : List (ObjectRow T) → ℕ → Option (ObjectRow T)

@@ -7,7 +7,7 @@ ghost use Rattle.pt_table.specs.Linked.{next_number, number_before, is_linked, i
 ghost use Rattle.pt_table.specs.Linked.{but_number, unlinked, HasChain, IsChain, IsInChain};
 ghost use Rattle.pt_table.specs.Linked.{IsLinkedIf, KeepsOthers};
 
-use crate::link::Link;
+use crate::link::{Link, noted};
 use crate::objects::Objects;
 use std::alloc::Allocator;
 
@@ -41,15 +41,7 @@ impl<T, A: Allocator + Copy> Objects<T, A> {
         ensures rows { unlinked self.new ≡ unlinked self.old }
     {
         if let Some(number) = number {
-            let its = self.link_near(slot, number);
-            let changed = Link {
-                linked: its.linked,
-                next: link.next,
-                next_slot: link.next_slot,
-                before: its.before,
-                before_slot: its.before_slot,
-            };
-            self.set_link(slot, number, changed);
+            self.set_next_near(slot, number, link);
         }
     }
 
@@ -64,15 +56,7 @@ impl<T, A: Allocator + Copy> Objects<T, A> {
         ensures rows { unlinked self.new ≡ unlinked self.old }
     {
         if let Some(number) = number {
-            let its = self.link_near(slot, number);
-            let changed = Link {
-                linked: its.linked,
-                next: its.next,
-                next_slot: its.next_slot,
-                before: link.before,
-                before_slot: link.before_slot,
-            };
-            self.set_link(slot, number, changed);
+            self.set_before_near(slot, number, link);
         }
     }
 
@@ -111,17 +95,17 @@ impl<T, A: Allocator + Copy> Objects<T, A> {
         let head_slot = self.slot_of_head(head);
         let first = Link {
             linked: true,
-            next: head,
-            next_slot: head_slot,
-            before: None,
+            next_slot: noted(head_slot),
             before_slot: 0,
+            next: head,
+            before: None,
         };
         let second = Link {
             linked: true,
-            next: None,
             next_slot: 0,
+            before_slot: noted(slot),
+            next: None,
             before: Some(number),
-            before_slot: slot,
         };
         self.set_own(slot, number, first);
         self.set_before(head_slot, head, second);
@@ -154,8 +138,8 @@ impl<T, A: Allocator + Copy> Objects<T, A> {
     {
         let slot = self.slot_near(number);
         let link = self.link_near(slot, number);
-        self.set_next(link.before_slot, link.before, link);
-        self.set_before(link.next_slot, link.next, link);
+        self.set_next(link.before_slot as usize, link.before, link);
+        self.set_before(link.next_slot as usize, link.next, link);
         self.set_own(slot, number, Link::out());
         link.next
     }

@@ -1,19 +1,24 @@
 ghost use Rattle.std.specs.Prelude.{◌≡◌};
-ghost use Rattle.pt_table.specs.ObjectRows.{out_of_chains};
+ghost use Rattle.pt_table.specs.ObjectRows.{leading_back, leading_on, out_of_chains};
 
 /// Where the row of an object is in a chain.
 #[derive(Clone, Copy, Debug)]
 pub struct Link {
     /// Whether the row is in a chain.
     pub linked: bool,
+    /// The slot in which the row of the next object is looked for first.
+    pub next_slot: u16,
+    /// The slot in which the row of the object before it is looked for first.
+    pub before_slot: u16,
     /// The number of the next object of the chain.
     pub next: Option<u64>,
-    /// The slot in which its row is looked for first.
-    pub next_slot: usize,
     /// The number of the object before it in the chain.
     pub before: Option<u64>,
-    /// The slot in which the row of that one is looked for first.
-    pub before_slot: usize,
+}
+
+// A slot as a link has it: slot 0 in place of one that does not fit 16 bits. It is a hint alone.
+pub(crate) fn noted(slot: usize) -> u16 {
+    u16::try_from(slot).unwrap_or(0)
 }
 
 impl Link {
@@ -23,10 +28,28 @@ impl Link {
     {
         Link {
             linked: false,
-            next: None,
             next_slot: 0,
-            before: None,
             before_slot: 0,
+            next: None,
+            before: None,
         }
+    }
+
+    // It leads on as another does, and back as it did.
+    #[inline(always)]
+    pub(crate) fn set_next(&mut self, link: Link)
+        ensures { self.new ≡ leading_on self.old link }
+    {
+        self.next = link.next;
+        self.next_slot = link.next_slot;
+    }
+
+    // It leads back as another does, and on as it did.
+    #[inline(always)]
+    pub(crate) fn set_before(&mut self, link: Link)
+        ensures { self.new ≡ leading_back self.old link }
+    {
+        self.before = link.before;
+        self.before_slot = link.before_slot;
     }
 }

@@ -10,8 +10,10 @@ ghost use Rattle.pt_types.specs.Names.{same_name};
 ghost use Rattle.pt_table.specs.Faults.{IsFault};
 ghost use Rattle.pt_table.specs.ObjectRows.{object_at, object_value, link_of, has_object};
 ghost use Rattle.pt_table.specs.ObjectRows.{number_of, is_taken, nth_number, nth_value, and_object};
-ghost use Rattle.pt_table.specs.ObjectRows.{with_link, without_object, IsFullFor};
+ghost use Rattle.pt_table.specs.ObjectRows.{with_link, without_object, IsFullFor, leading_on};
+ghost use Rattle.pt_table.specs.ObjectRows.{leading_back};
 ghost use Rattle.pt_table.specs.Slots.{row_in_slot, SameBut};
+ghost use Rattle.pt_table.specs.declared.link.Link.{Link};
 
 use crate::fault::TableFault;
 use crate::link::Link;
@@ -284,6 +286,28 @@ impl<T, A: Allocator + Copy> Objects<T, A> {
     {
         let slot = slot_by(&self.rows, &self.numbers, slot, number);
         self.rows[slot].link = link;
+    }
+
+    // An object's row, which is looked for in this slot first, leads on as another does.
+    #[inline(always)]
+    pub(crate) fn set_next_near(&mut self, slot: usize, number: u64, link: Link)
+        requires { IsSome (object_at self.old number) }
+        ensures { (its : Link) → link_of self.old number ≡ Some its
+            → self.new ≡ with_link self.old number (leading_on its link) }
+    {
+        let slot = slot_by(&self.rows, &self.numbers, slot, number);
+        self.rows[slot].link.set_next(link);
+    }
+
+    // The same row leads back as another does.
+    #[inline(always)]
+    pub(crate) fn set_before_near(&mut self, slot: usize, number: u64, link: Link)
+        requires { IsSome (object_at self.old number) }
+        ensures { (its : Link) → link_of self.old number ≡ Some its
+            → self.new ≡ with_link self.old number (leading_back its link) }
+    {
+        let slot = slot_by(&self.rows, &self.numbers, slot, number);
+        self.rows[slot].link.set_before(link);
     }
 
     /// Takes the object with this number out. Its name is free from then on.

@@ -1,0 +1,42 @@
+use Rattle.std.proofs.Common.{◌≡◌, ◌∙◌, ap, sym, refl}
+use Rattle.std.specs.Option.{option_map}
+use Rattle.pt_table.specs.declared.objects.ObjectRow.{ObjectRow}
+use Rattle.pt_table.specs.ObjectRows.{with_link, leading_on}
+use Rattle.pt_table.proofs.Listed.{slot_there, number_there, row_there}
+use Rattle.pt_table.proofs.Lookups.{some_inj}
+use Rattle.pt_table.proofs.Written.{IsNumbered-written, rows_listed-written}
+use Rattle.pt_table.proofs.Named.{IsNamed-written}
+use Rattle.pt_table.proofs.objects.Objects.set_next_near.Goals as goal
+
+pub slot_by-slot-requires-clause-listed : goal.slot_by-slot-requires-clause-listed
+slot_by-slot-requires-clause-listed g c =
+    slot_there c.self.invariant.0 c.args.self.now c.self.view_is c.args.number c.requires
+
+pub invariant_of-self : goal.invariant_of-self
+invariant_of-self g c = (
+  IsNumbered-written c.index_mut.result.now c.slot_by-slot.result
+      (λ r. record r { link = c.set_next.new.self }) (λ r. refl) c.self.invariant.0
+      c.index_mut.ensures.value,
+  IsNamed-written c.index_mut.result.now c.slot_by-slot.result
+      (λ r. record r { link = c.set_next.new.self }) (λ r. refl) refl c.self.invariant.0
+      c.self.invariant.1 c.index_mut.ensures.value,
+)
+
+pub returns : goal.returns
+returns g c = λ its is.
+    let row = c.index_mut.result.now in
+    let slot = c.slot_by-slot.result in
+    let here = c.index_mut.ensures.value in
+    let link = c.set_next.new.self in
+    let change : ObjectRow g.row.T.Denot → ObjectRow g.row.T.Denot =
+    λ r. record r { link = link } in
+    let number = number_there c.self.invariant.0 c.args.number slot row
+    c.slot_by-slot.ensures.slot here in
+    let own : row.link ≡ its = some_inj (sym (ap (option_map (λ row. row.link))
+    (row_there c.self.invariant.0 c.args.self.now c.self.view_is c.args.number slot row
+    c.slot_by-slot.ensures.slot here)) ∙ is) in
+    rows_listed-written row slot change (λ r. refl) c.self.invariant.0 here
+    ∙ ap (λ rs. with_link rs row.number link) c.self.view_is
+    ∙ ap (λ n. with_link c.args.self.now n link) number
+    ∙ ap (with_link c.args.self.now c.args.number)
+    (c.set_next.ensures ∙ ap (λ l. leading_on l c.args.link) own)
