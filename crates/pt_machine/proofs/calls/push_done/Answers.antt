@@ -63,7 +63,7 @@ returns-in-Awaits-clause-queued g c =
     let is = ap is_plain (sym c.requires.asks.operation) in
     plain-queued c.args.state.now c.args.c c.args.call.now
     (g.Q.WaitList.seen c.args.queues.now).queue (g.Q.WaitList.seen c.args.queues.now).admitted
-    (g.Q.WaitList.seen c.args.queues.now).made c.requires.queued c.finish.new.self
+    (g.Q.WaitList.seen c.args.queues.now).made c.requires.queued c.finish_seldom.new.self
     c.requires.ready
     (is ∙ either c.in-Awaits.is (λ w. ap (λ d. is_plain (shown_operation d)) w.3)
-    (λ w. ap (λ d. is_plain (shown_operation d)) w.1)) c.finish.ensures
+    (λ w. ap (λ d. is_plain (shown_operation d)) w.1)) c.finish_seldom.ensures
