@@ -78,6 +78,7 @@ impl<T, A: Allocator + Copy> Objects<T, A> {
     }
 
     /// Puts a row first in the chain of a head, or begins one, and returns the head.
+    #[inline(always)]
     pub fn link(&mut self, head: Option<u64>, number: u64) -> u64
         requires chain { HasChain self.old head }
         requires row { has_object self.old number ≡ true }
@@ -145,6 +146,7 @@ impl<T, A: Allocator + Copy> Objects<T, A> {
     }
 
     /// Takes a row out of the chain of a head, and returns the head that is left.
+    #[inline(always)]
     pub fn unlink(&mut self, head: u64, number: u64) -> Option<u64>
         requires { IsInChain self.old head number }
         ensures chain { (numbers : List ℕ)
