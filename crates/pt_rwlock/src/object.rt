@@ -33,9 +33,9 @@ impl<A: Allocator + Copy> Model for RwObj<A> {
 }
 
 impl<A: Allocator + Copy> RwObj<A> {
-    ghost use Rattle.pt_rwlock.specs.RwlockState.{row_of, reads_of, nobody_holds, seen_by, with_row};
-    ghost use Rattle.pt_rwlock.specs.RwlockState.{with_reads, can_acquire_read, ChangesRow};
-    ghost use Rattle.pt_rwlock.specs.RwlockState.{released, may_have, held};
+    ghost use Rattle.pt_rwlock.specs.RwlockState.{row_of, reads_of, nobody_holds, seen_by};
+    ghost use Rattle.pt_rwlock.specs.RwlockState.{with_row, with_reads, can_acquire_read};
+    ghost use Rattle.pt_rwlock.specs.RwlockState.{ChangesRow, released, may_have, held};
     ghost use Rattle.pt_rwlock.specs.AwaitedLock.{awaited_by_none, with_lock, SaysBlocked};
     ghost use Rattle.pt_rwlock.specs.AwaitedLock.{writers_at, with_writers, ChangesCount};
 
