@@ -69,6 +69,13 @@ fn grow<A: Allocator + Copy>(hints: &mut Hints<A>, rows: &[(u64, u8)]) -> Result
     })
 }
 
+// Notes the place of each row from this one on.
+fn note_from<A: Allocator + Copy>(hints: &mut Hints<A>, rows: &[(u64, u8)], from: usize) {
+    for place in from..rows.len() {
+        hints.set(rows[place].0, place);
+    }
+}
+
 // Adds a row with no read locks for a client that has none, in its place.
 fn insert_at<A: Allocator + Copy>(
     rows: &mut Vec<(u64, u8), A>,
@@ -205,7 +212,7 @@ impl<A: Allocator + Copy> Rows<A> {
         grow(&mut self.hints, self.rows.as_slice())?;
         let place = count_below(self.rows.as_slice(), client);
         insert_at(&mut self.rows, place, client)?;
-        self.hints.set(client, place);
+        note_from(&mut self.hints, self.rows.as_slice(), place);
         Ok(())
     }
 

@@ -12,7 +12,7 @@ use Rattle.pt_waitq.specs.declared.nodes.Node.{Node}
 use Rattle.pt_waitq.specs.declared.sides.Queue.{Queue}
 use Rattle.pt_waitq.specs.Queues.{In}
 use Rattle.pt_waitq.specs.Waits.{is_listed, queue_of}
-use Rattle.pt_waitq.specs.Chains.{numbers, is_at, node_in, next_in, before_in, entry_in, home_of}
+use Rattle.pt_waitq.specs.Chains.{numbers, is_at, node_in, next_in, before_in, entry_in, client_in, home_of}
 use Rattle.pt_waitq.specs.Chains.{AreChains, HasNone, IsTaken}
 use Rattle.pt_waitq.specs.Boxes.{no_queue, IsEmptied}
 use Rattle.pt_waitq.proofs.ChainLemmas.{some_same, is-listed}
@@ -62,7 +62,8 @@ module _ (homes : List (ℕ × ℕ)) (nodes nodes' : List (Option Node))
     (queues queues' : List (ℕ × Queue)) (es : List (ℕ × Waiter)) (o p n : ℕ) (w : Waiter)
     (next before : Option ℕ) (a : AreChains homes nodes queues es) (in_es : In (o, w) es)
     (home : home_of homes w.client ≡ Some n)
-    (is : node_in nodes n ≡ Some (record { entry = Some (o, w); next = next; before = before }))
+    (is : node_in nodes n
+    ≡ Some (record { object = Some o; waiter = w; next = next; before = before }))
     (level : p + 1 ≡ w.prio) (within : p < most_priority)
     (made : is_listed o (numbers queues) ≡ true)
     (same : numbers queues' ≡ numbers queues)
@@ -73,7 +74,8 @@ module _ (homes : List (ℕ × ℕ)) (nodes nodes' : List (Option Node))
     ≡ cond (n == c) None (cond (is_at c before) next (next_in nodes c)))
     (befores : (c : ℕ) → before_in nodes' c
     ≡ cond (n == c) None (cond (is_at c next) before (before_in nodes c)))
-    (entries : (c : ℕ) → entry_in nodes' c ≡ cond (n == c) None (entry_in nodes c)) where
+    (entries : (c : ℕ) → entry_in nodes' c ≡ cond (n == c) None (entry_in nodes c))
+    (clients : (c : ℕ) → client_in nodes' c ≡ client_in nodes c) where
   abbrev left : List (ℕ × Waiter)
   left = filter (λ e. not (e.1.client == w.client)) es
 
@@ -102,7 +104,7 @@ module _ (homes : List (ℕ × ℕ)) (nodes nodes' : List (Option Node))
           subst (λ x. IsTaken w.writer p before next x r) (some_same old.0 q (sym old.1 ∙ h))
           (subst (λ x. IsTaken w.writer p before next old.0 x) (some_same new.0 r (sym new.1 ∙ k))
           done.taken))
-          there nexts befores entries
+          there nexts befores entries clients
 
       some : is_listed o (numbers left) ≡ true
       some =
@@ -138,7 +140,7 @@ module _ (homes : List (ℕ × ℕ)) (nodes nodes' : List (Option Node))
           subst (λ x. IsTaken w.writer p before next x s) (some_same old.0 r (sym old.1 ∙ h))
           (subst (λ x. IsTaken w.writer p before next old.0 x) (some_same q s (sym own ∙ k))
           done.taken))
-          there nexts befores entries
+          there nexts befores entries clients
 
       zero : length (queue_of o left) ≡ 0
       zero = sym (chains.len o q own) ∙ done.emptied.0

@@ -2,8 +2,8 @@
 use Rattle.std.proofs.Common.{◌≡◌, ◌≢◌, ℕ, ◌==◌, ◌<◌, ◌≤◌, ◌+◌, ◌^◌, Bool, true, false, cond, ◌&&◌}
 use Rattle.std.proofs.Common.{◌||◌, not, List, [], ◌∷◌, ◌++◌, length, Option, Some, None, is_some}
 use Rattle.std.proofs.Common.{nat_eq, refl, sym, ap, ◌∙◌, arith, eq-eqb}
-use Rattle.std.specs.Prelude.{IsSome}
-use Rattle.std.specs.Option.{option_and_then}
+use Rattle.std.specs.Prelude.{IsSome, IfSome}
+use Rattle.std.specs.Option.{option_and_then, option_map}
 use Rattle.std.specs.Map.{lookup}
 use Rattle.std.proofs.lemmas.Bool.Decides.{nat_tests}
 use Rattle.std.proofs.lemmas.Bool.{false≢true}
@@ -14,7 +14,7 @@ use Rattle.pt_waitq.specs.Queues.{In}
 use Rattle.pt_waitq.specs.Waits.{is_listed, has_waiter}
 use Rattle.pt_waitq.specs.ListLemmas.{any-in, filter-none}
 use Rattle.pt_waitq.specs.Chains.{numbers, first_entry, is_at, node_in, entry_in, home_of, entry_of}
-use Rattle.pt_waitq.specs.Chains.{AreHomes, AreChains}
+use Rattle.pt_waitq.specs.Chains.{AreHomes, AreChains, AreOwn, client_in, entry_at}
 use Rattle.pt_waitq.proofs.ChainLemmas.{some_same, listed-lookup, home-there, chains-agree}
 
 none_some : {X : Type 0} (x : X) → None ≡ Some x → ⊥
@@ -23,6 +23,10 @@ none_some x e = cc
 none_is : {X : Type 0} (o : Option X) → o ≡ None → IsSome o → ⊥
 none_is None e s = cc
 none_is (Some x) e s = cc
+
+is_some-map : {X Y : Type 0} (f : X → Y) (o : Option X) → is_some (option_map f o) ≡ is_some o
+is_some-map f None = refl
+is_some-map f (Some x) = refl
 
 -- a client whose node's entry changes
 pub entry-changed : (homes : List (ℕ × ℕ)) (nodes nodes' : List (Option Node)) (c n : ℕ)
@@ -79,7 +83,7 @@ module _ (homes homes' : List (ℕ × ℕ)) (nodes nodes' : List (Option Node))
     (queues : List (ℕ × Queue)) (es : List (ℕ × Waiter)) (c n : ℕ)
     (a : AreChains homes nodes queues es) (none : home_of homes c ≡ None)
     (is : homes' ≡ homes ++ (c, n) ∷ []) (vacant : node_in nodes n ≡ None)
-    (at : node_in nodes' n ≡ Some (record { entry = None; next = None; before = None }))
+    (idle : entry_in nodes' n ≡ None) (its : client_in nodes' n ≡ Some c)
     (others : (m : ℕ) → m ≢ n → node_in nodes' m ≡ node_in nodes m)
     (few : length homes + 1 < 2 ^ 32) where
   now : (d : ℕ) → home_of homes' d ≡ cond (nat_eq d c) (Some n) (home_of homes d)
@@ -108,19 +112,21 @@ module _ (homes homes' : List (ℕ × ℕ)) (nodes nodes' : List (Option Node))
       go : (b : Bool) → nat_eq d c ≡ b → (o : Option ℕ) → home_of homes d ≡ o
           → option_and_then (entry_in nodes') (cond b (Some n) o)
           ≡ option_and_then (entry_in nodes) o
-      go true q None e = ap (option_and_then (λ (x : Node). x.entry)) at
+      go true q None e = idle
       go true q (Some m) e =
           let same : d ≡ c = grind (arith, nat_tests) in
           absurd (none_some m (sym none ∙ (ap (home_of homes) (sym same) ∙ e)))
       go false q None e = refl
       go false q (Some m) e =
-          ap (option_and_then (λ (x : Node). x.entry)) (others m (older d m e))
+          ap (option_and_then entry_at) (others m (older d m e))
 
   come-there : (d m : ℕ) → home_of homes' d ≡ Some m → IsSome (node_in nodes' m)
   come-there d m h = go (nat_eq d c) (sym (now d) ∙ h)
     where
       go : (b : Bool) → cond b (Some n) (home_of homes d) ≡ Some m → IsSome (node_in nodes' m)
-      go true e = ap is_some (ap (node_in nodes') (sym (some_same n m e)) ∙ at)
+      go true e =
+          ap (λ k. is_some (node_in nodes' k)) (sym (some_same n m e))
+          ∙ (sym (is_some-map (λ (v : Node). v.waiter.client) (node_in nodes' n)) ∙ ap is_some its)
       go false e = ap is_some (others m (older d m e)) ∙ a.homed.there d m e
 
   come-apart : (d e m : ℕ) → home_of homes' d ≡ Some m → home_of homes' e ≡ Some m → d ≡ e
@@ -135,6 +141,31 @@ module _ (homes homes' : List (ℕ × ℕ)) (nodes nodes' : List (Option Node))
       go false true p q u v = absurd (older d m u (sym (some_same n m v)))
       go false false p q u v = a.homed.apart d e m u v
 
+  come-mine : AreOwn homes' nodes'
+  come-mine m d e = now d ∙ go (m == n) refl
+    where
+      old : (m == n) ≡ false → home_of homes d ≡ Some m
+      old q =
+          a.homed.own m d
+          (sym (ap (option_map (λ (v : Node). v.waiter.client))
+          (others m (λ same. false≢true (sym q ∙ eq-eqb m n same))))
+          ∙ e)
+
+      by : (m == n) ≡ false → (b : Bool) → nat_eq d c ≡ b
+          → cond b (Some n) (home_of homes d) ≡ Some m
+      by q false r = old q
+      by q true r =
+          let same : d ≡ c = grind (arith, nat_tests) in
+          absurd (none_some m (sym none ∙ (ap (home_of homes) (sym same) ∙ old q)))
+
+      go : (b : Bool) → (m == n) ≡ b → cond (nat_eq d c) (Some n) (home_of homes d) ≡ Some m
+      go true q =
+          let same : m ≡ n = grind (arith, nat_tests) in
+          let one = some_same c d (sym its ∙ (ap (client_in nodes') (sym same) ∙ e)) in
+          ap (λ b. cond b (Some n) (home_of homes d)) (eq-eqb d c (sym one))
+          ∙ ap (λ k. Some k) (sym same)
+      go false q = by q (nat_eq d c) refl
+
   pub chains-admitted : AreChains homes' nodes' queues es
   chains-admitted =
       chains-agree homes homes' nodes nodes' queues es come-kept
@@ -142,6 +173,7 @@ module _ (homes homes' : List (ℕ × ℕ)) (nodes nodes' : List (Option Node))
       (record {
         there = come-there;
         apart = come-apart;
+        own = come-mine;
         few = let more = ap length is ∙ length-more homes (c, n) in omega (arith, more);
       })
       a
@@ -152,6 +184,7 @@ module _ (homes homes' : List (ℕ × ℕ)) (nodes nodes' : List (Option Node))
     (a : AreChains homes nodes queues es)
     (now : (d : ℕ) → home_of homes' d ≡ cond (c == d) None (home_of homes d))
     (others : (m : ℕ) → is_at m (home_of homes c) ≡ false → node_in nodes' m ≡ node_in nodes m)
+    (gone : IfSome (home_of homes c) (λ m. node_in nodes' m ≡ None))
     (fewer : length homes' ≤ length homes) (none : has_waiter c es ≡ false) where
   left : (d m : ℕ) → home_of homes' d ≡ Some m
       → (home_of homes d ≡ Some m) × ((c == d) ≡ false)
@@ -198,7 +231,40 @@ module _ (homes homes' : List (ℕ × ℕ)) (nodes nodes' : List (Option Node))
           sym (ap (option_and_then (entry_in nodes)) (sym e) ∙ (a.own d ∙ ap first_entry gone))
       go false q None e = refl
       go false q (Some m) e =
-          ap (option_and_then (λ (x : Node). x.entry)) (node-left d m e q)
+          ap (option_and_then entry_at) (node-left d m e q)
+
+  left-mine : AreOwn homes' nodes'
+  left-mine m d e = go (home_of homes c) refl gone
+    where
+      still : is_at m (home_of homes c) ≡ false → home_of homes d ≡ Some m
+      still q =
+          a.homed.own m d
+          (sym (ap (option_map (λ (v : Node). v.waiter.client)) (others m q)) ∙ e)
+
+      other-one : (b : Bool) → (c == d) ≡ b → is_at m (home_of homes c) ≡ false → b ≡ false
+      other-one false r q = refl
+      other-one true r q =
+          let same : c ≡ d = grind (arith, nat_tests) in
+          let at = ap (is_at m) (ap (home_of homes) same ∙ still q) in
+          absurd (false≢true (sym q ∙ (at ∙ eq-eqb m m refl)))
+
+      kept : is_at m (home_of homes c) ≡ false → home_of homes' d ≡ Some m
+      kept q =
+          now d
+          ∙ (ap (λ b. cond b None (home_of homes d)) (other-one (c == d) refl q) ∙ still q)
+
+      go : (o : Option ℕ) → home_of homes c ≡ o → IfSome o (λ k. node_in nodes' k ≡ None)
+          → home_of homes' d ≡ Some m
+      go None h f = kept (ap (is_at m) h)
+      go (Some k) h f = by (k == m) refl
+        where
+          by : (b : Bool) → (k == m) ≡ b → home_of homes' d ≡ Some m
+          by true r =
+              let same : k ≡ m = grind (arith, nat_tests) in
+              let empty = ap (option_map (λ (v : Node). v.waiter.client))
+              (ap (node_in nodes') (sym same) ∙ f) in
+              absurd (none_some d (sym empty ∙ e))
+          by false r = kept (ap (is_at m) h ∙ r)
 
   pub chains-dismissed : AreChains homes' nodes' queues es
   chains-dismissed =
@@ -210,6 +276,7 @@ module _ (homes homes' : List (ℕ × ℕ)) (nodes nodes' : List (Option Node))
         there = λ d m h. let r = left d m h in
             ap is_some (node-left d m r.0 r.1) ∙ a.homed.there d m r.0;
         apart = λ d e m h k. a.homed.apart d e m (left d m h).0 (left e m k).0;
+        own = left-mine;
         few = let was = a.homed.few in omega (arith, was, fewer);
       })
       a
@@ -239,12 +306,12 @@ pub chains-joined : (homes room homes' : List (ℕ × ℕ))
     (c n : ℕ) → AreChains homes nodes queues es → home_of homes c ≡ None
     → length homes + 1 < 2 ^ 32 → room ≡ homes → roomy ≡ nodes
     → homes' ≡ room ++ (c, n) ∷ [] → node_in roomy n ≡ None
-    → node_in nodes' n ≡ Some (record { entry = None; next = None; before = None })
+    → entry_in nodes' n ≡ None → client_in nodes' n ≡ Some c
     → ((m : ℕ) → m ≢ n → node_in nodes' m ≡ node_in roomy m)
     → AreChains homes' nodes' queues es
 chains-joined homes room homes' nodes roomy nodes' queues es c n a none few same still longer
-    vacant at others =
+    vacant idle its others =
     chains-admitted homes homes' nodes nodes' queues es c n a none
     (longer ∙ ap (λ hs. hs ++ (c, n) ∷ []) same)
-    (ap (λ ns. node_in ns n) (sym still) ∙ vacant) at
+    (ap (λ ns. node_in ns n) (sym still) ∙ vacant) idle its
     (λ m h. others m h ∙ ap (λ ns. node_in ns m) still) few

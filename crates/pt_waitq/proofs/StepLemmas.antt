@@ -17,10 +17,11 @@ use Rattle.pt_waitq.specs.ListLemmas.{any-append, any-without}
 use Rattle.pt_waitq.specs.Chains.{numbers, after, waiting_from, waiting_by, first_in, last_in}
 use Rattle.pt_waitq.specs.Chains.{is_at, side_of, Links, chain_of, in_chain, nodes_of, node_in}
 use Rattle.pt_waitq.specs.Chains.{next_in, before_in, entry_in, home_of, index_of, entry_of}
-use Rattle.pt_waitq.specs.Chains.{AreHomes, AreChains, IsPut, IsTaken}
+use Rattle.pt_waitq.specs.Chains.{AreHomes, AreChains, AreOwn, IsPut, IsTaken}
+use Rattle.pt_waitq.specs.Chains.{client_in, entry_at}
 use Rattle.pt_waitq.proofs.ChangeLemmas.{stand-in, stand-out}
 use Rattle.pt_waitq.proofs.LinkLemmas.{eq_true}
-use Rattle.pt_waitq.proofs.ChainLemmas.{chain-member, is-listed, listed-lookup, index-there}
+use Rattle.pt_waitq.proofs.ChainLemmas.{chain-member, is-listed, listed-lookup, index-there, some_same}
 use Rattle.pt_waitq.proofs.InsertLemmas.{chain-room, queue-room}
 use Rattle.pt_waitq.proofs.PutLemmas.{chains-put}
 use Rattle.pt_waitq.proofs.TakeLemmas.{chains-taken, count-own, len-own, listed-own}
@@ -57,13 +58,28 @@ queues-changed queues queues' o q1 others at x = go (o == x) refl
 
 homed-still : (homes : List (ℕ × ℕ)) (nodes nodes' : List (Option Node))
     → ((m : ℕ) → is_some (node_in nodes' m) ≡ is_some (node_in nodes m))
-    → AreHomes homes nodes → AreHomes homes nodes'
-homed-still homes nodes nodes' there a =
+    → AreOwn homes nodes' → AreHomes homes nodes → AreHomes homes nodes'
+homed-still homes nodes nodes' there own a =
     record {
       there = λ c m h. there m ∙ a.there c m h;
       apart = a.apart;
+      own = own;
       few = a.few;
     }
+
+-- a node that is written again for its client
+own-again : (homes : List (ℕ × ℕ)) (nodes nodes' : List (Option Node)) (n c : ℕ)
+    → home_of homes c ≡ Some n
+    → ((m : ℕ) → client_in nodes' m ≡ cond (n == m) (Some c) (client_in nodes m))
+    → AreOwn homes nodes → AreOwn homes nodes'
+own-again homes nodes nodes' n c home clients own m d e = go (n == m) refl (sym (clients m) ∙ e)
+  where
+    go : (b : Bool) → (n == m) ≡ b → cond b (Some c) (client_in nodes m) ≡ Some d
+        → home_of homes d ≡ Some m
+    go true q h =
+        let same : n ≡ m = grind (arith, nat_tests) in
+        ap (home_of homes) (sym (some_same c d h)) ∙ (home ∙ ap (λ k. Some k) same)
+    go false q h = own m d h
 
 later : (t b : Bool) → b ≡ true → (t || b) ≡ true
 later true b e = refl
@@ -175,8 +191,9 @@ module _ (homes : List (ℕ × ℕ)) (nodes nodes' : List (Option Node))
       ≡ cond (n == c) None (cond (is_at c last) (Some n) (next_in nodes c)))
       → ((c : ℕ) → before_in nodes' c ≡ cond (n == c) last (before_in nodes c))
       → ((c : ℕ) → entry_in nodes' c ≡ cond (n == c) (Some (o, w)) (entry_in nodes c))
+      → ((c : ℕ) → client_in nodes' c ≡ cond (n == c) (Some w.client) (client_in nodes c))
       → IsLatest w (queue_of o es) → AreChains homes nodes' queues' (es ++ (o, w) ∷ [])
-  step-put there next before entries latest =
+  step-put there next before entries clients latest =
       let old = is-listed queues o made in
       let new = new-queue in
       let low : 1 ≤ w.prio = omega (arith, level) in
@@ -184,18 +201,22 @@ module _ (homes : List (ℕ × ℕ)) (nodes nodes' : List (Option Node))
       chains-put homes nodes nodes' queues queues' es o p n w last old.0 new.0 a none home
       (ap (λ x. unwrap_or x 0) home) level within old.1
       (queues-changed queues queues' o new.0 others new.1) (put old.0 new.0 old.1 new.1) next
-      before (low, high) put-stand entries (homed-still homes nodes nodes' there a.homed) latest
+      before (low, high) put-stand entries
+      (homed-still homes nodes nodes' there
+      (own-again homes nodes nodes' n w.client home clients a.homed.own) a.homed)
+      latest
 
 -- a waiter is taken out
 module _ (homes : List (ℕ × ℕ)) (nodes nodes' : List (Option Node))
     (queues queues' : List (ℕ × Queue)) (es : List (ℕ × Waiter)) (o p n : ℕ) (w : Waiter)
     (next before : Option ℕ) (a : AreChains homes nodes queues es) (in_es : In (o, w) es)
     (home : home_of homes w.client ≡ Some n)
-    (is : node_in nodes n ≡ Some (record { entry = Some (o, w); next = next; before = before }))
+    (is : node_in nodes n
+    ≡ Some (record { object = Some o; waiter = w; next = next; before = before }))
     (level : p + 1 ≡ w.prio) (within : p < most_priority)
     (made : is_listed o (numbers queues) ≡ true) where
   abbrev node : Node
-  node = record { entry = Some (o, w); next = next; before = before }
+  node = record { object = Some o; waiter = w; next = next; before = before }
 
   pub stands-there : IfSome (lookup (nat_eq o) queues) (λ q.
       1 ≤ slice_index (side_of w.writer q).counts p)
@@ -245,14 +266,16 @@ module _ (homes : List (ℕ × ℕ)) (nodes nodes' : List (Option Node))
         → ((c : ℕ) → before_in nodes' c
         ≡ cond (n == c) None (cond (is_at c next) before (before_in nodes c)))
         → ((c : ℕ) → entry_in nodes' c ≡ cond (n == c) None (entry_in nodes c))
+        → ((c : ℕ) → client_in nodes' c ≡ client_in nodes c)
         → AreChains homes nodes' queues' (filter (λ e. not (e.1.client == w.client)) es)
-    step-take there nexts befores entries =
+    step-take there nexts befores entries clients =
         let old = is-listed queues o made in
         let new = is-listed queues' o (ap (is_listed o) same ∙ made) in
         chains-taken homes nodes nodes' queues queues' es o p n w node old.0 new.0 a in_es home is
         level within old.1 (queues-changed queues queues' o new.0 others new.1)
         (taken old.0 new.0 old.1 new.1) nexts befores take-stand entries
-        (homed-still homes nodes nodes' there a.homed)
+        (homed-still homes nodes nodes' there
+        (λ m c e. a.homed.own m c (sym (clients m) ∙ e)) a.homed)
 
 -- who is admitted, as waiters are put in and taken out
 pub put-admits : (hs : List ℕ) (es : List (ℕ × Waiter)) (e : ℕ × Waiter) (d : ℕ)
@@ -289,9 +312,9 @@ take-admits hs es c d h =
 -- what a client's node says
 pub place-entry : (homes : List (ℕ × ℕ)) (nodes : List (Option Node)) (c n : ℕ) (its : Node)
     → home_of homes c ≡ Some n → node_in nodes n ≡ Some its
-    → entry_of homes nodes c ≡ its.entry
+    → entry_of homes nodes c ≡ entry_at its
 place-entry homes nodes c n its h k =
-    ap (option_and_then (entry_in nodes)) h ∙ ap (option_and_then (λ (x : Node). x.entry)) k
+    ap (option_and_then (entry_in nodes)) h ∙ ap (option_and_then entry_at) k
 
 pub home-listed : (homes : List (ℕ × ℕ)) (c n : ℕ) → home_of homes c ≡ Some n
     → is_listed c (numbers homes) ≡ true

@@ -3,7 +3,7 @@ use Rattle.std.specs.Prelude.{ℕ, ◌≡◌, ◌≢◌, ◌⊎◌, ◌==◌, �
 use Rattle.std.specs.Prelude.{◌&&◌, not, List, [], ◌∷◌, ◌++◌, Option, Some, None, is_some, IsSome}
 use Rattle.std.specs.Prelude.{filter, map, length, slice_index, slice_index_or, unwrap_or, nat_eq}
 use Rattle.std.specs.Prelude.{if◌then◌else◌}
-use Rattle.std.specs.Option.{option_and_then}
+use Rattle.std.specs.Option.{option_and_then, option_map}
 use Rattle.std.specs.Map.{lookup}
 use Rattle.std.specs.List.{AllByRecursion as Each}
 use Rattle.pt_types.specs.KeyOrder.{rank}
@@ -70,8 +70,16 @@ next_in nodes n = option_and_then (λ node. node.next) (node_in nodes n)
 abbrev pub before_in : List (Option Node) → ℕ → Option ℕ
 before_in nodes n = option_and_then (λ node. node.before) (node_in nodes n)
 
+-- the waiter of a node that is in a chain, with its queue's number
+abbrev pub entry_at : Node → Option (ℕ × Waiter)
+entry_at node = option_map (λ o. (o, node.waiter)) node.object
+
 abbrev pub entry_in : List (Option Node) → ℕ → Option (ℕ × Waiter)
-entry_in nodes n = option_and_then (λ node. node.entry) (node_in nodes n)
+entry_in nodes n = option_and_then entry_at (node_in nodes n)
+
+-- whose node it is
+abbrev pub client_in : List (Option Node) → ℕ → Option ℕ
+client_in nodes n = option_map (λ node. node.waiter.client) (node_in nodes n)
 
 -- the index of a client's node, and what the node says
 abbrev pub home_of : List (ℕ × ℕ) → ℕ → Option ℕ
@@ -107,10 +115,15 @@ pub record IsChain (next before : ℕ → Option ℕ) (side : Side) (p : ℕ) (n
   pub tail : slice_index_or side.tails p None ≡ last_in None ns
   pub links : Links next before None ns
 
+-- a node is that of the client whose number it has
+abbrev pub AreOwn : List (ℕ × ℕ) → List (Option Node) → Type 0
+AreOwn homes nodes = (n c : ℕ) → client_in nodes n ≡ Some c → home_of homes c ≡ Some n
+
 -- each client has a node of its own
 pub record AreHomes (homes : List (ℕ × ℕ)) (nodes : List (Option Node)) : Type 0 where
   pub there : (c n : ℕ) → home_of homes c ≡ Some n → IsSome (node_in nodes n)
   pub apart : (c d n : ℕ) → home_of homes c ≡ Some n → home_of homes d ≡ Some n → c ≡ d
+  pub own : AreOwn homes nodes
   pub few : length homes < 2 ^ 32
 
 -- nodes and ends of chains are those of the queued waiters

@@ -121,7 +121,7 @@ impl<A: Allocator + Copy> WaitList for Chains<A> {
     #[inline(always)]
     fn insert(&mut self, object: ObjectId, waiter: Waiter) {
         let client = waiter.client;
-        let node = nodes::home_of(&self.homes, client.0);
+        let node = nodes::home_of(&self.homes, &self.nodes, client.0);
         let p = waiter.prio.level() as usize - 1;
         let last = sides::insert(
             &mut self.queues,

@@ -10,18 +10,22 @@ ghost use Rattle.indexmap.specs.IndexMap.{spare};
 ghost use Rattle.slab.specs.Slab.{HasRoomFor};
 ghost use Rattle.pt_waitq.specs.declared.waiter.Waiter.{Waiter};
 ghost use Rattle.pt_waitq.specs.Chains.{numbers, is_at, node_in, next_in, before_in, entry_in};
-ghost use Rattle.pt_waitq.specs.Chains.{home_of, entry_of};
+ghost use Rattle.pt_waitq.specs.Chains.{home_of, entry_of, entry_at, client_in, AreOwn, AreHomes};
 
 use crate::link::{Link, MOST_NODES, NodeIndex};
 use crate::rows::{Rows, row_of};
 use crate::waiter::Waiter;
+use pt_types::{ClientId, Priority};
 use slab::Slab;
 use std::alloc::{AllocError, Allocator};
 
 /// A client's place in a chain, if it is in one.
 #[derive(Clone, Copy)]
 pub(crate) struct Node {
-    pub(crate) entry: Option<(u64, Waiter)>,
+    /// The number of the queue in which it is.
+    pub(crate) object: Option<u64>,
+    /// The client's waiter. While it is in no chain, the client alone counts.
+    pub(crate) waiter: Waiter,
     pub(crate) next: Link,
     pub(crate) before: Link,
 }
@@ -45,6 +49,7 @@ pub(crate) fn set_next<A: Allocator + Copy>(nodes: &mut Slab<Node, A>, node: Nod
         → next_in nodes.new.slots n ≡ (if node == n then next else next_in nodes.old.slots n) }
     ensures before { (n : ℕ) → before_in nodes.new.slots n ≡ before_in nodes.old.slots n }
     ensures entry { (n : ℕ) → entry_in nodes.new.slots n ≡ entry_in nodes.old.slots n }
+    ensures client { (n : ℕ) → client_in nodes.new.slots n ≡ client_in nodes.old.slots n }
 {
     nodes.get_mut(node.get()).unwrap().next = next;
 }
@@ -63,6 +68,7 @@ pub(crate) fn set_before<A: Allocator + Copy>(
         → before_in nodes.new.slots n
         ≡ (if node == n then before else before_in nodes.old.slots n) }
     ensures entry { (n : ℕ) → entry_in nodes.new.slots n ≡ entry_in nodes.old.slots n }
+    ensures client { (n : ℕ) → client_in nodes.new.slots n ≡ client_in nodes.old.slots n }
 {
     nodes.get_mut(node.get()).unwrap().before = before;
 }
@@ -80,9 +86,31 @@ pub(crate) fn set_node<A: Allocator + Copy>(nodes: &mut Slab<Node, A>, node: Nod
         ≡ (if node == n then value.before else before_in nodes.old.slots n) }
     ensures entry { (n : ℕ)
         → entry_in nodes.new.slots n
-        ≡ (if node == n then value.entry else entry_in nodes.old.slots n) }
+        ≡ (if node == n then entry_at value else entry_in nodes.old.slots n) }
+    ensures client { (n : ℕ)
+        → client_in nodes.new.slots n
+        ≡ (if node == n then Some value.waiter.client else client_in nodes.old.slots n) }
 {
     *nodes.get_mut(node.get()).unwrap() = value;
+}
+
+/// Writes in a node that it is in no chain.
+fn clear<A: Allocator + Copy>(nodes: &mut Slab<Node, A>, node: NodeIndex)
+    requires { IsSome (node_in nodes.old.slots node) }
+    ensures there { (n : ℕ)
+        → is_some (node_in nodes.new.slots n) ≡ is_some (node_in nodes.old.slots n) }
+    ensures next { (n : ℕ)
+        → next_in nodes.new.slots n ≡ (if node == n then None else next_in nodes.old.slots n) }
+    ensures before { (n : ℕ)
+        → before_in nodes.new.slots n ≡ (if node == n then None else before_in nodes.old.slots n) }
+    ensures entry { (n : ℕ)
+        → entry_in nodes.new.slots n ≡ (if node == n then None else entry_in nodes.old.slots n) }
+    ensures client { (n : ℕ) → client_in nodes.new.slots n ≡ client_in nodes.old.slots n }
+{
+    let node = nodes.get_mut(node.get()).unwrap();
+    node.object = None;
+    node.next = Link::none();
+    node.before = Link::none();
 }
 
 /// The waiter of a node, which is in a chain.
@@ -95,8 +123,7 @@ pub(crate) fn waiter_of<A: Allocator + Copy>(
         ≡ option_map (λ e. e.1) (option_and_then (λ n. entry_in nodes.now.slots n) node) }
 {
     let node = nodes.get(node?.get()).unwrap();
-    let (_, waiter) = node.entry.unwrap();
-    Some(waiter)
+    Some(node.waiter)
 }
 
 /// Puts a node after the last of its chain.
@@ -120,12 +147,16 @@ pub(crate) fn insert<A: Allocator + Copy>(
     ensures entry { (n : ℕ)
         → entry_in nodes.new.slots n
         ≡ (if node == n then Some entry else entry_in nodes.old.slots n) }
+    ensures client { (n : ℕ)
+        → client_in nodes.new.slots n
+        ≡ (if node == n then Some entry.1.client else client_in nodes.old.slots n) }
 {
     if let Some(l) = last.get() {
         set_next(nodes, l, Link::to(node));
     }
     let value = Node {
-        entry: Some(entry),
+        object: Some(entry.0),
+        waiter: entry.1,
         next: Link::none(),
         before: last,
     };
@@ -156,6 +187,7 @@ pub(crate) fn remove<A: Allocator + Copy>(
         else if is_at n next then before else before_in nodes.old.slots n) }
     ensures entry { (n : ℕ)
         → entry_in nodes.new.slots n ≡ (if node == n then None else entry_in nodes.old.slots n) }
+    ensures client { (n : ℕ) → client_in nodes.new.slots n ≡ client_in nodes.old.slots n }
 {
     if let Some(n) = before.get() {
         set_next(nodes, n, next);
@@ -163,20 +195,69 @@ pub(crate) fn remove<A: Allocator + Copy>(
     if let Some(n) = next.get() {
         set_before(nodes, n, before);
     }
-    let value = Node {
-        entry: None,
-        next: Link::none(),
-        before: Link::none(),
-    };
-    set_node(nodes, node, value);
+    clear(nodes, node);
+}
+
+// The node that is as far from the start as the client's number is above the first one, if it is
+// the client's.
+#[inline(always)]
+fn node_by_distance<A: Allocator + Copy>(
+    homes: &Rows<NodeIndex, A>,
+    nodes: &Slab<Node, A>,
+    client: u64,
+) -> Option<NodeIndex>
+    ensures { IfSome result (λ n. client_in nodes.now.slots n ≡ Some client) }
+{
+    let distance = homes.distance_of(client);
+    match nodes.get(distance) {
+        Some(node) if node.waiter.client.0 == client && distance < MOST_NODES => {
+            Some(NodeIndex::new(distance))
+        }
+        _ => None,
+    }
+}
+
+// The node of a client, looked up.
+#[cold]
+#[inline(never)]
+fn node_by_number<A: Allocator + Copy>(
+    homes: &Rows<NodeIndex, A>,
+    client: u64,
+) -> Option<NodeIndex>
+    ensures { result ≡ home_of homes.now.map.entries client }
+{
+    row_of(homes, client).copied()
+}
+
+// The node of a client, if it has one. Clients whose numbers follow one another are found by the
+// distance of the number, without a look at the list of numbers.
+#[inline(always)]
+fn node_of<A: Allocator + Copy>(
+    homes: &Rows<NodeIndex, A>,
+    nodes: &Slab<Node, A>,
+    client: u64,
+) -> Option<NodeIndex>
+    requires { AreOwn homes.now.map.entries nodes.now.slots }
+    ensures { result ≡ home_of homes.now.map.entries client }
+{
+    match node_by_distance(homes, nodes, client) {
+        Some(node) => Some(node),
+        None => node_by_number(homes, client),
+    }
 }
 
 /// The index of a client's node, which it has.
-pub(crate) fn home_of<A: Allocator + Copy>(homes: &Rows<NodeIndex, A>, client: u64) -> NodeIndex
-    requires { IsSome (home_of homes.now.map.entries client) }
+#[inline(always)]
+pub(crate) fn home_of<A: Allocator + Copy>(
+    homes: &Rows<NodeIndex, A>,
+    nodes: &Slab<Node, A>,
+    client: u64,
+) -> NodeIndex
+    requires own { AreOwn homes.now.map.entries nodes.now.slots }
+    requires there { IsSome (home_of homes.now.map.entries client) }
     ensures { home_of homes.now.map.entries client ≡ Some result }
 {
-    *row_of(homes, client).unwrap()
+    node_of(homes, nodes, client).unwrap()
 }
 
 /// Where a client waits, if it does.
@@ -185,21 +266,23 @@ pub(crate) fn place_of<A: Allocator + Copy>(
     nodes: &Slab<Node, A>,
     client: u64,
 ) -> Option<Place>
-    requires { (c n : ℕ)
-        → home_of homes.now.map.entries c ≡ Some n
-        → IsSome (node_in nodes.now.slots n) }
+    requires { AreHomes homes.now.map.entries nodes.now.slots }
     ensures none { IfNone result (entry_of homes.now.map.entries nodes.now.slots client ≡ None) }
     ensures home { IfSome result (λ p. home_of homes.now.map.entries client ≡ Some p.node) }
     ensures node { IfSome result (λ p. node_in nodes.now.slots p.node
-        ≡ Some (record { entry = Some (p.object, p.waiter); next = p.next; before = p.before })) }
+        ≡ Some (record {
+          object = Some p.object;
+          waiter = p.waiter;
+          next = p.next;
+          before = p.before;
+        })) }
 {
-    let index = *row_of(homes, client)?;
+    let index = node_of(homes, nodes, client)?;
     let node = nodes.get(index.get()).unwrap();
-    let (object, waiter) = node.entry?;
     Some(Place {
         node: index,
-        object,
-        waiter,
+        object: node.object?,
+        waiter: node.waiter,
         before: node.before,
         next: node.next,
     })
@@ -224,6 +307,25 @@ pub(crate) fn make_room<A: Allocator + Copy>(
     nodes.reserve(1)
 }
 
+// A client's node that is in no chain.
+fn idle(client: u64) -> Node
+    ensures entry { entry_at result ≡ None }
+    ensures client { result.waiter.client ≡ client }
+{
+    Node {
+        object: None,
+        waiter: Waiter {
+            client: ClientId(client),
+            place: 0,
+            prio: Priority::new(1).unwrap(),
+            writer: false,
+            moved: 0,
+        },
+        next: Link::none(),
+        before: Link::none(),
+    }
+}
+
 /// Adds a node that is in no chain, and returns its index.
 pub(crate) fn admit<A: Allocator + Copy>(
     homes: &mut Rows<NodeIndex, A>,
@@ -236,18 +338,13 @@ pub(crate) fn admit<A: Allocator + Copy>(
     requires index { nodes.old.vacant_key < 2 ^ 32 - 1 }
     ensures homes { homes.new.map.entries ≡ homes.old.map.entries ++ (client, result) ∷ [] }
     ensures vacant { node_in nodes.old.slots result ≡ None }
-    ensures node { node_in nodes.new.slots result
-        ≡ Some (record { entry = None; next = None; before = None }) }
+    ensures entry { entry_in nodes.new.slots result ≡ None }
+    ensures client { client_in nodes.new.slots result ≡ Some client }
     ensures others { (n : ℕ)
         → n ≢ result
         → node_in nodes.new.slots n ≡ node_in nodes.old.slots n }
 {
-    let value = Node {
-        entry: None,
-        next: Link::none(),
-        before: Link::none(),
-    };
-    let node = NodeIndex::new(nodes.insert_reserved(value));
+    let node = NodeIndex::new(nodes.insert_reserved(idle(client)));
     homes.map.insert(client, node).unwrap();
     homes.note_first(client);
     node
@@ -265,6 +362,8 @@ pub(crate) fn dismiss<A: Allocator + Copy>(
     ensures nodes { (n : ℕ)
         → is_at n (home_of homes.old.map.entries client) ≡ false
         → node_in nodes.new.slots n ≡ node_in nodes.old.slots n }
+    ensures gone { IfSome (home_of homes.old.map.entries client) (λ n.
+        node_in nodes.new.slots n ≡ None) }
     ensures len { length homes.new.map.entries ≤ length homes.old.map.entries }
 {
     if let Some(node) = homes.map.swap_remove(&client) {

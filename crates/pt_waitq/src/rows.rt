@@ -28,6 +28,12 @@ impl<T, A: Allocator + Copy> Rows<T, A> {
         }
     }
 
+    /// How far a number is above the first one. The distance of a lower number wraps.
+    #[inline(always)]
+    pub(crate) fn distance_of(&self, number: u64) -> usize {
+        number.wrapping_sub(self.first) as usize
+    }
+
     /// Notes the number of a new row, if it is the only one.
     pub(crate) fn note_first(&mut self, number: u64)
         ensures { self.new.map ≡ self.old.map }

@@ -14,7 +14,7 @@ invariant_of-self g c =
     let gone = c.dismiss.ensures in (
       chains-dismissed c.self.inside.homes.map.entries _ c.self.inside.nodes.slots _
           c.self.inside.queues.map.entries es c.client.inside.0 c.self.invariant.0 gone.homes
-          gone.nodes gone.len (ap (λ n. has_waiter n es) c.client.view_is ∙ none),
+          gone.nodes gone.gone gone.len (ap (λ n. has_waiter n es) c.client.view_is ∙ none),
       boxes-kept (length c.self.inside.homes.map.entries) _ _ _ es _ _ _ _ c.self.inside.boxes
           c.self.invariant.1 gone.len (omega arith) refl (omega arith),
       c.self.invariant.2,
@@ -28,7 +28,7 @@ returns-clause-admitted g c = λ d.
     let gone = c.dismiss.ensures in
     let homes = c.self.inside.homes.map.entries in
     dismissed-admits homes _ c.self.inside.nodes.slots _ c.self.inside.queues.map.entries es
-    c.client.inside.0 c.self.invariant.0 gone.homes gone.nodes gone.len
+    c.client.inside.0 c.self.invariant.0 gone.homes gone.nodes gone.gone gone.len
     (ap (λ n. has_waiter n es) c.client.view_is ∙ none) d
     ∙ (ap (λ n. not (n == d) && (is_listed d (numbers homes) || has_waiter d es))
     c.client.view_is

@@ -137,7 +137,7 @@ invariant_of-self g c =
           (step-put homes nodes c.insert.new.nodes.slots queues c.insert-last.new.queues.map.entries
           es o (c.level.result - 1) n w c.insert-last.result c.self.invariant.0 none home level
           within made last.numbers last.others last.queue
-          done.there done.next done.before done.entry latest),
+          done.there done.next done.before done.entry done.client latest),
       subst (λ ds. AreBoxes (length homes)
           (length (numbers c.insert-last.new.queues.map.entries)) ds
           (vec_len c.insert-last.new.spares)

@@ -191,7 +191,7 @@ put_back-requires-clause-emptied g c =
     let emptied = step-emptied homes nodes c.remove.new.nodes.slots queues
     c.remove-emptied.new.queues.map.entries es place.object (c.level.result - 1) place.node w
     place.next place.before c.self.invariant.0 found.0 home c.in_ok-place.ensures.node level within
-    made out.numbers out.others done.there done.next done.before done.entry
+    made out.numbers out.others done.there done.next done.before done.entry done.client
     (option_map (λ b. b.value) c.remove-emptied.result) out.queue in
     if-boxed HasNone (λ b. b.value) c.remove-emptied.result emptied.none
 
@@ -220,7 +220,7 @@ put_back-requires-clause-room g c =
     let emptied = step-emptied homes nodes c.remove.new.nodes.slots queues
     c.remove-emptied.new.queues.map.entries es place.object (c.level.result - 1) place.node w
     place.next place.before c.self.invariant.0 found.0 home c.in_ok-place.ensures.node level within
-    made out.numbers out.others done.there done.next done.before done.entry
+    made out.numbers out.others done.there done.next done.before done.entry done.client
     (option_map (λ b. b.value) c.remove-emptied.result) out.queue in
     λ some.
     room-back homes nodes queues es _ _ c.self.inside.boxes c.self.invariant.0 c.self.invariant.1
@@ -252,7 +252,7 @@ invariant_of-self g c =
     let emptied = step-emptied homes nodes c.remove.new.nodes.slots queues
     c.remove-emptied.new.queues.map.entries es place.object (c.level.result - 1) place.node w
     place.next place.before c.self.invariant.0 found.0 home c.in_ok-place.ensures.node level within
-    made out.numbers out.others done.there done.next done.before done.entry
+    made out.numbers out.others done.there done.next done.before done.entry done.client
     (option_map (λ b. b.value) c.remove-emptied.result) out.queue in
     let logged = ap waiting_by c.and-self-inside.ensures
     ∙ waiting-more c.self.inside.log.items (None, w) in
@@ -313,7 +313,7 @@ returns-clause-queues g c = λ q.
     let emptied = step-emptied homes nodes c.remove.new.nodes.slots queues
     c.remove-emptied.new.queues.map.entries es place.object (c.level.result - 1) place.node w
     place.next place.before c.self.invariant.0 found.0 home c.in_ok-place.ensures.node level within
-    made out.numbers out.others done.there done.next done.before done.entry
+    made out.numbers out.others done.there done.next done.before done.entry done.client
     (option_map (λ b. b.value) c.remove-emptied.result) out.queue in
     let logged = ap waiting_by c.and-self-inside.ensures
     ∙ waiting-more c.self.inside.log.items (None, w) in
