@@ -12,7 +12,8 @@ use Rattle.pt_waitq.specs.declared.nodes.Node.{Node}
 use Rattle.pt_waitq.specs.declared.sides.Queue.{Queue}
 use Rattle.pt_waitq.specs.Queues.{In}
 use Rattle.pt_waitq.specs.Waits.{is_listed, queue_of}
-use Rattle.pt_waitq.specs.Chains.{numbers, is_at, node_in, next_in, before_in, entry_in, client_in, home_of}
+use Rattle.pt_waitq.specs.Chains.{numbers, is_at, node_in, next_in, before_in, entry_in, client_in}
+use Rattle.pt_waitq.specs.Chains.{home_of}
 use Rattle.pt_waitq.specs.Chains.{AreChains, HasNone, IsTaken}
 use Rattle.pt_waitq.specs.Boxes.{no_queue, IsEmptied}
 use Rattle.pt_waitq.proofs.ChainLemmas.{some_same, is-listed}

@@ -21,7 +21,8 @@ use Rattle.pt_waitq.specs.Chains.{AreHomes, AreChains, AreOwn, IsPut, IsTaken}
 use Rattle.pt_waitq.specs.Chains.{client_in, entry_at}
 use Rattle.pt_waitq.proofs.ChangeLemmas.{stand-in, stand-out}
 use Rattle.pt_waitq.proofs.LinkLemmas.{eq_true}
-use Rattle.pt_waitq.proofs.ChainLemmas.{chain-member, is-listed, listed-lookup, index-there, some_same}
+use Rattle.pt_waitq.proofs.ChainLemmas.{chain-member, is-listed, listed-lookup, index-there}
+use Rattle.pt_waitq.proofs.ChainLemmas.{some_same}
 use Rattle.pt_waitq.proofs.InsertLemmas.{chain-room, queue-room}
 use Rattle.pt_waitq.proofs.PutLemmas.{chains-put}
 use Rattle.pt_waitq.proofs.TakeLemmas.{chains-taken, count-own, len-own, listed-own}

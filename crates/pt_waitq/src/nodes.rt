@@ -220,10 +220,7 @@ fn node_by_distance<A: Allocator + Copy>(
 // The node of a client, looked up.
 #[cold]
 #[inline(never)]
-fn node_by_number<A: Allocator + Copy>(
-    homes: &Rows<NodeIndex, A>,
-    client: u64,
-) -> Option<NodeIndex>
+fn node_by_number<A: Allocator + Copy>(homes: &Rows<NodeIndex, A>, client: u64) -> Option<NodeIndex>
     ensures { result ≡ home_of homes.now.map.entries client }
 {
     row_of(homes, client).copied()

@@ -14,8 +14,8 @@ use Rattle.pt_waitq.proofs.StepLemmas.{waiting-more, room-there, len-there, last
 use Rattle.pt_waitq.proofs.StepLemmas.{step-put, put-admits, home-listed}
 use Rattle.pt_waitq.proofs.chains.ChainsWaitList.insert.Goals as goal
 
-pub home_of-node-requires : goal.home_of-node-requires
-home_of-node-requires g c =
+pub home_of-node-requires-clause-there : goal.home_of-node-requires-clause-there
+home_of-node-requires-clause-there g c =
     let es = waiting_by c.self.inside.log.items in
     let homes = c.self.inside.homes.map.entries in
     let w = c.args.waiter in
