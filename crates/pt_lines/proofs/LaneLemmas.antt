@@ -1,17 +1,23 @@
 -- LaneLemmas: a byte among lanes, and among the first of more bytes.
-use Rattle.std.proofs.Common.{◌≡◌, ◌≢◌, ◌<◌, ◌≤◌, ◌^◌, ◌∙◌, ◌⊎◌, ℕ, Bool, true, false, cond}
+use Rattle.std.proofs.Common.{◌≡◌, ◌≢◌, ◌<◌, ◌≤◌, ◌%◌, ◌^◌, ◌∙◌, ◌⊎◌, ◌||◌, ◌==◌, ℕ, Bool, true}
+use Rattle.std.proofs.Common.{false, not, cond}
 use Rattle.std.proofs.Common.{List, length, take, get_or, map, refl, ap, sym, arith, inl, inr}
 use Rattle.std.proofs.Common.{Some, None}
-use Rattle.std.proofs.Common.{w64, pow_mono}
-use Rattle.std.proofs.lemmas.Bool.{cases_lt}
+use Rattle.std.proofs.Common.{Fits, subst, w8, w64, pow_mono}
+use Rattle.std.proofs.lemmas.Bool.{agree_below, agree_below_at, cases_lt, not-true}
 use Rattle.std.proofs.lemmas.Grind.{common_steps}
 use Rattle.std.proofs.lemmas.List.{length-map, length-take-le, get_or_past, get_or-take}
+use Rattle.std.proofs.lemmas.List.Elements.{All-from_get_or}
+use Rattle.std.proofs.lemmas.List.Sums.{list_all-from_AllPass, prefix_len_passes}
+use Rattle.std.proofs.lemmas.List.Sums.{prefix_len-le-length}
 use Rattle.std.proofs.lemmas.Nat.Bits.{bit_at-zero, bit_at-trailing_zeros}
-use Rattle.std.proofs.lemmas.Simd.{bit_mask_l, mask_l-lt}
+use Rattle.std.proofs.lemmas.Simd.{bit_mask_l, first_set_mask_l, map-map, mask_l-lt, mask_l-mod}
 use Rattle.std.proofs.Math.ListN.{get_or-map}
 use Rattle.std.specs.Int.{bit_at, trailing_zeros}
+use Rattle.std.specs.List.{list_all, prefix_len}
 use Rattle.std.specs.Simd.Lanes.{mask_l}
 use Rattle.memchr.specs.Find.{IsFirstByte, Nowhere, Passes, is_byte}
+use lib.Lanes.{top}
 
 -- the mask of a byte among some bytes
 abbrev pub mask_of : ℕ → List ℕ → ℕ
@@ -103,3 +109,57 @@ pub none_in_front :
 none_in_front b xs n le h k low lt e =
     h k low (omega (arith, length-take-le n xs le))
     (ap (is_byte b) (get_or-take n xs k 0 lt) ∙ e)
+
+-- the place of the lowest bit that is set, or n
+abbrev pub lowest : ℕ → ℕ → ℕ
+lowest n mask = cond (mask == 0) n (trailing_zeros w64 mask)
+
+-- before the first lane of a load that stops each byte passes, if each whose lane does not stop
+-- does
+pub front_passes :
+    (q : ℕ → Bool) (bytes z : List ℕ) (n r : ℕ) → n ≤ length bytes → n ≤ 64
+    → ((k : ℕ) → Fits w8 (get_or bytes k 0))
+    → r ≡ lowest n (mask_l (map (top 7) z) % 2 ^ 64) → (f : ℕ → ℕ) → z ≡ map f (take n bytes)
+    → agree_below (λ x. top 7 (f x) || q x) (λ _. true) 256 ≡ true
+    → (r ≤ n) × (list_all q (take r bytes) ≡ true)
+front_passes q bytes z n r room few fits is f lanes all = (
+  omega (arith, at, bound, long),
+  list_all-from_AllPass q front (All-from_get_or (λ x. q x ≡ true) front 0 each),
+)
+  where
+    xs : List ℕ
+    xs = take n bytes
+
+    front : List ℕ
+    front = take r bytes
+
+    long : length xs ≡ n
+    long = length-take-le n bytes room
+
+    stops : ℕ → Bool
+    stops x = top 7 (f x)
+
+    mask : mask_l (map (top 7) z) % 2 ^ 64 ≡ mask_l (map stops xs)
+    mask =
+        ap (λ l. mask_l l % 2 ^ 64) (ap (map (top 7)) lanes ∙ map-map (top 7) f xs)
+        ∙ mask_l-mod (map stops xs) 64 (omega (arith, length-map xs stops, long, few))
+
+    at : r ≡ prefix_len (λ x. not (stops x)) xs
+    at = is ∙ ap (lowest n) mask ∙ first_set_mask_l stops xs n long few
+
+    bound : prefix_len (λ x. not (stops x)) xs ≤ length xs
+    bound = prefix_len-le-length (λ x. not (stops x)) xs
+
+    clear : (k : ℕ) → k < r → stops (get_or bytes k 0) ≡ false
+    clear k low =
+        let inside = get_or-take n bytes k 0 (omega (arith, at, bound, long, low)) in
+        subst (λ x. stops x ≡ false) inside
+        (not-true _ (prefix_len_passes (λ x. not (stops x)) xs k 0 (omega (arith, at, low))))
+
+    each : (k : ℕ) → k < length front → q (get_or front k 0) ≡ true
+    each k lt =
+        let within : r ≤ length bytes = omega (arith, at, bound, long, room) in
+        let low : k < r = omega (arith, lt, length-take-le r bytes within) in
+        ap q (get_or-take r bytes k 0 low)
+        ∙ sym (ap (λ b. b || q (get_or bytes k 0)) (clear k low))
+        ∙ agree_below_at (λ x. stops x || q x) (λ _. true) 256 (get_or bytes k 0) all (fits k).fits

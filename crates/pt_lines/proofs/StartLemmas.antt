@@ -4,7 +4,8 @@ use Rattle.std.proofs.Common.{Bool, true, false, not, List, ◌∷◌, ◌++◌,
 use Rattle.std.proofs.Common.{get_or, refl, ap, sym, subst, arith, inl, inr, Some}
 use Rattle.std.proofs.lemmas.Bool.{cases_lt}
 use Rattle.std.proofs.lemmas.List.{length-take-le, length-drop, take-append-drop}
-use Rattle.std.proofs.lemmas.List.{drop_more, take_all}
+use Rattle.std.proofs.lemmas.List.{drop_more, take_all, take-take}
+use Rattle.std.specs.List.{list_all}
 use Rattle.pt_lines.specs.declared.client.TheConstants.{MAY_STAND}
 use Rattle.pt_lines.specs.declared.client.Who.TheVariants.{Named}
 use Rattle.pt_lines.specs.ClientNames.{is_client_byte, IsClientName}
@@ -58,6 +59,32 @@ by_start text items n is le =
     sym (take-append-drop n text)
     ∙ ap (λ ys. ys ++ drop n text) (sym is)
     ∙ ap (λ m. items ++ drop m text) (sym long)
+
+-- the first bytes of a text by a block that it begins with
+pub front_of :
+    (block text : List ℕ) (n len : ℕ) → block ≡ take n text → len ≤ n
+    → take len block ≡ take len text
+front_of block text n len is le = ap (take len) is ∙ take-take len n text le
+
+-- a client's name by the block that begins with it
+pub named_by :
+    (block text : List ℕ) (len : ℕ) → take len block ≡ take len text → 1 ≤ len → len ≤ 8
+    → len ≤ length text → list_all is_client_byte (take len text) ≡ true
+    → IsClientName (take len block)
+named_by block text len same some few within stand =
+    let long = length-take-le len text within in
+    subst IsClientName (sym same)
+    (record { some = omega (arith, long, some); fits = omega (arith, long, few); bytes = stand })
+
+pub whole :
+    (block name : List ℕ) → take (length name) block ≡ take (length name) name
+    → take (length name) block ≡ name
+whole block name same = same ∙ take_all (length name) name (omega arith)
+
+pub whole_name :
+    (block name : List ℕ) → take (length name) block ≡ take (length name) name
+    → IsClientName name → IsClientName (take (length name) block)
+whole_name block name same is = subst IsClientName (sym (whole block name same)) is
 
 -- a name and a space at the start of a text
 behind : (text : List ℕ) (n : ℕ) → take (length text - n) (drop n text) ≡ drop n text

@@ -1,30 +1,36 @@
-ghost use Rattle.std.specs.Prelude.{◌≡◌, ◌↔◌, ◌≤◌, ◌++◌, ◌∷◌, IsTrue, IfSome, length, drop};
+ghost use Rattle.std.specs.Prelude.{◌≡◌, ◌↔◌, ◌≤◌, ◌<◌, ◌++◌, ◌∷◌, IsTrue, IfSome, length, take};
+ghost use Rattle.std.specs.Cmp.{partial_equiv_from_equiv};
+ghost use Rattle.std.specs.Cmp.Lexicographic.{nat_list_eq_equiv};
 ghost use Rattle.std.specs.List.{list_all};
+ghost use Rattle.std.specs.Str.{bytes_eq};
 ghost use Rattle.pt_lines.specs.ClientNames.{is_client_byte, IsClientName};
 
-use arrayvec::ArrayVec;
+use std::fmt;
 use std::hash::{Hash, Hasher};
 use std::marker::Model;
+use std::simd::prelude::*;
+
+// How many bytes a client's name has at most.
+const MOST: usize = 8;
 
 /// The name of a client in a script: 1 to 8 ASCII letters or digits.
 ///
-/// Contracts see it as its bytes.
-#[derive(Clone, Debug, PartialEq, Eq, Drop)]
+/// Contracts see it as its bytes. What fills its block up has no meaning.
+#[derive(Clone, Drop)]
 pub struct ClientName {
-    text: ArrayVec<u8, 8>,
+    block: [u8; MOST],
+    len: u8,
 }
 
 impl Model for ClientName {
-    ghost use Rattle.std.specs.Prelude.{List, ℕ};
+    ghost use Rattle.std.specs.Prelude.{◌≤◌, List, ℕ, take};
     ghost use Rattle.pt_lines.specs.ClientNames.{IsClientName};
 
     ghost Value = { List ℕ };
 
-    ghost view = { λ n. n.text.items };
+    ghost view = { λ n. take n.len n.block };
 
-    ghost invariant = { λ n. IsClientName n.text.items };
-
-    ghost inverse = { λ xs. record { text = record { items = xs } } };
+    ghost invariant = { λ n. (n.len ≤ 8) × IsClientName (take n.len n.block) };
 }
 
 // Which bytes a client's name may have.
@@ -74,35 +80,109 @@ fn is_name(bytes: &[u8]) -> bool
     !bytes.is_empty() && bytes.len() <= 8 && may_all_stand(bytes)
 }
 
-// The bytes before the first that a client's name can't have, but at most eight.
-fn name_at_start(text: &[u8]) -> ArrayVec<u8, 8>
-    ensures start { text.now ≡ result.items ++ drop (length result.items) text.now }
-    ensures stand { IsTrue (list_all is_client_byte result.items) }
-    ensures short { length result.items ≤ 8 }
+// Few bytes, with what fills their block up. It isn't inlined, since few texts are so short.
+#[cold]
+#[inline(never)]
+fn filled_up(bytes: &[u8]) -> [u8; MOST]
+    requires { length bytes.now ≤ 8 }
+    ensures { take (length bytes.now) result ≡ bytes.now }
 {
-    let mut name = ArrayVec::new();
-    for place in 0..text.len().min(8) {
-        if !may_stand(text[place]) {
-            return name;
-        }
-        name.push(text[place]);
+    let mut block = [0; MOST];
+    block[..bytes.len()].copy_from_slice(bytes);
+    block
+}
+
+// A block that begins with this many bytes of a text.
+#[inline(always)]
+#[tactic(auto, using(crate::proofs::StartLemmas::front_of))]
+fn block_of(text: &[u8], len: usize) -> [u8; MOST]
+    requires within { len ≤ length text.now }
+    requires short { len ≤ 8 }
+    ensures { take len result ≡ take len text.now }
+{
+    match text.first_chunk::<MOST>() {
+        Some(block) => *block,
+        None => filled_up(&text[..len]),
     }
-    name
+}
+
+// The place of the first byte that a client's name can't have, of the first eight bytes of a text,
+// and eight if there is none. All are tested at once.
+#[inline(always)]
+fn block_len(text: &[u8]) -> usize
+    requires { MOST ≤ length text.now }
+    ensures short { result ≤ 8 }
+    ensures stand { IsTrue (list_all is_client_byte (take result text.now)) }
+{
+    let bytes = u8x8::from_slice(text);
+    let from_zero = bytes - u8x8::splat(b'0');
+    let from_a = (bytes | u8x8::splat(0x20)) - u8x8::splat(b'a');
+    let stops = from_zero.simd_ge(u8x8::splat(10)) & from_a.simd_ge(u8x8::splat(26));
+    let mask = stops.to_bitmask();
+    if mask == 0 {
+        return MOST;
+    }
+    mask.trailing_zeros() as usize
+}
+
+// The same of a text of fewer bytes, which few lines are.
+#[cold]
+#[inline(never)]
+fn short_len(text: &[u8]) -> usize
+    requires { length text.now < 8 }
+    ensures within { result ≤ length text.now }
+    ensures stand { IsTrue (list_all is_client_byte (take result text.now)) }
+{
+    for place in 0..text.len() {
+        if !may_stand(text[place]) {
+            return place;
+        }
+    }
+    text.len()
+}
+
+// How many bytes are before the first that a client's name can't have, but at most eight.
+#[inline(always)]
+fn name_len(text: &[u8]) -> usize
+    ensures within { result ≤ length text.now }
+    ensures short { result ≤ 8 }
+    ensures stand { IsTrue (list_all is_client_byte (take result text.now)) }
+{
+    if text.len() < MOST {
+        return short_len(text);
+    }
+    block_len(text)
 }
 
 /// The client at the start of a text and what is after it and a space, if a client's name and a
-/// space are there. The name is tested and copied as the space is searched for.
+/// space are there. The name is tested as the space is searched for.
 #[inline(always)]
+#[tactic(auto, using(crate::proofs::StartLemmas::named_by))]
 pub(crate) fn client_at_start(text: &[u8]) -> Option<(ClientName, &[u8])>
     ensures text { IfSome result (λ start. text.now ≡ start.0 ++ 32 ∷ start.1.now) }
     ensures name { IfSome result (λ start. IsClientName start.0) }
 {
-    let name = name_at_start(text);
-    let len = name.len();
+    let len = name_len(text);
     if len == 0 || len >= text.len() || text[len] != b' ' {
         return None;
     }
-    Some((ClientName { text: name }, &text[len + 1..]))
+    let name = ClientName {
+        block: block_of(text, len),
+        len: len as u8,
+    };
+    Some((name, &text[len + 1..]))
+}
+
+// The name of these bytes, which are one.
+#[tactic(auto, using(crate::proofs::StartLemmas::whole, crate::proofs::StartLemmas::whole_name))]
+fn name_of(bytes: &[u8]) -> ClientName
+    requires { IsClientName bytes.now }
+    ensures { result ≡ bytes.now }
+{
+    ClientName {
+        block: block_of(bytes, bytes.len()),
+        len: bytes.len() as u8,
+    }
 }
 
 impl ClientName {
@@ -116,8 +196,7 @@ impl ClientName {
         if !is_name(bytes) {
             return None;
         }
-        let text = ArrayVec::try_from(bytes).unwrap();
-        Some(ClientName { text })
+        Some(name_of(bytes))
     }
 
     /// The bytes of the name.
@@ -125,15 +204,37 @@ impl ClientName {
         ensures bytes { result.now ≡ self.now }
         ensures name { IsClientName result.now }
     {
-        self.text.as_slice()
+        &self.block[..self.len as usize]
     }
 
     /// A second name of the same bytes. It takes no memory.
     pub fn copied(&self) -> ClientName
         ensures { result ≡ self.now }
     {
-        let text = ArrayVec::try_from(self.as_bytes()).unwrap();
-        ClientName { text }
+        ClientName {
+            block: self.block,
+            len: self.len,
+        }
+    }
+}
+
+impl PartialEq for ClientName {
+    ghost eq = { bytes_eq };
+
+    ghost laws = { partial_equiv_from_equiv nat_list_eq_equiv };
+
+    fn eq(&self, other: &Self) -> bool {
+        self.as_bytes() == other.as_bytes()
+    }
+}
+
+impl Eq for ClientName {
+    ghost laws = { nat_list_eq_equiv };
+}
+
+impl fmt::Debug for ClientName {
+    fn fmt<W: fmt::Write>(&self, f: &mut fmt::Formatter<W>) -> fmt::Result {
+        self.as_bytes().fmt(f)
     }
 }
 
@@ -171,8 +272,7 @@ impl Who {
         ensures { result ≡ who_named name.now }
     {
         if is_name(name) {
-            let text = ArrayVec::try_from(name).unwrap();
-            return Who::Named(ClientName { text });
+            return Who::Named(name_of(name));
         }
         if name == b"*".as_slice() {
             return Who::Star;
