@@ -90,18 +90,30 @@ impl<A: Allocator + Copy> Asked<A> {
         self.make_room()
     }
 
+    // The client's line, if one is stored, by the hash of its number. It isn't inlined, since the
+    // lines of most clients are found by their hints.
+    #[cold]
+    #[inline(never)]
+    fn find(&self, client: ClientId) -> Option<&LineId>
+        ensures { option_copied result ≡ latest_line self.now.entries client }
+    {
+        self.lines.get(&client.0)
+    }
+
     /// The client's line, if one is stored.
+    #[inline(always)]
     pub fn get(&self, client: ClientId) -> Option<&LineId>
         ensures { option_copied result ≡ latest_line self.now.entries client }
     {
         let index = self.hints.get(client.0).unwrap_or(0);
         match self.lines.get_index(index) {
             Some((number, line)) if *number == client.0 => Some(line),
-            _ => self.lines.get(&client.0),
+            _ => self.find(client),
         }
     }
 
     // The index to which the client's hint leads, if its line is there.
+    #[inline(always)]
     fn hinted(&self, client: ClientId) -> Option<usize>
         ensures { IfSome result (λ index.
             option_map (λ e. e.0) (slice_get self.now.entries index) ≡ Some client) }
@@ -114,6 +126,7 @@ impl<A: Allocator + Copy> Asked<A> {
     }
 
     // The line at an index, which is this client's, is this one from now on.
+    #[inline(always)]
     fn store_at(&mut self, index: usize, client: ClientId, line: &LineId)
         requires { option_map (λ e. e.0) (slice_get self.old.entries index) ≡ Some client }
         ensures { IsLatest self.old.entries client line.now self.new.entries }
@@ -121,7 +134,20 @@ impl<A: Allocator + Copy> Asked<A> {
         *self.lines.get_index_mut(index).unwrap() = line.copied();
     }
 
+    // The same of a client to whose line no hint leads. It isn't inlined, since few are such.
+    #[cold]
+    #[inline(never)]
+    fn insert(&mut self, client: ClientId, line: &LineId)
+        requires { 0 < self.old.room }
+        ensures { IsLatest self.old.entries client line.now self.new.entries }
+    {
+        self.has_room = false;
+        let (index, _) = self.lines.insert_full(client.0, line.copied()).unwrap();
+        self.hints.set(client.0, index);
+    }
+
     /// The client's line is this one from now on. It takes no memory.
+    #[inline(always)]
     pub fn store(&mut self, client: ClientId, line: &LineId)
         requires { 0 < self.old.room }
         ensures { IsLatest self.old.entries client line.now self.new.entries }
@@ -129,8 +155,6 @@ impl<A: Allocator + Copy> Asked<A> {
         if let Some(index) = self.hinted(client) {
             return self.store_at(index, client, line);
         }
-        self.has_room = false;
-        let (index, _) = self.lines.insert_full(client.0, line.copied()).unwrap();
-        self.hints.set(client.0, index);
+        self.insert(client, line);
     }
 }

@@ -50,6 +50,7 @@ pub fn refuse<A: Allocator + Copy>(
 }
 
 // The line that is stored for a client. That of a call that is noted just now is at hand.
+#[inline(always)]
 fn line_of<'a, A: Allocator + Copy>(
     asked: &'a Asked<A>,
     mark: &Mark,
