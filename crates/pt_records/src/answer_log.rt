@@ -151,6 +151,7 @@ impl<A: Allocator + Copy> AnswerLog<A> {
     }
 
     /// Adds an answer, in room that was made for it.
+    #[inline(always)]
     pub fn push(&mut self, answer: Answered)
         requires { length self.old.items < self.old.capacity }
         ensures items { self.new.items ≡ self.old.items ++ answer ∷ [] }

@@ -23,6 +23,7 @@ use pt_types::{ClientId, ObjectId};
 use std::alloc::Allocator;
 
 // Whether an object is a robust mutex that nobody owns.
+#[inline(always)]
 fn is_robust_free<A: Allocator + Copy>(objects: &Objects<Object<A>, A>, m: ObjectId) -> bool
     ensures { result ≡ passes is_robust_free_it (object_value objects.now m) }
 {
@@ -33,6 +34,7 @@ fn is_robust_free<A: Allocator + Copy>(objects: &Objects<Object<A>, A>, m: Objec
 }
 
 // Whether an object is a robust mutex that its owner has locked once.
+#[inline(always)]
 fn is_locked_once<A: Allocator + Copy>(objects: &Objects<Object<A>, A>, m: ObjectId) -> bool
     ensures { result ≡ passes is_locked_once_it (object_value objects.now m) }
 {
