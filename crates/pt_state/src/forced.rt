@@ -70,8 +70,12 @@ impl<A: Allocator + Copy> State<A> {
         ensures { Adds self.old (service (past self.old) (called found.now)) self.new }
     {
         match found.call.role {
-            Role::ForMutex => self.push_grant_mutex(found, found.call.object),
-            Role::ForCond(m) => self.push_grant_mutex(found, m),
+            Role::ForMutex => {
+                self.push_grant_mutex(found, found.call.object);
+            }
+            Role::ForCond(m) => {
+                self.push_grant_mutex(found, m);
+            }
             Role::ForRead => self.push_grant_read(found),
             Role::ForWrite => self.push_grant_write(found),
             Role::ForBarrier => unreachable!(),

@@ -1,4 +1,4 @@
-//! A call for a mutex that is granted as it comes: its entry, and its Grant.
+//! What a call for a mutex gets that is granted: as it comes, with its entry, or once it waited.
 
 ghost use Rattle.std.specs.Prelude.{IsSome, IsTrue, None, Option, Some, ℕ, ◌&&◌, ◌≡◌, false};
 ghost use Rattle.std.specs.Prelude.{is_none, true};
@@ -22,6 +22,7 @@ ghost use Rattle.pt_state.specs.Had.{AddsHad, IsHad};
 ghost use Rattle.pt_state.specs.Reads.{AreTables};
 
 use crate::state::State;
+use pt_model::waiting_call::{Move, is_expired};
 use pt_records::Answered;
 use pt_records::answers::tell;
 use pt_records::clients::note_call;
@@ -31,7 +32,7 @@ use pt_types::views::is_acquired;
 use pt_types::{Call, ClientId, Consistency, ObjectId, Outcome};
 use std::alloc::Allocator;
 
-/// What a call for a mutex gets that is granted as it comes.
+/// What a call for a mutex gets that is granted.
 #[derive(Clone, Copy, Debug, PartialEq, Eq)]
 pub struct Had {
     /// Whether the mutex was a robust one that nobody owned.
@@ -41,30 +42,31 @@ pub struct Had {
 }
 
 impl<A: Allocator + Copy> State<A> {
-    // What a call for a mutex gets if it is granted now.  [XSH pthread_mutex_lock]
+    // What a call for a mutex, with this move, gets if it is granted now.
+    // [XSH pthread_mutex_lock]
     #[inline(always)]
-    fn had_at(&self, m: ObjectId) -> Had
+    pub(crate) fn had_at(&self, m: ObjectId, moved: Option<Move>) -> Had
         requires read { AreTables self.now }
         ensures row { result.robust ≡ passes is_robust_free (object_value self.now.objects m) }
         ensures robust { let h = past self.now in
             result.robust ≡ is_robust (kind_of h m) && is_none (owner h m) }
-        ensures outcome { result.outcome ≡ told_at self.now.objects m None }
+        ensures outcome { result.outcome ≡ told_at self.now.objects m moved }
     {
         match self.mutex_at(m) {
             Some(mutex) => Had {
                 robust: mutex.is_robust() && mutex.owner().is_none(),
-                outcome: lock_outcome(mutex.consistency(), false),
+                outcome: lock_outcome(mutex.consistency(), is_expired(moved)),
             },
             None => Had {
                 robust: false,
-                outcome: lock_outcome(Consistency::Consistent, false),
+                outcome: lock_outcome(Consistency::Consistent, is_expired(moved)),
             },
         }
     }
 
     // The client gets the mutex, if its call is answered so.  [XSH pthread_mutex_lock]
     #[inline(always)]
-    fn take(&mut self, m: ObjectId, c: ClientId, had: Had)
+    pub(crate) fn take(&mut self, m: ObjectId, c: ClientId, had: Had)
         requires there { IsSome (mutex_in (object_value self.old.objects m)) }
         requires may { is_acquired_it had.outcome ≡ true → (x : MutexState)
             → object_value self.old.objects m ≡ Some (Mutex x) → IsTrue (can_acquire x.seen c) }
@@ -109,7 +111,7 @@ impl<A: Allocator + Copy> State<A> {
         ensures robust { let h = past self.old in
             result.robust ≡ is_robust (kind_of h m) && is_none (owner h m) }
     {
-        let had = self.had_at(m);
+        let had = self.had_at(m, None);
         let outcome = had.outcome;
         self.take(m, c, had);
         let place = self.stored.len();

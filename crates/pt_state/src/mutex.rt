@@ -29,6 +29,7 @@ ghost use Rattle.pt_types.specs.MutexTable.{lock_verdict as lock_table};
 ghost use Rattle.pt_types.specs.ObjectTable.{destroy_verdict as destroy_table};
 ghost use Rattle.pt_model.specs.Forced.{is_orphan as is_orphan_in};
 
+use crate::had::Had;
 use crate::state::State;
 use pt_model::Entry;
 use pt_model::waiting_call::{Move, is_expired};
@@ -37,7 +38,6 @@ use pt_records::cond::any_returns;
 use pt_records::mutex::{acquire, lock_verdict, release, restore, yield_dead};
 use pt_records::{Object, Open};
 use pt_types::tables::lock_outcome;
-use pt_types::views::is_acquired;
 use pt_types::{Call, ClientId, Consistency, How, Name, ObjectId, Outcome, Verdict};
 use std::alloc::Allocator;
 
@@ -118,24 +118,24 @@ impl<A: Allocator + Copy> State<A> {
         self.stored.push(Entry::Yield(m));
     }
 
-    /// A call gets its mutex, or is answered that the mutex is lost.  [XSH pthread_mutex_lock]
+    /// A call gets its mutex, or is answered that the mutex is lost. What it gets is returned.
+    /// [XSH pthread_mutex_lock]
     #[inline(always)]
-    pub(crate) fn push_grant_mutex(&mut self, found: &Open, m: ObjectId)
+    pub fn push_grant_mutex(&mut self, found: &Open, m: ObjectId) -> Had
         requires ready { IsReadyFor self.old (entry.Grant found.now.call.place
             (grant_outcome_in (past self.old) (called found.now))) }
         requires known { In found.now (opens_of self.old.clients) }
         requires mutex { mutex_of (called found.now).role found.now.call.object ≡ Some m }
-        ensures { Adds self.old (entry.Grant found.now.call.place
+        ensures adds { Adds self.old (entry.Grant found.now.call.place
             (grant_outcome_in (past self.old) (called found.now))) self.new }
+        ensures robust { let h = past self.old in
+            result.robust ≡ is_robust (kind_of h m) && is_none (owner_in h m) }
+        ensures outcome { result.outcome ≡ grant_outcome_in (past self.old) (called found.now) }
     {
-        let outcome = self.grant_outcome(found);
-        if is_acquired(outcome) {
-            let c = found.call.client;
-            acquire(&mut self.clients, &mut self.objects, m, c);
-            self.grant(found, outcome);
-        } else {
-            self.grant(found, outcome);
-        }
+        let had = self.had_at(m, found.moved);
+        self.take(m, found.call.client, had);
+        self.grant(found, had.outcome);
+        had
     }
 
     // Its consistency.  [XSH pthread_mutex_consistent]
