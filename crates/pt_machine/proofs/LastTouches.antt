@@ -70,6 +70,15 @@ service-forced h w = go (is_arrival w.role)
     go true = refl
     go false = refl
 
+-- service touches nothing else
+pub still-touched : (h : History) (w : WaitingCall) → touched h ≡ touched (h ▷ service h w)
+still-touched h w = go (is_arrival w.role)
+  where
+    go : (b : Bool) → touched h
+        ≡ touched (h ▷ cond b (Trip w.object) (Grant w.place (grant_outcome h w)))
+    go true = refl
+    go false = refl
+
 entry-forced : (h : History) (x : Forced) → is_forced (entry_of h x) ≡ true
 entry-forced h (Serve o) = service-forced h (called o)
 entry-forced h (Yields m) = refl

@@ -1,14 +1,17 @@
 -- NeedUses: what an entry that must follow uses of what was reserved.
-use Rattle.std.proofs.Common.{◌≡◌, ℕ, ◌+◌, ◌*◌, ◌≤◌, Bool, true, false, cond, length, List, Option}
-use Rattle.std.proofs.Common.{Some, None, is_some, option_map, refl, sym, ap, subst, arith}
+use Rattle.std.proofs.Common.{◌≡◌, ℕ, ◌+◌, ◌-◌, ◌*◌, ◌≤◌, Bool, true, false, cond, ◌&&◌, length}
+use Rattle.std.proofs.Common.{List, Option, Some, None, is_some, is_none, option_map, refl, sym, ap}
+use Rattle.std.proofs.Common.{◌∙◌, subst, arith}
 use Rattle.pt_types.specs.declared.call.ObjectKind.{ObjectKind}
 use Rattle.pt_types.specs.declared.call.ObjectKind.TheVariants as kind
+use Rattle.pt_types.specs.declared.outcome.Outcome.{Outcome}
+use Rattle.pt_types.specs.MutexTable.{is_acquired}
 use Rattle.pt_types.specs.Operations.{class_of}
 use Rattle.pt_types.specs.declared.operations.ObjectClass.TheVariants.{Barrier as BarrierClass}
 use Rattle.pt_model.specs.declared.entry.Entry.TheVariants.{Grant, Trip, Yield}
 use Rattle.pt_model.specs.Searches.{In}
 use Rattle.pt_model.specs.Histories.{History, ◌▷◌}
-use Rattle.pt_model.specs.Objects.{is_class, kind_of}
+use Rattle.pt_model.specs.Objects.{is_class, is_robust, kind_of}
 use Rattle.pt_model.specs.declared.waiting_call.WaitingCall.{WaitingCall}
 use Rattle.pt_model.specs.declared.waiting_call.Move.{Move}
 use Rattle.pt_model.specs.declared.waiting_call.Role.{Role}
@@ -17,6 +20,7 @@ use Rattle.pt_model.specs.declared.waiting_call.Role.TheVariants.{ForBarrier, Fo
 use Rattle.pt_model.specs.WaitingCall.{is_arrival, is_wait, mutex_of}
 use Rattle.pt_model.specs.Answers.{at_barrier, open_calls}
 use Rattle.pt_model.specs.Moves.{is_moved, moved}
+use Rattle.pt_model.specs.Mutexes.{owner}
 use Rattle.pt_model.specs.Grants.{grant_outcome}
 use Rattle.pt_model.specs.Forced.{is_orphan, service}
 use Rattle.pt_model.specs.Room.{need, reserved_for}
@@ -39,6 +43,22 @@ arrives ForMutex e = absurd cc
 arrives ForRead e = absurd cc
 arrives ForWrite e = absurd cc
 arrives (ForCond m) e = absurd cc
+
+-- a call for a mutex is no arrival
+pub no_arrival : (role : Role) → (object m : ℕ) → mutex_of role object ≡ Some m
+    → is_arrival role ≡ false
+no_arrival ForMutex object m e = refl
+no_arrival (ForCond k) object m e = refl
+no_arrival ForRead object m e = absurd cc
+no_arrival ForWrite object m e = absurd cc
+no_arrival ForBarrier object m e = absurd cc
+
+-- a call for a mutex is served by a Grant
+pub serves-mutex : (h : History) (w : WaitingCall) (m : ℕ) → mutex_of w.role w.object ≡ Some m
+    → service h w ≡ Grant w.place (grant_outcome h w)
+serves-mutex h w m at =
+    ap (λ b. cond b (Trip w.object) (Grant w.place (grant_outcome h w)))
+    (no_arrival w.role w.object m at)
 
 -- as much is reserved for a call as its row says
 pub row-reserved : (h : History) (rows : List (ClientRow Caller)) → Follows h → AreCallers h rows
@@ -98,6 +118,28 @@ module _ (h : History) (w : WaitingCall) (f : Follows h) where
       ap (λ b. cond b (Trip w.object) (Grant w.place (grant_outcome h w))) a in
       let grants = need-grant h w f i (subst (λ x. Step h x) is s) in
       subst (λ x. need (h ▷ x) + used ≡ need h) (sym is) (omega (arith, grants, e))
+
+  -- the same of a call for a mutex, by what it gets there
+  pub uses-gain : In w (open_calls h) → (m : ℕ) → mutex_of w.role w.object ≡ Some m
+      → Step h (service h w) → (robust : Bool)
+      → robust ≡ (is_robust (kind_of h m) && is_none (owner h m))
+      → (x : Outcome) → x ≡ grant_outcome h w → (reserved : ℕ) → reserved ≡ reserved_for h w
+      → (used : ℕ) → used ≡ cond (robust && is_acquired x) (reserved - 1) reserved
+      → need (h ▷ service h w) + used ≡ need h
+  uses-gain i m at s robust r x o reserved n used u =
+      uses-grant i (no_arrival w.role w.object m at) s used
+      (ap (λ b. used + one_if b) gives ∙ less (robust && is_acquired x) u)
+    where
+      gives : gives_owner h w (mutex_of w.role w.object) ≡ (robust && is_acquired x)
+      gives =
+          ap (gives_owner h w) at
+          ∙ (ap (λ b. b && is_acquired (grant_outcome h w)) (sym r)
+          ∙ ap (λ y. robust && is_acquired y) (sym o))
+
+      less : (b : Bool) → used ≡ cond b (reserved - 1) reserved
+          → used + one_if b ≡ reserved_for h w
+      less true e = omega (arith, e, n, two-least h w)
+      less false e = omega (arith, e, n)
 
 orphan_taken : (h : History) (m : ℕ) → Step h (Yield m) → is_orphan h m ≡ true
 orphan_taken h _ (yields m s o) = o

@@ -1,7 +1,8 @@
 //! Forced entries: which comes next, and how it comes in.
 
 ghost use Rattle.std.specs.Option.{option_copied};
-ghost use Rattle.std.specs.Prelude.{IfSome, IsSome, None, Some, ◌≡◌, false, filter, option_map};
+ghost use Rattle.std.specs.Prelude.{IfSome, IsSome, None, Some, ◌-◌, ◌&&◌, ◌≡◌, false, filter};
+ghost use Rattle.std.specs.Prelude.{if◌then◌else◌, option_map};
 ghost use Rattle.std.specs.Prelude.{true};
 ghost use Rattle.pt_model.specs.declared.entry.Entry.{Entry};
 ghost use Rattle.pt_model.specs.declared.waiting_call.WaitingCall.{WaitingCall};
@@ -9,7 +10,9 @@ ghost use Rattle.pt_records.specs.Callers.{call_of};
 ghost use Rattle.pt_model.specs.Searches.{In, least};
 ghost use Rattle.pt_model.specs.Histories.{place};
 ghost use Rattle.pt_model.specs.WaitingCall.{is_arrival as is_arrival_role};
-ghost use Rattle.pt_model.specs.WaitingCall.{is_wait as is_wait_role};
+ghost use Rattle.pt_model.specs.WaitingCall.{is_wait as is_wait_role, mutex_of as mutex_of_role};
+ghost use Rattle.pt_records.specs.Counts.{counted, reserved_open};
+ghost use Rattle.pt_types.specs.MutexTable.{is_acquired as is_acquired_it};
 ghost use Rattle.pt_model.specs.Forced.{forced as forced_in, is_served as is_served_in};
 ghost use Rattle.pt_model.specs.Forced.{is_served_before as is_served_before_in, service};
 ghost use Rattle.pt_state.specs.Adds.{Adds, IsReadyFor, past};
@@ -24,12 +27,28 @@ use crate::barrier::push_tripped;
 use crate::body::Body;
 use crate::clock;
 use crate::cond::push_late_wait;
-use pt_model::waiting_call::{is_arrival, is_wait};
+use pt_model::waiting_call::{is_arrival, is_wait, mutex_of};
 use pt_records::Open;
-use pt_state::{Forced, State};
-use pt_types::ClientId;
+use pt_records::calls::reserved_by;
+use pt_state::{Forced, Had, State};
+use pt_types::views::is_acquired;
+use pt_types::{ClientId, ObjectId};
 use pt_waitq::WaitList;
 use std::alloc::Allocator;
+
+// The entries that are no longer reserved as a call gets its mutex: one less if a robust mutex gets
+// an owner, for its Yield.
+#[inline(always)]
+fn used_by_gain(open: &Open, had: Had) -> u64
+    ensures { let reserved = counted reserved_open (Some «open».now) in
+        result ≡ if had.robust && is_acquired_it had.outcome then reserved - 1 else reserved }
+{
+    if had.robust && is_acquired(had.outcome) {
+        reserved_by(Some(*open)) - 1
+    } else {
+        reserved_by(Some(*open))
+    }
+}
 
 // A call gets what it is for, and leaves its queue.
 // [XSH pthread_mutex_unlock, pthread_rwlock_unlock]
@@ -160,7 +179,37 @@ impl<Q: WaitList, A: Allocator + Copy> Body<Q, A> {
         }
     }
 
-    // The open call of a client is served, which must be. What is touched stays so.
+    // A call gets its mutex, or is answered that it is lost. What is touched stays so.
+    // [XSH pthread_mutex_unlock]
+    #[inline(always)]
+    fn push_gained(&mut self, found: &Open, m: ObjectId)
+        requires read { AreTables self.old }
+        requires ready { IsReadyFor self.old (service (past self.old) (called found.now)) }
+        requires known { In found.now (opens_of self.old.clients) }
+        requires mutex { mutex_of_role (called found.now).role found.now.call.object ≡ Some m }
+        ensures { Adds self.old (service (past self.old) (called found.now)) self.new }
+    {
+        let had = self.state.push_grant_mutex(found, m);
+        self.queues.remove(found.call.client);
+        self.timers.cancel(found.call.place);
+        self.need -= used_by_gain(found, had);
+    }
+
+    // A call goes on, whatever it waits for. What is touched stays so.
+    // [XSH pthread_rwlock_unlock, pthread_barrier_wait]
+    #[inline(always)]
+    fn push_passed(&mut self, found: &Open)
+        requires read { AreTables self.old }
+        requires ready { IsReadyFor self.old (service (past self.old) (called found.now)) }
+        requires known { In found.now (opens_of self.old.clients) }
+        ensures { Adds self.old (service (past self.old) (called found.now)) self.new }
+    {
+        let used = self.used_by_service(found);
+        clock::push_served(&mut self.state, &mut self.queues, &mut self.timers, found);
+        self.need -= used;
+    }
+
+    // The open call of a client is served, which must be.
     // [XSH pthread_mutex_unlock, pthread_rwlock_unlock, pthread_barrier_wait]
     #[inline(never)]
     fn push_service(&mut self, c: ClientId)
@@ -171,14 +220,33 @@ impl<Q: WaitList, A: Allocator + Copy> Body<Q, A> {
         ensures { (w : WaitingCall) → call_of (open_calls (past self.old)) c ≡ Some w
             → Adds self.old (service (past self.old) w) self.new }
     {
-        let found = *self.state.open_of(c).unwrap();
-        let used = self.used_by_service(&found);
-        clock::push_served(&mut self.state, &mut self.queues, &mut self.timers, &found);
-        self.need -= used;
+        let open = self.state.open_of(c).unwrap();
+        match mutex_of(&open.call) {
+            Some(m) => {
+                let found = *open;
+                self.push_gained(&found, m);
+            }
+            None => {
+                let found = *open;
+                self.push_passed(&found);
+            }
+        }
     }
 
-    // Pushes what must follow next, and returns whether anything must. A yield and a deadline are
-    // seldom due, so it is not inlined.
+    // A robust mutex is taken from its dead owner, and is touched then.
+    // [XSH pthread_mutex_lock, EOWNERDEAD]
+    #[inline(never)]
+    fn push_yield(&mut self, m: ObjectId)
+        requires ready { IsReadyFor self.old (entry.Yield m) }
+        ensures { Adds self.old (entry.Yield m) self.new }
+    {
+        self.state.push_yield(m);
+        self.touched = Some(m);
+        self.need -= 1;
+    }
+
+    // Pushes what must follow next, and returns whether anything must. A deadline is seldom due, so
+    // it is not inlined.
     #[cold]
     #[inline(never)]
     fn push_any(&mut self) -> bool
@@ -217,7 +285,11 @@ impl<Q: WaitList, A: Allocator + Copy> Body<Q, A> {
             self.push_service(c);
             return true;
         }
-        if self.state.first_orphan().is_none() && !self.is_overdue() {
+        if let Some(m) = self.state.first_orphan() {
+            self.push_yield(m);
+            return true;
+        }
+        if !self.is_overdue() {
             return false;
         }
         self.push_any()

@@ -1,8 +1,11 @@
-use Rattle.std.proofs.Common.{◌≡◌, Some, option_map, refl, sym, ap, ◌∙◌}
+use Rattle.std.proofs.Common.{◌≡◌, Some, option_map, refl, sym, ap, ◌∙◌, subst}
 use Rattle.std.specs.Option.{option_copied, option_or}
 use Rattle.pt_model.specs.Answers.{open_calls}
-use Rattle.pt_model.specs.Forced.{forced_expire, forced_yield, service, service_if}
-use Rattle.pt_model.specs.Searches.{In}
+use Rattle.pt_model.specs.declared.entry.Entry.TheVariants.{Yield}
+use Rattle.pt_model.specs.Forced.{forced_expire, forced_yield, is_orphan, service, service_if}
+use Rattle.pt_model.specs.Forced.{yield_if}
+use Rattle.pt_model.specs.Histories.{place}
+use Rattle.pt_model.specs.Searches.{In, first_below}
 use Rattle.pt_records.specs.declared.clients.Open.{Open}
 use Rattle.pt_records.specs.Callers.{call_of, opens_of}
 use Rattle.pt_state.specs.declared.state.State.{State}
@@ -49,4 +52,33 @@ returns-in-Some-clause-pushed g c = λ pushed.
           (sym first),
       c.push_service.ensures (called o)
           (its_call c.args.self.now c.requires.read o c.in-Some.ensures.known),
+    )
+
+pub push_yield-requires : goal.push_yield-requires
+push_yield-requires g c =
+    let h = past c.args.self.now in
+    let none = sym (ap (λ r. option_map called (option_copied r)) c.in_default.is)
+    ∙ c.first_served.ensures.value in
+    let orphan = sym c.in-Some-first_orphan.is
+    ∙ subst (λ s. c.first_orphan.result
+    ≡ first_below (place (past s)) (is_orphan (past s))) c.self.view_is c.first_orphan.ensures in
+    record {
+      ready = c.requires.ready (Yield c.in-Some-first_orphan.m)
+          (ap (λ x. option_or (service_if h x) (option_or (forced_yield h) (forced_expire h)))
+          (sym none) ∙ ap (λ y. option_or (yield_if y) (forced_expire h)) (sym orphan));
+    }
+
+pub returns-in-Some-first_orphan-clause-pushed : goal.returns-in-Some-first_orphan-clause-pushed
+returns-in-Some-first_orphan-clause-pushed g c = λ pushed.
+    let h = past c.args.self.now in
+    let none = sym (ap (λ r. option_map called (option_copied r)) c.in_default.is)
+    ∙ c.first_served.ensures.value in
+    let orphan = sym c.in-Some-first_orphan.is
+    ∙ subst (λ s. c.first_orphan.result
+    ≡ first_below (place (past s)) (is_orphan (past s))) c.self.view_is c.first_orphan.ensures in (
+      Yield c.in-Some-first_orphan.m,
+      ap (λ x. option_or (service_if h x) (option_or (forced_yield h) (forced_expire h)))
+          (sym none)
+          ∙ ap (λ y. option_or (yield_if y) (forced_expire h)) (sym orphan),
+      c.push_yield.ensures,
     )

@@ -1,0 +1,91 @@
+use Rattle.std.proofs.Common.{◌≡◌, ◌+◌, sym, ap, ◌∙◌, cond, subst, arith}
+use Rattle.pt_model.specs.declared.entry.Entry.{Entry}
+use Rattle.pt_model.specs.declared.entry.Entry.TheVariants.{Grant, Trip}
+use Rattle.pt_model.specs.Forced.{service}
+use Rattle.pt_model.specs.Grants.{grant_outcome}
+use Rattle.pt_model.specs.Histories.{◌▷◌}
+use Rattle.pt_model.specs.Room.{need}
+use Rattle.pt_model.specs.Searches.{In}
+use Rattle.pt_records.specs.Callers.{opens_of}
+use Rattle.pt_state.specs.declared.forced.Forced.TheVariants.{Serve}
+use Rattle.pt_state.specs.Adds.{Adds, IsReadyFor, past}
+use Rattle.pt_state.specs.Reads.{AreTables}
+use Rattle.pt_state.specs.Serving.{called}
+use Rattle.pt_state.proofs.ForceCallers.{known-open}
+use Rattle.pt_machine.proofs.LastTouches.{still-touched, touched-forced}
+use Rattle.pt_machine.proofs.NeedSteps.{reserved-forced}
+use Rattle.pt_machine.proofs.NeedUses.{no_arrival, row-reserved, serves-mutex, uses-gain}
+use Rattle.pt_machine.proofs.QueuedForced.{queued-granted}
+use Rattle.pt_machine.proofs.TimedStates.{timed-served}
+use Rattle.pt_machine.proofs.body.Body.push_gained.Goals as goal
+
+pub push_grant_mutex-had-requires-clause-ready : goal.push_grant_mutex-had-requires-clause-ready
+push_grant_mutex-had-requires-clause-ready g c =
+    let old = c.self.inside.state in
+    let w = called c.args.found.now in
+    let ready : IsReadyFor old (service (past old) w) = rw c.self.view_is c.requires.ready in
+    subst (λ (e : Entry). IsReadyFor old e) (serves-mutex (past old) w c.args.m c.requires.mutex)
+    ready
+
+pub overflow_sub-self : goal.overflow_sub-self
+overflow_sub-self g c =
+    let old = c.self.inside.state in
+    let o = c.args.found.now in
+    let w = called o in
+    let known : In o (opens_of old.clients) = rw c.self.view_is c.requires.known in
+    let read : AreTables old = rw c.self.view_is c.requires.read in
+    let ready : IsReadyFor old (service (past old) w) = rw c.self.view_is c.requires.ready in
+    let gives = c.push_grant_mutex-had.ensures in
+    let used = uses-gain (past old) w read.follows
+    (known-open (past old) old.clients read.follows read.callers o known) c.args.m
+    c.requires.mutex ready.step c.push_grant_mutex-had.result.robust gives.robust
+    c.push_grant_mutex-had.result.outcome gives.outcome _
+    (row-reserved (past old) old.clients read.follows read.callers o known)
+    c.used_by_gain.result c.used_by_gain.ensures in
+    omega (arith, c.self.invariant.3.needs, used)
+
+pub returns : goal.returns
+returns g c =
+    let old = c.self.inside.state in
+    let w = called c.args.found.now in
+    let new = c.push_grant_mutex-had.new.self in
+    let adds : Adds old (service (past old) w) new =
+    subst (λ (e : Entry). Adds old e new)
+    (sym (serves-mutex (past old) w c.args.m c.requires.mutex))
+    c.push_grant_mutex-had.ensures.adds in
+    subst (λ s. Adds s (service (past s) w) new) c.self.view_is adds
+
+pub invariant_of-self : goal.invariant_of-self
+invariant_of-self g c =
+    let old = c.self.inside.state in
+    let o = c.args.found.now in
+    let w = called o in
+    let known : In o (opens_of old.clients) = rw c.self.view_is c.requires.known in
+    let read : AreTables old = rw c.self.view_is c.requires.read in
+    let ready : IsReadyFor old (service (past old) w) = rw c.self.view_is c.requires.ready in
+    let gives = c.push_grant_mutex-had.ensures in
+    let used = uses-gain (past old) w read.follows
+    (known-open (past old) old.clients read.follows read.callers o known) c.args.m
+    c.requires.mutex ready.step c.push_grant_mutex-had.result.robust gives.robust
+    c.push_grant_mutex-had.result.outcome gives.outcome _
+    (row-reserved (past old) old.clients read.follows read.callers o known)
+    c.used_by_gain.result c.used_by_gain.ensures in
+    let new = c.push_grant_mutex-had.new.self in
+    let adds : Adds old (service (past old) w) new =
+    subst (λ (e : Entry). Adds old e new)
+    (sym (serves-mutex (past old) w c.args.m c.requires.mutex)) gives.adds in (
+      queued-granted old new o (g.Q.WaitList.seen c.self.inside.queues).queue
+          (g.Q.WaitList.seen c.remove.new.self).queue
+          (g.Q.WaitList.seen c.self.inside.queues).admitted
+          (g.Q.WaitList.seen c.remove.new.self).admitted
+          (g.Q.WaitList.seen c.self.inside.queues).made
+          (g.Q.WaitList.seen c.remove.new.self).made
+          read known c.remove.ensures.admitted c.remove.ensures.made c.self.invariant.0 adds
+          (no_arrival w.role w.object c.args.m c.requires.mutex) c.remove.ensures.queues,
+      timed-served old new c.self.inside.timers c.cancel.new.self read c.self.invariant.1 o known
+          c.cancel.ensures adds,
+      touched-forced old new c.self.inside.touched c.self.inside.entering (Serve o) adds
+          (c.self.invariant.2.touches ∙ still-touched (past old) w) c.self.invariant.2.enters,
+      reserved-forced old new (service (past old) w) adds c.self.inside.need
+          c.used_by_gain.result c.self.invariant.3 used,
+    )

@@ -1,0 +1,38 @@
+use Rattle.std.proofs.Common.{Some, refl, arith}
+use Rattle.pt_model.specs.declared.entry.Entry.TheVariants.{Yield}
+use Rattle.pt_state.specs.declared.forced.Forced.TheVariants.{Yield as Yields}
+use Rattle.pt_state.specs.Adds.{IsReadyFor, past}
+use Rattle.pt_machine.proofs.LastTouches.{touched-forced}
+use Rattle.pt_machine.proofs.NeedSteps.{reserved-forced}
+use Rattle.pt_machine.proofs.NeedUses.{uses-yield}
+use Rattle.pt_machine.proofs.QueuedArrivals.{queued-yield}
+use Rattle.pt_machine.proofs.QueuedSame.{queued-adds}
+use Rattle.pt_machine.proofs.TimedStates.{timed-yield}
+use Rattle.pt_machine.proofs.body.Body.push_yield.Goals as goal
+
+pub overflow_sub-self : goal.overflow_sub-self
+overflow_sub-self g c =
+    let old = c.self.inside.state in
+    let m = c.args.m in
+    let ready : IsReadyFor old (Yield m) = rw c.self.view_is c.requires.ready in
+    omega (arith, c.self.invariant.3.needs, uses-yield (past old) m ready.read.follows ready.step)
+
+pub invariant_of-self : goal.invariant_of-self
+invariant_of-self g c =
+    let old = c.self.inside.state in
+    let new = c.push_yield.new.self in
+    let m = c.args.m in
+    let ready : IsReadyFor old (Yield m) = rw c.self.view_is c.requires.ready in
+    let adds = c.push_yield.ensures in
+    let queue = (g.Q.WaitList.seen c.self.inside.queues).queue in
+    let admitted = (g.Q.WaitList.seen c.self.inside.queues).admitted in
+    let made = (g.Q.WaitList.seen c.self.inside.queues).made in (
+      queued-adds old new (Yield m) queue admitted made adds
+          (queued-yield (past old) m queue admitted made c.self.invariant.0),
+      timed-yield old new c.self.inside.timers c.self.inside.timers ready.read
+          c.self.invariant.1 m adds,
+      touched-forced old new (Some m) c.self.inside.entering (Yields m) adds refl
+          c.self.invariant.2.enters,
+      reserved-forced old new (Yield m) adds c.self.inside.need 1 c.self.invariant.3
+          (uses-yield (past old) m ready.read.follows ready.step),
+    )
