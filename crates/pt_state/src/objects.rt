@@ -93,6 +93,7 @@ impl<A: Allocator + Copy> State<A> {
     }
 
     /// The object of this class that bears the name, if one does.
+    #[inline(always)]
     pub fn find(&self, n: &Name, class: ObjectClass) -> Option<ObjectId>
         requires { AreTables self.now }
         ensures { result ≡ find_in (past self.now) n.now class }

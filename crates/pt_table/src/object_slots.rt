@@ -51,6 +51,7 @@ pub(crate) fn row_of<'a, T, A: Allocator + Copy>(
 }
 
 // The slot of a name's row, if the name's hint is right.
+#[inline(always)]
 fn slot_by_name_hint<T, A: Allocator + Copy>(
     rows: &Slab<ObjectRow<T>, A>,
     names: &Names<A>,
@@ -81,6 +82,7 @@ pub(crate) fn row_by_name<'a, T, A: Allocator + Copy>(
 }
 
 // The row of a name, which is looked for by the name's hint first.
+#[inline(always)]
 pub(crate) fn row_named<'a, T, A: Allocator + Copy>(
     rows: &'a Slab<ObjectRow<T>, A>,
     names: &Names<A>,

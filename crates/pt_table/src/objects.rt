@@ -155,6 +155,7 @@ impl<T, A: Allocator + Copy> Objects<T, A> {
     }
 
     /// The number of the object with this name, and its value.
+    #[inline(always)]
     pub fn named(&self, name: &Name) -> Option<(u64, &T)>
         ensures number { option_map (λ p. p.0) result ≡ number_of self.now name.now }
         ensures value { IfSome result (λ p. object_value self.now p.0 ≡ Some p.1.now) }
