@@ -59,7 +59,7 @@ fn outcome_by_answer<Q: WaitList, A: Allocator + Copy>(
 pub fn write<Q: WaitList, A: Allocator + Copy>(
     body: &mut Body<Q, A>,
     event: &Event,
-    plan: &Plan<'_>,
+    plan: &Plan,
 ) -> Result<Applied, Refusal>
     requires whole { IsWhole body.old }
     requires accepted { refusal_in (past body.old) event.now ≡ None }

@@ -8,6 +8,8 @@ use Rattle.pt_model.specs.declared.entry.Event.TheVariants as event
 use Rattle.pt_model.specs.Histories.{History, ◌▷◌, place}
 use Rattle.pt_model.specs.Room.{need, entry_for}
 use Rattle.pt_types.specs.Operations.{operation}
+use Rattle.pt_types.specs.Shown.{shown_operation}
+use Rattle.pt_types.specs.declared.operations.Operation.{Operation as PlainOperation}
 use Rattle.pt_touched.specs.Touched.{touched_by}
 use Rattle.pt_state.specs.Requests.{IsRequest}
 use Rattle.pt_state.specs.declared.request.Request.{Request}
@@ -20,16 +22,23 @@ entry_with h (event.Call c call) answer = Call c call answer
 entry_with h (event.Death c) answer = Death c
 entry_with h (event.Moment k t) answer = Moment k t
 
--- this is what an event's call asks for, if it is a call
-abbrev pub HasRequest : History → Event → Option Request → Type 0
-HasRequest h (event.Call c call) (Some r) = IsRequest h (operation call) r
-HasRequest h (event.Call c call) None = ⊥
+-- this is what an event's call does, if it is a call
+abbrev pub HasOperation : Event → Option PlainOperation → Type 0
+HasOperation (event.Call c call) (Some d) = shown_operation d ≡ operation call
+HasOperation (event.Call c call) None = ⊥
+HasOperation (event.Join p) d = Unit {0}
+HasOperation (event.Death c) d = Unit {0}
+HasOperation (event.Moment k t) d = Unit {0}
+
+-- these are the objects that the names of an event's call mean, if it is a call
+abbrev pub HasRequest : History → Event → Request → Type 0
+HasRequest h (event.Call c call) r = IsRequest h (operation call) r
 HasRequest h (event.Join p) r = Unit {0}
 HasRequest h (event.Death c) r = Unit {0}
 HasRequest h (event.Moment k t) r = Unit {0}
 
--- what the event's call asks for, the answer that it gets at once, how many entries are reserved
--- after its entry, and the one object that the entry touches  [profile]
+-- the objects that the event's call names, the answer that it gets at once, how many entries are
+-- reserved after its entry, and the one object that the entry touches  [profile]
 pub record IsPlanned (h : History) (v : Event) (p : Plan) : Type 0 where
   pub asks : HasRequest h v p.request
   pub enters : entry_with h v p.answer ≡ entry_for h v

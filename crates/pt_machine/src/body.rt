@@ -59,7 +59,7 @@ impl<Q: WaitList, A: Allocator + Copy> Body<Q, A> {
     /// The entry of an event, with its plan. ENOMEM if a growth is refused: then nothing is
     /// pushed. An entry that needs no memory, as a Death and a Moment, is never refused.
     #[inline(always)]
-    pub fn push_outer(&mut self, event: &Event, plan: &Plan<'_>) -> Result<(), Refusal>
+    pub fn push_outer(&mut self, event: &Event, plan: &Plan) -> Result<(), Refusal>
         requires ready { IsReadyFor self.old (entry_for (past self.old) event.now) }
         requires planned { IsPlanned (past self.old) event.now plan.now }
         ensures ok { OnOk result

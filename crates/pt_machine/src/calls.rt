@@ -21,7 +21,7 @@ use crate::cond::{push_broadcast, push_signal};
 use crate::objects::{push_ended, push_made};
 use crate::queues::take_place;
 use pt_state::{Request, State, known_verdict};
-use pt_types::operations::{LockKind, Operation};
+use pt_types::operations::{LockKind, Operation, operation_of};
 use pt_types::{Call, ClientId, How, Name, ObjectId, Outcome, Refusal, Verdict};
 use pt_waitq::WaitList;
 use std::alloc::Allocator;
@@ -34,7 +34,7 @@ pub(crate) fn push_left<Q: WaitList, A: Allocator + Copy>(
     queues: &mut Q,
     c: ClientId,
     call: &Call,
-    request: &Request<'_>,
+    request: &Request,
 ) -> Result<(), Refusal>
     requires ready { IsReadyFor state.old (entry.Call c call.now None) }
     requires asks { IsRequest (past state.old) (operation call.now) request.now }
@@ -62,7 +62,7 @@ fn push_done<Q: WaitList, A: Allocator + Copy>(
     queues: &mut Q,
     c: ClientId,
     call: &Call,
-    request: &Request<'_>,
+    request: &Request,
 ) -> Result<(), Refusal>
     requires ready { IsReadyFor state.old (entry.Call c call.now (Some told.Done)) }
     requires asks { IsRequest (past state.old) (operation call.now) request.now }
@@ -74,7 +74,7 @@ fn push_done<Q: WaitList, A: Allocator + Copy>(
     ensures queued { IsQueued (past state.new) (Q.seen queues.new) }
 {
     let object = request.object;
-    match &request.operation {
+    match &operation_of(call) {
         Operation::Makes(n, kind) => push_made(state, queues, c, call, n, *kind),
         Operation::Ends(n, class) => {
             push_ended(state, queues, c, call, n, *class, object);
@@ -121,7 +121,7 @@ pub(crate) fn push_answered<Q: WaitList, A: Allocator + Copy>(
     c: ClientId,
     call: &Call,
     answer: Outcome,
-    request: &Request<'_>,
+    request: &Request,
 ) -> Result<(), Refusal>
     requires ready { IsReadyFor state.old (entry.Call c call.now (Some answer)) }
     requires asks { IsRequest (past state.old) (operation call.now) request.now }
@@ -144,15 +144,13 @@ pub(crate) fn push_answered<Q: WaitList, A: Allocator + Copy>(
 impl<Q: WaitList, A: Allocator + Copy> Body<Q, A> {
     /// The answer that a client's call gets at once, or that it waits.  [XSH, the call's page]
     #[inline(always)]
-    pub fn verdict(&self, c: ClientId, request: &Request<'_>) -> Verdict
+    pub fn verdict(&self, c: ClientId, operation: &Operation<'_>, request: &Request) -> Verdict
         requires read { AreTables self.now }
-        requires asks { IsRequest (past self.now) (shown_operation request.now.operation)
-            request.now }
-        ensures { result
-            ≡ said_of (past self.now) c (shown_operation request.now.operation) }
+        requires asks { IsRequest (past self.now) (shown_operation operation.now) request.now }
+        ensures { result ≡ said_of (past self.now) c (shown_operation operation.now) }
     {
         let object = request.object;
-        match &request.operation {
+        match operation {
             Operation::Makes(n, kind) => self.state.makes_verdict(n, *kind),
             Operation::Ends(n, class) => self.ends_verdict(n, *class, object),
             Operation::Acquires(n, LockKind::MutexLock, how) => {

@@ -26,7 +26,7 @@ use pt_model::Event;
 use pt_records::Open;
 use pt_state::{Forced, Request, State};
 use pt_timers::Timers;
-use pt_types::operations::{Operation, clock_of, deadline_of};
+use pt_types::operations::{Operation, clock_of, deadline_of, operation_of};
 use pt_types::{Call, ClientId, Clock, Deadline, Moment, Outcome, Refusal};
 use pt_waitq::WaitList;
 use std::alloc::Allocator;
@@ -113,7 +113,7 @@ fn push_timed<Q: WaitList, A: Allocator + Copy>(
     c: ClientId,
     call: &Call,
     deadline: Deadline,
-    request: &Request<'_>,
+    request: &Request,
 ) -> Result<(), Refusal>
     requires ready { IsReadyFor state.old (entry_is.Call c call.now None) }
     requires asks { IsRequest (past state.old) (operation call.now) request.now }
@@ -149,7 +149,7 @@ fn push_left<Q: WaitList, A: Allocator + Copy>(
     timers: &mut Timers<A>,
     c: ClientId,
     call: &Call,
-    request: &Request<'_>,
+    request: &Request,
 ) -> Result<(), Refusal>
     requires ready { IsReadyFor state.old (entry_is.Call c call.now None) }
     requires asks { IsRequest (past state.old) (operation call.now) request.now }
@@ -162,7 +162,7 @@ fn push_left<Q: WaitList, A: Allocator + Copy>(
     ensures queued { IsQueued (past state.new) (Q.seen queues.new) }
     ensures timed { AreTimed (past state.new) timers.new }
 {
-    match good_deadline(&request.operation) {
+    match good_deadline(&operation_of(call)) {
         Some(deadline) => push_timed(state, queues, timers, c, call, deadline, request),
         None => calls::push_left(state, queues, c, call, request),
     }
@@ -186,7 +186,7 @@ fn push_answered<Q: WaitList, A: Allocator + Copy>(
     c: ClientId,
     call: &Call,
     answer: Outcome,
-    request: &Request<'_>,
+    request: &Request,
 ) -> Result<(), Refusal>
     requires ready { IsReadyFor state.old (entry_is.Call c call.now (Some answer)) }
     requires asks { IsRequest (past state.old) (operation call.now) request.now }
@@ -201,7 +201,7 @@ fn push_answered<Q: WaitList, A: Allocator + Copy>(
 {
     let place = state.stored.len();
     calls::push_answered(state, queues, c, call, answer, request)?;
-    if can_move_waits(&request.operation) {
+    if can_move_waits(&operation_of(call)) {
         drop_moved(timers, state, place);
     }
     Ok(())
@@ -230,7 +230,7 @@ fn push_death<Q: WaitList, A: Allocator + Copy>(
 
 // Pushes a call, with the answer that it gets at once. ENOMEM if a growth is refused.
 // [XSH, the call's page]
-#[inline(always)]
+#[inline(never)]
 fn push_call<Q: WaitList, A: Allocator + Copy>(
     state: &mut State<A>,
     queues: &mut Q,
@@ -238,7 +238,7 @@ fn push_call<Q: WaitList, A: Allocator + Copy>(
     c: ClientId,
     call: &Call,
     answer: Option<Outcome>,
-    request: &Request<'_>,
+    request: &Request,
 ) -> Result<(), Refusal>
     requires ready { IsReadyFor state.old (entry_is.Call c call.now answer) }
     requires asks { IsRequest (past state.old) (operation call.now) request.now }
@@ -267,7 +267,7 @@ pub(crate) fn push_outer<Q: WaitList, A: Allocator + Copy>(
     timers: &mut Timers<A>,
     event: &Event,
     answer: Option<Outcome>,
-    request: &Option<Request<'_>>,
+    request: &Request,
 ) -> Result<(), Refusal>
     requires ready { IsReadyFor state.old (entry_with (past state.old) event.now answer) }
     requires asks { HasRequest (past state.old) event.now request.now }
@@ -285,8 +285,9 @@ pub(crate) fn push_outer<Q: WaitList, A: Allocator + Copy>(
     match event {
         Event::Join(priority) => clients::push_join(state, queues, *priority),
         Event::Call(c, call) => {
-            let request = request.as_ref().unwrap();
-            push_call(state, queues, timers, *c, call, answer, request)
+            // A copy is lent, so that the plan may stay in registers.
+            let request = *request;
+            push_call(state, queues, timers, *c, call, answer, &request)
         }
         Event::Death(c) => {
             push_death(state, queues, timers, *c);

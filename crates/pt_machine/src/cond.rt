@@ -189,7 +189,7 @@ impl<Q: WaitList, A: Allocator + Copy> Body<Q, A> {
         n: &Name,
         m: &Name,
         deadline: Option<Deadline>,
-        request: &Request<'_>,
+        request: &Request,
     ) -> Verdict
         requires read { AreTables self.now }
         requires object { request.now.object ≡ find (past self.now) n.now CondClass }

@@ -26,7 +26,7 @@ use pt_records::Object;
 use pt_records::mutex::may_lock;
 use pt_rwlock::Holders;
 use pt_state::{Had, Request, State};
-use pt_types::operations::{LockKind, Operation};
+use pt_types::operations::{LockKind, Operation, operation_of};
 use pt_types::views::is_acquired;
 use pt_types::{Call, ClientId, ObjectId, Outcome, Refusal};
 use pt_waitq::WaitList;
@@ -108,7 +108,7 @@ fn push_left_and_granted<A: Allocator + Copy>(
     state: &mut State<A>,
     c: ClientId,
     call: &Call,
-    request: &Request<'_>,
+    request: &Request,
 ) -> Result<Granted, Refusal>
     requires ready { IsReadyFor state.old (entry_is.Call c call.now None) }
     requires next { IsReadyAfter state.old (entry_is.Call c call.now None) }
@@ -135,7 +135,7 @@ fn push_both<A: Allocator + Copy>(
     state: &mut State<A>,
     c: ClientId,
     call: &Call,
-    request: &Request<'_>,
+    request: &Request,
 ) -> Result<Granted, Refusal>
     requires ready { IsReadyFor state.old (entry_is.Call c call.now None) }
     requires next { IsReadyAfter state.old (entry_is.Call c call.now None) }
@@ -147,11 +147,14 @@ fn push_both<A: Allocator + Copy>(
     ensures reason { IfErr result (λ refusal. refusal ≡ Refusal.Enomem) }
     ensures enough { asks_to_read (operation call.now) ≡ false → IsOk result }
 {
-    match (&request.operation, request.object) {
+    match (&operation_of(call), request.object) {
         (Operation::Acquires(_, LockKind::MutexLock, _), Some(m)) => {
             Ok(push_had(state, c, call, m))
         }
-        _ => push_left_and_granted(state, c, call, request),
+        _ => {
+            let request = *request;
+            push_left_and_granted(state, c, call, &request)
+        }
     }
 }
 
@@ -160,16 +163,16 @@ impl<Q: WaitList, A: Allocator + Copy> Body<Q, A> {
     /// waits for it, and the call has no deadline that could pass.
     /// [XSH pthread_mutex_lock, pthread_rwlock_rdlock, pthread_rwlock_wrlock]
     #[inline(always)]
-    pub fn is_granted_at_once(&self, c: ClientId, call: &Call, plan: &Plan<'_>) -> bool
+    pub fn is_granted_at_once(&self, c: ClientId, call: &Call, plan: &Plan) -> bool
         requires read { AreTables self.now }
         requires planned { IsPlanned (past self.now) (event_is.Call c call.now) plan.now }
         ensures { OnTrue result (IsGrantedAtOnce (past self.now) c call.now) }
     {
-        let request = plan.request.as_ref().unwrap();
-        match (&request.operation, request.object) {
+        let operation = operation_of(call);
+        match (&operation, plan.request.object) {
             (Operation::Acquires(_, kind, _), Some(o)) => {
                 plan.answer.is_none()
-                    && good_deadline(&request.operation).is_none()
+                    && good_deadline(&operation).is_none()
                     && is_free(&self.state, *kind, o)
                     && !self.is_awaited(o)
             }
@@ -185,7 +188,7 @@ impl<Q: WaitList, A: Allocator + Copy> Body<Q, A> {
         &mut self,
         c: ClientId,
         call: &Call,
-        plan: &Plan<'_>,
+        plan: &Plan,
     ) -> Result<Outcome, Refusal>
         requires ready { IsReadyFor self.old (entry_is.Call c call.now None) }
         requires next { IsReadyAfter self.old (entry_is.Call c call.now None) }
@@ -199,8 +202,7 @@ impl<Q: WaitList, A: Allocator + Copy> Body<Q, A> {
         ensures reason { IfErr result (λ refusal. refusal ≡ Refusal.Enomem) }
         ensures enough { needs_memory (entry_is.Call c call.now None) ≡ false → IsOk result }
     {
-        let request = plan.request.as_ref().unwrap();
-        let granted = push_both(&mut self.state, c, call, request)?;
+        let granted = push_both(&mut self.state, c, call, &plan.request)?;
         self.touched = plan.touched;
         self.entering = Some(c);
         self.need = plan.need - granted.used;

@@ -4,7 +4,7 @@
 ghost use Rattle.pt_state.specs.Requests.{IsRequest};
 ghost use Rattle.pt_types.specs.Shown.{shown_operation};
 ghost use Rattle.std.specs.Prelude.{None, Some, nat_lt, ◌≡◌, ◌≤◌};
-ghost use Rattle.pt_types.specs.Operations.{Awaits, operation};
+ghost use Rattle.pt_types.specs.Operations.{Awaits, operation as operation_meant};
 ghost use Rattle.pt_types.specs.declared.operations.ObjectClass.TheVariants.{Cond as CondClass};
 ghost use Rattle.pt_types.specs.declared.operations.ObjectClass.TheVariants.{Mutex as MutexClass};
 ghost use Rattle.pt_model.specs.declared.entry.Entry.TheVariants as entry_is;
@@ -19,23 +19,23 @@ ghost use Rattle.pt_state.specs.Reads.{AreTables};
 ghost use Rattle.pt_records.specs.Counts.{one_if};
 ghost use Rattle.pt_touched.specs.Touched.{bound_if, goal_of_operation, touched_by};
 ghost use Rattle.pt_touched.specs.Touched.{touched_by_operation};
-ghost use Rattle.pt_machine.specs.Planned.{HasRequest, IsPlanned, entry_with};
+ghost use Rattle.pt_machine.specs.Planned.{HasOperation, HasRequest, IsPlanned, entry_with};
 
 use crate::body::Body;
 use pt_model::Event;
 use pt_records::mutex::is_last;
 use pt_state::Request;
-use pt_types::operations::Operation;
+use pt_types::operations::{Operation, operation_of};
 use pt_types::tables::reply;
 use pt_types::{Call, ClientId, Deadline, Name, ObjectId, Outcome};
 use pt_waitq::WaitList;
 use std::alloc::Allocator;
 
 /// What is known of an event's entry before it is pushed.  [profile]
-#[derive(Drop)]
-pub struct Plan<'e> {
-    /// What the event's call asks for; None if it is no call.
-    pub request: Option<Request<'e>>,
+#[derive(Clone, Copy, Debug, PartialEq, Eq)]
+pub struct Plan {
+    /// The objects that the names of the event's call mean; none if it is no call.
+    pub request: Request,
     /// The answer that the call gets at once; None if it waits, or the event is no call.
     pub answer: Option<Outcome>,
     /// How many entries are reserved after the event's entry.
@@ -51,6 +51,23 @@ struct Change {
     used: u64,
     touched: Option<ObjectId>,
 }
+
+// What an event's call does, if it is a call.  [XSH, the call's page]
+#[inline(always)]
+fn operation_in(event: &Event) -> Option<Operation<'_>>
+    ensures { HasOperation event.now result }
+{
+    match event {
+        Event::Call(_, call) => Some(operation_of(call)),
+        _ => None,
+    }
+}
+
+// What an event asks for that is no call.
+const NO_REQUEST: Request = Request {
+    object: None,
+    mutex: None,
+};
 
 const NO_CHANGE: Change = Change {
     added: 0,
@@ -83,7 +100,7 @@ impl<Q: WaitList, A: Allocator + Copy> Body<Q, A> {
     ) -> Change
         requires read { AreTables self.now }
         requires step { Step (past self.now) (entry_is.Call c call.now None) }
-        requires operation { operation call.now ≡ Awaits n.now m.now deadline }
+        requires operation { operation_meant call.now ≡ Awaits n.now m.now deadline }
         requires found { object ≡ find (past self.now) m.now MutexClass }
         ensures adds { result.added ≡ 3 }
         ensures uses { let h = past self.now in
@@ -102,17 +119,24 @@ impl<Q: WaitList, A: Allocator + Copy> Body<Q, A> {
     // What a call changes if it has to wait.
     // [XSH pthread_mutex_lock, pthread_cond_wait, pthread_barrier_wait]
     #[inline(always)]
-    fn change_if_waiting(&self, c: ClientId, call: &Call, request: &Request<'_>) -> Change
+    fn change_if_waiting(
+        &self,
+        c: ClientId,
+        call: &Call,
+        operation: &Operation<'_>,
+        request: &Request,
+    ) -> Change
         requires read { AreTables self.now }
-        requires asks { IsRequest (past self.now) (operation call.now) request.now }
+        requires does { shown_operation operation.now ≡ operation_meant call.now }
+        requires asks { IsRequest (past self.now) (operation_meant call.now) request.now }
         requires step { Step (past self.now) (entry_is.Call c call.now None) }
-        ensures adds { result.added ≡ added_by_operation (operation call.now) }
-        ensures uses { result.used ≡ used_to_wait (past self.now) c (operation call.now) }
+        ensures adds { result.added ≡ added_by_operation (operation_meant call.now) }
+        ensures uses { result.used ≡ used_to_wait (past self.now) c (operation_meant call.now) }
         ensures touches { result.touched
-            ≡ goal_of_operation (past self.now) (operation call.now) }
+            ≡ goal_of_operation (past self.now) (operation_meant call.now) }
         ensures small { result.added ≤ 3 }
     {
-        match &request.operation {
+        match operation {
             Operation::Acquires(..) => Change {
                 added: 3,
                 used: 0,
@@ -193,18 +217,17 @@ impl<Q: WaitList, A: Allocator + Copy> Body<Q, A> {
     // What a call changes if it is answered 0.
     // [XSH pthread_mutex_unlock, pthread_rwlock_unlock, pthread_cond_signal]
     #[inline(always)]
-    fn change_if_done(&self, c: ClientId, request: &Request<'_>) -> Change
+    fn change_if_done(&self, c: ClientId, operation: &Operation<'_>, request: &Request) -> Change
         requires read { AreTables self.now }
-        requires asks { IsRequest (past self.now) (shown_operation request.now.operation)
-            request.now }
+        requires asks { IsRequest (past self.now) (shown_operation operation.now) request.now }
         ensures adds { result.added ≡ 0 }
         ensures uses { result.used
-            ≡ used_by_operation (past self.now) c (shown_operation request.now.operation) }
+            ≡ used_by_operation (past self.now) c (shown_operation operation.now) }
         ensures touches { result.touched
-            ≡ touched_by_operation (past self.now) (shown_operation request.now.operation) }
+            ≡ touched_by_operation (past self.now) (shown_operation operation.now) }
     {
         let object = request.object;
-        match &request.operation {
+        match operation {
             Operation::Unlocks(_) => self.change_by_unlock(c, object),
             Operation::Rwunlocks(_) => Change {
                 added: 0,
@@ -223,12 +246,14 @@ impl<Q: WaitList, A: Allocator + Copy> Body<Q, A> {
         &self,
         c: ClientId,
         call: &Call,
+        operation: &Operation<'_>,
         answer: Option<Outcome>,
-        request: &Request<'_>,
+        request: &Request,
     ) -> Change
         requires read { AreTables self.now }
+        requires does { shown_operation operation.now ≡ operation_meant call.now }
         requires step { Step (past self.now) (entry_is.Call c call.now answer) }
-        requires asks { IsRequest (past self.now) (operation call.now) request.now }
+        requires asks { IsRequest (past self.now) (operation_meant call.now) request.now }
         ensures adds { result.added ≡ added_by (entry_is.Call c call.now answer) }
         ensures uses { result.used ≡ used_by (past self.now) (entry_is.Call c call.now answer) }
         ensures touches { result.touched
@@ -236,8 +261,8 @@ impl<Q: WaitList, A: Allocator + Copy> Body<Q, A> {
         ensures small { result.added ≤ 3 }
     {
         match answer {
-            None => self.change_if_waiting(c, call, request),
-            Some(Outcome::Done) => self.change_if_done(c, request),
+            None => self.change_if_waiting(c, call, operation, request),
+            Some(Outcome::Done) => self.change_if_done(c, operation, request),
             Some(_) => NO_CHANGE,
         }
     }
@@ -261,10 +286,12 @@ impl<Q: WaitList, A: Allocator + Copy> Body<Q, A> {
     fn change_by(
         &self,
         event: &Event,
+        operation: &Option<Operation<'_>>,
         answer: Option<Outcome>,
-        request: &Option<Request<'_>>,
+        request: &Request,
     ) -> Change
         requires read { AreTables self.now }
+        requires does { HasOperation event.now operation.now }
         requires step { Step (past self.now) (entry_with (past self.now) event.now answer) }
         requires asks { HasRequest (past self.now) event.now request.now }
         ensures adds { result.added ≡ added_by (entry_with (past self.now) event.now answer) }
@@ -281,8 +308,8 @@ impl<Q: WaitList, A: Allocator + Copy> Body<Q, A> {
                 touched: None,
             },
             Event::Call(c, call) => {
-                let request = request.as_ref().unwrap();
-                self.change_by_call(*c, call, answer, request)
+                let operation = operation.as_ref().unwrap();
+                self.change_by_call(*c, call, operation, answer, request)
             }
             Event::Death(c) => self.change_by_death(*c),
             Event::Moment(..) => NO_CHANGE,
@@ -292,40 +319,51 @@ impl<Q: WaitList, A: Allocator + Copy> Body<Q, A> {
     // The answer that an event's call gets at once, if it is a call and gets one.
     // [XSH, the call's page]
     #[inline(always)]
-    fn answer_at_once(&self, event: &Event, request: &Option<Request<'_>>) -> Option<Outcome>
+    fn answer_at_once(
+        &self,
+        event: &Event,
+        operation: &Option<Operation<'_>>,
+        request: &Request,
+    ) -> Option<Outcome>
         requires read { AreTables self.now }
+        requires does { HasOperation event.now operation.now }
         requires asks { HasRequest (past self.now) event.now request.now }
         ensures { let h = past self.now in entry_with h event.now result ≡ entry_for h event.now }
     {
         match event {
-            Event::Call(c, _) => reply(self.verdict(*c, request.as_ref().unwrap())),
+            Event::Call(c, _) => {
+                let operation = operation.as_ref().unwrap();
+                reply(self.verdict(*c, operation, request))
+            }
             _ => None,
         }
     }
 
-    // What an event's call asks for, if it is a call.
+    // The objects that the names of an event's call mean, if it is a call.
     #[inline(always)]
-    fn request<'e>(&self, event: &'e Event) -> Option<Request<'e>>
-        requires { AreTables self.now }
+    fn request(&self, event: &Event, operation: &Option<Operation<'_>>) -> Request
+        requires read { AreTables self.now }
+        requires does { HasOperation event.now operation.now }
         ensures { HasRequest (past self.now) event.now result }
     {
         match event {
-            Event::Call(_, call) => Some(self.state.request(call)),
-            _ => None,
+            Event::Call(..) => self.state.request(operation.as_ref().unwrap()),
+            _ => NO_REQUEST,
         }
     }
 
     /// What is known of an event's entry before it is pushed.  [profile]
     #[inline(always)]
-    pub fn plan<'e>(&self, event: &'e Event) -> Plan<'e>
+    pub fn plan(&self, event: &Event) -> Plan
         requires read { AreTables self.now }
         requires step { Step (past self.now) (entry_for (past self.now) event.now) }
         ensures planned { IsPlanned (past self.now) event.now result }
         ensures small { result.need ≤ 8195 }
     {
-        let request = self.request(event);
-        let answer = self.answer_at_once(event, &request);
-        let change = self.change_by(event, answer, &request);
+        let operation = operation_in(event);
+        let request = self.request(event, &operation);
+        let answer = self.answer_at_once(event, &operation, &request);
+        let change = self.change_by(event, &operation, answer, &request);
         Plan {
             request,
             answer,

@@ -41,8 +41,11 @@ impl<Q: WaitList, A: Allocator + Copy> Body<Q, A> {
             result ≡ (nat_lt self.now.stored.limit (held_in (past self.now) + room)
             && nat_le room self.now.stored.limit) }
     {
-        let limit = self.state.stored.limit() as u64;
         let room = 1 + need;
+        if room <= self.state.stored.room() {
+            return false;
+        }
+        let limit = self.state.stored.limit() as u64;
         let held = self.state.stored.held();
         limit < held + room && room <= limit
     }

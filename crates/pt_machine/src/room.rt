@@ -1,7 +1,7 @@
 //! Room: what an event needs, and which events are refused.
 
 ghost use Rattle.std.specs.Prelude.{Err, IfErr, IsOk, None, OnErr, OnOk, ◌+◌, ◌<◌, ◌↔◌, ◌≡◌, ◌≢◌};
-ghost use Rattle.std.specs.Prelude.{◌≤◌, length};
+ghost use Rattle.std.specs.Prelude.{◌≤◌, length, true};
 ghost use Rattle.pt_model.specs.Room.{entry_for, is_over as is_over_in, need as need_in};
 ghost use Rattle.pt_model.specs.Room.{refusal as refusal_in, refusal_within as refusal_within_in};
 ghost use Rattle.pt_model.specs.Room.{reserved_for};
@@ -67,6 +67,23 @@ impl<Q: WaitList, A: Allocator + Copy> Body<Q, A> {
             ≤ self.now.stored.limit }
     {
         self.state.stored.room()
+    }
+
+    /// How many more entries may be stored.
+    #[inline(always)]
+    pub fn left(&self) -> u64
+        ensures { length self.now.stored.entries + result ≡ self.now.stored.limit }
+    {
+        self.state.stored.limit() as u64 - self.state.stored.held()
+    }
+
+    /// Whether there is room for so many entries more, and memory for as many answers.
+    #[inline(always)]
+    pub fn has_room(&self, many: u64) -> bool
+        ensures { (result ≡ true) ↔ ((many ≤ self.now.stored.room)
+            × (length self.now.answers.items + many ≤ self.now.answers.capacity)) }
+    {
+        many <= self.state.stored.room() && many <= self.state.answers.spare() as u64
     }
 
     /// Makes room for so many entries more. FULL exactly if the history would pass its limit

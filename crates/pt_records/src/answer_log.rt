@@ -183,6 +183,14 @@ impl<A: Allocator + Copy> AnswerLog<A> {
         take_memory(&mut self.trip, other.trip);
     }
 
+    /// For how many more answers there is memory.
+    #[inline(always)]
+    pub fn spare(&self) -> usize
+        ensures { length self.now.items + result ≡ self.now.capacity }
+    {
+        self.room
+    }
+
     /// The number of answers.
     pub fn len(&self) -> usize
         ensures { result ≡ length self.now.items }

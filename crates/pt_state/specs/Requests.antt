@@ -8,7 +8,6 @@ use Rattle.pt_types.specs.declared.operations.ObjectClass.TheVariants.{Cond as C
 use Rattle.pt_types.specs.declared.operations.ObjectClass.TheVariants.{Barrier as BarrierClass}
 use Rattle.pt_model.specs.Histories.{History}
 use Rattle.pt_model.specs.Objects.{find}
-use Rattle.pt_types.specs.Shown.{shown_operation}
 use Rattle.pt_state.specs.declared.request.Request.{Request}
 
 -- the object of a call, if its name means one; a call that makes one has none yet
@@ -38,8 +37,7 @@ mutex_meant h (Signals n) = None
 mutex_meant h (Broadcasts n) = None
 mutex_meant h (Arrives n) = None
 
--- the operation of a call, and the objects that its names mean
+-- the objects that the names of a call with this operation mean
 pub record IsRequest (h : History) (d : Operation) (r : Request) : Type 0 where
-  pub operation : shown_operation r.operation ≡ d
   pub object : r.object ≡ object_meant h d
   pub mutex : r.mutex ≡ mutex_meant h d

@@ -23,7 +23,7 @@ use pt_model::waiting_call::{Role, WaitingCall, role_needed};
 use pt_records::calls::{open_at, stand};
 use pt_records::clients::note_call;
 use pt_records::{Answered, Open};
-use pt_types::operations::{LockKind, Operation, clock_of, deadline_of};
+use pt_types::operations::{LockKind, Operation, clock_of, deadline_of, operation_of};
 use pt_types::{Call, ClientId, Clock, Deadline, How, Name, ObjectId, Outcome, Refusal};
 use std::alloc::Allocator;
 
@@ -179,12 +179,7 @@ impl<A: Allocator + Copy> State<A> {
 
     /// A call that is left waiting. ENOMEM if there is no memory for its row in a read-write
     /// lock. No other operation than these three is left so.  [XSH, the call's page]
-    pub fn push_left(
-        &mut self,
-        c: ClientId,
-        call: &Call,
-        request: &Request<'_>,
-    ) -> Result<(), Refusal>
+    pub fn push_left(&mut self, c: ClientId, call: &Call, request: &Request) -> Result<(), Refusal>
         requires ready { IsReadyFor self.old (entry.Call c call.now None) }
         requires asks { IsRequest (past self.old) (operation call.now) request.now }
         ensures ok { OnOk result (Adds self.old (entry.Call c call.now None) self.new) }
@@ -192,7 +187,7 @@ impl<A: Allocator + Copy> State<A> {
         ensures refusal { IfErr result (λ r. r ≡ Refusal.Enomem) }
         ensures enough { asks_to_read (operation call.now) ≡ false → IsOk result }
     {
-        match &request.operation {
+        match &operation_of(call) {
             Operation::Acquires(n, lock_kind, how) => {
                 self.push_acquire(c, call, n, *lock_kind, *how, request.object)
             }

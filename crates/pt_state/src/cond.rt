@@ -77,7 +77,7 @@ impl<A: Allocator + Copy> State<A> {
         n: &Name,
         m: &Name,
         deadline: Option<Deadline>,
-        request: &Request<'_>,
+        request: &Request,
     )
         requires ready { IsReadyFor self.old (entry.Call c call.now None) }
         requires operation { operation call.now ≡ Awaits n.now m.now deadline }

@@ -1,23 +1,21 @@
-//! What a call asks for: its operation and the objects that its names mean, each found once.
+//! What a call asks for: the objects that its names mean, each found once.
 
-ghost use Rattle.std.specs.Prelude.{None, unwrap_or, ◌≡◌};
-ghost use Rattle.pt_types.specs.Operations.{operation as operation_meant};
+ghost use Rattle.std.specs.Prelude.{MatchOption, None, unwrap_or, ◌≡◌};
 ghost use Rattle.pt_types.specs.Shown.{shown_operation};
+ghost use Rattle.pt_model.specs.Histories.{History};
+ghost use Rattle.pt_model.specs.Objects.{find};
 ghost use Rattle.pt_state.specs.Adds.{past};
-ghost use Rattle.pt_state.specs.Requests.{IsRequest, object_meant};
+ghost use Rattle.pt_state.specs.Requests.{IsRequest, mutex_meant, object_meant};
 ghost use Rattle.pt_state.specs.Reads.{AreTables};
 
 use crate::state::State;
-use pt_types::operations::{ObjectClass, Operation, class_needed, operation_of};
-use pt_types::{Call, ObjectId};
+use pt_types::operations::{ObjectClass, Operation, class_needed};
+use pt_types::{Name, ObjectId};
 use std::alloc::Allocator;
 
-/// The operation of a call, and the objects that its names mean when it is made.
-/// [XSH, the call's page]
-#[derive(Drop)]
-pub struct Request<'c> {
-    /// What the call does.
-    pub operation: Operation<'c>,
+/// The objects that the names of a call mean when it is made.  [XSH, the call's page]
+#[derive(Clone, Copy, Debug, PartialEq, Eq)]
+pub struct Request {
     /// The object that its first name means; None if it means none, and for a call that makes one.
     pub object: Option<ObjectId>,
     /// The mutex that a wait's second name means; None if that means none, and for other calls.
@@ -34,6 +32,29 @@ pub(crate) fn or_zero(object: Option<ObjectId>) -> ObjectId
     }
 }
 
+// The name that an operation gives first, and the class of the object that it is to mean; None for
+// an operation that makes one.
+#[inline(always)]
+fn named_first<'c>(operation: &Operation<'c>) -> Option<(&'c Name, ObjectClass)>
+    ensures { (h : History) → MatchOption result
+        (object_meant h (shown_operation operation.now) ≡ None)
+        (λ named. object_meant h (shown_operation operation.now)
+        ≡ find h named.0.now named.1) }
+{
+    match operation {
+        Operation::Makes(..) => None,
+        Operation::Ends(n, class) => Some((n, *class)),
+        Operation::Acquires(n, lock_kind, _) => Some((n, class_needed(*lock_kind))),
+        Operation::Unlocks(n) => Some((n, ObjectClass::Mutex)),
+        Operation::Restores(n) => Some((n, ObjectClass::Mutex)),
+        Operation::Rwunlocks(n) => Some((n, ObjectClass::Rwlock)),
+        Operation::Awaits(n, _, _) => Some((n, ObjectClass::Cond)),
+        Operation::Signals(n) => Some((n, ObjectClass::Cond)),
+        Operation::Broadcasts(n) => Some((n, ObjectClass::Cond)),
+        Operation::Arrives(n) => Some((n, ObjectClass::Barrier)),
+    }
+}
+
 impl<A: Allocator + Copy> State<A> {
     // The object that an operation's first name means; None for an operation that makes one.
     #[inline(always)]
@@ -41,36 +62,33 @@ impl<A: Allocator + Copy> State<A> {
         requires { AreTables self.now }
         ensures { result ≡ object_meant (past self.now) (shown_operation operation.now) }
     {
-        match operation {
-            Operation::Makes(..) => None,
-            Operation::Ends(n, class) => self.find(n, *class),
-            Operation::Acquires(n, lock_kind, _) => self.find(n, class_needed(*lock_kind)),
-            Operation::Unlocks(n) => self.find(n, ObjectClass::Mutex),
-            Operation::Restores(n) => self.find(n, ObjectClass::Mutex),
-            Operation::Rwunlocks(n) => self.find(n, ObjectClass::Rwlock),
-            Operation::Awaits(n, _, _) => self.find(n, ObjectClass::Cond),
-            Operation::Signals(n) => self.find(n, ObjectClass::Cond),
-            Operation::Broadcasts(n) => self.find(n, ObjectClass::Cond),
-            Operation::Arrives(n) => self.find(n, ObjectClass::Barrier),
+        match named_first(operation) {
+            Some((name, class)) => self.find(name, class),
+            None => None,
         }
     }
 
-    /// What a call asks for, with each of its names looked up once.  [XSH, the call's page]
+    // The mutex that a wait's second name means; None for any other operation.
     #[inline(always)]
-    pub fn request<'c>(&self, call: &'c Call) -> Request<'c>
+    fn mutex_of(&self, operation: &Operation<'_>) -> Option<ObjectId>
         requires { AreTables self.now }
-        ensures { IsRequest (past self.now) (operation_meant call.now) result }
+        ensures { result ≡ mutex_meant (past self.now) (shown_operation operation.now) }
     {
-        let operation = operation_of(call);
-        let object = self.object_of(&operation);
-        let mutex = match &operation {
+        match operation {
             Operation::Awaits(_, m, _) => self.find(m, ObjectClass::Mutex),
             _ => None,
-        };
+        }
+    }
+
+    /// What the names of an operation mean, each looked up once.  [XSH, the call's page]
+    #[inline(always)]
+    pub fn request(&self, operation: &Operation<'_>) -> Request
+        requires { AreTables self.now }
+        ensures { IsRequest (past self.now) (shown_operation operation.now) result }
+    {
         Request {
-            operation,
-            object,
-            mutex,
+            object: self.object_of(operation),
+            mutex: self.mutex_of(operation),
         }
     }
 }

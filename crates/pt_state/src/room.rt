@@ -28,7 +28,9 @@ impl<A: Allocator + Copy> State<A> {
         }
     }
 
-    /// A client that doesn't live: DEAD if a place has its number, else NOHELLO.
+    // A client that doesn't live: DEAD if a place has its number, else NOHELLO.
+    #[cold]
+    #[inline(never)]
     #[tactic(auto, using(pt_history::proofs::Places::place_of_next))]
     fn refusal_of_stranger(&self, c: ClientId) -> Refusal
         ensures { result ≡ refusal_of_stranger_in (past self.now) c }
@@ -54,9 +56,9 @@ impl<A: Allocator + Copy> State<A> {
         }
     }
 
-    /// Why an event is refused for its sender, or at 1,024 living clients; or none.
-    #[inline(always)]
-    pub fn refusal(&self, event: &Event) -> Option<Refusal>
+    // Why any event is refused, or none. It is for those that are no calls.
+    #[inline(never)]
+    fn refusal_of_any(&self, event: &Event) -> Option<Refusal>
         requires { AreTables self.now }
         ensures { result ≡ refusal_in (past self.now) event.now }
     {
@@ -65,6 +67,18 @@ impl<A: Allocator + Copy> State<A> {
             Event::Call(c, _) => self.refusal_of_call(*c),
             Event::Death(c) if !self.is_alive(*c) => Some(self.refusal_of_stranger(*c)),
             _ => None,
+        }
+    }
+
+    /// Why an event is refused for its sender, or at 1,024 living clients; or none.
+    #[inline(always)]
+    pub fn refusal(&self, event: &Event) -> Option<Refusal>
+        requires { AreTables self.now }
+        ensures { result ≡ refusal_in (past self.now) event.now }
+    {
+        match event {
+            Event::Call(c, _) => self.refusal_of_call(*c),
+            _ => self.refusal_of_any(event),
         }
     }
 }

@@ -13,7 +13,7 @@ returns-in-Acquires-clause-queued g c =
     (g.Q.WaitList.seen c.args.queues.now).queue (g.Q.WaitList.seen c.args.queues.now).admitted
     (g.Q.WaitList.seen c.args.queues.now).made c.requires.queued c.push_locked.new.self
     c.requires.ready
-    (ap is_plain (sym c.requires.asks.operation)
+    (ap is_plain (sym c.operation_of.ensures)
     ∙ ap (λ d. is_plain (shown_operation d)) c.in-Acquires.is) c.push_locked.ensures
 
 pub returns-in-Unlocks-clause-queued : goal.returns-in-Unlocks-clause-queued
@@ -22,7 +22,7 @@ returns-in-Unlocks-clause-queued g c =
     (g.Q.WaitList.seen c.args.queues.now).queue (g.Q.WaitList.seen c.args.queues.now).admitted
     (g.Q.WaitList.seen c.args.queues.now).made c.requires.queued c.push_unlock.new.self
     c.requires.ready
-    (ap is_plain (sym c.requires.asks.operation)
+    (ap is_plain (sym c.operation_of.ensures)
     ∙ ap (λ d. is_plain (shown_operation d)) c.in-Unlocks.is) c.push_unlock.ensures
 
 pub returns-in-Restores-clause-queued : goal.returns-in-Restores-clause-queued
@@ -31,7 +31,7 @@ returns-in-Restores-clause-queued g c =
     (g.Q.WaitList.seen c.args.queues.now).queue (g.Q.WaitList.seen c.args.queues.now).admitted
     (g.Q.WaitList.seen c.args.queues.now).made c.requires.queued c.push_restored.new.self
     c.requires.ready
-    (ap is_plain (sym c.requires.asks.operation)
+    (ap is_plain (sym c.operation_of.ensures)
     ∙ ap (λ d. is_plain (shown_operation d)) c.in-Restores.is) c.push_restored.ensures
 
 pub returns-in-Rwunlocks-clause-queued : goal.returns-in-Rwunlocks-clause-queued
@@ -40,7 +40,7 @@ returns-in-Rwunlocks-clause-queued g c =
     (g.Q.WaitList.seen c.args.queues.now).queue (g.Q.WaitList.seen c.args.queues.now).admitted
     (g.Q.WaitList.seen c.args.queues.now).made c.requires.queued c.push_rwunlock.new.self
     c.requires.ready
-    (ap is_plain (sym c.requires.asks.operation)
+    (ap is_plain (sym c.operation_of.ensures)
     ∙ ap (λ d. is_plain (shown_operation d)) c.in-Rwunlocks.is) c.push_rwunlock.ensures
 
 -- of two cases, the one that holds
@@ -53,14 +53,14 @@ pub finish_seldom-requires : goal.finish_seldom-requires
 finish_seldom-requires g c =
     let idle = nearly-done c.args.state.now c.args.c c.args.call.now (Some told.Done)
     c.requires.ready in
-    let is = sym c.requires.asks.operation in
+    let is = sym c.operation_of.ensures in
     either c.in-Awaits.is
     (λ w. idle (Awaits w.0.now w.1.now w.2) refl (is ∙ ap shown_operation w.3) refl)
     (λ w. idle (Arrives w.0.now) refl (is ∙ ap shown_operation w.1) refl)
 
 pub returns-in-Awaits-clause-queued : goal.returns-in-Awaits-clause-queued
 returns-in-Awaits-clause-queued g c =
-    let is = ap is_plain (sym c.requires.asks.operation) in
+    let is = ap is_plain (sym c.operation_of.ensures) in
     plain-queued c.args.state.now c.args.c c.args.call.now
     (g.Q.WaitList.seen c.args.queues.now).queue (g.Q.WaitList.seen c.args.queues.now).admitted
     (g.Q.WaitList.seen c.args.queues.now).made c.requires.queued c.finish_seldom.new.self

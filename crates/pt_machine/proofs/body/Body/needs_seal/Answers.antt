@@ -1,5 +1,5 @@
 use Rattle.std.proofs.Common.{◌≡◌, ◌+◌, ◌≤◌, ◌<◌, ℕ, nat_lt, nat_le, ◌&&◌, ap, sym, ◌∙◌, length}
-use Rattle.std.proofs.Common.{arith}
+use Rattle.std.proofs.Common.{arith, false}
 use Rattle.std.proofs.lemmas.Bool.Decides.{nat_tests}
 use Rattle.pt_model.specs.Histories.{held}
 use Rattle.pt_state.specs.Adds.{past}
@@ -15,6 +15,26 @@ within limit entries room l = grind (arith, nat_tests)
 under : (limit entries room : ℕ) → entries + room ≤ limit
     → nat_lt limit (entries + room) ≡ (nat_lt limit (entries + room) && nat_le room limit)
 under limit entries room l = grind (arith, nat_tests)
+
+-- room that is there fits the limit
+there : (limit entries room : ℕ) → entries + room ≤ limit
+    → false ≡ (nat_lt limit (entries + room) && nat_le room limit)
+there limit entries room l = grind (arith, nat_tests)
+
+pub returns-then-room : goal.returns-then-room
+returns-then-room g c =
+    let s = c.args.self.now in
+    let room = 1 + c.args.need in
+    there s.stored.limit (held (past s)) room
+    (omega (
+      arith,
+      held-past s.stored,
+      ap (λ s. s.stored.limit) c.self.view_is,
+      ap (λ s. length s.stored.entries) c.self.view_is,
+      c.room.ensures.room,
+      c.room.ensures.within,
+      c.if-room.true,
+    ))
 
 pub returns-then-limit-held : goal.returns-then-limit-held
 returns-then-limit-held g c =
