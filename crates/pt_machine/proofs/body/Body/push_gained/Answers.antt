@@ -1,10 +1,6 @@
-use Rattle.std.proofs.Common.{◌≡◌, ◌+◌, sym, ap, ◌∙◌, cond, subst, arith}
+use Rattle.std.proofs.Common.{sym, ◌∙◌, subst, arith}
 use Rattle.pt_model.specs.declared.entry.Entry.{Entry}
-use Rattle.pt_model.specs.declared.entry.Entry.TheVariants.{Grant, Trip}
 use Rattle.pt_model.specs.Forced.{service}
-use Rattle.pt_model.specs.Grants.{grant_outcome}
-use Rattle.pt_model.specs.Histories.{◌▷◌}
-use Rattle.pt_model.specs.Room.{need}
 use Rattle.pt_model.specs.Searches.{In}
 use Rattle.pt_records.specs.Callers.{opens_of}
 use Rattle.pt_state.specs.declared.forced.Forced.TheVariants.{Serve}
