@@ -6,7 +6,6 @@ use Rattle.std.proofs.Math.Seq.{take-append_seam, drop-append_seam}
 use Rattle.std.specs.Option.{option_or, MatchOption}
 use Rattle.std.proofs.lemmas.Bool.Decides.{Decides-eqb}
 use Rattle.std.proofs.lemmas.Slice.Eq.{bytes_eq-Decides}
-use Rattle.pt_types.specs.Limits.{most_entries}
 use Rattle.pt_types.specs.declared.outcome.Refusal.{Refusal}
 use Rattle.pt_lines.specs.declared.client.Who.{Who}
 use Rattle.pt_lines.specs.declared.client.Who.TheVariants.{Named, Star, Unknown}
@@ -27,6 +26,7 @@ use Rattle.pt_script.specs.declared.mark.Mark.{Mark}
 use Rattle.pt_script.specs.declared.mark.Mark.TheVariants as mark
 use Rattle.pt_script.specs.Scripts.{Script, line_at, told_text, refusal_text, greeting}
 use Rattle.pt_script.specs.Scripts.{clients_with, calls_with, same_who, lines_of_who}
+use Rattle.pt_script.specs.Scripts.{entries_between_seals}
 use Rattle.pt_script.specs.Says.{SaysOf, refuses, lacks, accepts}
 use Rattle.pt_script.specs.Names.{Known}
 use Rattle.pt_script.specs.Engines.{Adds, IsFresh, mark_of, clients_marked, calls_marked}
@@ -91,18 +91,18 @@ answers_are core next v a applied =
 
 -- the same core, with as many entries as there may be at most
 abbrev pub full : Kept → Kept
-full core = record core { limit = most_entries }
+full core = record core { limit = entries_between_seals }
 
-limited : (core : Kept) → core.limit ≡ most_entries → core ≡ full core
+limited : (core : Kept) → core.limit ≡ entries_between_seals → core ≡ full core
 limited core is = ap (λ n. let k : Kept = record core { limit = n } in k) is
 
 -- an event that is applied leaves the limit
-pub limit_next : (core next : Kept) (v : Event) (a : Applied) → core.limit ≡ most_entries
-    → IsApplied core v next a → next.limit ≡ most_entries
+pub limit_next : (core next : Kept) (v : Event) (a : Applied) → core.limit ≡ entries_between_seals
+    → IsApplied core v next a → next.limit ≡ entries_between_seals
 limit_next core next v a is done =
     done.written.writes.same_limit ∙ limit_opened core v ∙ is
 
-applied_full : (core next : Kept) (v : Event) (a : Applied) → core.limit ≡ most_entries
+applied_full : (core next : Kept) (v : Event) (a : Applied) → core.limit ≡ entries_between_seals
     → IsApplied core v next a → IsApplied (full core) v (full next) a
 applied_full core next v a is done =
     let from = subst (λ k. IsApplied k v next a) (limited core is) done in
@@ -118,7 +118,7 @@ place_first core next v a done = done.written.first ∙ place_opened core v
 pub accepted : (s : Script) (core next : Kept) (names known : Known)
     (calls noted : List (ℕ × LineId)) (v : Event) (line : LineId) (a : Applied) (m : Mark)
     (out greeted told : List ℕ)
-    → s ≡ seen_as core names calls → core.limit ≡ most_entries → m ≡ mark_of v
+    → s ≡ seen_as core names calls → core.limit ≡ entries_between_seals → m ≡ mark_of v
     → IsApplied core v next a
     → known ≡ record names { clients = clients_marked m line.who a.first names.clients }
     → noted ≡ calls_marked m line a.first calls
@@ -176,21 +176,21 @@ accepted s core next names known calls noted v line a m out greeted told is whol
 pub refused : (s : Script) (core next : Kept) (names : Known)
     (calls noted : List (ℕ × LineId)) (v : Event) (line : LineId) (why : Refusal)
     (out told : List ℕ)
-    → s ≡ seen_as core names calls → core.limit ≡ most_entries → next ≡ core → noted ≡ calls
-    → IsRefusal core v why → told ≡ out ++ refusal_text line why
+    → s ≡ seen_as core names calls → core.limit ≡ entries_between_seals → next ≡ core
+    → noted ≡ calls → IsRefusal core v why → told ≡ out ++ refusal_text line why
     → Adds (SaysOf s v line (seen_as next names noted)) out told
 refused s core next names calls noted v line why out told is whole stays kept refuses_it tells =
     subst (λ t. Adds (SaysOf t v line (seen_as next names noted)) out told) (sym is) (record {
       text = refusal_text line why;
       grows = tells;
-      holds = by (refusal_with_seals most_entries (past core) v) refl
+      holds = by (refusal_with_seals entries_between_seals (past core) v) refl
           (subst (λ k. IsRefusal k v why) (limited core whole) refuses_it);
     })
   where
     same : seen_as next names noted ≡ seen_as core names calls
     same = ap (λ k. seen_as k names noted) stays ∙ ap (λ cs. seen_as core names cs) kept
 
-    by : (r : Option Refusal) → refusal_with_seals most_entries (past core) v ≡ r
+    by : (r : Option Refusal) → refusal_with_seals entries_between_seals (past core) v ≡ r
         → MatchOption r (IsWantOfMemory v why) (λ x. why ≡ x)
         → SaysOf (seen_as core names calls) v line (seen_as next names noted)
         (refusal_text line why)

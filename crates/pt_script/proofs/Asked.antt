@@ -2,7 +2,6 @@
 -- client, since it is to the event's own call or to one that waits.
 use Rattle.std.proofs.Common.{◌≡◌, ℕ, ◌<◌, List, [], ◌∷◌, ◌++◌}
 use Rattle.std.proofs.Common.{refl, sym, ap, ◌∙◌, subst, arith}
-use Rattle.pt_types.specs.Limits.{most_entries}
 use Rattle.pt_model.specs.declared.entry.Entry.{Entry}
 use Rattle.pt_model.specs.declared.entry.Event.{Event}
 use Rattle.pt_model.specs.Searches.{Each}
@@ -23,7 +22,7 @@ use Rattle.pt_core.specs.Cores.{Kept, past}
 use Rattle.pt_core.specs.Applying.{IsApplied, IsWritten, opened, told_at_once}
 use Rattle.pt_script.specs.declared.line_id.LineId.{LineId}
 use Rattle.pt_script.specs.declared.mark.Mark.{Mark}
-use Rattle.pt_script.specs.Scripts.{calls_with, told_text}
+use Rattle.pt_script.specs.Scripts.{calls_with, entries_between_seals, told_text}
 use Rattle.pt_script.specs.Engines.{AreLines, IsAsked, IsLegal, IsLineOf, IsSound, calls_marked}
 use Rattle.pt_script.specs.Engines.{latest_text, mark_of, own_first}
 use Rattle.pt_script.proofs.Accepted.{answers_are, calls_as, fresh_noted, limit_next}
@@ -37,7 +36,7 @@ use Rattle.pt_script.proofs.Texts.{same_text}
 
 -- before the first line
 abbrev empty : Kept
-empty = record { start = nothing; entries = []; limit = most_entries }
+empty = record { start = nothing; entries = []; limit = entries_between_seals }
 
 pub begun_sound : (core : Kept) → core ≡ empty → IsSound core
 begun_sound core is =

@@ -3,7 +3,6 @@ use Rattle.std.specs.Prelude.{◌≡◌, ℕ, ◌≤◌, ◌++◌, List, [], ◌
 use Rattle.std.specs.Prelude.{None, if◌then◌else◌}
 use Rattle.std.specs.List.{flat_map}
 use Rattle.std.specs.Map.{lookup}
-use Rattle.pt_types.specs.Limits.{most_entries}
 use Rattle.pt_types.specs.declared.outcome.Outcome.{Outcome}
 use Rattle.pt_types.specs.declared.outcome.Outcome.TheVariants.{Done}
 use Rattle.pt_lines.specs.declared.client.Who.{Who}
@@ -28,6 +27,7 @@ use Rattle.pt_script.specs.declared.fault.ScriptFault.TheVariants.{Read, Write, 
 use Rattle.pt_script.specs.declared.mark.Mark.{Mark}
 use Rattle.pt_script.specs.declared.mark.Mark.TheVariants.{Client, Call, Nothing}
 use Rattle.pt_script.specs.Scripts.{Script, core_of, line_at, told_line, clients_joined}
+use Rattle.pt_script.specs.Scripts.{entries_between_seals}
 use Rattle.pt_script.specs.Says.{SaysAll}
 use Rattle.pt_script.specs.Texts.{BreaksOff, IsUntouched, Writing}
 
@@ -96,7 +96,7 @@ pub record IsLegal (core : Kept) : Type 0 where
 
 -- so they are, and there may be as many of them as in any core
 pub record IsSound (core : Kept) : Type 0 where
-  pub limit : core.limit ≡ most_entries
+  pub limit : core.limit ≡ entries_between_seals
   pub legal : IsLegal core
 
 -- what is noted of an event, once it is accepted

@@ -1,7 +1,6 @@
 -- Says: what is written for each line of a script, and for all of them.
 use Rattle.std.specs.Prelude.{◌≡◌, ℕ, ◌++◌, false, List, [], ◌∷◌, Option, Some, None, Result, Ok}
 use Rattle.std.specs.Prelude.{Err}
-use Rattle.pt_types.specs.Limits.{most_entries}
 use Rattle.pt_types.specs.declared.outcome.Refusal.{Refusal}
 use Rattle.pt_types.specs.declared.outcome.Refusal.TheVariants.{Enomem}
 use Rattle.pt_lines.specs.declared.client.Who.{Who}
@@ -16,6 +15,7 @@ use Rattle.pt_core.specs.Applying.{Writes, is_death, opened}
 use Rattle.pt_script.specs.declared.line_id.LineId.{LineId}
 use Rattle.pt_script.specs.Scripts.{Script, core_of, line_id, event_of_line, told_text}
 use Rattle.pt_script.specs.Scripts.{refusal_text, clients_with, calls_with, greeting}
+use Rattle.pt_script.specs.Scripts.{entries_between_seals}
 
 -- the core to which an accepted event's entries are added: its history is sealed before, if the
 -- event needs that room  [profile]
@@ -25,7 +25,7 @@ opened_for s event = opened (core_of s) event
 -- why an event of a line is refused, or none; the line may have a refusal of its own before
 -- [profile]
 abbrev pub refusal_of_event : Script → Event → Option Refusal
-refusal_of_event s event = refusal_with_seals most_entries (past (core_of s)) event
+refusal_of_event s event = refusal_with_seals entries_between_seals (past (core_of s)) event
 
 -- one line more was seen, and nothing else came of it yet
 abbrev pub counted : Script → Who → Script

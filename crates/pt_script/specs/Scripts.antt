@@ -4,7 +4,6 @@ use Rattle.std.specs.Prelude.{Option, Some, None, Result, Ok, Err, if◌then◌e
 use Rattle.std.specs.List.{flat_map}
 use Rattle.std.specs.Map.{lookup}
 use Rattle.std.specs.Str.{bytes_eq}
-use Rattle.pt_types.specs.Limits.{most_entries}
 use Rattle.pt_types.specs.declared.outcome.Outcome.{Outcome}
 use Rattle.pt_types.specs.declared.outcome.Outcome.TheVariants.{Done}
 use Rattle.pt_types.specs.declared.outcome.Refusal.{Refusal}
@@ -36,13 +35,18 @@ pub record Script : Type 0 where
   pub clients : List (List ℕ × ℕ)
   pub calls : List (ℕ × LineId)
 
+-- entries of a script's history between two seals, with the room reserved for what must follow:
+-- more than any event may need  [profile]
+abbrev pub entries_between_seals : ℕ
+entries_between_seals = 65536
+
 -- before the first line
 abbrev pub begun : Script
 begun = record { start = nothing; entries = []; seen = []; clients = []; calls = [] }
 
 -- the core after these lines; `past (core_of s)` is the history
 abbrev pub core_of : Script → Kept
-core_of s = record { start = s.start; entries = s.entries; limit = most_entries }
+core_of s = record { start = s.start; entries = s.entries; limit = entries_between_seals }
 
 -- whether two lines are of one client; the lines of `*` are, and so are those of `?`  [profile]
 abbrev pub same_who : Who → Who → Bool

@@ -16,12 +16,17 @@ use pt_types::{Call, ClientId, Priority, Refusal};
 use std::alloc::{Allocator, Global};
 use std::marker::Model;
 
+/// Entries of a script's history between two seals, with the room reserved for what must follow:
+/// more than any event may need. A script shows no entry, and so few of them stay in the caches of
+/// a processor.  [profile]
+const ENTRIES_BETWEEN_SEALS: u32 = 65_536;
+
 /// All clients of a script, the lines that they sent, and the core that these asked.
 ///
 /// Of each client one line is stored: that of its latest call that had to wait, since no other can
 /// still be answered. Contracts see what is known after the lines so far, the lines of all calls
-/// too. The history is sealed for an event that needs the room, so the core has never more entries
-/// than its limit, however many lines come.
+/// too. The history is sealed for an event that needs the room, so the core has never more than
+/// 65,536 entries, however many lines come.
 #[derive(Drop)]
 pub struct Engine<A: Allocator + Copy = Global> {
     core: Core<A>,
@@ -63,7 +68,7 @@ impl<A: Allocator + Copy> Engine<A> {
         ensures ok { IfOk result (λ engine. known_by engine ≡ begun) }
         ensures why { IfErr result (λ fault. fault ≡ ScriptFault.Memory) }
     {
-        match Core::new(alloc) {
+        match Core::with_limit(alloc, ENTRIES_BETWEEN_SEALS) {
             Ok(core) => Ok(Engine {
                 core,
                 names: Names::new(alloc),

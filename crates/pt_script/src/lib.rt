@@ -8,7 +8,7 @@
 //! read. If the core lacked memory for a line, the text may have ENOMEM for it.
 //!
 //! If an event needs more room than the core's limit leaves, the history is sealed first: its
-//! entries are dropped, and it goes on from its seal. So there are never more than 1,048,576
+//! entries are dropped, and it goes on from its seal. So there are never more than 65,536
 //! entries, however long the script is. What is stored of clients grows with their names alone.
 //!
 //! `answer` is the program `ptserver script` over any reader, writer and writer of errors: its

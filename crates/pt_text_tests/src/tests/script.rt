@@ -111,6 +111,33 @@ fn a_dead_name_stays_dead_and_a_refused_hello_may_come_again(rt: HostRuntime) ->
     Ok(())
 }
 
+// A call that waits, so many moments, and the death of the owner for which it waits.
+fn many_moments(alloc: Global, count: usize) -> Result<Vec<u8>, Fail> {
+    let mut input = Vec::from_slice(
+        alloc,
+        b"A hello 10\nB hello 20\nA mutex-init m normal robust\nA lock m\nB lock m\n",
+    )?;
+    for _ in 0..count {
+        input.extend_from_slice(b"* moment 1 0\n")?;
+    }
+    input.extend_from_slice(b"A die\n")?;
+    Ok(input)
+}
+
+// The history is sealed at 65,536 entries; of what came before, only the open call is known then.
+#[test]
+fn a_call_that_waits_past_a_seal_is_answered(rt: HostRuntime) -> Result<(), Fail> {
+    lend(many_moments(rt.alloc(), 70000)?, |input| {
+        let (writer, end) = told(rt.alloc(), input.as_slice(), 4096)?;
+        assert_eq!(rt;
+            writer.written(),
+            b"A 1 0\nB 1 0\nA 2 0\nA 3 0\nB 2 EOWNERDEAD\n".as_slice()
+        );
+        assert_eq!(rt; end.lines, 70006);
+        Ok(())
+    })
+}
+
 #[test]
 fn a_failing_read_leaves_the_answers_of_the_lines_before(rt: HostRuntime) -> Result<(), Fail> {
     let alloc = rt.alloc();

@@ -20,8 +20,8 @@ invariant_of-self-in-Ok g c =
     one-more t.places.entries (due_at t.orders) c.self.invariant c.args.clock nanos c.args.place
     unset c.insert-2.new.self.entries (due_at c.insert.new.self) c.args.deadline
     (sym c.nanos-nanos.ensures) c.requires.good c.in_ok-insert.ensures.ok
-    (as-changed t.places.entries c.insert-2.new.self.entries c.args.place (Some (c.args.clock, nanos))
-    c.in-Ok.ensures.updates.0)
+    (as-changed t.places.entries c.insert-2.new.self.entries c.args.place
+    (Some (c.args.clock, nanos)) c.in-Ok.ensures.updates.0)
 
 -- the second growth is refused
 pub invariant_of-self-in-Err : goal.invariant_of-self-in-Err

@@ -13,7 +13,8 @@ invariant_of-self g c =
     one-less t.places.entries (due_at t.orders) c.self.invariant c.in-Some.clock c.in-Some.nanos
     c.args.place c.swap_remove.new.self.entries (due_at c.remove.new.self) was
     c.remove.ensures
-    (as-changed t.places.entries c.swap_remove.new.self.entries c.args.place None c.swap_remove.ensures.updates.0)
+    (as-changed t.places.entries c.swap_remove.new.self.entries c.args.place None
+    c.swap_remove.ensures.updates.0)
 
 pub returns-in-Some : goal.returns-in-Some
 returns-in-Some g c p =
