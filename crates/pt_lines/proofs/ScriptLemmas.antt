@@ -7,7 +7,6 @@ use Rattle.std.specs.Str.{bytes_eq}
 use Rattle.pt_types.specs.declared.outcome.Refusal.{Refusal}
 use Rattle.pt_types.specs.declared.outcome.Refusal.TheVariants as refusal
 use Rattle.pt_types.specs.declared.call.Call.{Call}
-use Rattle.pt_types.specs.declared.call.Call.TheVariants as call
 use Rattle.pt_types.specs.declared.named_verb.NamedVerb.{NamedVerb}
 use Rattle.pt_types.specs.NamedVerbs.{call_on}
 use Rattle.pt_types.specs.declared.time.Clock.TheVariants.{Real}
@@ -23,7 +22,7 @@ use Rattle.pt_lines.specs.declared.client.Who.{Who}
 use Rattle.pt_lines.specs.declared.client.Who.TheVariants.{Named, Star, Unknown}
 use Rattle.pt_lines.specs.declared.script_line.ScriptBody.{ScriptBody}
 use Rattle.pt_lines.specs.declared.script_line.ScriptBody.TheVariants.{Hello, Ask, Die, Tick}
-use Rattle.pt_lines.specs.Arguments.{name_of, alone, first_then, name_and_deadline, two_numbers}
+use Rattle.pt_lines.specs.Arguments.{name_and_deadline, two_numbers}
 use Rattle.pt_lines.specs.Arguments.{moment_of}
 use Rattle.pt_lines.specs.Fields.{fields}
 use Rattle.pt_lines.specs.ClientNames.{IsClientName}
@@ -197,20 +196,6 @@ call_said rest args verb (Some said) read asked = λ client.
     by (first.Named n) h = sym h
     by (first.Timed t) h = sym h
     by (first.Clocked k) h = sym h
-
--- a wait, a space and two names are read as the call of that wait
-pub wait_said :
-    (text args : List ℕ) (o : Option (List ℕ × List ℕ)) → text ≡ codes "wait " ++ args
-    → o ≡ first_then name_of (alone name_of) (fields args)
-    → IfSome o (λ names. (client : List ℕ)
-    → body_read (Named client) text ≡ Ok (Ask (call.Wait names.0 names.1)))
-wait_said text args None is two = tt
-wait_said text args (Some names) is two =
-    let read : line_read text ≡ line_of first.Wait (fields args) =
-    ap line_read is ∙ ap line_of_fields (fields-word (codes "wait") args refl) in
-    let asked : IsAsked first.Wait (fields args) (Some (call.Wait names.0 names.1)) =
-    ap (option_map (λ a. line.Ask (call.Wait a.0 a.1))) two in
-    call_said text (fields args) first.Wait (Some (call.Wait names.0 names.1)) read asked
 
 -- a word, a space, a name and a deadline are read as the call of the word
 pub timed_said :

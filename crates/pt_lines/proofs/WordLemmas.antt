@@ -1,19 +1,26 @@
 -- WordLemmas: a verb's word, a space and fields are read as what the verb and the fields are.
-use Rattle.std.proofs.Common.{◌≡◌, ◌∙◌, ℕ, List, [], ◌∷◌, ◌++◌, Option, IfSome, Ok, ap, true}
-use Rattle.std.proofs.Common.{nat_le, length, append_assoc}
-use Rattle.std.specs.Option.{option_and_then}
+use Rattle.std.proofs.Common.{◌≡◌, ◌∙◌, ℕ, List, [], ◌∷◌, ◌++◌, Option, Some, IfSome, Ok, ap, sym}
+use Rattle.std.proofs.Common.{refl, true, codes, nat_le, length, append_assoc}
+use Rattle.std.specs.Option.{option_and_then, option_map}
+use Rattle.pt_types.specs.Names.{IsName}
 use Rattle.pt_types.specs.declared.call.Call.{Call}
+use Rattle.pt_types.specs.declared.call.Call.TheVariants as call
+use Rattle.pt_lines.specs.Arguments.{name_of, alone, first_then}
+use Rattle.pt_lines.specs.declared.call_line.CallLine.TheVariants as line
 use Rattle.pt_lines.specs.declared.verb.Verb.{Verb}
+use Rattle.pt_lines.specs.declared.verb.Verb.TheVariants as first
 use Rattle.pt_lines.specs.declared.client.Who.TheVariants.{Named}
 use Rattle.pt_lines.specs.declared.script_line.ScriptBody.TheVariants.{Ask}
 use Rattle.pt_lines.specs.Fields.{fields}
 use Rattle.pt_lines.specs.Reading.{line_read, line_of, line_of_fields, IsAsked}
 use Rattle.pt_lines.specs.Script.{body_read}
 use Rattle.pt_lines.specs.Verbs.{word_of}
+use Rattle.pt_lines.proofs.ArgumentLemmas.{first_then-again, name_again}
 use Rattle.pt_lines.proofs.FieldLemmas.{is_word, fields-word}
 use Rattle.pt_lines.proofs.ScriptLemmas.{call_said}
 use Rattle.pt_lines.proofs.TestLemmas.{and_parts}
 use Rattle.pt_lines.proofs.VerbLemmas.{verb_of-word, word_is_short}
+use Rattle.pt_lines.proofs.WholeLemmas.{whole_name}
 
 word_is_word : (verb : Verb) → is_word (word_of verb) ≡ true
 word_is_word verb =
@@ -35,3 +42,23 @@ pub word_said :
     → IfSome o (λ asked. (client : List ℕ) → body_read (Named client) text ≡ Ok (Ask asked))
 word_said text args start verb o begins is asked =
     call_said text (fields args) verb o (read_by_word text args start verb begins is) asked
+
+-- two names with a space between are the first of them, and the second alone
+two_names :
+    (args cond mutex : List ℕ) → fields args ≡ cond ∷ fields mutex → IsName cond → IsName mutex
+    → Some (cond, mutex) ≡ first_then name_of (alone name_of) (fields args)
+two_names args cond mutex parts c m =
+    sym (ap (first_then name_of (alone name_of)) parts
+    ∙ first_then-again name_of (alone name_of) cond (fields mutex) cond mutex (name_again cond c)
+    (whole_name mutex ∙ name_again mutex m))
+
+-- `wait`, a space, and two names with a space between are read as the call of that wait
+pub wait_spelled :
+    (text args cond mutex : List ℕ) → text ≡ codes "wait " ++ args
+    → fields args ≡ cond ∷ fields mutex → (client : List ℕ) → IsName cond → IsName mutex
+    → body_read (Named client) text ≡ Ok (Ask (call.Wait cond mutex))
+wait_spelled text args cond mutex is parts client c m =
+    let asked : IsAsked first.Wait (fields args) (Some (call.Wait cond mutex)) =
+    ap (option_map (λ a. line.Ask (call.Wait a.0 a.1))) (two_names args cond mutex parts c m) in
+    word_said text args (codes "wait ") first.Wait (Some (call.Wait cond mutex)) refl is asked
+    client

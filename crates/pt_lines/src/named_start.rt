@@ -11,11 +11,11 @@ ghost use Rattle.pt_lines.specs.declared.script_line.ScriptBody.TheVariants as b
 ghost use Rattle.pt_lines.specs.Script.{body_read};
 ghost use Rattle.pt_lines.specs.Verbs.{named_word, timed_word, word_of};
 
-use crate::arguments::{name_and_deadline, only_moment, two_names};
+use crate::arguments::{name_and_deadline, only_moment};
 use crate::call_line::read_asked;
 use crate::fields::Fields;
 use crate::verb::{TimedVerb, Verb};
-use pt_types::{Call, Moment, Name, NamedVerb};
+use pt_types::{Call, Moment, NamedVerb};
 
 // Whether two blocks are the same, which are compared as numbers.
 #[inline(always)]
@@ -150,15 +150,19 @@ pub fn named_at_start(text: &[u8]) -> Option<(NamedVerb, &[u8])>
     said_at_start(text)
 }
 
-/// The condition and the mutex of a `wait`, if a text begins with one and a client that says this
-/// waits.
+/// What is after `wait` up to the next space, and what is after that, if a text begins with these.
+/// A client that says this waits for the first with the second, if both are names.
 #[inline(always)]
-pub fn wait_at_start(text: &[u8]) -> Option<(Name, Name)>
-    ensures { IfSome result (λ names. (client : List ℕ) → body_read (who.Named client) text.now
-        ≡ Ok (body.Ask (call.Wait names.0 names.1))) }
+pub fn wait_at_start(text: &[u8]) -> Option<(&[u8], &[u8])>
+    ensures { IfSome result (λ said. (client : List ℕ) → IsName said.0.now → IsName said.1.now
+        → body_read (who.Named client) text.now
+        ≡ Ok (body.Ask (call.Wait said.0.now said.1.now))) }
 {
     let args = after(text, b"wait ")?;
-    two_names(Fields::new(args))
+    let mut fields = Fields::new(args);
+    let cond = fields.next()?;
+    let mutex = fields.rest()?;
+    Some((cond, mutex))
 }
 
 // The word of a call of one name and a deadline that a text begins with, and what is after it and

@@ -114,6 +114,8 @@ impl<A: Allocator + Copy> Engine<A> {
     {
         if let Who::Named(_) = line.who
             && let Some((cond, mutex)) = wait_at_start(rest)
+            && let Some(cond) = Name::new(cond)
+            && let Some(mutex) = Name::new(mutex)
         {
             return self.ask(line, client, Call::Wait(cond, mutex), out);
         }
