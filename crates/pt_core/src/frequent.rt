@@ -1,19 +1,21 @@
 //! Events that come often: each is applied by a copy of the steps, in which the compiler leaves out
 //! what such an event never does.
 
-ghost use Rattle.std.specs.Prelude.{◌≡◌, ℕ, None, true, IfErr, IfOk, IsOk, OnErr};
+ghost use Rattle.std.specs.Prelude.{◌≡◌, ◌+◌, ◌<◌, ℕ, None, true, length, IfErr, IfOk, IsOk, OnErr};
 ghost use Rattle.pt_model.specs.Clients.{is_alive};
 ghost use Rattle.pt_model.specs.Room.{refusal as refusal_in};
 ghost use Rattle.pt_state.specs.Adds.{past};
 ghost use Rattle.pt_core.specs.Applying.{IsApplied, IsRefusal};
 ghost use Rattle.pt_core.specs.Cores.{kept, seen};
+ghost use Rattle.pt_core.specs.Trying.{IsTried, tried_as};
 ghost use Rattle.pt_core.specs.Wholes.{IsWhole};
 
 use crate::applied::Applied;
 use crate::applying::{apply, plan};
+use crate::writing::write;
 use pt_machine::Body;
 use pt_model::Event;
-use pt_types::{Call, Refusal};
+use pt_types::{Call, Outcome, Refusal};
 use pt_waitq::WaitList;
 use std::alloc::Allocator;
 
@@ -146,30 +148,95 @@ fn apply_any<Q: WaitList, A: Allocator + Copy>(
     apply(body, event, &plan)
 }
 
-// As `apply_any`, by a copy of the steps for events of this kind.  [profile]
+// What came of an event for which a copy of the steps was tried.
+#[derive(Clone, Copy)]
+enum Tried {
+    // It is written, and its call has this answer by then.
+    Answered(Outcome),
+    // It is written, and has no answer.
+    Unanswered,
+    Refused(Refusal),
+    // It is of another kind, or has no room yet: nothing is done.
+    Left,
+}
+
+// What came of an event, without its places.
+#[inline(always)]
+fn without_places(written: Result<Applied, Refusal>) -> Tried
+    ensures { result ≡ tried_as written }
+{
+    match written {
+        Ok(applied) => match applied.outcome {
+            Some(outcome) => Tried::Answered(outcome),
+            None => Tried::Unanswered,
+        },
+        Err(refusal) => Tried::Refused(refusal),
+    }
+}
+
+// An event of this kind, and all that must follow it, if there is room for that already. What makes
+// room is kept out of this copy, so that what is known of the event is known to its end.  [profile]
 #[inline(never)]
-fn apply_frequent<F: Frequent, Q: WaitList, A: Allocator + Copy>(
+fn try_frequent<F: Frequent, Q: WaitList, A: Allocator + Copy>(
     body: &mut Body<Q, A>,
     event: &Event,
-) -> Result<Applied, Refusal>
+) -> Tried
     requires whole { IsWhole body.old }
     requires accepted { refusal_in (past body.old) event.now ≡ None }
-    ensures whole { IsWhole body.new }
-    ensures ok { IfOk result (λ applied.
-        IsApplied (kept body.old.stored) event.now (kept body.new.stored) applied) }
-    ensures err { IfErr result (λ refusal.
-        IsRefusal (kept body.old.stored) event.now refusal) }
-    ensures unchanged { OnErr result (seen body.new.stored ≡ seen body.old.stored) }
-    ensures death { (c : ℕ) → event.now ≡ Event.Death c
-        → is_alive (past body.old) c ≡ true → IsOk result }
-    ensures unsealed { (c : ℕ) → event.now ≡ Event.Death c
-        → IfOk result (λ applied. applied.sealed ≡ None) }
+    ensures { IsTried body.old event.now body.new result }
 {
     if F::is(event) {
         let plan = plan(body, event);
-        return apply(body, event, &plan);
+        if body.has_room(1 + plan.need) && !body.needs_seal(plan.need) {
+            return without_places(write(body, event, &plan));
+        }
     }
-    apply_any(body, event)
+    Tried::Left
+}
+
+// What came of an event for which the copy of the steps for its kind was tried.  [profile]
+#[inline(always)]
+fn try_by_kind<Q: WaitList, A: Allocator + Copy>(body: &mut Body<Q, A>, event: &Event) -> Tried
+    requires whole { IsWhole body.old }
+    requires accepted { refusal_in (past body.old) event.now ≡ None }
+    ensures { IsTried body.old event.now body.new result }
+{
+    match event {
+        Event::Call(_, Call::Lock(_)) => try_frequent::<Locks, Q, A>(body, event),
+        Event::Call(_, Call::Timedlock(..)) => try_frequent::<TimedLocks, Q, A>(body, event),
+        Event::Call(_, Call::Unlock(_)) => try_frequent::<Unlocks, Q, A>(body, event),
+        Event::Call(_, Call::Consistent(_)) => try_frequent::<Restores, Q, A>(body, event),
+        Event::Call(_, Call::Rdlock(_)) => try_frequent::<ReadLocks, Q, A>(body, event),
+        Event::Call(_, Call::Wrlock(_)) => try_frequent::<WriteLocks, Q, A>(body, event),
+        Event::Call(_, Call::Rwunlock(_)) => try_frequent::<LockReleases, Q, A>(body, event),
+        Event::Call(_, Call::Wait(..)) => try_frequent::<Waits, Q, A>(body, event),
+        Event::Call(_, Call::Signal(_)) => try_frequent::<Signals, Q, A>(body, event),
+        Event::Call(_, Call::Bwait(_)) => try_frequent::<Arrivals, Q, A>(body, event),
+        Event::Moment(..) => try_frequent::<Moments, Q, A>(body, event),
+        _ => Tried::Left,
+    }
+}
+
+// What an event wrote from a place on, that did not seal.
+#[inline(always)]
+fn applied<Q: WaitList, A: Allocator + Copy>(
+    body: &Body<Q, A>,
+    first: u64,
+    outcome: Option<Outcome>,
+) -> Applied
+    requires { 0 < body.now.stored.start.at + length body.now.stored.entries }
+    ensures first { result.first ≡ first }
+    ensures last { result.last + 1
+        ≡ body.now.stored.start.at + length body.now.stored.entries }
+    ensures outcome { result.outcome ≡ outcome }
+    ensures unsealed { result.sealed ≡ None }
+{
+    Applied {
+        first,
+        last: body.len() - 1,
+        outcome,
+        sealed: None,
+    }
 }
 
 /// As `apply_any`, with a copy of the steps for each kind of event that comes often.  [profile]
@@ -191,18 +258,11 @@ pub fn apply_accepted<Q: WaitList, A: Allocator + Copy>(
     ensures unsealed { (c : ℕ) → event.now ≡ Event.Death c
         → IfOk result (λ applied. applied.sealed ≡ None) }
 {
-    match event {
-        Event::Call(_, Call::Lock(_)) => apply_frequent::<Locks, Q, A>(body, event),
-        Event::Call(_, Call::Timedlock(..)) => apply_frequent::<TimedLocks, Q, A>(body, event),
-        Event::Call(_, Call::Unlock(_)) => apply_frequent::<Unlocks, Q, A>(body, event),
-        Event::Call(_, Call::Consistent(_)) => apply_frequent::<Restores, Q, A>(body, event),
-        Event::Call(_, Call::Rdlock(_)) => apply_frequent::<ReadLocks, Q, A>(body, event),
-        Event::Call(_, Call::Wrlock(_)) => apply_frequent::<WriteLocks, Q, A>(body, event),
-        Event::Call(_, Call::Rwunlock(_)) => apply_frequent::<LockReleases, Q, A>(body, event),
-        Event::Call(_, Call::Wait(..)) => apply_frequent::<Waits, Q, A>(body, event),
-        Event::Call(_, Call::Signal(_)) => apply_frequent::<Signals, Q, A>(body, event),
-        Event::Call(_, Call::Bwait(_)) => apply_frequent::<Arrivals, Q, A>(body, event),
-        Event::Moment(..) => apply_frequent::<Moments, Q, A>(body, event),
-        _ => apply_any(body, event),
+    let first = body.len();
+    match try_by_kind(body, event) {
+        Tried::Answered(outcome) => Ok(applied(body, first, Some(outcome))),
+        Tried::Unanswered => Ok(applied(body, first, None)),
+        Tried::Refused(refusal) => Err(refusal),
+        Tried::Left => apply_any(body, event),
     }
 }

@@ -9,7 +9,7 @@ use Rattle.pt_types.specs.declared.call.Call.{Call as Asked}
 use Rattle.pt_types.specs.declared.time.Clock.{Clock}
 use Rattle.pt_types.specs.declared.outcome.Outcome.{Outcome}
 use Rattle.pt_types.specs.MutexTable.{is_acquired}
-use Rattle.pt_types.specs.Operations.{Acquires, class_needed}
+use Rattle.pt_types.specs.Operations.{Acquires, class_needed, operation}
 use Rattle.pt_types.specs.declared.operations.ObjectClass.TheVariants.{Mutex as MutexClass}
 use Rattle.pt_types.specs.declared.operations.LockKind.{LockKind}
 use Rattle.pt_types.specs.declared.operations.LockKind.TheVariants.{MutexLock, ReadLock, WriteLock}
@@ -37,13 +37,15 @@ use Rattle.pt_records.specs.Objects.{IsRwlock}
 use Rattle.pt_state.specs.declared.state.State.{State}
 use Rattle.pt_state.specs.Adds.{Adds, IsReadyFor, past}
 use Rattle.pt_state.specs.Had.{AddsHad, IsHad}
+use Rattle.pt_state.specs.Requests.{IsRequest, object_meant}
+use Rattle.pt_state.specs.declared.request.Request.{Request}
 use Rattle.pt_state.specs.Serving.{called}
 use Rattle.pt_state.proofs.CallerFinds.{call_of-open}
 use Rattle.pt_state.proofs.GrantLemmas.{read-same}
 use Rattle.pt_touched.specs.Touched.{touched_by}
 use Rattle.pt_machine.specs.declared.planning.Plan.{Plan}
 use Rattle.pt_machine.specs.GrantedAtOnce.{AddsGranted, IsForMutex, IsFree, IsFreeLock}
-use Rattle.pt_machine.specs.GrantedAtOnce.{IsGrantedAtOnce, IsReadyAfter}
+use Rattle.pt_machine.specs.GrantedAtOnce.{IsGrantedAtOnce, IsReadyAfter, asks_for_mutex}
 use Rattle.pt_machine.specs.LastTouched.{IsTouched}
 use Rattle.pt_machine.specs.Planned.{IsPlanned}
 use Rattle.pt_machine.specs.Queued.{IsQueued}
@@ -72,6 +74,22 @@ free-lock h WriteLock r x f kept e =
     no : {b : Bool} → not b ≡ true → b ≡ false
     no {b = false} e = refl
     no {b = true} e = absurd cc
+
+-- a call for a lock that asks for a mutex is one for the object that its name means
+pub for-mutex : (h : History) (c : ℕ) (call : Asked) (r : Request) (m : ℕ)
+    → IsGrantedAtOnce h c call → IsRequest h (operation call) r → r.object ≡ Some m
+    → asks_for_mutex (operation call) ≡ true → IsForMutex h call m
+for-mutex h c call r m had asks is e =
+    go had.kind (had.asks) (sym is ∙ (asks.object ∙ ap (object_meant h) had.asks))
+    (sym (ap asks_for_mutex had.asks) ∙ e)
+  where
+    go : (k : LockKind) → operation call ≡ Acquires had.name k had.how
+        → Some m ≡ find h had.name (class_needed k)
+        → asks_for_mutex (Acquires had.name k had.how) ≡ true → IsForMutex h call m
+    go MutexLock does found t =
+        record { name = had.name; how = had.how; asks = does; found = sym found }
+    go ReadLock does found t = absurd (let never : false ≡ true = t in cc)
+    go WriteLock does found t = absurd (let never : false ≡ true = t in cc)
 
 -- what is found of something is there
 there : {X Y : Type 0} (f : X → Y) (x : Option X) (y : Y) → option_map f x ≡ Some y → IsSome x

@@ -1,5 +1,5 @@
 -- GrantedAtOnce: a call for a lock that is granted as it comes, and its entry with its Grant.
-use Rattle.std.specs.Prelude.{ℕ, ◌≡◌, ◌+◌, ◌||◌, true, false, List, Some, None, is_some}
+use Rattle.std.specs.Prelude.{ℕ, ◌≡◌, ◌+◌, ◌||◌, Bool, true, false, List, Some, None, is_some}
 use Rattle.std.specs.Prelude.{is_none}
 use Rattle.pt_types.specs.declared.call.Call.{Call as Asked}
 use Rattle.pt_types.specs.declared.call.How.{How}
@@ -7,7 +7,7 @@ use Rattle.pt_types.specs.declared.operations.LockKind.{LockKind}
 use Rattle.pt_types.specs.declared.outcome.Outcome.{Outcome}
 use Rattle.pt_types.specs.declared.operations.LockKind.TheVariants.{MutexLock, ReadLock, WriteLock}
 use Rattle.pt_types.specs.MutexTable.{is_lost}
-use Rattle.pt_types.specs.Operations.{Acquires, class_needed, operation}
+use Rattle.pt_types.specs.Operations.{Acquires, Operation, class_needed, operation}
 use Rattle.pt_rwlock.specs.RwlockState.{RwlockState, nobody_holds}
 use Rattle.pt_model.specs.declared.entry.Entry.{Entry}
 use Rattle.pt_model.specs.declared.entry.Entry.TheVariants.{Call}
@@ -57,6 +57,11 @@ pub record IsGrantedAtOnce (h : History) (c : ℕ) (call : Asked) : Type 0 where
   pub found : find h name (class_needed kind) ≡ Some object
   pub free : IsFree h kind object
   pub alone : is_awaited h object ≡ false
+
+-- whether an operation is a call for a mutex  [XSH pthread_mutex_lock]
+abbrev pub asks_for_mutex : Operation → Bool
+asks_for_mutex (Acquires n MutexLock how) = true
+asks_for_mutex _ = false
 
 -- a call for this mutex  [XSH pthread_mutex_lock]
 pub record IsForMutex (h : History) (call : Asked) (m : ℕ) : Type 0 where

@@ -1,5 +1,6 @@
 -- Planned: what is known of an event's entry before it is pushed.
-use Rattle.std.specs.Prelude.{◌≡◌, Option, Some, None}
+use Rattle.std.specs.Prelude.{◌≡◌, Bool, false, Option, Some, None}
+use Rattle.std.specs.Bool.{OnTrue}
 use Rattle.pt_types.specs.declared.outcome.Outcome.{Outcome}
 use Rattle.pt_model.specs.declared.entry.Entry.{Entry}
 use Rattle.pt_model.specs.declared.entry.Entry.TheVariants.{Join, Call, Death, Moment}
@@ -13,6 +14,7 @@ use Rattle.pt_types.specs.declared.operations.Operation.{Operation as PlainOpera
 use Rattle.pt_touched.specs.Touched.{touched_by}
 use Rattle.pt_state.specs.Requests.{IsRequest}
 use Rattle.pt_state.specs.declared.request.Request.{Request}
+use Rattle.pt_machine.specs.GrantedAtOnce.{IsGrantedAtOnce}
 use Rattle.pt_machine.specs.declared.planning.Plan.{Plan}
 
 -- the entry that an event becomes, given the answer that its call has at once  [profile]
@@ -37,10 +39,19 @@ HasRequest h (event.Join p) r = Unit {0}
 HasRequest h (event.Death c) r = Unit {0}
 HasRequest h (event.Moment k t) r = Unit {0}
 
+-- if an event is said to be granted as it comes, it is a call that is
+abbrev pub IsAtOnce : History → Event → Bool → Type 0
+IsAtOnce h (event.Call c call) b = OnTrue b (IsGrantedAtOnce h c call)
+IsAtOnce h (event.Join p) b = b ≡ false
+IsAtOnce h (event.Death c) b = b ≡ false
+IsAtOnce h (event.Moment k t) b = b ≡ false
+
 -- the objects that the event's call names, the answer that it gets at once, how many entries are
--- reserved after its entry, and the one object that the entry touches  [profile]
+-- reserved after its entry, the one object that the entry touches, and whether it is a call that is
+-- granted as it comes  [profile]
 pub record IsPlanned (h : History) (v : Event) (p : Plan) : Type 0 where
   pub asks : HasRequest h v p.request
   pub enters : entry_with h v p.answer ≡ entry_for h v
   pub needs : p.need ≡ need (h ▷ entry_for h v)
   pub touches : p.touched ≡ touched_by h (entry_for h v)
+  pub at_once : IsAtOnce h v p.at_once

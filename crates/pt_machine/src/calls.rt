@@ -54,6 +54,65 @@ pub(crate) fn push_left<Q: WaitList, A: Allocator + Copy>(
     }
 }
 
+// Pushes a call that is answered 0 and makes no object, and does what it asks for.
+// [XSH, the call's page]
+fn push_changed<Q: WaitList, A: Allocator + Copy>(
+    state: &mut State<A>,
+    queues: &mut Q,
+    c: ClientId,
+    call: &Call,
+    request: &Request,
+)
+    requires ready { IsReadyFor state.old (entry.Call c call.now (Some told.Done)) }
+    requires asks { IsRequest (past state.old) (operation call.now) request.now }
+    requires queued { IsQueued (past state.old) (Q.seen queues.old) }
+    requires other { makes_object (operation call.now) ≡ false }
+    ensures adds { Adds state.old (entry.Call c call.now (Some told.Done)) state.new }
+    ensures queued { IsQueued (past state.new) (Q.seen queues.new) }
+{
+    let object = request.object;
+    match &operation_of(call) {
+        Operation::Ends(n, class) => push_ended(state, queues, c, call, n, *class, object),
+        Operation::Acquires(n, kind, how) => state.push_locked(c, call, n, *kind, how, object),
+        Operation::Unlocks(n) => state.push_unlock(c, call, n, object),
+        Operation::Restores(n) => state.push_restored(c, call, n, object),
+        Operation::Rwunlocks(n) => state.push_rwunlock(c, call, n, object),
+        Operation::Signals(n) => push_signal(state, queues, c, call, n, object),
+        Operation::Broadcasts(n) => push_broadcast(state, queues, c, call, n, object),
+        // These always wait, or make one.
+        Operation::Awaits(..) | Operation::Arrives(_) | Operation::Makes(..) => {
+            state.finish_seldom(c, call, Outcome::Done)
+        }
+    }
+}
+
+// As `push_done`, for any call. It isn't inlined.  [XSH, the call's page]
+#[inline(never)]
+fn push_any_done<Q: WaitList, A: Allocator + Copy>(
+    state: &mut State<A>,
+    queues: &mut Q,
+    c: ClientId,
+    call: &Call,
+    request: &Request,
+) -> Result<(), Refusal>
+    requires ready { IsReadyFor state.old (entry.Call c call.now (Some told.Done)) }
+    requires asks { IsRequest (past state.old) (operation call.now) request.now }
+    requires queued { IsQueued (past state.old) (Q.seen queues.old) }
+    ensures ok { OnOk result (Adds state.old (entry.Call c call.now (Some told.Done)) state.new) }
+    ensures err { OnErr result (Stays state.old state.new) }
+    ensures reason { IfErr result (λ refusal. refusal ≡ Refusal.Enomem) }
+    ensures enough { makes_object (operation call.now) ≡ false → IsOk result }
+    ensures queued { IsQueued (past state.new) (Q.seen queues.new) }
+{
+    match &operation_of(call) {
+        Operation::Makes(n, kind) => push_made(state, queues, c, call, n, *kind),
+        _ => {
+            push_changed(state, queues, c, call, request);
+            Ok(())
+        }
+    }
+}
+
 // Pushes a call that is answered 0, and does what it asks for. ENOMEM if there is no memory for the
 // object that it makes.  [XSH, the call's page]
 #[inline(always)]
@@ -73,42 +132,20 @@ fn push_done<Q: WaitList, A: Allocator + Copy>(
     ensures enough { makes_object (operation call.now) ≡ false → IsOk result }
     ensures queued { IsQueued (past state.new) (Q.seen queues.new) }
 {
-    let object = request.object;
-    match &operation_of(call) {
-        Operation::Makes(n, kind) => push_made(state, queues, c, call, n, *kind),
-        Operation::Ends(n, class) => {
-            push_ended(state, queues, c, call, n, *class, object);
+    match call {
+        Call::Unlock(n) => {
+            state.push_unlock(c, call, n, request.object);
             Ok(())
         }
-        Operation::Acquires(n, lock_kind, how) => {
-            state.push_locked(c, call, n, *lock_kind, how, object);
+        Call::Rwunlock(n) => {
+            state.push_rwunlock(c, call, n, request.object);
             Ok(())
         }
-        Operation::Unlocks(n) => {
-            state.push_unlock(c, call, n, object);
+        Call::Signal(n) => {
+            push_signal(state, queues, c, call, n, request.object);
             Ok(())
         }
-        Operation::Restores(n) => {
-            state.push_restored(c, call, n, object);
-            Ok(())
-        }
-        Operation::Rwunlocks(n) => {
-            state.push_rwunlock(c, call, n, object);
-            Ok(())
-        }
-        Operation::Signals(n) => {
-            push_signal(state, queues, c, call, n, object);
-            Ok(())
-        }
-        Operation::Broadcasts(n) => {
-            push_broadcast(state, queues, c, call, n, object);
-            Ok(())
-        }
-        // These always wait.
-        Operation::Awaits(..) | Operation::Arrives(_) => {
-            state.finish_seldom(c, call, Outcome::Done);
-            Ok(())
-        }
+        _ => push_any_done(state, queues, c, call, request),
     }
 }
 

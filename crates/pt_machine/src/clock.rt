@@ -1,7 +1,6 @@
 //! The push of any entry with its deadline: set as a call waits, dropped as it ends.
 
 ghost use Rattle.pt_state.specs.Requests.{IsRequest};
-ghost use Rattle.pt_types.specs.Shown.{shown_operation};
 ghost use Rattle.pt_model.specs.declared.entry.Entry.TheVariants as entry_is;
 ghost use Rattle.pt_state.specs.Adds.{Adds, IsReadyFor, Stays, past};
 ghost use Rattle.pt_machine.specs.Queued.{IsQueued};
@@ -26,7 +25,7 @@ use pt_model::Event;
 use pt_records::Open;
 use pt_state::{Forced, Request, State};
 use pt_timers::Timers;
-use pt_types::operations::{Operation, clock_of, deadline_of, operation_of};
+use pt_types::operations::clock_of;
 use pt_types::{Call, ClientId, Clock, Deadline, Moment, Outcome, Refusal};
 use pt_waitq::WaitList;
 use std::alloc::Allocator;
@@ -46,17 +45,30 @@ fn push_moment<Q: WaitList, A: Allocator + Copy>(
     state.push_moment(clock, moment);
 }
 
-// The deadline of an operation, if it is a time.  [XSH pthread_mutex_timedlock, EINVAL]
+// The deadline of a call, as it was written.  [XSH pthread_mutex_timedlock]
 #[inline(always)]
-pub(crate) fn good_deadline(operation: &Operation<'_>) -> Option<Deadline>
-    ensures { result ≡ good_of (asked (shown_operation operation.now)) }
+fn deadline_in(call: &Call) -> Option<Deadline>
+    ensures { result ≡ asked (operation call.now) }
 {
-    let deadline = match operation {
-        Operation::Acquires(_, _, how) => deadline_of(*how),
-        Operation::Awaits(_, _, deadline) => *deadline,
+    match call {
+        Call::Timedlock(_, d)
+        | Call::Clocklock(_, _, d)
+        | Call::Timedrdlock(_, d)
+        | Call::Clockrdlock(_, _, d)
+        | Call::Timedwrlock(_, d)
+        | Call::Clockwrlock(_, _, d)
+        | Call::Timedwait(_, _, d)
+        | Call::Clockwait(_, _, _, d) => Some(*d),
         _ => None,
-    };
-    match deadline {
+    }
+}
+
+// The deadline of a call, if it is a time.  [XSH pthread_mutex_timedlock, EINVAL]
+#[inline(always)]
+pub(crate) fn good_deadline(call: &Call) -> Option<Deadline>
+    ensures { result ≡ good_of (asked (operation call.now)) }
+{
+    match deadline_in(call) {
         Some(deadline) if !deadline.is_bad() => Some(deadline),
         _ => None,
     }
@@ -106,6 +118,7 @@ fn drop_moved<A: Allocator + Copy>(timers: &mut Timers<A>, state: &State<A>, pla
 
 // Sets the deadline of a call that waits, and pushes the call. ENOMEM if a growth is refused: then
 // no deadline is set.  [XSH pthread_mutex_timedlock]
+#[inline(never)]
 fn push_timed<Q: WaitList, A: Allocator + Copy>(
     state: &mut State<A>,
     queues: &mut Q,
@@ -162,18 +175,18 @@ fn push_left<Q: WaitList, A: Allocator + Copy>(
     ensures queued { IsQueued (past state.new) (Q.seen queues.new) }
     ensures timed { AreTimed (past state.new) timers.new }
 {
-    match good_deadline(&operation_of(call)) {
+    match good_deadline(call) {
         Some(deadline) => push_timed(state, queues, timers, c, call, deadline, request),
         None => calls::push_left(state, queues, c, call, request),
     }
 }
 
-// Whether an operation can move waits.  [XSH pthread_cond_broadcast]
+// Whether a call can move waits.  [XSH pthread_cond_broadcast]
 #[inline(always)]
-fn can_move_waits(operation: &Operation<'_>) -> bool
-    ensures { result ≡ can_move_waits_in (shown_operation operation.now) }
+fn can_move_waits(call: &Call) -> bool
+    ensures { result ≡ can_move_waits_in (operation call.now) }
 {
-    matches!(operation, Operation::Signals(_) | Operation::Broadcasts(_))
+    matches!(call, Call::Signal(_) | Call::Broadcast(_))
 }
 
 // Pushes a call with its answer, and drops the deadlines of the waits that it moves. ENOMEM if
@@ -201,7 +214,7 @@ fn push_answered<Q: WaitList, A: Allocator + Copy>(
 {
     let place = state.stored.len();
     calls::push_answered(state, queues, c, call, answer, request)?;
-    if can_move_waits(&operation_of(call)) {
+    if can_move_waits(call) {
         drop_moved(timers, state, place);
     }
     Ok(())
@@ -230,7 +243,7 @@ fn push_death<Q: WaitList, A: Allocator + Copy>(
 
 // Pushes a call, with the answer that it gets at once. ENOMEM if a growth is refused.
 // [XSH, the call's page]
-#[inline(never)]
+#[inline(always)]
 fn push_call<Q: WaitList, A: Allocator + Copy>(
     state: &mut State<A>,
     queues: &mut Q,

@@ -147,6 +147,7 @@ pub(crate) fn push_forced<Q: WaitList, A: Allocator + Copy>(
 
 impl<Q: WaitList, A: Allocator + Copy> Body<Q, A> {
     /// The call to serve first.  [XSH pthread_mutex_unlock, the lowest first is profile]
+    #[inline(always)]
     pub fn first_served(&self) -> Option<&Open>
         requires { AreTables self.now }
         ensures value { option_map called (option_copied result)

@@ -10,23 +10,28 @@ ghost use Rattle.pt_model.specs.declared.entry.Event.TheVariants as event_is;
 ghost use Rattle.pt_model.specs.declared.entry.Entry.TheVariants as entry_is;
 ghost use Rattle.pt_state.specs.Adds.{IsReadyFor, Stays, past};
 ghost use Rattle.pt_state.specs.Reads.{AreTables};
-ghost use Rattle.pt_types.specs.Operations.{operation};
+ghost use Rattle.pt_types.specs.Operations.{operation, operation as operation_meant};
+ghost use Rattle.pt_types.specs.Shown.{shown_operation};
 ghost use Rattle.pt_state.specs.Outer.{asks_to_read};
 ghost use Rattle.pt_state.specs.Requests.{IsRequest};
 ghost use Rattle.pt_machine.specs.GrantedAtOnce.{AddsBoth, AddsGranted, IsForMutex, IsFree};
 ghost use Rattle.pt_machine.specs.GrantedAtOnce.{IsFreeLock, IsGrantedAtOnce, IsReadyAfter};
+ghost use Rattle.pt_machine.specs.GrantedAtOnce.{asks_for_mutex as asks_for_mutex_of};
 ghost use Rattle.pt_machine.specs.Memory.{needs_memory};
-ghost use Rattle.pt_machine.specs.Planned.{IsPlanned};
+ghost use Rattle.pt_machine.specs.Planned.{HasOperation, HasRequest, IsAtOnce, IsPlanned};
+ghost use Rattle.pt_machine.specs.Planned.{entry_with};
+ghost use Rattle.pt_model.specs.Room.{entry_for};
 
 use crate::body::Body;
 use crate::clock::good_deadline;
 use crate::planning::Plan;
 use crate::room::used_by_grant;
+use pt_model::Event;
 use pt_records::Object;
 use pt_records::mutex::may_lock;
 use pt_rwlock::Holders;
 use pt_state::{Had, Request, State};
-use pt_types::operations::{LockKind, Operation, operation_of};
+use pt_types::operations::{LockKind, Operation};
 use pt_types::views::is_acquired;
 use pt_types::{Call, ClientId, ObjectId, Outcome, Refusal};
 use pt_waitq::WaitList;
@@ -128,6 +133,17 @@ fn push_left_and_granted<A: Allocator + Copy>(
     Ok(Granted { used, outcome })
 }
 
+// Whether a call is for a mutex.  [XSH pthread_mutex_lock]
+#[inline(always)]
+fn asks_for_mutex(call: &Call) -> bool
+    ensures { result ≡ asks_for_mutex_of (operation call.now) }
+{
+    matches!(
+        call,
+        Call::Lock(_) | Call::Trylock(_) | Call::Timedlock(..) | Call::Clocklock(..)
+    )
+}
+
 // Pushes a call that is granted as it comes, with its Grant. A mutex needs no row of the client, so
 // its call is never left waiting.
 #[inline(always)]
@@ -147,10 +163,8 @@ fn push_both<A: Allocator + Copy>(
     ensures reason { IfErr result (λ refusal. refusal ≡ Refusal.Enomem) }
     ensures enough { asks_to_read (operation call.now) ≡ false → IsOk result }
 {
-    match (&operation_of(call), request.object) {
-        (Operation::Acquires(_, LockKind::MutexLock, _), Some(m)) => {
-            Ok(push_had(state, c, call, m))
-        }
+    match request.object {
+        Some(m) if asks_for_mutex(call) => Ok(push_had(state, c, call, m)),
         _ => {
             let request = *request;
             push_left_and_granted(state, c, call, &request)
@@ -159,22 +173,56 @@ fn push_both<A: Allocator + Copy>(
 }
 
 impl<Q: WaitList, A: Allocator + Copy> Body<Q, A> {
-    /// Whether a call is one for a lock that is granted as it comes: the lock is free, no call
-    /// waits for it, and the call has no deadline that could pass.
-    /// [XSH pthread_mutex_lock, pthread_rwlock_rdlock, pthread_rwlock_wrlock]
+    // Whether a call is one for a lock that is granted as it comes: the lock is free, no call
+    // waits for it, and the call has no deadline that could pass.
+    // [XSH pthread_mutex_lock, pthread_rwlock_rdlock, pthread_rwlock_wrlock]
     #[inline(always)]
-    pub fn is_granted_at_once(&self, c: ClientId, call: &Call, plan: &Plan) -> bool
+    fn is_granted_at_once(
+        &self,
+        c: ClientId,
+        call: &Call,
+        operation: &Operation<'_>,
+        answer: Option<Outcome>,
+        request: &Request,
+    ) -> bool
         requires read { AreTables self.now }
-        requires planned { IsPlanned (past self.now) (event_is.Call c call.now) plan.now }
+        requires does { shown_operation operation.now ≡ operation_meant call.now }
+        requires enters { let h = past self.now in
+            entry_is.Call c call.now answer ≡ entry_for h (event_is.Call c call.now) }
+        requires asks { IsRequest (past self.now) (operation_meant call.now) request.now }
         ensures { OnTrue result (IsGrantedAtOnce (past self.now) c call.now) }
     {
-        let operation = operation_of(call);
-        match (&operation, plan.request.object) {
+        match (operation, request.object) {
             (Operation::Acquires(_, kind, _), Some(o)) => {
-                plan.answer.is_none()
-                    && good_deadline(&operation).is_none()
+                answer.is_none()
+                    && good_deadline(call).is_none()
                     && is_free(&self.state, *kind, o)
                     && !self.is_awaited(o)
+            }
+            _ => false,
+        }
+    }
+
+    /// Whether an event is a call for a lock that is granted as it comes.
+    #[inline(always)]
+    pub(crate) fn is_at_once(
+        &self,
+        event: &Event,
+        operation: &Option<Operation<'_>>,
+        answer: Option<Outcome>,
+        request: &Request,
+    ) -> bool
+        requires read { AreTables self.now }
+        requires does { HasOperation event.now operation.now }
+        requires enters { let h = past self.now in
+            entry_with h event.now answer ≡ entry_for h event.now }
+        requires asks { HasRequest (past self.now) event.now request.now }
+        ensures { IsAtOnce (past self.now) event.now result }
+    {
+        match event {
+            Event::Call(c, call) => {
+                let operation = operation.as_ref().unwrap();
+                self.is_granted_at_once(*c, call, operation, answer, request)
             }
             _ => false,
         }

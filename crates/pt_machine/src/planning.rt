@@ -42,6 +42,8 @@ pub struct Plan {
     pub need: u64,
     /// The one object at which the entry may let a call go on, if there is one.
     pub touched: Option<ObjectId>,
+    /// Whether it is a call for a lock that is granted as it comes.
+    pub at_once: bool,
 }
 
 // How many entries an entry adds to those reserved, how many it releases, and what it touches.
@@ -369,6 +371,19 @@ impl<Q: WaitList, A: Allocator + Copy> Body<Q, A> {
             answer,
             need: self.need + change.added - change.used,
             touched: change.touched,
+            at_once: self.is_at_once(event, &operation, answer, &request),
         }
+    }
+
+    /// As `plan`, for events that come so seldom. It isn't inlined.  [profile]
+    #[cold]
+    #[inline(never)]
+    pub fn plan_seldom(&self, event: &Event) -> Plan
+        requires read { AreTables self.now }
+        requires step { Step (past self.now) (entry_for (past self.now) event.now) }
+        ensures planned { IsPlanned (past self.now) event.now result }
+        ensures small { result.need ≤ 8195 }
+    {
+        self.plan(event)
     }
 }

@@ -35,6 +35,7 @@ struct Before<A: Allocator + Copy = Global> {
 impl<Q: WaitList, A: Allocator + Copy> Body<Q, A> {
     /// Whether an entry, with the `need` entries that are reserved after it, passes the limit as
     /// the history is, and not after a seal.
+    #[inline(always)]
     pub fn needs_seal(&self, need: u64) -> bool
         requires { need ≤ 8195 }
         ensures { let room = 1 + need in
@@ -115,7 +116,7 @@ impl<Q: WaitList, A: Allocator + Copy> Body<Q, A> {
         ensures reason { IfErr result (λ refusal. refusal ≡ Refusal.Enomem) }
     {
         let before = self.seal_with_room(room)?;
-        let plan = self.plan(event);
+        let plan = self.plan_seldom(event);
         match self.push_outer(event, &plan) {
             Ok(()) => Ok(before.unsealed),
             Err(refusal) => {

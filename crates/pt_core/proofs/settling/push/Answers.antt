@@ -1,23 +1,41 @@
-use Rattle.std.proofs.Common.{◌≡◌, Some, None, sym, ap, ◌∙◌, subst}
+use Rattle.std.proofs.Common.{◌≡◌, ℕ, Bool, true, Some, None, sym, ap, ◌∙◌, subst}
+use Rattle.std.specs.Bool.{OnTrue}
+use Rattle.pt_types.specs.declared.call.Call.{Call as Asked}
 use Rattle.pt_history.specs.Stored.{past_of}
 use Rattle.pt_history.proofs.Places.{place_of_next}
-use Rattle.pt_model.specs.Histories.{place}
+use Rattle.pt_model.specs.Histories.{History, place}
 use Rattle.pt_model.specs.declared.entry.Event.{Event}
+use Rattle.pt_model.specs.declared.entry.Event.TheVariants as event
 use Rattle.pt_core.specs.Applying.{IsToldStill}
 use Rattle.pt_core.proofs.AnswersStay.{told-settled, told-still}
 use Rattle.pt_model.specs.declared.entry.Entry.{Entry}
 use Rattle.pt_model.specs.declared.entry.Entry.TheVariants.{Call}
 use Rattle.pt_model.specs.Room.{entry_for}
 use Rattle.pt_state.specs.Adds.{IsReadyFor, past}
-use Rattle.pt_machine.specs.GrantedAtOnce.{AddsBoth, IsReadyAfter}
+use Rattle.pt_machine.specs.GrantedAtOnce.{AddsBoth, IsGrantedAtOnce, IsReadyAfter}
+use Rattle.pt_machine.specs.Planned.{IsAtOnce}
 use Rattle.pt_core.proofs.WholeLemmas.{ready-outer, ready-after, begins-outer, begins-both}
 use Rattle.pt_core.proofs.settling.push.Goals as goal
+
+-- a call that is said to be granted as it comes is
+granted : (h : History) (v : Event) (b : Bool) → IsAtOnce h v b → (c : ℕ) (call : Asked)
+    → v ≡ event.Call c call → b ≡ true → IsGrantedAtOnce h c call
+granted h v b k c call is e =
+    subst (λ (x : Bool). OnTrue x (IsGrantedAtOnce h c call)) e
+    (subst (λ (x : Event). IsAtOnce h x b) is k)
+
+pub push_granted_at_once-requires-clause-granted : goal.push_granted_at_once-requires-clause-granted
+push_granted_at_once-requires-clause-granted g c =
+    granted (past c.args.body.now) c.args.event.now c.args.plan.now.at_once
+    c.requires.planned.at_once c.in-Call.c c.in-Call.call c.in-Call.is c.if-plan.true
 
 pub push_granted_at_once-requires-clause-ready : goal.push_granted_at_once-requires-clause-ready
 push_granted_at_once-requires-clause-ready g c =
     let s = c.args.body.now in
     let known : entry_for (past s) c.args.event.now ≡ Call c.in-Call.c c.in-Call.call None =
-    ap (entry_for (past s)) c.in-Call.is ∙ c.if-is_granted_at_once.ensures.waits in
+    ap (entry_for (past s)) c.in-Call.is
+    ∙ (granted (past s) c.args.event.now c.args.plan.now.at_once c.requires.planned.at_once
+    c.in-Call.c c.in-Call.call c.in-Call.is c.if-plan.true).waits in
     subst (λ (e : Entry). IsReadyFor s e) known
     (ready-outer s c.args.event.now c.requires.open c.requires.accepted)
 
@@ -25,7 +43,9 @@ pub push_granted_at_once-requires-clause-next : goal.push_granted_at_once-requir
 push_granted_at_once-requires-clause-next g c =
     let s = c.args.body.now in
     let known : entry_for (past s) c.args.event.now ≡ Call c.in-Call.c c.in-Call.call None =
-    ap (entry_for (past s)) c.in-Call.is ∙ c.if-is_granted_at_once.ensures.waits in
+    ap (entry_for (past s)) c.in-Call.is
+    ∙ (granted (past s) c.args.event.now c.args.plan.now.at_once c.requires.planned.at_once
+    c.in-Call.c c.in-Call.call c.in-Call.is c.if-plan.true).waits in
     subst (λ (e : Entry). IsReadyAfter s e) known
     (ready-after s c.args.event.now c.requires.open c.requires.accepted)
 
@@ -35,7 +55,9 @@ returns-in_ok-push_granted_at_once-in-Call-clause-ok g c =
     let s = c.args.body.now in
     let new = c.push_granted_at_once.new.self in
     let known : entry_for (past s) c.args.event.now ≡ Call c.in-Call.c c.in-Call.call None =
-    ap (entry_for (past s)) c.in-Call.is ∙ c.if-is_granted_at_once.ensures.waits in
+    ap (entry_for (past s)) c.in-Call.is
+    ∙ (granted (past s) c.args.event.now c.args.plan.now.at_once c.requires.planned.at_once
+    c.in-Call.c c.in-Call.call c.in-Call.is c.if-plan.true).waits in
     begins-both s c.args.event.now c.requires.open c.requires.accepted new
     (subst (λ (e : Entry). AddsBoth s e new) (sym known)
     c.in_ok-push_granted_at_once-in-Call.ensures.ok)
@@ -56,7 +78,9 @@ returns-in_ok-push_granted_at_once-in-Call-clause-told g c = λ u st.
     let s = c.args.body.now in
     let new = c.push_granted_at_once.new.self in
     let known : entry_for (past s) c.args.event.now ≡ Call c.in-Call.c c.in-Call.call None =
-    ap (entry_for (past s)) c.in-Call.is ∙ c.if-is_granted_at_once.ensures.waits in
+    ap (entry_for (past s)) c.in-Call.is
+    ∙ (granted (past s) c.args.event.now c.args.plan.now.at_once c.requires.planned.at_once
+    c.in-Call.c c.in-Call.call c.in-Call.is c.if-plan.true).waits in
     let begins = begins-both s c.args.event.now c.requires.open c.requires.accepted new
     (subst (λ (e : Entry). AddsBoth s e new) (sym known)
     c.in_ok-push_granted_at_once-in-Call.ensures.ok) in

@@ -1,5 +1,4 @@
-use Rattle.std.proofs.Common.{◌∙◌, sym, ap}
-use Rattle.pt_machine.specs.Timed.{can_move_waits}
+use Rattle.std.proofs.Common.{◌∙◌, sym}
 use Rattle.pt_machine.proofs.TimedMoves.{timed-answered, timed-unmoved}
 use Rattle.pt_machine.proofs.clock.push_answered.Goals as goal
 
@@ -17,5 +16,4 @@ returns-else-can_move_waits-clause-timed g c =
     timed-unmoved c.args.state.now c.push_answered.new.state c.args.timers.now
     c.args.timers.now c.args.c c.args.call.now c.args.answer c.requires.ready
     c.in_ok-push_answered.ensures.ok
-    (ap can_move_waits (sym c.operation_of.ensures)
-    ∙ (sym c.can_move_waits.ensures ∙ c.if-can_move_waits.false)) c.requires.timed
+    (sym c.can_move_waits.ensures ∙ c.if-can_move_waits.false) c.requires.timed

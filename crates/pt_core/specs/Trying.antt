@@ -1,0 +1,50 @@
+-- Trying: what came of an event that is written if there is room for it already.
+use Rattle.std.specs.Prelude.{◌≡◌, true, false, Some, None, Option}
+use Rattle.std.specs.Prelude.{Result, Ok, Err}
+use Rattle.pt_types.specs.declared.outcome.Outcome.{Outcome}
+use Rattle.pt_types.specs.declared.outcome.Refusal.{Refusal}
+use Rattle.pt_model.specs.declared.entry.Event.{Event}
+use Rattle.pt_model.specs.Room.{needs_seal}
+use Rattle.pt_state.specs.declared.state.State.{State}
+use Rattle.pt_state.specs.Adds.{past}
+use Rattle.pt_core.specs.declared.applied.Applied.{Applied}
+use Rattle.pt_core.specs.declared.frequent.Tried.{Tried}
+use Rattle.pt_core.specs.declared.frequent.Tried.TheVariants.{Answered, Unanswered, Refused, Left}
+use Rattle.pt_core.specs.Applying.{IsNotWritten, IsWritten, is_death}
+use Rattle.pt_core.specs.Cores.{kept, seen}
+use Rattle.pt_core.specs.Wholes.{IsWhole}
+
+-- what came of an event that has this answer, if it has one
+abbrev pub tried_with : Option Outcome → Tried
+tried_with (Some x) = Answered x
+tried_with None = Unanswered
+
+-- what came of an event, without its places
+abbrev pub tried_as : Result Applied Refusal → Tried
+tried_as (Ok a) = tried_with a.outcome
+tried_as (Err r) = Refused r
+
+module _ {A : Type 0} where
+  -- the event is written without a seal, and has this answer by then
+  pub record Wrote (old : State A) (event : Event) (new : State A) (x : Option Outcome)
+      : Type 0 where
+    pub whole : IsWhole new
+    pub unsealed : needs_seal old.stored.limit (past old) event ≡ false
+    pub what : Applied
+    pub written : IsWritten (kept old.stored) event (kept new.stored) what
+    pub told : what.outcome ≡ x
+
+  -- the event is refused, though it needs no seal
+  pub record Refuses (old : State A) (event : Event) (new : State A) (r : Refusal) : Type 0 where
+    pub whole : IsWhole new
+    pub unsealed : needs_seal old.stored.limit (past old) event ≡ false
+    pub why : IsNotWritten (kept old.stored) event r
+    pub unchanged : seen new.stored ≡ seen old.stored
+    pub other : is_death event ≡ false
+
+  -- what came of it
+  abbrev pub IsTried : State A → Event → State A → Tried → Type 0
+  IsTried old v new (Answered x) = Wrote old v new (Some x)
+  IsTried old v new Unanswered = Wrote old v new None
+  IsTried old v new (Refused r) = Refuses old v new r
+  IsTried old v new Left = new ≡ old
