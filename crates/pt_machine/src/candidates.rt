@@ -71,6 +71,7 @@ fn is_writer(open: &Open) -> bool
 
 impl<Q: WaitList, A: Allocator + Copy> Body<Q, A> {
     // The first call that waits at an object.  [XSH 2.8.4]
+    #[inline(always)]
     fn first_at(&self, o: ObjectId) -> Option<&Open>
         requires { AreTables self.now }
         ensures value { option_map called (option_copied result) ≡ first_at_in (past self.now) o }
@@ -86,6 +87,7 @@ impl<Q: WaitList, A: Allocator + Copy> Body<Q, A> {
     // The call that is served at a mutex: the first, if nobody owns it or it is lost, and
     // otherwise a wait of its owner that has come back, if a relock counts there.
     // [XSH pthread_mutex_unlock, pthread_cond_wait]
+    #[inline(always)]
     fn mutex_candidate(&self, m: ObjectId, mutex: &MutexObj) -> Option<&Open>
         requires read { AreTables self.now }
         requires stored { object_value self.now.objects m ≡ Some (row.Mutex mutex.now) }
@@ -164,6 +166,7 @@ impl<Q: WaitList, A: Allocator + Copy> Body<Q, A> {
     }
 
     /// The call that is served at an object.  [XSH, the object's pages]
+    #[inline(always)]
     pub(crate) fn candidate(&self, o: ObjectId) -> Option<&Open>
         requires { AreTables self.now }
         ensures value { option_map called (option_copied result) ≡ candidate_in (past self.now) o }

@@ -66,6 +66,7 @@ pub(crate) fn take_place<Q: WaitList, A: Allocator + Copy>(
 
 impl<Q: WaitList, A: Allocator + Copy> Body<Q, A> {
     /// Whether a call waits at the object.  [XSH pthread_mutex_destroy]
+    #[inline(always)]
     pub(crate) fn is_awaited(&self, o: ObjectId) -> bool
         requires { AreTables self.now }
         ensures { result ≡ is_awaited_in (past self.now) o }
