@@ -175,7 +175,8 @@ fn without_places(written: Result<Applied, Refusal>) -> Tried
 }
 
 // An event of this kind, and all that must follow it, if there is room for that already. What makes
-// room is kept out of this copy, so that what is known of the event is known to its end.  [profile]
+// room is kept out of this copy, and the kind is asked again after the plan, which can call other
+// functions: so the compiler knows it as the entry is pushed.  [profile]
 #[inline(never)]
 fn try_frequent<F: Frequent, Q: WaitList, A: Allocator + Copy>(
     body: &mut Body<Q, A>,
@@ -187,7 +188,7 @@ fn try_frequent<F: Frequent, Q: WaitList, A: Allocator + Copy>(
 {
     if F::is(event) {
         let plan = plan(body, event);
-        if body.has_room(1 + plan.need) && !body.needs_seal(plan.need) {
+        if body.has_room(1 + plan.need) && !body.needs_seal(plan.need) && F::is(event) {
             return without_places(write(body, event, &plan));
         }
     }

@@ -69,6 +69,7 @@ impl<Q: WaitList, A: Allocator + Copy> Body<Q, A> {
         ensures enough { needs_memory (entry_for (past self.old) event.now) ≡ false
             → IsOk result }
     {
+        let entering = caller_of(event);
         clock::push_outer(
             &mut self.state,
             &mut self.queues,
@@ -78,7 +79,7 @@ impl<Q: WaitList, A: Allocator + Copy> Body<Q, A> {
             &plan.request,
         )?;
         self.touched = plan.touched;
-        self.entering = caller_of(event);
+        self.entering = entering;
         self.need = plan.need;
         Ok(())
     }

@@ -213,8 +213,10 @@ fn push_answered<Q: WaitList, A: Allocator + Copy>(
     ensures timed { AreTimed (past state.new) timers.new }
 {
     let place = state.stored.len();
+    // Asked before the push, while the compiler knows which word it is.
+    let moves = can_move_waits(call);
     calls::push_answered(state, queues, c, call, answer, request)?;
-    if can_move_waits(call) {
+    if moves {
         drop_moved(timers, state, place);
     }
     Ok(())

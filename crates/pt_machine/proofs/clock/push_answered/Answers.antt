@@ -3,17 +3,17 @@ use Rattle.pt_machine.proofs.TimedMoves.{timed-answered, timed-unmoved}
 use Rattle.pt_machine.proofs.clock.push_answered.Goals as goal
 
 -- the deadlines of those that the call moved are dropped
-pub returns-then-can_move_waits-clause-timed : goal.returns-then-can_move_waits-clause-timed
-returns-then-can_move_waits-clause-timed g c =
+pub returns-then-moves-clause-timed : goal.returns-then-moves-clause-timed
+returns-then-moves-clause-timed g c =
     timed-answered c.args.state.now c.push_answered.new.state c.args.timers.now
     c.drop_moved.new.timers c.args.c c.args.call.now c.args.answer c.requires.ready
     c.in_ok-push_answered.ensures.ok c.len-place.result c.len-place.ensures c.requires.timed
     c.drop_moved.ensures
 
 -- a call that moves none leaves them
-pub returns-else-can_move_waits-clause-timed : goal.returns-else-can_move_waits-clause-timed
-returns-else-can_move_waits-clause-timed g c =
+pub returns-else-moves-clause-timed : goal.returns-else-moves-clause-timed
+returns-else-moves-clause-timed g c =
     timed-unmoved c.args.state.now c.push_answered.new.state c.args.timers.now
     c.args.timers.now c.args.c c.args.call.now c.args.answer c.requires.ready
     c.in_ok-push_answered.ensures.ok
-    (sym c.can_move_waits.ensures ∙ c.if-can_move_waits.false) c.requires.timed
+    (sym c.can_move_waits-moves.ensures ∙ c.if-moves.false) c.requires.timed

@@ -19,7 +19,7 @@ invariant_of-self-2 g c =
       c.push_outer.ensures.queued,
       c.push_outer.ensures.timed,
       touched-outer old c.push_outer.new.state c.args.plan.now.touched
-          c.caller_of-self-inside.result e adds (event-outer (past old) v) planned.touches
-          (c.caller_of-self-inside.ensures (past old)),
+          c.caller_of-entering.result e adds (event-outer (past old) v) planned.touches
+          (c.caller_of-entering.ensures (past old)),
       reserved-outer old c.push_outer.new.state e adds c.args.plan.now.need planned.needs,
     )
