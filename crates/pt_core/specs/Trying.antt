@@ -1,5 +1,5 @@
 -- Trying: what came of an event that is written if there is room for it already.
-use Rattle.std.specs.Prelude.{◌≡◌, true, false, Some, None, Option}
+use Rattle.std.specs.Prelude.{◌≡◌, false, Some, None, Option}
 use Rattle.std.specs.Prelude.{Result, Ok, Err}
 use Rattle.pt_types.specs.declared.outcome.Outcome.{Outcome}
 use Rattle.pt_types.specs.declared.outcome.Refusal.{Refusal}
