@@ -12,6 +12,8 @@ use std::alloc::{AllocError, Allocator};
 pub(crate) type Spares<A> = Vec<Box<MarkedQueue, A>, A>;
 
 // A box with no waiter.
+#[cold]
+#[inline(never)]
 fn new_box<A: Allocator + Copy>(alloc: A) -> Result<Box<MarkedQueue, A>, AllocError>
     ensures { IfOk result (λ b. HasNone b.value) }
 {
