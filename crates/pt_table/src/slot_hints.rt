@@ -3,9 +3,9 @@
 ghost use Rattle.std.specs.Prelude.{◌<◌, ◌^◌};
 
 /// How many hints there are.
-const COUNT: usize = 4096;
+const COUNT: usize = 16384;
 
-/// For each value of a key's low 12 bits, the slot that was noted last with such a key.
+/// For each value of a key's low 14 bits, the slot that was noted last with such a key.
 ///
 /// The hints lie in the value itself, so that one is read without a look at where they are and how
 /// many. A hint may be wrong: whoever takes it compares the key of the row in that slot.
