@@ -1,12 +1,13 @@
 //! Where the rows of objects lie, by their numbers and by their names.
 
-ghost use Rattle.std.specs.Prelude.{◌≡◌, Some, IsSome, IfSome, nat_eq};
+ghost use Rattle.std.specs.Prelude.{◌≡◌, Some, None, IsSome, IfSome, IfNone, OnSome, nat_eq};
 ghost use Rattle.std.specs.Option.{option_copied};
 ghost use Rattle.std.specs.Map.{lookup};
 ghost use Rattle.pt_types.specs.Limits.{most_objects};
 ghost use Rattle.pt_types.specs.Names.{same_name};
-ghost use Rattle.pt_table.specs.Slots.{row_in_any, row_in_slot, HasRow, IsNumbered};
-ghost use Rattle.pt_table.specs.NameSlots.{IsNamed};
+ghost use Rattle.pt_table.specs.Slots.{row_in_any, row_in_slot, without_number, HasRow};
+ghost use Rattle.pt_table.specs.Slots.{HasRowIfListed, IsNumbered, Leaves};
+ghost use Rattle.pt_table.specs.NameSlots.{IsForgotten, IsNamed};
 
 use crate::names::Names;
 use crate::numbers::Numbers;
@@ -116,4 +117,28 @@ pub(crate) fn slot_by<T, A: Allocator + Copy>(
         Some(row) if row.number == number => slot,
         _ => slot_of(rows, numbers, number),
     }
+}
+
+// Takes the row with a number out, and its name, if there is one. The name is read where it lies,
+// so that the row is not copied for it.
+#[inline(always)]
+pub(crate) fn take_named<T, A: Allocator + Copy>(
+    rows: &mut Slab<ObjectRow<T>, A>,
+    numbers: &mut Numbers<A>,
+    names: &mut Names<A>,
+    number: u64,
+) -> Option<ObjectRow<T>>
+    requires { HasRowIfListed rows.old.slots numbers.old.entries number }
+    ensures absent { IfNone result (lookup (nat_eq number) numbers.old.entries ≡ None) }
+    ensures rows_kept { IfNone result (rows.new.slots ≡ rows.old.slots) }
+    ensures numbers_kept { IfNone result (numbers.new.entries ≡ numbers.old.entries) }
+    ensures names_kept { IfNone result (names.new.entries ≡ names.old.entries) }
+    ensures row { IfSome result (Leaves rows.old.slots numbers.old.entries number rows.new.slots) }
+    ensures left { OnSome result (numbers.new.entries ≡ without_number numbers.old.entries number) }
+    ensures name { IfSome result (λ row. IsForgotten names.old.entries row.name names.new.entries) }
+{
+    let slot = numbers.take(number)?;
+    let row = rows.get(slot)?;
+    names.forget(&row.name);
+    rows.try_remove(slot)
 }

@@ -19,8 +19,8 @@ use crate::fault::TableFault;
 use crate::link::Link;
 use crate::names::Names;
 use crate::numbers::Numbers;
-use crate::object_slots::{row_by_name, row_named, row_of, slot_by, slot_by_hint};
-use crate::rows::{make_room, nth_row, put, take_out};
+use crate::object_slots::{row_by_name, row_named, row_of, slot_by, slot_by_hint, take_named};
+use crate::rows::{make_room, nth_row, put};
 use pt_types::{MOST_OBJECTS, Name};
 use slab::Slab;
 use std::alloc::{AllocError, Allocator, Global};
@@ -316,8 +316,7 @@ impl<T, A: Allocator + Copy> Objects<T, A> {
         ensures value { result ≡ object_value self.old number }
         ensures rows { self.new ≡ without_object self.old number }
     {
-        let row = take_out(&mut self.rows, &mut self.numbers, number)?;
-        self.names.forget(&row.name);
+        let row = take_named(&mut self.rows, &mut self.numbers, &mut self.names, number)?;
         let ObjectRow {
             number: _,
             name: _,
