@@ -111,6 +111,7 @@ impl<A: Allocator + Copy> State<A> {
     }
 
     /// A call that makes an object.  [XSH pthread_mutex_init]
+    #[inline(always)]
     pub fn makes_verdict(&self, n: &Name, kind: ObjectKind) -> Verdict
         requires { AreTables self.now }
         ensures { result

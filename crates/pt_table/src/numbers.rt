@@ -304,6 +304,7 @@ impl<A: Allocator + Copy> Numbers<A> {
     }
 
     /// Takes a number out, and returns its slot.
+    #[inline(always)]
     pub(crate) fn take(&mut self, number: u64) -> Option<usize>
         ensures slot { result ≡ lookup (nat_eq number) self.old.entries }
         ensures kept { IfNone result (self.new.entries ≡ self.old.entries) }

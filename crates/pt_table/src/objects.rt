@@ -72,6 +72,7 @@ impl<T, A: Allocator + Copy> Model for Objects<T, A> {
 }
 
 // Makes room for one more row with its name.
+#[inline(always)]
 fn make_room_named<T, A: Allocator + Copy>(
     rows: &mut Slab<ObjectRow<T>, A>,
     numbers: &mut Numbers<A>,

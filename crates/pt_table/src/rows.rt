@@ -65,6 +65,7 @@ pub(crate) fn slot_of<R, A: Allocator + Copy>(
 }
 
 // Makes room for one more row.
+#[inline(always)]
 pub(crate) fn make_room<R, A: Allocator + Copy>(
     rows: &mut Slab<R, A>,
     numbers: &mut Numbers<A>,

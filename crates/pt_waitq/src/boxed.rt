@@ -95,6 +95,7 @@ impl<A: Allocator + Copy> BoxedQueue<A> {
 
     /// Takes a node, which is between these two, out of one of its chains. Returns its box if no
     /// one waits any more.
+    #[inline(always)]
     pub(crate) fn take_out(
         &mut self,
         writer: bool,

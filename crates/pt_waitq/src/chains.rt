@@ -114,6 +114,7 @@ impl<A: Allocator + Copy> WaitList for Chains<A> {
         }
     }
 
+    #[inline(always)]
     fn discard(&mut self, object: ObjectId) {
         sides::discard(&mut self.queues, object.0);
     }

@@ -101,6 +101,7 @@ impl MarkedQueue {
 
     /// Takes a node, which is between these two, out of one of its chains. Returns whether no one
     /// waits any more.
+    #[inline(always)]
     pub(crate) fn take_out(&mut self, writer: bool, p: usize, before: Link, next: Link) -> bool
         requires index { p < most_priority }
         requires stands { 1 ≤ slice_index (side_of writer self.old).counts p }
