@@ -204,7 +204,8 @@ impl ClientName {
         ensures bytes { result.now ≡ self.now }
         ensures name { IsClientName result.now }
     {
-        &self.block[..self.len as usize]
+        // There are no more than eight, as the compiler then knows: a copy of them needs no loop.
+        &self.block[..MOST.min(self.len as usize)]
     }
 
     /// A second name of the same bytes. It takes no memory.
