@@ -151,7 +151,7 @@ pub fn named_at_start(text: &[u8]) -> Option<(NamedVerb, &[u8])>
 }
 
 /// What is after `wait` up to the next space, and what is after that, if a text begins with these.
-/// A client that says this waits for the first with the second, if both are names.
+/// A client that says this waits at the first with the second, if both are names.
 #[inline(always)]
 pub fn wait_at_start(text: &[u8]) -> Option<(&[u8], &[u8])>
     ensures { IfSome result (λ said. (client : List ℕ) → IsName said.0.now → IsName said.1.now

@@ -17,8 +17,8 @@ use std::alloc::{Allocator, Global};
 use std::marker::Model;
 
 /// Entries of a script's history between two seals, with the room reserved for what must follow:
-/// more than any event may need. A script shows no entry, and so few of them stay in the caches of
-/// a processor.  [profile]
+/// more than any event may need. A script shows no entry, so it needs no more of them, and so many
+/// fit into the caches of a processor.  [profile]
 const ENTRIES_BETWEEN_SEALS: u32 = 65_536;
 
 /// All clients of a script, the lines that they sent, and the core that these asked.

@@ -124,7 +124,7 @@ fn many_moments(alloc: Global, count: usize) -> Result<Vec<u8>, Fail> {
     Ok(input)
 }
 
-// The history is sealed at 65,536 entries; of what came before, only the open call is known then.
+// The history is sealed at 65,536 entries, while the call waits.
 #[test]
 fn a_call_that_waits_past_a_seal_is_answered(rt: HostRuntime) -> Result<(), Fail> {
     lend(many_moments(rt.alloc(), 70000)?, |input| {
