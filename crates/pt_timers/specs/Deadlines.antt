@@ -1,11 +1,12 @@
 -- Deadlines: a finite map from places to deadlines, each with its clock and in nanoseconds.
-use Rattle.std.specs.Prelude.{ℕ, ◌≡◌, ◌≤◌, ◌==◌, ◌&&◌, Bool, true, false, nat_le, if◌then◌else◌}
-use Rattle.std.specs.Prelude.{List, [], ◌∷◌, Option, Some, None, MatchOption, IsSome}
+use Rattle.std.specs.Prelude.{ℕ, ◌≡◌, ◌≤◌, ◌<◌, ◌*◌, ◌==◌, ◌&&◌, Bool, true, false, nat_le, if◌then◌else◌}
+use Rattle.std.specs.Prelude.{List, [], ◌∷◌, Option, Some, None, MatchOption}
 use Rattle.std.specs.declared.cmp.Ordering.{Ordering}
 use Rattle.std.specs.Ordering.{ordering_then, nat_cmp}
-use Rattle.std.specs.BTreeMap.{BTreeMap, get}
+use Rattle.std.specs.BTreeSet.{BTreeSet, contains}
 use Rattle.pt_types.specs.declared.time.Clock.{Clock}
 use Rattle.pt_types.specs.declared.time.Clock.TheVariants.{Real, Mono}
+use Rattle.pt_types.specs.Limits.{second}
 use Rattle.pt_types.specs.Times.{Timespec, deadline_nanos, is_bad_deadline, pair_before}
 use Rattle.pt_timers.specs.declared.key.TimerKey.{TimerKey}
 
@@ -68,16 +69,19 @@ same_key a b = (a.nanos == b.nanos) && (a.place == b.place)
 abbrev pub key_cmp : TimerKey → TimerKey → Ordering
 key_cmp a b = ordering_then (nat_cmp a.nanos b.nanos) (nat_cmp a.place b.place)
 
--- the deadline with this key
-abbrev pub in_order : BTreeMap TimerKey Timespec → TimerKey → Option Timespec
-in_order order key = get key_cmp order key
+-- whether a deadline has this key
+abbrev pub is_in : BTreeSet TimerKey → TimerKey → Bool
+is_in order key = contains key_cmp order key
+
+-- the nanoseconds of a deadline that is a time are below these  [profile]
+abbrev pub most_nanos : ℕ
+most_nanos = 10000000000 * second
 
 -- the deadlines in their orders are those that are set at their places, and each is a time
 -- [XSH pthread_mutex_timedlock, EINVAL]
 pub record AreTimers (places : List (ℕ × (Clock × ℕ)))
-    (due : Clock → TimerKey → Option Timespec) : Type 0 where
-  pub placed : (k : Clock) (q : TimerKey) (d : Timespec) → due k q ≡ Some d
-      → (deadline_at places q.place ≡ Some (k, q.nanos)) × (deadline_nanos d ≡ q.nanos)
-      × (is_bad_deadline d ≡ false)
+    (is_due : Clock → TimerKey → Bool) : Type 0 where
+  pub placed : (k : Clock) (q : TimerKey) → is_due k q ≡ true
+      → (deadline_at places q.place ≡ Some (k, q.nanos)) × (q.nanos < most_nanos)
   pub ordered : (p : ℕ) (k : Clock) (n : ℕ) → deadline_at places p ≡ Some (k, n)
-      → IsSome (due k (record { nanos = n; place = p }))
+      → is_due k (record { nanos = n; place = p }) ≡ true

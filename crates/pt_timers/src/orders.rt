@@ -1,36 +1,36 @@
-ghost use Rattle.std.specs.Prelude.{◌≡◌, ◌&&◌, OnOk, OnErr, IfErr, if◌then◌else◌, Some, None};
+ghost use Rattle.std.specs.Prelude.{◌≡◌, ◌&&◌, ◌||◌, not, false, OnOk, OnErr, IfErr};
 ghost use Rattle.pt_types.specs.Operations.{same_clock};
 ghost use Rattle.pt_timers.specs.declared.key.TimerKey.{TimerKey};
-ghost use Rattle.pt_timers.specs.Deadlines.{in_order, same_key};
+ghost use Rattle.pt_timers.specs.Deadlines.{is_in, same_key};
 
 use crate::key::TimerKey;
-use pt_types::{Clock, Deadline, Refusal};
+use pt_types::{Clock, Refusal};
 use std::alloc::Allocator;
-use std::collections::BTreeMap;
+use std::collections::BTreeSet;
 
 /// The deadlines of each clock, in the order in which they are due.
 #[derive(Drop)]
 pub(crate) struct Orders<A: Allocator + Copy> {
-    real: BTreeMap<TimerKey, Deadline, A>,
-    mono: BTreeMap<TimerKey, Deadline, A>,
+    real: BTreeSet<TimerKey, A>,
+    mono: BTreeSet<TimerKey, A>,
 }
 
 impl<A: Allocator + Copy> Orders<A> {
     ghost use Rattle.pt_types.specs.declared.time.Clock.{Clock};
-    ghost use Rattle.pt_timers.specs.Orders.{order_of, due_at};
+    ghost use Rattle.pt_timers.specs.Orders.{order_of, is_due_at};
 
     /// No deadline. It takes no memory.
     pub(crate) fn new(alloc: A) -> Orders<A>
-        ensures { (k : Clock) (q : TimerKey) → due_at result k q ≡ None }
+        ensures { (k : Clock) (q : TimerKey) → is_due_at result k q ≡ false }
     {
         Orders {
-            real: BTreeMap::new(alloc),
-            mono: BTreeMap::new(alloc),
+            real: BTreeSet::new(alloc),
+            mono: BTreeSet::new(alloc),
         }
     }
 
     /// The deadlines of a clock.
-    pub(crate) fn of(&self, clock: Clock) -> &BTreeMap<TimerKey, Deadline, A>
+    pub(crate) fn of(&self, clock: Clock) -> &BTreeSet<TimerKey, A>
         ensures { result.now ≡ order_of self.now clock }
     {
         match clock {
@@ -40,31 +40,25 @@ impl<A: Allocator + Copy> Orders<A> {
     }
 
     /// Puts a deadline in its order; ENOMEM if the growth is refused, which changes nothing.
-    pub(crate) fn insert(
-        &mut self,
-        clock: Clock,
-        key: TimerKey,
-        deadline: Deadline,
-    ) -> Result<(), Refusal>
+    pub(crate) fn insert(&mut self, clock: Clock, key: TimerKey) -> Result<(), Refusal>
         ensures ok { OnOk result ((k : Clock) (q : TimerKey)
-            → due_at self.new k q
-            ≡ (if same_clock clock k && same_key key q then Some deadline
-            else due_at self.old k q)) }
+            → is_due_at self.new k q
+            ≡ ((same_clock clock k && same_key key q) || is_due_at self.old k q)) }
         ensures err { OnErr result ((k : Clock) (q : TimerKey)
-            → due_at self.new k q ≡ due_at self.old k q) }
+            → is_due_at self.new k q ≡ is_due_at self.old k q) }
         ensures refusal { IfErr result (λ refusal. refusal ≡ Refusal.Enomem) }
     {
         match clock {
-            Clock::Real => insert(&mut self.real, key, deadline),
-            Clock::Mono => insert(&mut self.mono, key, deadline),
+            Clock::Real => insert(&mut self.real, key),
+            Clock::Mono => insert(&mut self.mono, key),
         }
     }
 
     /// Takes a deadline away, if it is there. It takes no memory.
     pub(crate) fn remove(&mut self, clock: Clock, key: TimerKey)
         ensures { (k : Clock) (q : TimerKey)
-            → due_at self.new k q
-            ≡ (if same_clock clock k && same_key key q then None else due_at self.old k q) }
+            → is_due_at self.new k q
+            ≡ (not (same_clock clock k && same_key key q) && is_due_at self.old k q) }
     {
         match clock {
             Clock::Real => remove(&mut self.real, key),
@@ -74,25 +68,22 @@ impl<A: Allocator + Copy> Orders<A> {
 }
 
 fn insert<A: Allocator + Copy>(
-    order: &mut BTreeMap<TimerKey, Deadline, A>,
+    order: &mut BTreeSet<TimerKey, A>,
     key: TimerKey,
-    deadline: Deadline,
 ) -> Result<(), Refusal>
     ensures ok { OnOk result ((q : TimerKey)
-        → in_order order.new q
-        ≡ (if same_key key q then Some deadline else in_order order.old q)) }
-    ensures err { OnErr result ((q : TimerKey) → in_order order.new q ≡ in_order order.old q) }
+        → is_in order.new q ≡ (same_key key q || is_in order.old q)) }
+    ensures err { OnErr result ((q : TimerKey) → is_in order.new q ≡ is_in order.old q) }
     ensures refusal { IfErr result (λ refusal. refusal ≡ Refusal.Enomem) }
 {
-    match order.insert(key, deadline) {
+    match order.insert(key) {
         Ok(_) => Ok(()),
         Err(_) => Err(Refusal::Enomem),
     }
 }
 
-fn remove<A: Allocator + Copy>(order: &mut BTreeMap<TimerKey, Deadline, A>, key: TimerKey)
-    ensures { (q : TimerKey)
-        → in_order order.new q ≡ (if same_key key q then None else in_order order.old q) }
+fn remove<A: Allocator + Copy>(order: &mut BTreeSet<TimerKey, A>, key: TimerKey)
+    ensures { (q : TimerKey) → is_in order.new q ≡ (not (same_key key q) && is_in order.old q) }
 {
     order.remove(&key);
 }

@@ -1,4 +1,6 @@
-ghost use Rattle.std.specs.Prelude.{◌≡◌, ◌==◌};
+ghost use Rattle.std.specs.Prelude.{◌≡◌, ◌==◌, ◌<◌, false};
+ghost use Rattle.pt_types.specs.Times.{deadline_nanos, is_bad_deadline};
+ghost use Rattle.pt_timers.specs.Deadlines.{most_nanos};
 
 use crate::key::{TimerKey, sooner};
 use crate::orders::Orders;
@@ -7,6 +9,28 @@ use pt_types::{Clock, Deadline, Moment, Refusal};
 use std::alloc::{Allocator, Global};
 use std::hash::{BuildHasherDefault, FoldHasher};
 use std::marker::Model;
+
+// A time has fewer nanoseconds beside its seconds.
+const NANOSECONDS_IN_SECOND: u64 = 1_000_000_000;
+
+// All nanoseconds of a deadline that is a time.
+fn nanos_of(deadline: Deadline) -> u64
+    requires { is_bad_deadline deadline ≡ false }
+    ensures nanos { result ≡ deadline_nanos deadline }
+    ensures limit { result < most_nanos }
+{
+    deadline.sec() * NANOSECONDS_IN_SECOND + deadline.nsec()
+}
+
+// The deadline of these nanoseconds, as a time.
+fn deadline_of(nanos: u64) -> Deadline
+    requires { nanos < most_nanos }
+    ensures nanos { deadline_nanos result ≡ nanos }
+    ensures time { is_bad_deadline result ≡ false }
+{
+    let sec = nanos / NANOSECONDS_IN_SECOND;
+    Deadline::new(sec, nanos % NANOSECONDS_IN_SECOND).unwrap()
+}
 
 /// Deadlines by the places of their calls. Only `set` takes memory. Each call takes time that
 /// grows with the logarithm of how many are set, but for a `set` now and then that makes the map of
@@ -22,18 +46,17 @@ impl<A: Allocator + Copy> Model for Timers<A> {
     ghost use Rattle.std.specs.Prelude.{List, ℕ};
     ghost use Rattle.pt_types.specs.declared.time.Clock.{Clock};
     ghost use Rattle.pt_timers.specs.Deadlines.{AreTimers};
-    ghost use Rattle.pt_timers.specs.Orders.{due_at};
+    ghost use Rattle.pt_timers.specs.Orders.{is_due_at};
 
     ghost Value = { List (ℕ × (Clock × ℕ)) };
 
     ghost view = { λ t. t.places.entries };
 
-    ghost invariant = { λ t. AreTimers t.places.entries (due_at t.orders) };
+    ghost invariant = { λ t. AreTimers t.places.entries (is_due_at t.orders) };
 }
 
 impl<A: Allocator + Copy> Timers<A> {
     ghost use Rattle.std.specs.Prelude.{ℕ, false, OnOk, OnErr, IfErr, if◌then◌else◌, Some, None};
-    ghost use Rattle.pt_types.specs.Times.{deadline_nanos, is_bad_deadline};
     ghost use Rattle.pt_timers.specs.Deadlines.{deadline_at, moments, IsFirstDue, IsLeastDue};
     ghost use Rattle.pt_timers.specs.Deadlines.{IsLeast};
 
@@ -60,9 +83,9 @@ impl<A: Allocator + Copy> Timers<A> {
         ensures err { OnErr result (self.new ≡ self.old) }
         ensures refusal { IfErr result (λ refusal. refusal ≡ Refusal.Enomem) }
     {
-        let nanos = deadline.nanos();
+        let nanos = nanos_of(deadline);
         let key = TimerKey { nanos, place };
-        self.orders.insert(clock, key, deadline)?;
+        self.orders.insert(clock, key)?;
         match self.places.insert(place, (clock, nanos)) {
             Ok(_) => Ok(()),
             Err(_) => {
@@ -97,7 +120,7 @@ impl<A: Allocator + Copy> Timers<A> {
     fn first_due(&self, clock: Clock, now: Option<Moment>) -> Option<TimerKey>
         ensures { IsFirstDue self.now clock now result }
     {
-        let (key, _) = self.orders.of(clock).first_key_value()?;
+        let key = self.orders.of(clock).first()?;
         if key.nanos <= now?.nanos() {
             Some(*key)
         } else {
@@ -122,7 +145,7 @@ impl<A: Allocator + Copy> Timers<A> {
     pub fn least(&self, clock: Clock) -> Option<Deadline>
         ensures { IsLeast self.now clock result }
     {
-        let (_, deadline) = self.orders.of(clock).first_key_value()?;
-        Some(*deadline)
+        let key = self.orders.of(clock).first()?;
+        Some(deadline_of(key.nanos))
     }
 }

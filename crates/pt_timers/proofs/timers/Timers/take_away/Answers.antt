@@ -1,6 +1,6 @@
 use Rattle.std.proofs.Common.{sym, ap, ◌∙◌, cond, ◌==◌, None}
 use Rattle.pt_timers.specs.Deadlines.{deadline_at}
-use Rattle.pt_timers.specs.Orders.{due_at}
+use Rattle.pt_timers.specs.Orders.{is_due_at}
 use Rattle.pt_timers.proofs.PlaceLemmas.{as-found, as-changed}
 use Rattle.pt_timers.proofs.TimerLemmas.{one-less}
 use Rattle.pt_timers.proofs.timers.Timers.take_away.Goals as goal
@@ -10,8 +10,8 @@ invariant_of-self g c =
     let t = c.self.inside in
     let was =
     as-found t.places.entries c.args.place ∙ (sym c.swap_remove.ensures.value ∙ c.in-Some.is) in
-    one-less t.places.entries (due_at t.orders) c.self.invariant c.in-Some.clock c.in-Some.nanos
-    c.args.place c.swap_remove.new.self.entries (due_at c.remove.new.self) was
+    one-less t.places.entries (is_due_at t.orders) c.self.invariant c.in-Some.clock c.in-Some.nanos
+    c.args.place c.swap_remove.new.self.entries (is_due_at c.remove.new.self) was
     c.remove.ensures
     (as-changed t.places.entries c.swap_remove.new.self.entries c.args.place None
     c.swap_remove.ensures.updates.0)
