@@ -8,5 +8,3 @@ pub mod Kept
 pub mod Growing
 -- Stable: stored entries stay the same while the records grow
 pub mod Stable
--- Ends: lists that are equal at both ends
-pub mod Ends

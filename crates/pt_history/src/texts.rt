@@ -6,7 +6,7 @@ ghost use Rattle.std.specs.Prelude.{vec_len, vec_capacity};
 ghost use Rattle.pt_history.specs.Compact.{text_at};
 ghost use Rattle.pt_history.specs.Records.{HasText, HasTexts, LiesAt, LieAt};
 
-use pt_hints::{Hints, key_of};
+use pt_hints::{Hints, are_same, key_of};
 use pt_types::Name;
 use std::alloc::Allocator;
 
@@ -30,71 +30,6 @@ fn append<A: Allocator + Copy>(texts: &mut Vec<u8, A>, name: &Name)
     texts.extend_from_slice(name.as_bytes()).unwrap();
 }
 
-// Whether both texts have a first N bytes, and the same.
-#[inline(always)]
-fn first_equal<const N: usize>(one: &[u8], other: &[u8]) -> bool
-    requires { N ≤ 32 }
-    ensures enough { result ≡ true → N ≤ length other.now }
-    ensures same { result ≡ true → take N one.now ≡ take N other.now }
-{
-    match (one.first_chunk::<N>(), other.first_chunk::<N>()) {
-        (Some(first), Some(second)) => first == second,
-        _ => false,
-    }
-}
-
-// Whether both texts have a last N bytes, and the same.
-#[inline(always)]
-fn last_equal<const N: usize>(one: &[u8], other: &[u8]) -> bool
-    requires { N ≤ 32 }
-    ensures { result ≡ true
-        → drop (length one.now - N) one.now ≡ drop (length other.now - N) other.now }
-{
-    match (one.last_chunk::<N>(), other.last_chunk::<N>()) {
-        (Some(last), Some(second)) => last == second,
-        _ => false,
-    }
-}
-
-// Whether texts of one length are equal, of which the first N bytes and the last N are all.
-#[inline(always)]
-fn ends_equal<const N: usize>(one: &[u8], other: &[u8]) -> bool
-    requires few { N ≤ 32 }
-    requires same { length one.now ≡ length other.now }
-    requires all { length other.now ≤ 2 * N }
-    ensures { result ≡ true → one.now ≡ other.now }
-{
-    // Names of one length mostly differ at their ends.
-    last_equal::<N>(one, other) && first_equal::<N>(one, other)
-}
-
-// Whether texts of one length, of 16 to 32 bytes, are equal.
-#[inline(always)]
-fn halves_equal(one: &[u8], other: &[u8]) -> bool
-    requires same { length one.now ≡ length other.now }
-    requires enough { 16 ≤ length other.now }
-    requires few { length other.now ≤ 32 }
-    ensures { result ≡ true → one.now ≡ other.now }
-{
-    let from = other.len() - 16;
-    ends_equal::<8>(&one[from..], &other[from..]) && ends_equal::<8>(&one[..16], &other[..16])
-}
-
-// Whether texts of one length, that of a name, are equal. It needs no call.
-#[inline(always)]
-fn are_equal(one: &[u8], other: &[u8]) -> bool
-    requires same { length one.now ≡ length other.now }
-    requires few { length other.now ≤ 32 }
-    ensures { result ≡ true → one.now ≡ other.now }
-{
-    match other.len() {
-        0..=3 => one == other,
-        4..=8 => ends_equal::<4>(one, other),
-        9..=16 => ends_equal::<8>(one, other),
-        _ => halves_equal(one, other),
-    }
-}
-
 // Whether a name lies at an index.
 #[inline(always)]
 pub(crate) fn lies_at(texts: &[u8], from: usize, name: &Name) -> bool
@@ -103,7 +38,7 @@ pub(crate) fn lies_at(texts: &[u8], from: usize, name: &Name) -> bool
 {
     let bytes = name.as_bytes();
     match texts.get(from..from + bytes.len()) {
-        Some(there) => are_equal(there, bytes),
+        Some(there) => are_same(there, bytes),
         None => false,
     }
 }

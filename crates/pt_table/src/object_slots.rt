@@ -13,6 +13,7 @@ use crate::names::Names;
 use crate::numbers::Numbers;
 use crate::objects::ObjectRow;
 use crate::rows::{row_by_number, row_in, slot_of};
+use pt_hints::are_same;
 use pt_types::Name;
 use slab::Slab;
 use std::alloc::Allocator;
@@ -62,8 +63,9 @@ fn slot_by_name_hint<T, A: Allocator + Copy>(
     ensures { IfSome result (λ slot. lookup (same_name name.now) names.now.entries ≡ Some slot) }
 {
     let hint = names.hint(name);
+    let text = name.as_bytes();
     match rows.get(hint) {
-        Some(row) if row.name == *name => Some(hint),
+        Some(row) if are_same(row.name.as_bytes(), text) => Some(hint),
         _ => None,
     }
 }

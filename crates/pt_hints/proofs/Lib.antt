@@ -1,0 +1,2 @@
+-- Ends: lists that are equal at both ends
+mod Ends

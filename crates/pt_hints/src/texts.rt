@@ -1,0 +1,124 @@
+//! Whether two short texts are the same. No call is needed for that.
+
+ghost use Rattle.std.specs.Prelude.{◌≡◌, ◌-◌, ◌≤◌, ◌*◌, length, true, take, drop};
+
+// Whether four bytes are the same, as one number.
+#[inline(always)]
+fn four_equal(one: &[u8; 4], other: &[u8; 4]) -> bool
+    ensures { result ≡ true → one.now ≡ other.now }
+{
+    u32::from_le_bytes(*one) == u32::from_le_bytes(*other)
+}
+
+// Whether eight bytes are the same, as one number.
+#[inline(always)]
+fn eight_equal(one: &[u8; 8], other: &[u8; 8]) -> bool
+    ensures { result ≡ true → one.now ≡ other.now }
+{
+    u64::from_le_bytes(*one) == u64::from_le_bytes(*other)
+}
+
+// Whether both texts have four first bytes, and the same.
+#[inline(always)]
+fn first_four_equal(one: &[u8], other: &[u8]) -> bool
+    ensures enough { result ≡ true → 4 ≤ length other.now }
+    ensures same { result ≡ true → take 4 one.now ≡ take 4 other.now }
+{
+    match (one.first_chunk::<4>(), other.first_chunk::<4>()) {
+        (Some(first), Some(second)) => four_equal(first, second),
+        _ => false,
+    }
+}
+
+// Whether both texts have four last bytes, and the same.
+#[inline(always)]
+fn last_four_equal(one: &[u8], other: &[u8]) -> bool
+    ensures { result ≡ true
+        → drop (length one.now - 4) one.now ≡ drop (length other.now - 4) other.now }
+{
+    match (one.last_chunk::<4>(), other.last_chunk::<4>()) {
+        (Some(last), Some(second)) => four_equal(last, second),
+        _ => false,
+    }
+}
+
+// Whether both texts have eight first bytes, and the same.
+#[inline(always)]
+fn first_eight_equal(one: &[u8], other: &[u8]) -> bool
+    ensures enough { result ≡ true → 8 ≤ length other.now }
+    ensures same { result ≡ true → take 8 one.now ≡ take 8 other.now }
+{
+    match (one.first_chunk::<8>(), other.first_chunk::<8>()) {
+        (Some(first), Some(second)) => eight_equal(first, second),
+        _ => false,
+    }
+}
+
+// Whether both texts have eight last bytes, and the same.
+#[inline(always)]
+fn last_eight_equal(one: &[u8], other: &[u8]) -> bool
+    ensures { result ≡ true
+        → drop (length one.now - 8) one.now ≡ drop (length other.now - 8) other.now }
+{
+    match (one.last_chunk::<8>(), other.last_chunk::<8>()) {
+        (Some(last), Some(second)) => eight_equal(last, second),
+        _ => false,
+    }
+}
+
+// Whether texts of one length, of 4 to 8 bytes, are the same. Texts of one length mostly differ at
+// their ends, so these are compared first.
+#[inline(always)]
+fn fours_equal(one: &[u8], other: &[u8]) -> bool
+    requires same { length one.now ≡ length other.now }
+    requires all { length other.now ≤ 8 }
+    ensures { result ≡ true → one.now ≡ other.now }
+{
+    last_four_equal(one, other) && first_four_equal(one, other)
+}
+
+// Whether texts of one length, of 8 to 16 bytes, are the same.
+#[inline(always)]
+fn eights_equal(one: &[u8], other: &[u8]) -> bool
+    requires same { length one.now ≡ length other.now }
+    requires all { length other.now ≤ 16 }
+    ensures { result ≡ true → one.now ≡ other.now }
+{
+    last_eight_equal(one, other) && first_eight_equal(one, other)
+}
+
+// Whether texts of one length, of 16 to 32 bytes, are the same.
+#[inline(always)]
+fn halves_equal(one: &[u8], other: &[u8]) -> bool
+    requires same { length one.now ≡ length other.now }
+    requires enough { 16 ≤ length other.now }
+    requires few { length other.now ≤ 32 }
+    ensures { result ≡ true → one.now ≡ other.now }
+{
+    let from = other.len() - 16;
+    eights_equal(&one[from..], &other[from..]) && eights_equal(&one[..16], &other[..16])
+}
+
+// Whether texts of one length, of at most 32 bytes, are the same.
+#[inline(always)]
+fn are_equal(one: &[u8], other: &[u8]) -> bool
+    requires same { length one.now ≡ length other.now }
+    requires few { length other.now ≤ 32 }
+    ensures { result ≡ true → one.now ≡ other.now }
+{
+    match other.len() {
+        0..=3 => one == other,
+        4..=8 => fours_equal(one, other),
+        9..=16 => eights_equal(one, other),
+        _ => halves_equal(one, other),
+    }
+}
+
+/// Whether two texts are the same, of which the second has at most 32 bytes.
+#[inline(always)]
+pub fn are_same(one: &[u8], other: &[u8]) -> bool
+    requires { length other.now ≤ 32 }
+    ensures { result ≡ true → one.now ≡ other.now }
+{
+    one.len() == other.len() && are_equal(one, other)
+}
