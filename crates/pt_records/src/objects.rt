@@ -57,13 +57,13 @@ pub fn make<A: Allocator + Copy>(kind: ObjectKind, alloc: A) -> Object<A>
 pub fn add<A: Allocator + Copy>(
     objects: &mut Objects<Object<A>, A>,
     o: ObjectId,
-    name: Name,
+    name: &Name,
     object: Object<A>,
 ) -> Result<(), Refusal>
-    requires new { is_taken objects.old o name ≡ false }
+    requires new { is_taken objects.old o name.now ≡ false }
     requires room { length objects.old < most_objects }
     requires rising { Rising objects.old o }
-    ensures ok { OnOk result (AddsObject objects.old objects.new o name object) }
+    ensures ok { OnOk result (AddsObject objects.old objects.new o name.now object) }
     ensures err { OnErr result (objects.new ≡ objects.old) }
     ensures reason { IfErr result (λ refusal. refusal ≡ Refusal.Enomem) }
 {

@@ -62,7 +62,7 @@ impl<A: Allocator + Copy> State<A> {
         match add(
             &mut self.objects,
             ObjectId(place),
-            n.copied(),
+            n,
             make(kind, self.alloc),
         ) {
             Ok(()) => {

@@ -51,6 +51,14 @@ impl<A: Allocator + Copy> Names<A> {
         self.hints.get(key_of(name.as_bytes()))
     }
 
+    /// Notes the slot in which the row of a name with this key is looked for first.
+    #[inline(always)]
+    pub(crate) fn note(&mut self, key: u64, slot: usize)
+        ensures { self.new ≡ self.old }
+    {
+        self.hints.set(key, slot);
+    }
+
     /// The slot of a name.
     pub(crate) fn get(&self, name: &Name) -> Option<usize>
         ensures { result ≡ lookup (same_name name.now) self.now.entries }
@@ -72,7 +80,6 @@ impl<A: Allocator + Copy> Names<A> {
         requires new { lookup (same_name name) self.old.entries ≡ None }
         ensures { self.new.entries ≡ self.old.entries ++ (name, slot) ∷ [] }
     {
-        self.hints.set(key_of(name.as_bytes()), slot);
         self.slots.insert(name, slot).unwrap();
     }
 

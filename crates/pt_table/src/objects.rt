@@ -21,6 +21,7 @@ use crate::names::Names;
 use crate::numbers::Numbers;
 use crate::object_slots::{row_by_name, row_named, row_of, slot_by, slot_by_hint, take_named};
 use crate::rows::{make_room, nth_row, put};
+use pt_hints::key_of;
 use pt_types::{MOST_OBJECTS, Name};
 use slab::Slab;
 use std::alloc::{AllocError, Allocator, Global};
@@ -89,13 +90,15 @@ fn make_room_named<T, A: Allocator + Copy>(
     names.reserve_one()
 }
 
-// Puts a row with a new number and a new name in, if there is room, and returns its slot.
+// Puts a row with a new number and a new name in, if there is room, and returns its slot. The key is
+// the name's: it is made before the row, since a read of what was just written waits for all writes.
 #[inline(always)]
 fn put_named<T, A: Allocator + Copy>(
     rows: &mut Slab<ObjectRow<T>, A>,
     numbers: &mut Numbers<A>,
     names: &mut Names<A>,
     row: ObjectRow<T>,
+    key: u64,
 ) -> usize
     requires row_room { HasRoomFor rows.old 1 }
     requires number_room { 0 < numbers.old.room }
@@ -111,6 +114,7 @@ fn put_named<T, A: Allocator + Copy>(
     let name = row.name.copied();
     let slot = put(rows, numbers, row.number, row);
     names.insert(name, slot);
+    names.note(key, slot);
     slot
 }
 
@@ -341,22 +345,23 @@ impl<T, A: Allocator + Copy> Objects<T, A> {
     ///
     /// A growth was refused. The table stays as it was, and the value is dropped.
     #[inline(always)]
-    pub fn add_new(&mut self, number: u64, name: Name, value: T) -> Result<(), AllocError>
+    pub fn add_new(&mut self, number: u64, name: &Name, value: T) -> Result<(), AllocError>
     where
         T: Drop,
-        requires new { is_taken self.old number name ≡ false }
+        requires new { is_taken self.old number name.now ≡ false }
         requires room { length self.old < most_objects }
-        ensures ok { OnOk result (self.new ≡ and_object self.old number name value) }
+        ensures ok { OnOk result (self.new ≡ and_object self.old number name.now value) }
         ensures err { OnErr result (self.new ≡ self.old) }
     {
+        let key = key_of(name.as_bytes());
         make_room_named(&mut self.rows, &mut self.numbers, &mut self.names)?;
         let row = ObjectRow {
             number,
-            name,
+            name: name.copied(),
             value,
             link: Link::out(),
         };
-        put_named(&mut self.rows, &mut self.numbers, &mut self.names, row);
+        put_named(&mut self.rows, &mut self.numbers, &mut self.names, row, key);
         Ok(())
     }
 
@@ -384,13 +389,14 @@ impl<T, A: Allocator + Copy> Objects<T, A> {
         if make_room_named(&mut self.rows, &mut self.numbers, &mut self.names).is_err() {
             return Err((value, TableFault::Memory));
         }
+        let key = key_of(name.as_bytes());
         let row = ObjectRow {
             number,
             name,
             value,
             link: Link::out(),
         };
-        put_named(&mut self.rows, &mut self.numbers, &mut self.names, row);
+        put_named(&mut self.rows, &mut self.numbers, &mut self.names, row, key);
         Ok(())
     }
 }

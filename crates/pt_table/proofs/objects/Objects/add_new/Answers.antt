@@ -1,6 +1,8 @@
-use Rattle.std.proofs.Common.{◌∙◌, [], ◌∷◌, ◌++◌, ap}
+use Rattle.std.proofs.Common.{◌≡◌, ◌∙◌, false, [], ◌∷◌, ◌++◌, ap, sym, subst}
+use Rattle.pt_types.specs.declared.name.Name.{Name}
 use Rattle.pt_table.specs.declared.link.Link.{Link}
 use Rattle.pt_table.specs.declared.objects.ObjectRow.{ObjectRow}
+use Rattle.pt_table.specs.ObjectRows.{is_taken, out_of_chains}
 use Rattle.pt_table.proofs.Added.{new_number, numbered_added, view_added}
 use Rattle.pt_table.proofs.Named.{number_free, unnamed, new_name, named_added}
 use Rattle.pt_table.proofs.objects.Objects.add_new.Goals as goal
@@ -10,15 +12,15 @@ put_named-requires-clause-number_new g c =
     new_number c.self.invariant.0 c.args.self.now c.self.view_is c.make_room_named.new.rows.slots
     c.make_room_named.new.numbers.entries c.make_room_named.ensures.rows
     c.make_room_named.ensures.numbers c.args.number
-    (number_free c.args.self.now c.args.number c.args.name
-    c.requires.new)
+    (number_free c.args.self.now c.args.number c.args.name.now c.requires.new)
 
 pub put_named-requires-clause-name_new : goal.put_named-requires-clause-name_new
 put_named-requires-clause-name_new g c =
     new_name c.self.invariant.0 c.self.invariant.1 c.args.self.now c.self.view_is
-    c.make_room_named.new.names.entries c.make_room_named.ensures.names c.args.name
-    (unnamed c.args.self.now c.args.number c.args.name
-    c.requires.new)
+    c.make_room_named.new.names.entries c.make_room_named.ensures.names c.copied.result
+    (unnamed c.args.self.now c.args.number c.copied.result
+    (subst (λ n. is_taken c.args.self.now c.args.number n ≡ false) (sym c.copied.ensures)
+    c.requires.new))
 
 pub invariant_of-self-2 : goal.invariant_of-self-2
 invariant_of-self-2 g c = (
@@ -28,29 +30,29 @@ invariant_of-self-2 g c = (
       c.put_named.new.rows.slots c.put_named.new.numbers.entries _ c.put_named.result
       c.put_named.ensures.vacant c.put_named.ensures.row c.put_named.ensures.others
       c.put_named.ensures.numbers
-      (number_free c.args.self.now c.args.number c.args.name
-      c.requires.new) c.requires.room,
+      (number_free c.args.self.now c.args.number c.args.name.now c.requires.new) c.requires.room,
   named_added c.self.invariant.1 c.make_room_named.new.rows.slots
       c.make_room_named.new.names.entries c.make_room_named.ensures.rows
       c.make_room_named.ensures.names c.put_named.new.rows.slots c.put_named.new.names.entries _
       c.put_named.result c.put_named.ensures.vacant c.put_named.ensures.row
       c.put_named.ensures.others c.put_named.ensures.names
       (new_name c.self.invariant.0 c.self.invariant.1 c.args.self.now c.self.view_is
-      c.make_room_named.new.names.entries c.make_room_named.ensures.names c.args.name
-      (unnamed c.args.self.now c.args.number c.args.name
-      c.requires.new)),
+      c.make_room_named.new.names.entries c.make_room_named.ensures.names c.copied.result
+      (unnamed c.args.self.now c.args.number c.copied.result
+      (subst (λ n. is_taken c.args.self.now c.args.number n ≡ false) (sym c.copied.ensures)
+      c.requires.new))),
 )
 
 pub returns-clause-ok : goal.returns-clause-ok
 returns-clause-ok g c =
-    let row : Link → ObjectRow g.row.T.Denot = λ link.
-    record { number = c.args.number; name = c.args.name; value = c.args.value; link = link } in
+    let row : Name → Link → ObjectRow g.row.T.Denot = λ name link.
+    record { number = c.args.number; name = name; value = c.args.value; link = link } in
     view_added c.self.invariant.0 c.args.self.now c.self.view_is
     c.make_room_named.new.rows.slots c.make_room_named.new.numbers.entries
     c.make_room_named.ensures.rows c.make_room_named.ensures.numbers
     c.put_named.new.rows.slots c.put_named.new.numbers.entries _ c.put_named.result
     c.put_named.ensures.vacant c.put_named.ensures.row c.put_named.ensures.others
     c.put_named.ensures.numbers
-    (number_free c.args.self.now c.args.number c.args.name
-    c.requires.new) c.requires.room
-    ∙ ap (λ link. c.args.self.now ++ row link ∷ []) c.out.ensures
+    (number_free c.args.self.now c.args.number c.args.name.now c.requires.new) c.requires.room
+    ∙ (ap (λ link. c.args.self.now ++ row c.copied.result link ∷ []) c.out.ensures
+    ∙ ap (λ name. c.args.self.now ++ row name out_of_chains ∷ []) c.copied.ensures)
