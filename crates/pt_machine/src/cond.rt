@@ -124,6 +124,7 @@ pub(crate) fn push_late_wait<Q: WaitList, A: Allocator + Copy>(
 }
 
 // The wait that a signal at this condition wakes.  [XSH pthread_cond_signal]
+#[inline(always)]
 fn first_waiting<'s, Q: WaitList, A: Allocator + Copy>(
     queues: &Q,
     state: &'s State<A>,

@@ -122,7 +122,7 @@ fn free<A: Allocator + Copy>(objects: &mut Objects<Object<A>, A>, m: ObjectId)
 }
 
 /// The client has the mutex once more, and owns it.  [XSH pthread_mutex_lock]
-#[inline(never)]
+#[inline(always)]
 pub fn acquire<A: Allocator + Copy>(
     clients: &mut Clients<Caller, A>,
     objects: &mut Objects<Object<A>, A>,

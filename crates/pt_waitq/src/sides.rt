@@ -229,6 +229,7 @@ pub(crate) fn insert<A: Allocator + Copy>(
 
 /// Takes a node out of a chain of a queue that there is, if it was between these two. Returns the
 /// queue's box if no one waits there any more.
+#[inline(always)]
 pub(crate) fn remove<A: Allocator + Copy>(
     queues: &mut Rows<BoxedQueue<A>, A>,
     object: u64,
