@@ -31,6 +31,7 @@ pub fn may_read<A: Allocator + Copy>(lock: &Holders<A>, c: ClientId, blocked: bo
 }
 
 /// The client has its row in the lock. ENOMEM if there is no memory for a new one.
+#[inline(always)]
 pub fn make_row<A: Allocator + Copy>(
     objects: &mut Objects<Object<A>, A>,
     r: ObjectId,
@@ -58,6 +59,7 @@ pub fn make_row<A: Allocator + Copy>(
 }
 
 /// The client has one read lock more.  [XSH pthread_rwlock_rdlock]
+#[inline(always)]
 pub fn acquire_read<A: Allocator + Copy>(
     objects: &mut Objects<Object<A>, A>,
     r: ObjectId,
@@ -102,6 +104,7 @@ pub fn acquire_write<A: Allocator + Copy>(
 }
 
 /// The client gives back the write lock, or one read lock.  [XSH pthread_rwlock_unlock]
+#[inline(always)]
 pub fn release_lock<A: Allocator + Copy>(
     objects: &mut Objects<Object<A>, A>,
     r: ObjectId,

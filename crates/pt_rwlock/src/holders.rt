@@ -59,6 +59,7 @@ impl<A: Allocator + Copy> Holders<A> {
 
     /// Makes room for the client's read locks; one that has its row keeps it. ENOMEM if there
     /// is no memory for a new one.
+    #[inline(always)]
     pub fn make_row(&mut self, client: ClientId) -> Result<(), Refusal>
         ensures ok { OnOk result (self.new ≡ with_row self.old client) }
         ensures row { let reads = reads_of self.old client in
@@ -77,6 +78,7 @@ impl<A: Allocator + Copy> Holders<A> {
     }
 
     // Whether the client has a row.
+    #[inline(always)]
     fn has_row(&mut self, client: ClientId) -> bool
         ensures found { result ≡ is_some (row_of self.old client) }
         ensures same { self.new ≡ self.old }
@@ -85,6 +87,7 @@ impl<A: Allocator + Copy> Holders<A> {
     }
 
     /// How the client holds the lock.  [XSH pthread_rwlock_unlock]
+    #[inline(always)]
     pub fn held_by(&self, client: ClientId) -> Held
         ensures { result ≡ held (seen_by self.now client) }
     {
@@ -118,6 +121,7 @@ impl<A: Allocator + Copy> Holders<A> {
         self.writer == Some(client)
     }
 
+    #[inline(always)]
     pub(crate) fn reads_of(&self, client: ClientId) -> u8
         ensures { result ≡ reads_of self.now client }
     {
@@ -141,6 +145,7 @@ impl<A: Allocator + Copy> Holders<A> {
 
     /// What becomes of a read lock's call, given whether such a writer waits.
     /// [XSH pthread_rwlock_rdlock]
+    #[inline(always)]
     pub fn verdict_read_behind(&self, caller: ClientId, blocked: bool, how: How) -> Verdict
         ensures { result ≡ read_verdict (seen_by self.now caller) blocked how }
     {
@@ -160,6 +165,7 @@ impl<A: Allocator + Copy> Holders<A> {
 
     /// What becomes of the client's `wrlock`, `trywrlock` or `timedwrlock`. Whether a deadline is
     /// due is not asked here.  [XSH pthread_rwlock_wrlock, pthread_rwlock_timedwrlock]
+    #[inline(always)]
     pub fn verdict_write(&self, caller: ClientId, how: How) -> Verdict
         ensures { result ≡ write_verdict (seen_by self.now caller) how }
     {
@@ -175,6 +181,7 @@ impl<A: Allocator + Copy> Holders<A> {
     }
 
     /// What becomes of the client's `rwunlock`; EPERM is profile.  [XSH pthread_rwlock_unlock]
+    #[inline(always)]
     pub fn verdict_unlock(&self, caller: ClientId) -> Verdict
         ensures { result ≡ rwunlock_verdict (seen_by self.now caller) }
     {
@@ -186,6 +193,7 @@ impl<A: Allocator + Copy> Holders<A> {
     }
 
     /// Whether the client holds the lock in either way.  [XSH pthread_rwlock_unlock]
+    #[inline(always)]
     pub fn holds(&self, client: ClientId) -> bool
         ensures { result ≡ holds (seen_by self.now client) }
     {
@@ -194,6 +202,7 @@ impl<A: Allocator + Copy> Holders<A> {
 
     /// The client has one read lock more. No writer holds the lock, and the client has its row with
     /// fewer than 255 read locks.  [XSH pthread_rwlock_rdlock]
+    #[inline(always)]
     pub fn acquire_read(&mut self, client: ClientId)
         requires { IsTrue (can_acquire_read self.old client) }
         ensures change { self.new ≡ with_reads self.old client (reads_of self.old client + 1) }
@@ -215,6 +224,7 @@ impl<A: Allocator + Copy> Holders<A> {
     }
 
     /// The client gives back the write lock, or one read lock.  [XSH pthread_rwlock_unlock]
+    #[inline(always)]
     pub fn release(&mut self, client: ClientId)
         requires { IsTrue (holds (seen_by self.old client)) }
         ensures change { self.new ≡ released self.old client }

@@ -201,6 +201,8 @@ impl<A: Allocator + Copy> Rows<A> {
     }
 
     /// Adds a row with no read locks for a client that has none.
+    #[cold]
+    #[inline(never)]
     pub(crate) fn insert(&mut self, client: u64) -> Result<(), AllocError>
         requires { lookup (is_at (nat_cmp client)) self.old ≡ None }
         ensures rows { OnOk result (self.new ≡ insert_entry nat_cmp self.old client 0) }

@@ -64,6 +64,8 @@ impl<A: Allocator + Copy> State<A> {
     }
 
     // The answer to the call at a place, which is looked for from the end.  [XSH, the call's page]
+    #[cold]
+    #[inline(never)]
     fn recent_outcome(&self, place: u64) -> Option<Outcome>
         requires { AreTables self.now }
         ensures { result ≡ said (past self.now) place }

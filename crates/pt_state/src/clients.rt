@@ -59,6 +59,7 @@ impl<A: Allocator + Copy> State<A> {
     }
 
     /// The priority of a living client.  [XSH 2.8.4]
+    #[inline(always)]
     pub fn priority(&self, c: ClientId) -> Option<Priority>
         requires { AreTables self.now }
         ensures { result ≡ client (past self.now) c }
@@ -70,6 +71,7 @@ impl<A: Allocator + Copy> State<A> {
     }
 
     /// The priority of a living client; 0 of any other.  [XSH 2.8.4]
+    #[inline(always)]
     pub fn priority_of(&self, c: ClientId) -> u64
         requires { AreTables self.now }
         ensures { result ≡ unwrap_or (client (past self.now) c) 0 }
@@ -81,6 +83,7 @@ impl<A: Allocator + Copy> State<A> {
     }
 
     /// A client's open call, with its move.
+    #[inline(always)]
     pub fn open_of(&self, c: ClientId) -> Option<&Open>
         requires { AreTables self.now }
         ensures { option_copied result ≡ open_in (client_value self.now.clients c) }

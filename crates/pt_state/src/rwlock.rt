@@ -45,6 +45,7 @@ impl<A: Allocator + Copy> State<A> {
     }
 
     /// A holder of a read-write lock gives it back.  [XSH pthread_rwlock_unlock]
+    #[inline(always)]
     pub fn push_rwunlock(&mut self, c: ClientId, call: &Call, n: &Name, object: Option<ObjectId>)
         requires ready { IsReadyFor self.old (entry.Call c call.now (Some told.Done)) }
         requires operation { operation call.now ≡ Rwunlocks n.now }
@@ -57,6 +58,7 @@ impl<A: Allocator + Copy> State<A> {
     }
 
     /// A call gets its read lock.  [XSH pthread_rwlock_rdlock]
+    #[inline(always)]
     pub(crate) fn push_grant_read(&mut self, found: &Open)
         requires ready { IsReadyFor self.old (entry.Grant found.now.call.place
             (grant_outcome_in (past self.old) (called found.now))) }
@@ -71,6 +73,7 @@ impl<A: Allocator + Copy> State<A> {
     }
 
     /// A call gets its write lock.  [XSH pthread_rwlock_wrlock]
+    #[inline(always)]
     pub(crate) fn push_grant_write(&mut self, found: &Open)
         requires ready { IsReadyFor self.old (entry.Grant found.now.call.place
             (grant_outcome_in (past self.old) (called found.now))) }
@@ -85,6 +88,7 @@ impl<A: Allocator + Copy> State<A> {
     }
 
     /// The read-write lock with this number, if it is one.
+    #[inline(always)]
     pub fn rwlock_at(&self, r: ObjectId) -> Option<&Holders<A>>
         ensures { option_copied result ≡ rwlock_in (object_value self.now.objects r) }
     {
@@ -95,6 +99,7 @@ impl<A: Allocator + Copy> State<A> {
     }
 
     /// The read-write lock that a name means, with its number.
+    #[inline(always)]
     pub fn rwlock_found(
         &self,
         n: &Name,
@@ -116,6 +121,7 @@ impl<A: Allocator + Copy> State<A> {
 
     /// A client's call to read, given whether a writer goes before it.
     /// [XSH pthread_rwlock_rdlock]
+    #[inline(always)]
     pub fn read_verdict(&self, c: ClientId, r: ObjectId, blocked: bool, how: &How) -> Verdict
         requires read { AreTables self.now }
         requires lock { kind_of (past self.now) r ≡ Some ObjectKind.Rwlock }
@@ -126,6 +132,7 @@ impl<A: Allocator + Copy> State<A> {
     }
 
     /// A client's call to write.  [XSH pthread_rwlock_wrlock]
+    #[inline(always)]
     pub fn write_verdict(
         &self,
         c: ClientId,
@@ -144,6 +151,7 @@ impl<A: Allocator + Copy> State<A> {
     }
 
     /// A client's call to give a read-write lock back.  [XSH pthread_rwlock_unlock]
+    #[inline(always)]
     pub fn rwunlocks_verdict(&self, c: ClientId, n: &Name, object: Option<ObjectId>) -> Verdict
         requires read { AreTables self.now }
         requires found { object ≡ find_in (past self.now) n.now RwlockClass }
