@@ -1,19 +1,20 @@
--- GrantsAtOnce: a call for a free lock for which nobody waits is granted as it comes.
+-- GrantsAtOnce: a call for a free lock, ahead of those that wait for it, is granted as it comes.
 use Rattle.std.proofs.Common.{◌≡◌, ℕ, ◌<◌, Bool, true, false, cond, not, ◌||◌, ◌==◌, nat_lt, List}
 use Rattle.std.proofs.Common.{[], ◌∷◌, ◌++◌, Option, Some, None, is_some, is_none, filter, refl}
 use Rattle.std.proofs.Common.{sym, ap}
-use Rattle.std.proofs.Common.{◌∙◌, ◌-◌, ◌&&◌, suc, subst, arith, append-nil, eq-eqb, inl}
+use Rattle.std.proofs.Common.{◌∙◌, ◌-◌, ◌&&◌, suc, subst, arith, append-nil, eq-eqb, inl, ⊎_elim}
 use Rattle.std.proofs.lemmas.Bool.Decides.{nat_tests}
 use Rattle.std.proofs.lemmas.List.Elements.{filter-append}
 use Rattle.std.specs.Prelude.{option_map, unwrap_or}
 use Rattle.std.specs.Option.{option_or}
-use Rattle.std.specs.List.{list_any}
 use Rattle.pt_types.specs.declared.call.Call.{Call as Asked}
 use Rattle.pt_types.specs.declared.call.ObjectKind.{ObjectKind}
 use Rattle.pt_types.specs.declared.call.ObjectKind.TheVariants as kind_is
 use Rattle.pt_types.specs.declared.operations.LockKind.{LockKind}
 use Rattle.pt_types.specs.declared.operations.LockKind.TheVariants.{MutexLock, ReadLock, WriteLock}
+use Rattle.pt_types.specs.declared.key_order.Key.{Key}
 use Rattle.pt_types.specs.declared.outcome.Outcome.{Outcome}
+use Rattle.pt_types.specs.KeyOrder.{goes_before, goes_before_in_priority}
 use Rattle.pt_types.specs.MutexTable.{after_release, is_lost}
 use Rattle.pt_types.specs.Times.{deadline_nanos}
 use Rattle.pt_types.specs.Operations.{Operation, class_needed, class_of, clock_of, deadline_of}
@@ -21,14 +22,14 @@ use Rattle.pt_types.specs.Operations.{operation}
 use Rattle.pt_waitq.specs.Members.{Members}
 use Rattle.pt_waitq.specs.Queues.{QueuesView}
 use Rattle.pt_model.specs.declared.entry.Entry.TheVariants.{Call, Grant, Trip}
-use Rattle.pt_model.specs.Searches.{In, least}
+use Rattle.pt_model.specs.Searches.{In}
 use Rattle.pt_model.specs.Histories.{History, ◌▷◌, place}
 use Rattle.pt_model.specs.Objects.{kind_of}
 use Rattle.pt_model.specs.declared.waiting_call.WaitingCall.{WaitingCall}
 use Rattle.pt_model.specs.WaitingCall.{entered, is_arrival, is_write, role_needed, stood_by}
 use Rattle.pt_model.specs.WaitingCall.{stood_by_operation}
 use Rattle.pt_model.specs.Answers.{open_calls}
-use Rattle.pt_model.specs.Moves.{at_object, precedes, waiting_at}
+use Rattle.pt_model.specs.Moves.{at_object, key, precedes}
 use Rattle.pt_model.specs.Mutexes.{consistency, count, frees, gained, lost, owner, unlocks_to_wait}
 use Rattle.pt_model.specs.Rwlocks.{reader}
 use Rattle.pt_model.specs.Forced.{forced, forced_expire, forced_yield, service, service_if}
@@ -38,8 +39,9 @@ use Rattle.pt_model.proofs.Allowances.{allowed}
 use Rattle.pt_model.proofs.Changes.{left_by}
 use Rattle.pt_model.proofs.Effects.{Allowed, effect, stays}
 use Rattle.pt_model.proofs.Holders.{owner-same}
-use Rattle.pt_model.proofs.Lists.{In-append_right, filter-all}
+use Rattle.pt_model.proofs.Lists.{In-append_cases, In-append_right, filter-all}
 use Rattle.pt_model.proofs.Opens.{open-call, open-grant}
+use Rattle.pt_model.proofs.Orders.{precedes-order}
 use Rattle.pt_model.proofs.Sound.{Fresh-follows, below_open}
 use Rattle.pt_records.proofs.LockViews.{class-found}
 use Rattle.pt_state.proofs.StepLemmas.{called as known_call}
@@ -52,21 +54,18 @@ use Rattle.pt_touched.proofs.Unchanged.{reader-same, writer-same}
 use Rattle.pt_machine.specs.GrantedAtOnce.{IsFree, IsGrantedAtOnce}
 use Rattle.pt_machine.specs.Queued.{IsQueued, waiter}
 use Rattle.pt_machine.specs.Timed.{set_at}
+use Rattle.pt_machine.proofs.QueueFirsts.{least-open}
 use Rattle.pt_machine.proofs.TimedCalls.{set-left}
 use Rattle.pt_machine.proofs.TimedStates.{unset}
 use Rattle.pt_machine.proofs.TimedSteps.{set-grant, set-new}
 
--- if none passes, none is left
-filter_none : {X : Type 0} (p : X → Bool) (xs : List X) → list_any p xs ≡ false
-    → filter p xs ≡ []
-filter_none p [] e = refl
-filter_none p (x ∷ xs) e = go (p x) e (filter_none p xs)
-  where
-    go : (b : Bool) → (b || list_any p xs) ≡ false
-        → (list_any p xs ≡ false → filter p xs ≡ [])
-        → cond b (x ∷ filter p xs) (filter p xs) ≡ []
-    go true e ih = absurd cc
-    go false e ih = ih e
+-- a call of a lower priority goes before none of a higher one
+lower : (a b : Key) → a.priority < b.priority → goes_before a b ≡ false
+lower a b lt =
+    let no : nat_lt b.priority a.priority ≡ false = grind (arith, nat_tests) in
+    let apart : (a.priority == b.priority) ≡ false = grind (arith, nat_tests) in
+    ap (λ t. t || ((a.priority == b.priority) && goes_before_in_priority a b)) no
+    ∙ ap (λ t. t && goes_before_in_priority a b) apart
 
 module _ (h : History) (f : Follows h) (c : ℕ) (call : Asked) (had : IsGrantedAtOnce h c call)
     (s : Step h (Call c call None)) where
@@ -118,20 +117,26 @@ module _ (h : History) (f : Follows h) (c : ℕ) (call : Asked) (had : IsGranted
       go ReadLock = refl
       go WriteLock = refl
 
-  -- and alone
+  -- and goes before all others there
   abbrev here : WaitingCall → Bool
   here w = at_object after w == had.object
 
-  waits : waiting_at after had.object ≡ comes ∷ []
-  waits =
-      let there = eq-eqb (at_object after comes) had.object at in
-      ap (filter here) opens
-      ∙ (filter-append here (open_calls h) (comes ∷ [])
-      ∙ (ap (λ ws. ws ++ filter here (comes ∷ [])) (filter_none here (open_calls h) had.alone)
-      ∙ ap (λ b. cond b (comes ∷ []) []) there))
-
   first : first_at after had.object ≡ Some comes
-  first = ap (least (precedes after)) waits
+  first =
+      least-open after follows here comes comes-open (eq-eqb (at_object after comes) had.object at)
+      before
+    where
+      before : (w : WaitingCall) → In w (open_calls after) → here w ≡ true
+          → precedes after w comes ≡ false
+      before w i t =
+          ⊎_elim
+          (λ j. lower (key after w) (key after comes) (had.ahead w j t))
+          (λ j. ⊎_elim
+          (λ (same : w ≡ comes). subst (λ u. precedes after u comes ≡ false) (sym same)
+          ((precedes-order after).irreflexive comes))
+          (λ none. absurd none) j)
+          (In-append_cases w (open_calls h) (comes ∷ [])
+          (subst (λ (ws : List WaitingCall). In w ws) opens i))
 
   -- nobody's lock on it has changed
   stays_locked : unlocks_to_wait h (operation call) had.object ≡ false

@@ -12,7 +12,7 @@ pub mod PlaceTakes
 pub mod OpenRowCalls
 -- CandidateRows: the candidate of an object, by the rows of objects and of clients
 pub mod CandidateRows
--- GrantsAtOnce: a call for a free lock for which nobody waits is granted as it comes
+-- GrantsAtOnce: a call for a free lock, ahead of those that wait for it, is granted as it comes
 pub mod GrantsAtOnce
 -- GrantedStates: the tables after a call that is granted as it comes, and after its Grant
 pub mod GrantedStates
@@ -31,6 +31,8 @@ pub mod QueueReads
 pub mod QueueCounts
 -- QueueFirsts: the first of a queue is the first of the calls that wait there
 pub mod QueueFirsts
+-- QueueAhead: the first of a queue tells the greatest priority of those that wait there
+pub mod QueueAhead
 -- BarrierArrivals: the waiters of a barrier's queue are those of the calls that wait at it
 pub mod BarrierArrivals
 -- Bindings: a condition's mutex is that of the first wait of its queue

@@ -71,7 +71,7 @@ module _ (h : History) (queue : ℕ → List Waiter)
     (here : WaitingCall → Bool)
     (agrees : (w : WaitingCall) → In w (open_calls h) → (at_object h w == q) ≡ here w) where
   -- a call that waits there stands in its queue
-  stands : (w : WaitingCall) → In w (open_calls h) → here w ≡ true
+  pub stands : (w : WaitingCall) → In w (open_calls h) → here w ≡ true
       → InQueue (waiter h w) (queue q)
   stands w i t =
       let test : (at_object h w == q) ≡ true = agrees w i ∙ t in

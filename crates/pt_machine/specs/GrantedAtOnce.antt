@@ -1,6 +1,6 @@
 -- GrantedAtOnce: a call for a lock that is granted as it comes, and its entry with its Grant.
-use Rattle.std.specs.Prelude.{ℕ, ◌≡◌, ◌+◌, ◌||◌, Bool, true, false, List, Some, None, is_some}
-use Rattle.std.specs.Prelude.{is_none}
+use Rattle.std.specs.Prelude.{ℕ, ◌≡◌, ◌+◌, ◌<◌, ◌||◌, ◌==◌, Bool, true, false, List, Some, None}
+use Rattle.std.specs.Prelude.{is_none, is_some, unwrap_or}
 use Rattle.pt_types.specs.declared.call.Call.{Call as Asked}
 use Rattle.pt_types.specs.declared.call.How.{How}
 use Rattle.pt_types.specs.declared.operations.LockKind.{LockKind}
@@ -12,11 +12,15 @@ use Rattle.pt_rwlock.specs.RwlockState.{RwlockState, nobody_holds}
 use Rattle.pt_model.specs.declared.entry.Entry.{Entry}
 use Rattle.pt_model.specs.declared.entry.Entry.TheVariants.{Call}
 use Rattle.pt_model.specs.declared.entry.Event.TheVariants as event
+use Rattle.pt_model.specs.Searches.{In}
 use Rattle.pt_model.specs.Histories.{History}
+use Rattle.pt_model.specs.Clients.{client}
 use Rattle.pt_model.specs.Objects.{find}
 use Rattle.pt_model.specs.Mutexes.{consistency, owner}
 use Rattle.pt_model.specs.Rwlocks.{reader, writer}
-use Rattle.pt_model.specs.Verdicts.{is_awaited}
+use Rattle.pt_model.specs.declared.waiting_call.WaitingCall.{WaitingCall}
+use Rattle.pt_model.specs.Answers.{open_calls}
+use Rattle.pt_model.specs.Moves.{at_object}
 use Rattle.pt_model.specs.Room.{entry_for, reserved_for}
 use Rattle.pt_model.specs.Forced.{forced, service}
 use Rattle.pt_model.specs.Grants.{grant_outcome}
@@ -44,7 +48,12 @@ IsFreeLock MutexLock x = ⊥
 IsFreeLock ReadLock x = x.writer ≡ None
 IsFreeLock WriteLock x = nobody_holds x ≡ true
 
--- a call for a lock that is free and for which nobody waits, without a deadline
+-- each call that waits at an object has a lower priority than this  [XSH 2.8.4]
+abbrev pub IsAhead : History → ℕ → ℕ → Type 0
+IsAhead h p o =
+    (w : WaitingCall) → In w (open_calls h) → (at_object h w == o) ≡ true → w.priority < p
+
+-- a call for a lock that is free, ahead of those that wait for it, without a deadline
 -- [XSH pthread_mutex_lock, pthread_rwlock_rdlock, pthread_rwlock_wrlock]
 pub record IsGrantedAtOnce (h : History) (c : ℕ) (call : Asked) : Type 0 where
   pub name : List ℕ
@@ -56,7 +65,7 @@ pub record IsGrantedAtOnce (h : History) (c : ℕ) (call : Asked) : Type 0 where
   pub untimed : good_of (asked (operation call)) ≡ None
   pub found : find h name (class_needed kind) ≡ Some object
   pub free : IsFree h kind object
-  pub alone : is_awaited h object ≡ false
+  pub ahead : IsAhead h (unwrap_or (client h c) 0) object
 
 -- whether an operation is a call for a mutex  [XSH pthread_mutex_lock]
 abbrev pub asks_for_mutex : Operation → Bool

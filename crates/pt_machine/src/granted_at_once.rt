@@ -1,9 +1,10 @@
 //! Calls for a lock that is free: each is pushed with its Grant, and stands in no queue.
 
 ghost use Rattle.std.specs.Prelude.{IfErr, IfOk, IsOk, None, OnErr, OnOk, Some, ◌&&◌, false, ◌≡◌};
-ghost use Rattle.std.specs.Prelude.{if◌then◌else◌};
+ghost use Rattle.std.specs.Prelude.{if◌then◌else◌, unwrap_or};
 ghost use Rattle.pt_types.specs.MutexTable.{is_acquired as is_acquired_it};
 ghost use Rattle.pt_model.specs.Answers.{outcome};
+ghost use Rattle.pt_model.specs.Clients.{client};
 ghost use Rattle.pt_model.specs.Histories.{place};
 ghost use Rattle.std.specs.Bool.{OnTrue};
 ghost use Rattle.pt_model.specs.declared.entry.Event.TheVariants as event_is;
@@ -14,8 +15,9 @@ ghost use Rattle.pt_types.specs.Operations.{operation, operation as operation_me
 ghost use Rattle.pt_types.specs.Shown.{shown_operation};
 ghost use Rattle.pt_state.specs.Outer.{asks_to_read};
 ghost use Rattle.pt_state.specs.Requests.{IsRequest};
-ghost use Rattle.pt_machine.specs.GrantedAtOnce.{AddsBoth, AddsGranted, IsForMutex, IsFree};
-ghost use Rattle.pt_machine.specs.GrantedAtOnce.{IsFreeLock, IsGrantedAtOnce, IsReadyAfter};
+ghost use Rattle.pt_machine.specs.GrantedAtOnce.{AddsBoth, AddsGranted, IsAhead, IsForMutex};
+ghost use Rattle.pt_machine.specs.GrantedAtOnce.{IsFree, IsFreeLock, IsGrantedAtOnce};
+ghost use Rattle.pt_machine.specs.GrantedAtOnce.{IsReadyAfter};
 ghost use Rattle.pt_machine.specs.GrantedAtOnce.{asks_for_mutex as asks_for_mutex_of};
 ghost use Rattle.pt_machine.specs.Memory.{needs_memory};
 ghost use Rattle.pt_machine.specs.Planned.{HasOperation, HasRequest, IsAtOnce, IsPlanned};
@@ -173,8 +175,22 @@ fn push_both<A: Allocator + Copy>(
 }
 
 impl<Q: WaitList, A: Allocator + Copy> Body<Q, A> {
-    // Whether a call is one for a lock that is granted as it comes: the lock is free, no call
-    // waits for it, and the call has no deadline that could pass.
+    // Whether a call of the client would go before all that wait at the object, by its priority.
+    // [XSH 2.8.4]
+    #[inline(always)]
+    fn is_ahead(&self, c: ClientId, o: ObjectId) -> bool
+        requires { AreTables self.now }
+        ensures { let h = past self.now in
+            OnTrue result (IsAhead h (unwrap_or (client h c) 0) o) }
+    {
+        match self.queues.first(o) {
+            Some(first) => (first.prio.level() as u64) < self.state.priority_of(c),
+            None => true,
+        }
+    }
+
+    // Whether a call is one for a lock that is granted as it comes: the lock is free, those that
+    // wait for it have a lower priority, and the call has no deadline that could pass.
     // [XSH pthread_mutex_lock, pthread_rwlock_rdlock, pthread_rwlock_wrlock]
     #[inline(always)]
     fn is_granted_at_once(
@@ -197,7 +213,7 @@ impl<Q: WaitList, A: Allocator + Copy> Body<Q, A> {
                 answer.is_none()
                     && good_deadline(call).is_none()
                     && is_free(&self.state, *kind, o)
-                    && !self.is_awaited(o)
+                    && self.is_ahead(c, o)
             }
             _ => false,
         }

@@ -1,0 +1,46 @@
+-- QueueAhead: the first of a queue tells the greatest priority of those that wait there.
+use Rattle.std.proofs.Common.{◌≡◌, ℕ, ◌==◌, ◌<◌, Bool, true, false, List, Option, Some, None, refl}
+use Rattle.std.proofs.Common.{sym, ◌∙◌, arith}
+use Rattle.std.proofs.lemmas.Bool.Decides.{nat_tests}
+use Rattle.std.specs.Prelude.{nat_lt}
+use Rattle.pt_types.specs.declared.key_order.Key.{Key}
+use Rattle.pt_types.specs.KeyOrder.{goes_before}
+use Rattle.pt_waitq.specs.declared.waiter.Waiter.{Waiter}
+use Rattle.pt_waitq.specs.Members.{Members}
+use Rattle.pt_waitq.specs.Queues.{head_of, key_of}
+use Rattle.pt_waitq.proofs.MemberLemmas.{head-first, head-none}
+use Rattle.pt_model.specs.Histories.{History}
+use Rattle.pt_model.specs.declared.waiting_call.WaitingCall.{WaitingCall}
+use Rattle.pt_model.specs.Answers.{open_calls}
+use Rattle.pt_model.specs.Moves.{at_object}
+use Rattle.pt_model.specs.Steps.{Follows}
+use Rattle.pt_machine.specs.GrantedAtOnce.{IsAhead}
+use Rattle.pt_machine.specs.Queued.{waiter}
+use Rattle.pt_machine.proofs.QueueFirsts.{stands}
+
+-- what does not go before another has no higher priority
+no_higher : (a b : Key) (p : ℕ) → goes_before a b ≡ false → b.priority < p → a.priority < p
+no_higher a b p e lt = go (nat_lt b.priority a.priority) refl
+  where
+    go : (t : Bool) → nat_lt b.priority a.priority ≡ t → a.priority < p
+    go true s = absurd cc
+    go false s = grind (arith, nat_tests)
+
+module _ (h : History) (queue : ℕ → List Waiter)
+    (m : Members (at_object h) (waiter h) (open_calls h) queue) (follows : Follows h) (q p : ℕ)
+    (first : Option Waiter) (e : first ≡ head_of (queue q)) where
+  abbrev here : WaitingCall → Bool
+  here w = at_object h w == q
+
+  -- all have a lower priority than this if none waits
+  pub ahead-none : first ≡ None → IsAhead h p q
+  ahead-none s =
+      λ w i t. absurd (head-none (queue q) (sym e ∙ s) (waiter h w)
+      (stands h queue m follows q here (λ w i. refl) w i t))
+
+  -- or if the first has
+  pub ahead-first : (v : Waiter) → first ≡ Some v → v.prio < p → IsAhead h p q
+  ahead-first v s lt =
+      λ w i t. no_higher (key_of (waiter h w)) (key_of v) p
+      (head-first (queue q) v (m.in_order q) (sym e ∙ s) (waiter h w)
+      (stands h queue m follows q here (λ w i. refl) w i t)) lt
