@@ -29,7 +29,7 @@ use Rattle.pt_model.specs.Answers.{open_calls}
 use Rattle.pt_model.specs.Forced.{forced, service}
 use Rattle.pt_model.specs.Grants.{grant_outcome}
 use Rattle.pt_model.specs.Room.{need, reserved_for}
-use Rattle.pt_model.specs.Steps.{Follows}
+use Rattle.pt_model.specs.Steps.{Follows, Step}
 use Rattle.pt_records.specs.declared.clients.Open.{Open}
 use Rattle.pt_records.specs.Callers.{call_of, open_in}
 use Rattle.pt_records.specs.Counts.{one_if}
@@ -51,6 +51,7 @@ use Rattle.pt_machine.specs.Planned.{IsPlanned}
 use Rattle.pt_machine.specs.Queued.{IsQueued}
 use Rattle.pt_machine.specs.Reserved.{IsReserved, gives_owner}
 use Rattle.pt_machine.specs.Timed.{AreTimed}
+use Rattle.pt_machine.proofs.GrantedAtRest.{rests}
 use Rattle.pt_machine.proofs.GrantsAtOnce.{after, comes, comes-open, comes-stays, granted, grants}
 use Rattle.pt_machine.proofs.GrantsAtOnce.{owner_kept, queued, serves, stands, timed}
 use Rattle.pt_machine.proofs.NeedSteps.{reserved-outer}
@@ -180,6 +181,16 @@ module _ {A : Type 0} (old mid : State A) (c : ℕ) (call : Asked)
             ∙ (ap (λ e. past mid ▷ e)
             (serves_it ∙ grants h ready.read.follows c call had ready.step)
             ∙ ap (λ y. y ▷ Grant (place h) (grant_outcome g its)) same)
+
+        -- nothing must follow
+        pub rests-granted : IsReadyFor mid (service (past mid) (called o))
+            → forced (past new) ≡ None
+        rests-granted r =
+            ap forced ends
+            ∙ rests h ready.read.follows c call had ready.step
+            (subst (λ e. Step g e)
+            (serves_it ∙ grants h ready.read.follows c call had ready.step)
+            (subst (λ (y : History). Step y (service (past mid) (called o))) same r.step))
 
         -- the call is answered so
         pub told-granted : (y : Outcome) → y ≡ grant_outcome (past mid) (called o)

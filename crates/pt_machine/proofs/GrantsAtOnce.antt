@@ -220,7 +220,7 @@ module _ (h : History) (f : Follows h) (c : ℕ) (call : Asked) (had : IsGranted
       go WriteLock e free (Some (kind_is.Barrier n)) t = absurd cc
 
   -- what is touched is the lock
-  touches : touched after ≡ Some had.object
+  pub touches : touched after ≡ Some had.object
   touches =
       ap (goal_of_operation h) had.asks ∙ ap (λ o. Some (unwrap_or o 0)) had.found
 
@@ -246,7 +246,7 @@ module _ (h : History) (f : Follows h) (c : ℕ) (call : Asked) (had : IsGranted
     remains w = not (w.place == place h)
 
     -- the open calls are those before it came
-    same_open : open_calls granted ≡ open_calls h
+    pub same_open : open_calls granted ≡ open_calls h
     same_open =
         open-grant after (place h) x
         ∙ (ap (filter remains) opens

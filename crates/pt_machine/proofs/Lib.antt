@@ -14,6 +14,8 @@ pub mod OpenRowCalls
 pub mod CandidateRows
 -- GrantsAtOnce: a call for a free lock, ahead of those that wait for it, is granted as it comes
 pub mod GrantsAtOnce
+-- GrantedAtRest: nothing must follow the Grant of a call that is granted as it comes
+pub mod GrantedAtRest
 -- GrantedStates: the tables after a call that is granted as it comes, and after its Grant
 pub mod GrantedStates
 -- LastTouches: what is touched, and whose call came last, as entries are pushed

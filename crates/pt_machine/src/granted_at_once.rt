@@ -5,6 +5,7 @@ ghost use Rattle.std.specs.Prelude.{if◌then◌else◌, unwrap_or};
 ghost use Rattle.pt_types.specs.MutexTable.{is_acquired as is_acquired_it};
 ghost use Rattle.pt_model.specs.Answers.{outcome};
 ghost use Rattle.pt_model.specs.Clients.{client};
+ghost use Rattle.pt_model.specs.Forced.{forced};
 ghost use Rattle.pt_model.specs.Histories.{place};
 ghost use Rattle.std.specs.Bool.{OnTrue};
 ghost use Rattle.pt_model.specs.declared.entry.Event.TheVariants as event_is;
@@ -245,6 +246,7 @@ impl<Q: WaitList, A: Allocator + Copy> Body<Q, A> {
     }
 
     /// The entry of a call that is granted as it comes, and its Grant. The outcome is returned.
+    /// Nothing must follow then, since the call has passed those that may still wait for the lock.
     /// ENOMEM if there is no memory for its row in a read-write lock: then nothing is pushed.
     /// [XSH pthread_mutex_lock, pthread_rwlock_rdlock, pthread_rwlock_wrlock]
     #[inline(always)]
@@ -262,6 +264,7 @@ impl<Q: WaitList, A: Allocator + Copy> Body<Q, A> {
             (AddsBoth self.old (entry_is.Call c call.now None) self.new) }
         ensures told { IfOk result (λ x.
             outcome (past self.new) (place (past self.old)) ≡ Some x) }
+        ensures rests { OnOk result (forced (past self.new) ≡ None) }
         ensures err { OnErr result (Stays self.old self.new) }
         ensures reason { IfErr result (λ refusal. refusal ≡ Refusal.Enomem) }
         ensures enough { needs_memory (entry_is.Call c call.now None) ≡ false → IsOk result }

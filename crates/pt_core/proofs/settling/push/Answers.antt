@@ -49,9 +49,9 @@ push_granted_at_once-requires-clause-next g c =
     subst (λ (e : Entry). IsReadyAfter s e) known
     (ready-after s c.args.event.now c.requires.open c.requires.accepted)
 
-pub returns-in_ok-push_granted_at_once-in-Call-clause-ok :
-    goal.returns-in_ok-push_granted_at_once-in-Call-clause-ok
-returns-in_ok-push_granted_at_once-in-Call-clause-ok g c =
+pub returns-in_ok-outcome-in-Call-clause-ok :
+    goal.returns-in_ok-outcome-in-Call-clause-ok
+returns-in_ok-outcome-in-Call-clause-ok g c =
     let s = c.args.body.now in
     let new = c.push_granted_at_once.new.self in
     let known : entry_for (past s) c.args.event.now ≡ Call c.in-Call.c c.in-Call.call None =
@@ -60,7 +60,7 @@ returns-in_ok-push_granted_at_once-in-Call-clause-ok g c =
     c.in-Call.c c.in-Call.call c.in-Call.is c.if-plan.true).waits in
     begins-both s c.args.event.now c.requires.open c.requires.accepted new
     (subst (λ (e : Entry). AddsBoth s e new) (sym known)
-    c.in_ok-push_granted_at_once-in-Call.ensures.ok)
+    c.in_ok-outcome-in-Call.ensures.ok)
 
 pub returns-in_ok-push_outer-in_default-clause-ok :
     goal.returns-in_ok-push_outer-in_default-clause-ok
@@ -72,9 +72,9 @@ pub push_outer-requires-clause-ready : goal.push_outer-requires-clause-ready
 push_outer-requires-clause-ready g c =
     ready-outer c.args.body.now c.args.event.now c.requires.open c.requires.accepted
 
-pub returns-in_ok-push_granted_at_once-in-Call-clause-told :
-    goal.returns-in_ok-push_granted_at_once-in-Call-clause-told
-returns-in_ok-push_granted_at_once-in-Call-clause-told g c = λ u st.
+pub returns-in_ok-outcome-in-Call-clause-told :
+    goal.returns-in_ok-outcome-in-Call-clause-told
+returns-in_ok-outcome-in-Call-clause-told g c = λ u st.
     let s = c.args.body.now in
     let new = c.push_granted_at_once.new.self in
     let known : entry_for (past s) c.args.event.now ≡ Call c.in-Call.c c.in-Call.call None =
@@ -83,12 +83,12 @@ returns-in_ok-push_granted_at_once-in-Call-clause-told g c = λ u st.
     c.in-Call.c c.in-Call.call c.in-Call.is c.if-plan.true).waits in
     let begins = begins-both s c.args.event.now c.requires.open c.requires.accepted new
     (subst (λ (e : Entry). AddsBoth s e new) (sym known)
-    c.in_ok-push_granted_at_once-in-Call.ensures.ok) in
-    let x = c.in_ok-push_granted_at_once-in-Call.field-0 in
+    c.in_ok-outcome-in-Call.ensures.ok) in
+    let x = c.in_ok-outcome-in-Call.outcome in
     subst (λ (v : Event). IsToldStill v (Some x) (past_of u) (place (past s)))
     (sym c.in-Call.is)
     (told-settled new.stored u (place (past s)) x
-    begins.roomy.read.follows st.settling c.in_ok-push_granted_at_once-in-Call.ensures.told)
+    begins.roomy.read.follows st.settling c.in_ok-outcome-in-Call.ensures.told)
 
 pub returns-in_ok-push_outer-in_default-clause-told :
     goal.returns-in_ok-push_outer-in_default-clause-told

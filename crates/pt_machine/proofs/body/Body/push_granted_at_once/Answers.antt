@@ -7,8 +7,8 @@ use Rattle.pt_state.specs.Adds.{IsReadyFor, past}
 use Rattle.pt_machine.specs.GrantedAtOnce.{IsGrantedAtOnce, IsReadyAfter}
 use Rattle.pt_machine.specs.Planned.{IsPlanned}
 use Rattle.pt_machine.proofs.GrantedStates.{must-follow, uses, reserves}
-use Rattle.pt_machine.proofs.GrantedStates.{queued-granted, timed-granted, told-granted}
-use Rattle.pt_machine.proofs.GrantedStates.{touched-granted}
+use Rattle.pt_machine.proofs.GrantedStates.{queued-granted, rests-granted, timed-granted}
+use Rattle.pt_machine.proofs.GrantedStates.{told-granted, touched-granted}
 use Rattle.pt_machine.proofs.NeedSteps.{reserved-forced}
 use Rattle.pt_machine.proofs.body.Body.push_granted_at_once.Goals as goal
 
@@ -97,3 +97,18 @@ returns-clause-told g c =
     rw (← c.self.view_is)
     (told-granted old both.mid c.args.c c.args.call.now ready granted both.first both.its
     both.found c.push_both.new.state both.second c.in_ok-granted.granted.outcome both.told)
+
+pub returns-clause-rests : goal.returns-clause-rests
+returns-clause-rests g c =
+    let old = c.self.inside.state in
+    let e = Call c.args.c c.args.call.now None in
+    let ready : IsReadyFor old e = rw c.self.view_is c.requires.ready in
+    let granted : IsGrantedAtOnce (past old) c.args.c c.args.call.now =
+    rw c.self.view_is c.requires.granted in
+    let after : IsReadyAfter old e = rw c.self.view_is c.requires.next in
+    let both = c.in_ok-granted.ensures.ok in
+    let must = must-follow old both.mid c.args.c c.args.call.now ready granted both.first both.its
+    both.found in
+    rests-granted old both.mid c.args.c c.args.call.now ready granted both.first both.its
+    both.found c.push_both.new.state both.second
+    (after both.mid both.first (service (past both.mid) both.its.call) must)
