@@ -129,7 +129,8 @@ fn push_left_and_granted<A: Allocator + Copy>(
     ensures enough { asks_to_read (operation call.now) ≡ false → IsOk result }
 {
     state.push_left(c, call, request)?;
-    let open = state.open_of(c).copied().unwrap();
+    let found = state.open_of(c).unwrap();
+    let open = *found;
     let used = used_by_grant(state, &open);
     let outcome = state.grant_outcome(&open);
     state.push_granted(&open);
