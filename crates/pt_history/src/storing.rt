@@ -130,6 +130,7 @@ impl<A: Allocator + Copy> Records<A> {
     }
 
     // A call whose client's number fits.
+    #[inline(always)]
     fn store_short_call(
         &mut self,
         base: u64,
