@@ -1,5 +1,5 @@
 -- The answer of a call's own entry is the call's answer still, after the forced entries.
-use Rattle.std.proofs.Common.{◌≡◌, ℕ, ◌+◌, ◌==◌, List, [], ◌∷◌, Option, Some, None, is_some}
+use Rattle.std.proofs.Common.{◌≡◌, ℕ, suc, ◌+◌, ◌==◌, List, [], ◌∷◌, Option, Some, None, is_some}
 use Rattle.std.proofs.Common.{true, length, refl, sym, ap, ◌∙◌, subst, arith, append_assoc}
 use Rattle.std.proofs.lemmas.Bool.Decides.{nat_tests}
 use Rattle.std.specs.Option.{option_or}
@@ -13,8 +13,9 @@ use Rattle.pt_model.specs.Answers.{outcome, outcome_in, told}
 use Rattle.pt_model.specs.Room.{refusal, entry_for}
 use Rattle.pt_model.specs.StartRows.{StartRows, reads_of}
 use Rattle.pt_model.specs.Steps.{Step, Follows}
-use Rattle.pt_model.proofs.Histories.{onto-append}
+use Rattle.pt_model.proofs.Histories.{onto-append, place-onto}
 use Rattle.pt_model.proofs.Once.{answers-unanswered}
+use Rattle.pt_model.proofs.Sound.{Fresh-follows}
 use Rattle.pt_model.proofs.Steps.{step-forced}
 use Rattle.pt_history.specs.Stored.{Stored, past_of}
 use Rattle.pt_history.proofs.Places.{past-pushed, place_of_next}
@@ -46,6 +47,11 @@ told-called : (h : History) (c : ℕ) (call : _) (x : Outcome)
     → outcome (h ▷ Call c call (Some x)) (place h) ≡ Some x
 told-called h c call x =
     let there : (place h == place h) ≡ true = grind (arith, nat_tests) in rw there refl
+
+-- no entry follows where the list of them has no length
+empty : (fs : List Entry) → length fs ≡ 0 → fs ≡ []
+empty [] e = refl
+empty (f ∷ fs) e = absurd (omega arith)
 
 module _ (old new : Stored) (v : Event) (r : IsReady old v) (ok : refusal (past_of old) v ≡ None)
     (e : Enters old v new) where
@@ -79,7 +85,17 @@ module _ (old new : Stored) (v : Event) (r : IsReady old v) (ok : refusal (past_
           entered_follows e.added.2
           (subst (λ (n : Entry). outcome (past_of old ▷ n) (place (past_of old)) ≡ Some x) same
           (told-called (past_of old) c call x)))
-      go (event.Call c call) None same = tt
+      go (event.Call c call) None same = λ at.
+          let long : suc (place (past_of old)) + length e.added.0 ≡ suc first =
+          sym (place-onto (past_of old ▷ entry_for (past_of old) v) e.added.0)
+          ∙ (sym (ap place entered_past) ∙ at) in
+          let none : e.added.0 ≡ [] = empty e.added.0 (omega (arith, long, at_place)) in
+          ap (λ j. outcome (past_of new) j) at_place
+          ∙ (ap (λ (h : History). outcome h (place (past_of old)))
+          (entered_past ∙ ap (onto (past_of old ▷ entry_for (past_of old) v)) none)
+          ∙ subst (λ (n : Entry). outcome (past_of old ▷ n) (place (past_of old)) ≡ None) same
+          ((Fresh-follows (past_of old) entered_follows.0).answers (place (past_of old))
+          (omega arith)))
       go (event.Join p) a same = tt
       go (event.Death c) a same = tt
       go (event.Moment k t) a same = tt

@@ -1,6 +1,6 @@
 //! One accepted event, written without a seal.
 
-ghost use Rattle.std.specs.Prelude.{◌≡◌, ◌≤◌, None, true, false, IfOk, IfErr, IsOk, OnErr};
+ghost use Rattle.std.specs.Prelude.{◌≡◌, ◌≤◌, ◌<◌, ◌+◌, length, None, true, false, IfOk, IfErr, IsOk, OnErr};
 ghost use Rattle.pt_model.specs.Room.{refusal as refusal_in, entry_for};
 ghost use Rattle.pt_state.specs.Adds.{past};
 ghost use Rattle.pt_state.specs.Reads.{AreTables};
@@ -36,7 +36,8 @@ pub fn told<Q: WaitList, A: Allocator + Copy>(
     }
 }
 
-// The answer that an event's own call has by now: the one that it had as it came, if it had one.
+// The answer that an event's own call has by now: the one that it had as it came, if it had one; or
+// none, if its entry is the last.
 #[inline(always)]
 fn outcome_by_answer<Q: WaitList, A: Allocator + Copy>(
     body: &Body<Q, A>,
@@ -46,10 +47,12 @@ fn outcome_by_answer<Q: WaitList, A: Allocator + Copy>(
 ) -> Option<Outcome>
     requires read { AreTables body.now }
     requires still { IsToldStill event.now answer (past body.now) first }
+    requires some { 0 < body.now.stored.start.at + length body.now.stored.entries }
     ensures { result ≡ told_at_once event.now (past body.now) first }
 {
     match (event, answer) {
         (Event::Call(..), Some(answer)) => Some(answer),
+        (Event::Call(..), None) if body.len() - 1 == first => None,
         _ => told(body, event, first),
     }
 }

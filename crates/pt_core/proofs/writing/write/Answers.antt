@@ -1,4 +1,5 @@
-use Rattle.std.proofs.Common.{◌≡◌, false, None, sym, ap, ◌∙◌, subst}
+use Rattle.std.proofs.Common.{◌≡◌, false, None, sym, ap, ◌∙◌, subst, length, length-append}
+use Rattle.std.proofs.Common.{arith}
 use Rattle.std.specs.Prelude.{IsOk}
 use Rattle.pt_model.specs.Histories.{History}
 use Rattle.pt_model.specs.Room.{entry_for, refusal}
@@ -33,6 +34,13 @@ outcome_by_answer-outcome-requires-clause-still g c =
     let made = c.make_room.new.body.stored in
     subst (λ n. IsToldStill c.args.event.now c.in-Ok.answer (past_of c.enter.new.body.stored) n)
     (sym (c.len-first.ensures ∙ sym (place_of_next made))) c.in-Ok.ensures.told
+
+-- an entry was added
+pub outcome_by_answer-outcome-requires-clause-some :
+    goal.outcome_by_answer-outcome-requires-clause-some
+outcome_by_answer-outcome-requires-clause-some g c =
+    let more = simp length-append at (ap length c.in-Ok.ensures.ok.added.1) in
+    omega (arith, more)
 
 pub returns-in-Err-enter-clause-err : goal.returns-in-Err-enter-clause-err
 returns-in-Err-enter-clause-err g c =
