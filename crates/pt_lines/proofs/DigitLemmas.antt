@@ -2,11 +2,11 @@
 use Rattle.std.proofs.Common.{◌≡◌, ◌<◌, ◌≤◌, ◌+◌, ◌*◌, ◌/◌, ◌%◌, ◌^◌, ◌∙◌, ◌&&◌, ◌⊎◌, ◌==◌, ℕ}
 use Rattle.std.proofs.Common.{zero, suc, Bool, true, List, [], ◌∷◌, ◌++◌, length, get_or, refl, ap}
 use Rattle.std.proofs.Common.{subst, arith, inl, inr, decimal, append_assoc, length-append, take}
-use Rattle.std.proofs.Common.{zero-add}
+use Rattle.std.proofs.Common.{◌-◌, sym, zero-add}
 use Rattle.std.proofs.lemmas.Bool.{cases_lt, eqb-true}
 use Rattle.std.proofs.lemmas.Fmt.{decimal_digit, length-decimal-le}
 use Rattle.itoa.proofs.Decimal.{decimal_two, decimal_pair}
-use Rattle.pt_lines.specs.declared.reply.TheConstants.{PAIRS}
+use Rattle.pt_lines.specs.declared.appending.TheConstants.{PAIRS}
 use Rattle.pt_lines.proofs.TestLemmas.{and_parts}
 
 -- the two digits of a number below 100
@@ -65,6 +65,21 @@ decimal_two_pairs n le fits =
     ∙ ap (λ ds. ds ++ pair (n % 100)) (decimal_pair (n / 100) (omega arith) (omega arith))
     ∙ ap (λ m. (decimal m ++ pair (n / 100 % 100)) ++ pair (n % 100)) same
     ∙ append_assoc (decimal (n / 10000)) (pair (n / 100 % 100)) (pair (n % 100))
+
+-- the same, where each pair is what is left of a difference
+pub pair_left : (n : ℕ) → n - 100 * (n / 100) ≡ n % 100
+pair_left n = omega arith
+
+pub decimal_two_left :
+    (n : ℕ) → 10000 ≤ n → n < 2 ^ 64
+    → decimal n
+    ≡ decimal (n / 10000) ++ (pair (n / 100 - 100 * (n / 10000)) ++ pair (n - 100 * (n / 100)))
+decimal_two_left n le fits =
+    let hundreds : n / 100 % 100 ≡ n / 100 - 100 * (n / 10000) = omega arith in
+    decimal_two_pairs n le fits
+    ∙ ap (λ m. decimal (n / 10000) ++ (pair m ++ pair (n % 100))) hundreds
+    ∙ ap (λ m. decimal (n / 10000) ++ (pair (n / 100 - 100 * (n / 10000)) ++ pair m))
+    (sym (pair_left n))
 
 pub length_four_more :
     (n : ℕ) → 10000 ≤ n → n < 2 ^ 64 → length (decimal n) ≡ length (decimal (n / 10000)) + 4

@@ -208,6 +208,15 @@ impl ClientName {
         &self.block[..MOST.min(self.len as usize)]
     }
 
+    /// The block that begins with the bytes of the name, and how many they are.
+    #[inline(always)]
+    pub(crate) fn filled(&self) -> ([u8; MOST], usize)
+        ensures short { result.1 ≤ 8 }
+        ensures bytes { take result.1 result.0 ≡ self.now }
+    {
+        (self.block, MOST.min(self.len as usize))
+    }
+
     /// A second name of the same bytes. It takes no memory.
     pub fn copied(&self) -> ClientName
         ensures { result ≡ self.now }
@@ -290,6 +299,19 @@ impl Who {
             Who::Named(name) => name.as_bytes(),
             Who::Star => b"*",
             Who::Unknown => b"?",
+        }
+    }
+
+    /// A block that begins with the bytes that are printed for it, and how many they are.
+    #[inline(always)]
+    pub(crate) fn filled(&self) -> ([u8; MOST], usize)
+        ensures short { result.1 ≤ 8 }
+        ensures bytes { take result.1 result.0 ≡ who_text self.now }
+    {
+        match self {
+            Who::Named(name) => name.filled(),
+            Who::Star => (*b"*.......", 1),
+            Who::Unknown => (*b"?.......", 1),
         }
     }
 

@@ -7,6 +7,7 @@
 //! is left.
 #![tactic(auto)]
 
+mod appending;
 mod arguments;
 mod call_line;
 mod client;

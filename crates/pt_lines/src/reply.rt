@@ -1,9 +1,10 @@
 ghost use Rattle.std.specs.Prelude.{◌≡◌, ◌≤◌, ◌<◌, ◌+◌, ◌++◌, IsOk, OnOk, OnErr, IfErr, length};
-ghost use Rattle.std.specs.Prelude.{vec_len, vec_capacity, decimal, ◌/◌, ◌%◌, ◌∷◌, [], Some, take};
+ghost use Rattle.std.specs.Prelude.{vec_len, vec_capacity, decimal, ◌∷◌, [], Some, take};
 ghost use Rattle.std.specs.Option.{option_copied};
 ghost use Rattle.pt_types.specs.Words.{outcome_word, refusal_word};
 ghost use Rattle.pt_lines.specs.Replies.{answer_word, reply_line, sender};
 
+use crate::appending::{append_filled, append_number, put_back, taken};
 use crate::client::{ClientName, Who};
 use itoa::Buffer;
 use pt_types::{Outcome, Refusal};
@@ -12,14 +13,11 @@ use std::alloc::Allocator;
 // The least number that has more than six digits, as few have.
 const FEW_DIGITS_END: u64 = 1_000_000;
 
-// How many bytes the answer `0` to a client's line has at most, if its number has few digits.
-const MOST_OF_DONE: usize = 18;
+// How many bytes an answer has at most whose number has few digits.
+const MOST_OF_FEW: usize = 32;
 
 // How many bytes a word and a newline have at most.
 const MOST_OF_WORD: usize = 16;
-
-// How many bytes follow the client at most, if the number has few digits.
-const MOST_BEHIND: usize = 23;
 
 /// What a line is answered: the outcome of an accepted call, or why it is not accepted.
 #[derive(Clone, Copy, Debug, PartialEq, Eq)]
@@ -42,14 +40,6 @@ impl Word {
         }
     }
 }
-
-// The two digits of each number below 100.
-const PAIRS: [u8; 200] = *b"\
-    0001020304050607080910111213141516171819\
-    2021222324252627282930313233343536373839\
-    4041424344454647484950515253545556575859\
-    6061626364656667686970717273747576777879\
-    8081828384858687888990919293949596979899";
 
 // How many bytes are before the number of the line.
 fn sender_len(who: Option<&Who>) -> usize
@@ -88,77 +78,19 @@ fn append_sender<A: Allocator + Copy>(out: &mut Vec<u8, A>, who: Option<&Who>)
     }
 }
 
-// Appends two digits, for which there is room.
-fn append_pair<A: Allocator + Copy>(out: &mut Vec<u8, A>, n: u64)
-    requires below { n < 100 }
-    requires room { vec_len out.old + 2 ≤ vec_capacity out.old }
-    ensures items { out.new.items ≡ out.old.items ++ (48 + n / 10) ∷ (48 + n % 10) ∷ [] }
-    ensures len { vec_len out.new ≡ vec_len out.old + 2 }
-    ensures capacity { vec_capacity out.new ≡ vec_capacity out.old }
-{
-    let place = 2 * n as usize;
-    out.push_reserved(PAIRS[place]);
-    out.push_reserved(PAIRS[place + 1]);
-}
-
-// Appends a number of one digit or two, for which there is room.
-fn append_below_100<A: Allocator + Copy>(out: &mut Vec<u8, A>, n: u64)
-    requires below { n < 100 }
-    requires room { vec_len out.old + length (decimal n) ≤ vec_capacity out.old }
-    ensures items { out.new.items ≡ out.old.items ++ decimal n }
-    ensures len { vec_len out.new ≡ vec_len out.old + length (decimal n) }
-    ensures capacity { vec_capacity out.new ≡ vec_capacity out.old }
-{
-    if n < 10 {
-        out.push_reserved(b'0' + n as u8);
-    } else {
-        append_pair(out, n);
-    }
-}
-
-// Appends a number of at most four digits, for which there is room.
-fn append_below_10000<A: Allocator + Copy>(out: &mut Vec<u8, A>, n: u64)
-    requires below { n < 10000 }
-    requires room { vec_len out.old + length (decimal n) ≤ vec_capacity out.old }
-    ensures items { out.new.items ≡ out.old.items ++ decimal n }
-    ensures len { vec_len out.new ≡ vec_len out.old + length (decimal n) }
-    ensures capacity { vec_capacity out.new ≡ vec_capacity out.old }
-{
-    if n < 100 {
-        append_below_100(out, n);
-    } else {
-        append_below_100(out, n / 100);
-        append_pair(out, n % 100);
-    }
-}
-
-// Appends a number of five digits or six, for which there is room.
-fn append_below_1000000<A: Allocator + Copy>(out: &mut Vec<u8, A>, n: u64)
-    requires above { 10000 ≤ n }
-    requires below { n < 1000000 }
-    requires room { vec_len out.old + length (decimal n) ≤ vec_capacity out.old }
-    ensures items { out.new.items ≡ out.old.items ++ decimal n }
-    ensures len { vec_len out.new ≡ vec_len out.old + length (decimal n) }
-    ensures capacity { vec_capacity out.new ≡ vec_capacity out.old }
-{
-    append_below_100(out, n / 10_000);
-    append_pair(out, n / 100 % 100);
-    append_pair(out, n % 100);
-}
-
-// Appends a number of at most six digits, for which there is room.
+// Appends what is before the number of the line, where there is room for what fills a client up
+// too.
 #[inline(always)]
-fn append_number<A: Allocator + Copy>(out: &mut Vec<u8, A>, n: u64)
-    requires below { n < 1000000 }
-    requires room { vec_len out.old + length (decimal n) ≤ vec_capacity out.old }
-    ensures items { out.new.items ≡ out.old.items ++ decimal n }
-    ensures len { vec_len out.new ≡ vec_len out.old + length (decimal n) }
+fn append_who<A: Allocator + Copy>(out: &mut Vec<u8, A>, who: Option<&Who>)
+    requires { vec_len out.old + 9 ≤ vec_capacity out.old }
+    ensures items { out.new.items ≡ out.old.items ++ sender (option_copied who.entry) }
+    ensures short { vec_len out.new ≤ vec_len out.old + 9 }
     ensures capacity { vec_capacity out.new ≡ vec_capacity out.old }
 {
-    if n < 10_000 {
-        append_below_10000(out, n);
-    } else {
-        append_below_1000000(out, n);
+    if let Some(who) = who {
+        let (block, len) = who.filled();
+        append_filled(out, block, len);
+        out.push_reserved(b' ');
     }
 }
 
@@ -209,16 +141,14 @@ fn filled(word: Word) -> (&'static [u8; MOST_OF_WORD], usize)
     }
 }
 
-// Appends a word and a newline, where there is room for what fills them up too: all is copied at
-// once, and what is too much is dropped.
+// Appends a word and a newline, where there is room for what fills them up too.
+#[inline(always)]
 fn append_word<A: Allocator + Copy>(out: &mut Vec<u8, A>, word: Word)
     requires { vec_len out.old + 16 ≤ vec_capacity out.old }
     ensures { out.new.items ≡ out.old.items ++ (answer_word word ++ 10 ∷ []) }
 {
     let (text, len) = filled(word);
-    let end = out.len() + len;
-    out.extend_from_slice(text).unwrap();
-    out.truncate(end);
+    append_filled(out, *text, len);
 }
 
 // Makes room for an answer, and appends it. It isn't inlined: most answers have room, and their
@@ -257,21 +187,37 @@ fn write_any<A: Allocator + Copy>(
 #[tactic(auto, using(crate::proofs::DigitLemmas::few_digits))]
 fn append_done<A: Allocator + Copy>(out: &mut Vec<u8, A>, name: &ClientName, n: u64)
     requires below { n < 1000000 }
-    requires room { vec_len out.old + 18 ≤ vec_capacity out.old }
+    requires room { vec_len out.old + 32 ≤ vec_capacity out.old }
     ensures { out.new.items ≡ out.old.items
         ++ reply_line (Some (Who.Named name.now)) n (Word.Outcome Outcome.Done) }
 {
-    append(out, name.as_bytes());
-    out.push_reserved(b' ');
-    append_number(out, n);
-    out.push_reserved(b' ');
-    out.push_reserved(b'0');
-    out.push_reserved(b'\n');
+    let mut text = taken(out);
+    let (block, len) = name.filled();
+    append_filled(&mut text, block, len);
+    text.push_reserved(b' ');
+    append_number(&mut text, n);
+    append_filled(&mut text, *b" 0\n.", 3);
+    put_back(out, text);
+}
+
+// Appends an answer, for which there is room.
+#[inline(always)]
+#[tactic(auto, using(crate::proofs::DigitLemmas::few_digits))]
+fn append_other<A: Allocator + Copy>(out: &mut Vec<u8, A>, who: Option<&Who>, n: u64, word: Word)
+    requires below { n < 1000000 }
+    requires room { vec_len out.old + 32 ≤ vec_capacity out.old }
+    ensures { out.new.items ≡ out.old.items ++ reply_line (option_copied who.entry) n word }
+{
+    let mut text = taken(out);
+    append_who(&mut text, who);
+    append_number(&mut text, n);
+    text.push_reserved(b' ');
+    append_word(&mut text, word);
+    put_back(out, text);
 }
 
 // Appends an answer. It isn't inlined: most answers are the `0` of an accepted call.
 #[inline(never)]
-#[tactic(auto, using(crate::proofs::DigitLemmas::few_digits))]
 fn write_other<A: Allocator + Copy>(
     out: &mut Vec<u8, A>,
     who: Option<&Who>,
@@ -285,14 +231,10 @@ fn write_other<A: Allocator + Copy>(
     ensures enough { vec_len out.old + length (reply_line (option_copied who.entry) n word)
         ≤ vec_capacity out.old → IsOk result }
 {
-    let most = sender_len(who) + MOST_BEHIND;
-    if n >= FEW_DIGITS_END || out.capacity() - out.len() < most {
+    if n >= FEW_DIGITS_END || out.capacity() - out.len() < MOST_OF_FEW {
         return write_any(out, who, n, word);
     }
-    append_sender(out, who);
-    append_number(out, n);
-    out.push_reserved(b' ');
-    append_word(out, word);
+    append_other(out, who, n, word);
     Ok(())
 }
 
@@ -315,7 +257,7 @@ pub fn write_reply<A: Allocator + Copy>(
 {
     if let (Some(Who::Named(name)), Word::Outcome(Outcome::Done)) = (who, word)
         && n < FEW_DIGITS_END
-        && out.capacity() - out.len() >= MOST_OF_DONE
+        && out.capacity() - out.len() >= MOST_OF_FEW
     {
         append_done(out, name, n);
         return Ok(());

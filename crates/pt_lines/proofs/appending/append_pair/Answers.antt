@@ -1,6 +1,6 @@
 use Rattle.std.proofs.Common.{append_assoc}
 use Rattle.pt_lines.proofs.DigitLemmas.{pair_at}
-use Rattle.pt_lines.proofs.reply.append_pair.Goals as goal
+use Rattle.pt_lines.proofs.appending.append_pair.Goals as goal
 
 pub returns-clause-items : goal.returns-clause-items
 returns-clause-items g c =

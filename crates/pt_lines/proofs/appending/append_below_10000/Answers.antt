@@ -1,7 +1,7 @@
 use Rattle.std.proofs.Common.{arith, append_assoc}
 use Rattle.itoa.proofs.Decimal.{decimal_pair}
-use Rattle.pt_lines.proofs.DigitLemmas.{length_more}
-use Rattle.pt_lines.proofs.reply.append_below_10000.Goals as goal
+use Rattle.pt_lines.proofs.DigitLemmas.{length_more, pair_left}
+use Rattle.pt_lines.proofs.appending.append_below_10000.Goals as goal
 
 pub append_below_100-requires-else-n-lt100-clause-room :
     goal.append_below_100-requires-else-n-lt100-clause-room
@@ -27,6 +27,7 @@ returns-else-n-lt100-clause-items g c =
       c.append_pair.ensures.items,
       c.append_below_100-else-n-lt100.ensures.items,
       append_assoc,
+      pair_left c.args.n,
       decimal_pair c.args.n c.if-n-lt100.false (omega arith),
     )
 

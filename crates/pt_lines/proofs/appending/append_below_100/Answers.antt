@@ -2,7 +2,7 @@ use Rattle.std.proofs.Common.{arith}
 use Rattle.std.proofs.lemmas.Fmt.{decimal_digit}
 use Rattle.itoa.proofs.Decimal.{decimal_two}
 use Rattle.pt_lines.proofs.DigitLemmas.{length_one, length_two}
-use Rattle.pt_lines.proofs.reply.append_below_100.Goals as goal
+use Rattle.pt_lines.proofs.appending.append_below_100.Goals as goal
 
 pub push_reserved-requires : goal.push_reserved-requires
 push_reserved-requires g c =

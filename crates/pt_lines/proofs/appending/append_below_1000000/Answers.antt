@@ -1,6 +1,6 @@
 use Rattle.std.proofs.Common.{◌∙◌, ◌++◌, ap, sym, arith}
-use Rattle.pt_lines.proofs.DigitLemmas.{length_four_more, decimal_two_pairs, joined}
-use Rattle.pt_lines.proofs.reply.append_below_1000000.Goals as goal
+use Rattle.pt_lines.proofs.DigitLemmas.{length_four_more, decimal_two_left, joined}
+use Rattle.pt_lines.proofs.appending.append_below_1000000.Goals as goal
 
 pub append_below_100-requires-clause-room : goal.append_below_100-requires-clause-room
 append_below_100-requires-clause-room g c =
@@ -39,7 +39,7 @@ returns-clause-items g c =
     let out = c.args.out.now.items in
     joined out _ _ _ _ _ _ c.append_below_100.ensures.items c.append_pair.ensures.items
     c.append_pair-2.ensures.items
-    ∙ ap (λ ds. out ++ ds) (sym (decimal_two_pairs c.args.n c.requires.above (omega arith)))
+    ∙ ap (λ ds. out ++ ds) (sym (decimal_two_left c.args.n c.requires.above (omega arith)))
 
 pub returns-clause-len : goal.returns-clause-len
 returns-clause-len g c =
