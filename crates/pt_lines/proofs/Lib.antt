@@ -10,6 +10,8 @@ pub mod NumberLemmas
 pub mod VerbLemmas
 -- ArgumentLemmas: what fields are read as, and what is read again from its fields
 pub mod ArgumentLemmas
+-- AskedLemmas: a client's line that begins with the word of a call is that call, or refused
+pub mod AskedLemmas
 -- WholeLemmas: one name or number alone is the whole text
 pub mod WholeLemmas
 -- SpelledLemmas: the text of a line is the word of a verb and the fields that it is read from

@@ -10,11 +10,7 @@ use Rattle.pt_types.specs.declared.call.Call.{Call}
 use Rattle.pt_types.specs.declared.named_verb.NamedVerb.{NamedVerb}
 use Rattle.pt_types.specs.NamedVerbs.{call_on}
 use Rattle.pt_types.specs.declared.time.Clock.TheVariants.{Real}
-use Rattle.pt_types.specs.Times.{Timespec}
 use Rattle.pt_lines.specs.declared.verb.Verb.{Verb}
-use Rattle.pt_lines.specs.declared.verb.TimedVerb.{TimedVerb}
-use Rattle.pt_lines.specs.declared.verb.TimedVerb.TheVariants.{Timedlock, Timedrdlock}
-use Rattle.pt_lines.specs.declared.verb.TimedVerb.TheVariants.{Timedwrlock}
 use Rattle.pt_lines.specs.declared.verb.Verb.TheVariants as first
 use Rattle.pt_lines.specs.declared.call_line.CallLine.{CallLine}
 use Rattle.pt_lines.specs.declared.call_line.CallLine.TheVariants as line
@@ -22,14 +18,14 @@ use Rattle.pt_lines.specs.declared.client.Who.{Who}
 use Rattle.pt_lines.specs.declared.client.Who.TheVariants.{Named, Star, Unknown}
 use Rattle.pt_lines.specs.declared.script_line.ScriptBody.{ScriptBody}
 use Rattle.pt_lines.specs.declared.script_line.ScriptBody.TheVariants.{Hello, Ask, Die, Tick}
-use Rattle.pt_lines.specs.Arguments.{name_and_deadline, two_numbers}
+use Rattle.pt_lines.specs.Arguments.{two_numbers}
 use Rattle.pt_lines.specs.Arguments.{moment_of}
 use Rattle.pt_lines.specs.Fields.{fields}
 use Rattle.pt_lines.specs.ClientNames.{IsClientName}
 use Rattle.pt_lines.specs.Clients.{who_text, who_named, before_space, behind_space}
 use Rattle.pt_lines.specs.Grammar.{Spells}
 use Rattle.pt_lines.specs.Reading.{call_read, line_read, line_of, line_of_fields, IsAsked}
-use Rattle.pt_lines.specs.Verbs.{named_word, timed_word, call_until}
+use Rattle.pt_lines.specs.Verbs.{named_word}
 use Rattle.std.proofs.lemmas.List.{append-nil}
 use Rattle.pt_types.specs.Names.{IsName}
 use Rattle.pt_lines.proofs.CallLemmas.{spells-call_on}
@@ -153,7 +149,7 @@ not_die rest read s = by (bytes_eq rest (codes "die")) refl
         cc
     by false e = refl
 
-called_again :
+pub called_again :
     (text rest : List ℕ) (read : CallLine) → Spells rest read
     → body_read (Named text) rest ≡ body_of (Named text) read
 called_again text rest read s =
@@ -196,29 +192,6 @@ call_said rest args verb (Some said) read asked = λ client.
     by (first.Named n) h = sym h
     by (first.Timed t) h = sym h
     by (first.Clocked k) h = sym h
-
--- a word, a space, a name and a deadline are read as the call of the word
-pub timed_said :
-    (text args : List ℕ) (verb : TimedVerb) (o : Option (List ℕ × Timespec))
-    → text ≡ timed_word verb ++ 32 ∷ args → o ≡ name_and_deadline (fields args)
-    → IfSome o (λ due. (client : List ℕ)
-    → body_read (Named client) text ≡ Ok (Ask (call_until verb due.0 due.1)))
-timed_said text args verb None is due = tt
-timed_said text args verb (Some given) is due =
-    let read : line_read text ≡ line_of (first.Timed verb) (fields args) =
-    ap line_read is ∙ by verb in
-    let asked :
-    IsAsked (first.Timed verb) (fields args) (Some (call_until verb given.0 given.1)) =
-    ap (option_map (λ a. line.Ask (call_until verb a.0 a.1))) due in
-    call_said text (fields args) (first.Timed verb) (Some (call_until verb given.0 given.1))
-    read asked
-  where
-    by :
-        (v : TimedVerb)
-        → line_read (timed_word v ++ 32 ∷ args) ≡ line_of (first.Timed v) (fields args)
-    by Timedlock = ap line_of_fields (fields-word (timed_word Timedlock) args refl)
-    by Timedrdlock = ap line_of_fields (fields-word (timed_word Timedrdlock) args refl)
-    by Timedwrlock = ap line_of_fields (fields-word (timed_word Timedwrlock) args refl)
 
 -- `moment`, a space and two numbers are read as that moment of the real clock
 pub moment_said :

@@ -26,7 +26,7 @@ word_is_word : (verb : Verb) → is_word (word_of verb) ≡ true
 word_is_word verb =
     (and_parts (nat_le (length (word_of verb)) 15) (is_word (word_of verb)) (word_is_short verb)).1
 
-read_by_word :
+pub read_by_word :
     (text args start : List ℕ) (verb : Verb) → start ≡ word_of verb ++ 32 ∷ []
     → text ≡ start ++ args → line_read text ≡ line_of verb (fields args)
 read_by_word text args start verb begins is =

@@ -2,6 +2,7 @@
 use Rattle.std.specs.Prelude.{◌≡◌, ℕ, ◌++◌, List, ◌∷◌, Option, None, Some, Result, Ok, Err, IfOk}
 use Rattle.std.specs.Prelude.{IfErr, length, nat_lt, codes, if◌then◌else◌}
 use Rattle.std.specs.Str.{bytes_eq}
+use Rattle.pt_types.specs.declared.call.Call.{Call}
 use Rattle.pt_types.specs.declared.outcome.Refusal.{Refusal}
 use Rattle.pt_types.specs.declared.outcome.Refusal.TheVariants as refusal
 use Rattle.pt_lines.specs.declared.call_line.CallLine.{CallLine}
@@ -73,6 +74,11 @@ body_read (Named name) rest =
     else body_from (Named name) (call_read rest)
 body_read Star rest = body_from Star (call_read rest)
 body_read Unknown rest = Err refusal.Syntax
+
+-- what a client says, if it is a call or nothing that can be read
+abbrev pub asked_or_refused : Option Call → Result ScriptBody Refusal
+asked_or_refused (Some asked) = Ok (Ask asked)
+asked_or_refused None = Err refusal.Syntax
 
 -- what is read after a client, if a space follows
 abbrev pub body_behind : Who → Option (List ℕ) → Result ScriptBody Refusal

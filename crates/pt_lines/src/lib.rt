@@ -27,4 +27,4 @@ pub use named_start::{
     asked_at_start, moment_at_start, named_at_start, timed_at_start, wait_at_start,
 };
 pub use reply::{Word, write_reply};
-pub use script_line::{Rest, ScriptBody, ScriptLine, read_client, read_script_line};
+pub use script_line::{ScriptBody, ScriptLine, read_client, read_said, read_script_line};

@@ -1,18 +1,24 @@
 //! Calls that are often made, and moments, by the bytes that a line begins with.
 
-ghost use Rattle.std.specs.Prelude.{◌≡◌, ◌≤◌, ◌++◌, [], ◌∷◌, IfSome, List, Ok, ℕ, length, take};
+ghost use Rattle.std.specs.Prelude.{◌≡◌, ◌≤◌, ◌++◌, [], ◌∷◌, IfSome, List, Option, Ok, Err, ℕ};
+ghost use Rattle.std.specs.Prelude.{length, take};
 ghost use Rattle.std.specs.Bool.{OnTrue};
+ghost use Rattle.std.specs.Option.{option_map};
+ghost use Rattle.pt_types.specs.declared.call.Call.{Call};
+ghost use Rattle.pt_types.specs.declared.outcome.Refusal.TheVariants as refusal;
 ghost use Rattle.pt_types.specs.declared.call.Call.TheVariants as call;
 ghost use Rattle.pt_types.specs.Names.{IsName};
 ghost use Rattle.pt_types.specs.declared.time.Clock.TheVariants as clock;
 ghost use Rattle.pt_types.specs.NamedVerbs.{call_on};
+ghost use Rattle.pt_lines.specs.declared.call_line.CallLine.TheVariants as line;
 ghost use Rattle.pt_lines.specs.declared.client.Who.TheVariants as who;
 ghost use Rattle.pt_lines.specs.declared.script_line.ScriptBody.TheVariants as body;
-ghost use Rattle.pt_lines.specs.Script.{body_read};
+ghost use Rattle.pt_lines.specs.Reading.{line_of, IsAsked};
+ghost use Rattle.pt_lines.specs.Script.{asked_or_refused, body_read};
 ghost use Rattle.pt_lines.specs.Verbs.{named_word, timed_word, word_of};
 
-use crate::arguments::{name_and_deadline, only_moment};
-use crate::call_line::read_asked;
+use crate::arguments::only_moment;
+use crate::call_line::{read_asked, read_timed};
 use crate::fields::Fields;
 use crate::verb::{TimedVerb, Verb};
 use pt_types::{Call, Moment, NamedVerb};
@@ -143,9 +149,12 @@ fn said_at_start(text: &[u8]) -> Option<(NamedVerb, &[u8])>
 /// these are read without a search for spaces.
 #[inline(always)]
 pub fn named_at_start(text: &[u8]) -> Option<(NamedVerb, &[u8])>
-    ensures { IfSome result (λ said. (client : List ℕ) → IsName said.1.now
+    ensures called { IfSome result (λ said. (client : List ℕ) → IsName said.1.now
         → body_read (who.Named client) text.now
         ≡ Ok (body.Ask (call_on said.0 said.1.now))) }
+    ensures refused { IfSome result (λ said. (client : List ℕ) → (IsName said.1.now → ⊥)
+        → length text.now ≤ 128
+        → body_read (who.Named client) text.now ≡ Err refusal.Syntax) }
 {
     said_at_start(text)
 }
@@ -181,36 +190,37 @@ fn timed_word_at_start(text: &[u8]) -> Option<(TimedVerb, &[u8])>
     Some((TimedVerb::Timedwrlock, rest))
 }
 
-/// The call of one name and a deadline, if a text begins with the word of one and a client's line
-/// that says this makes it.
+/// The call of one name and a deadline, if a text begins with the word of one. A client's line that
+/// says this makes it, or is refused as SYNTAX if there is none.
 #[inline(always)]
-pub fn timed_at_start(text: &[u8]) -> Option<Call>
-    ensures { IfSome result (λ asked. (client : List ℕ) → body_read (who.Named client) text.now
-        ≡ Ok (body.Ask asked)) }
+pub fn timed_at_start(text: &[u8]) -> Option<Option<Call>>
+    ensures { IfSome result (λ asked. (client : List ℕ) → length text.now ≤ 128
+        → body_read (who.Named client) text.now ≡ asked_or_refused asked) }
 {
     let (verb, args) = timed_word_at_start(text)?;
-    let (name, deadline) = name_and_deadline(Fields::new(args))?;
-    Some(verb.on(name, deadline))
+    Some(read_timed(verb, Fields::new(args)))
 }
 
 // The call that this verb makes of what is after its word and a space, if a text begins with them.
 #[inline(always)]
-fn asked_by(text: &[u8], verb: Verb, start: &[u8]) -> Option<Call>
+fn asked_by(text: &[u8], verb: Verb, start: &[u8]) -> Option<Option<Call>>
     requires is { start.now ≡ word_of verb ++ 32 ∷ [] }
     requires long { 4 ≤ length start.now }
-    ensures { IfSome result (λ asked. (client : List ℕ) → body_read (who.Named client) text.now
-        ≡ Ok (body.Ask asked)) }
+    requires asks { (args : List (List ℕ)) (asked : Option Call) → IsAsked verb args asked
+        → option_map line.Ask asked ≡ line_of verb args }
+    ensures { IfSome result (λ asked. (client : List ℕ) → length text.now ≤ 128
+        → body_read (who.Named client) text.now ≡ asked_or_refused asked) }
 {
     let args = after(text, start)?;
-    read_asked(verb, Fields::new(args))
+    Some(read_asked(verb, Fields::new(args)))
 }
 
 /// The making of a mutex or a barrier, or the wait with a deadline, if a text begins with the word
-/// of one and a client's line that says this asks for it.
+/// of one. A client's line that says this asks for it, or is refused as SYNTAX if there is none.
 #[inline(always)]
-pub fn asked_at_start(text: &[u8]) -> Option<Call>
-    ensures { IfSome result (λ asked. (client : List ℕ) → body_read (who.Named client) text.now
-        ≡ Ok (body.Ask asked)) }
+pub fn asked_at_start(text: &[u8]) -> Option<Option<Call>>
+    ensures { IfSome result (λ asked. (client : List ℕ) → length text.now ≤ 128
+        → body_read (who.Named client) text.now ≡ asked_or_refused asked) }
 {
     match text.first() {
         Some(b'm') => asked_by(text, Verb::MutexInit, b"mutex-init "),

@@ -1,18 +1,14 @@
 ghost use Rattle.std.specs.Prelude.{◌≡◌};
-ghost use Rattle.std.specs.Option.{option_copied, option_and_then};
+ghost use Rattle.std.specs.Option.{option_copied};
 ghost use Rattle.pt_lines.specs.Clients.{before_space, behind_space, who_named};
-ghost use Rattle.pt_lines.specs.Fields.{fields_left};
-ghost use Rattle.pt_lines.specs.Reading.{line_of, line_read, call_read};
 ghost use Rattle.pt_lines.specs.Script.{body_of, body_read, IsReadAs, short_read, script_read};
 
-use crate::call_line::{CallLine, read_arguments, read_asked};
+use crate::call_line::{CallLine, read_call};
 use crate::client::{Who, client_at_start};
 use crate::cutter::Cut;
-use crate::fields::{Fields, first_space};
-use crate::verb::Verb;
+use crate::fields::first_space;
 use crate::verbs::is_same;
 use pt_types::{Call, Clock, MOST_IN_LINE, Moment, Priority, Refusal};
-use std::marker::Model;
 
 /// What a line of a script says.
 #[derive(Debug, PartialEq, Eq, Drop)]
@@ -54,128 +50,44 @@ fn body_of(who: &Who, line: CallLine) -> Result<ScriptBody, Refusal>
     }
 }
 
-// The text as a connection's line, once its verb is read.
-fn read_line(rest: &[u8], verb: Option<Verb>, args: Option<&[u8]>) -> Result<CallLine, Refusal>
-    requires { line_read rest.now
-        ≡ option_and_then (λ verb. line_of verb (fields_left args)) verb }
-    ensures { result ≡ call_read rest.now }
-{
-    if rest.len() > MOST_IN_LINE {
-        return Err(Refusal::Long);
-    }
-    match verb {
-        Some(verb) => read_arguments(verb, Fields::left(args)).ok_or(Refusal::Syntax),
-        None => Err(Refusal::Syntax),
-    }
-}
-
-// What is said after a client and a space.
-fn read_body(
-    who: &Who,
-    rest: &[u8],
-    verb: Option<Verb>,
-    args: Option<&[u8]>,
-) -> Result<ScriptBody, Refusal>
-    requires { line_read rest.now
-        ≡ option_and_then (λ verb. line_of verb (fields_left args)) verb }
-    ensures { result ≡ body_read who.now rest.now }
+/// What is said after a client and a space. It isn't inlined, so that what is said more often has
+/// no room to clear for it.
+#[inline(never)]
+pub fn read_said(who: &Who, text: &[u8]) -> Result<ScriptBody, Refusal>
+    ensures { result ≡ body_read who.now text.now }
 {
     match who {
         Who::Unknown => return Err(Refusal::Syntax),
-        Who::Named(_) if is_same(rest, b"die") => return Ok(ScriptBody::Die),
+        Who::Named(_) if is_same(text, b"die") => return Ok(ScriptBody::Die),
         _ => {}
     }
-    let line = read_line(rest, verb, args)?;
+    let line = read_call(text)?;
     body_of(who, line)
 }
 
 /// Whose a line of a script is, and what comes after its client and a space, if a space does.
+#[inline(always)]
 pub fn read_client(text: &[u8]) -> (Who, Option<&[u8]>)
     ensures who { result.0 ≡ who_named (before_space text.now) }
     ensures behind { option_copied result.1 ≡ behind_space text.now }
 {
     match client_at_start(text) {
         Some((name, rest)) => (Who::Named(name), Some(rest)),
-        None => read_other_client(text),
+        None => match text {
+            [b'*', b' ', rest @ ..] => (Who::Star, Some(rest)),
+            _ => read_other_client(text),
+        },
     }
 }
 
-// The same, where no client's name and a space are at the start.
+// The same, of any text. It isn't inlined, since few lines are no client's and no clock's.
 #[inline(never)]
 fn read_other_client(text: &[u8]) -> (Who, Option<&[u8]>)
     ensures who { result.0 ≡ who_named (before_space text.now) }
     ensures behind { option_copied result.1 ≡ behind_space text.now }
 {
-    if let [b'*', b' ', rest @ ..] = text {
-        return (Who::Star, Some(rest));
-    }
     let (name, rest) = split_at_space(text);
     (Who::named(name), rest)
-}
-
-/// What comes after a client and a space, of which the verb is read.
-///
-/// Contracts see it as its bytes.
-#[derive(Drop)]
-pub struct Rest<'a> {
-    text: &'a [u8],
-    verb: Option<Verb>,
-    args: Option<&'a [u8]>,
-}
-
-impl<'a> Model for Rest<'a> {
-    ghost use Rattle.std.specs.Prelude.{◌≡◌, List, ℕ};
-    ghost use Rattle.std.specs.Option.{option_and_then};
-    ghost use Rattle.pt_lines.specs.Fields.{fields_left};
-    ghost use Rattle.pt_lines.specs.Reading.{line_of, line_read};
-
-    ghost Value = { List ℕ };
-
-    ghost view = { λ r. r.text.now };
-
-    ghost invariant = { λ r. line_read r.text.now
-        ≡ option_and_then (λ verb. line_of verb (fields_left r.args)) r.verb };
-}
-
-impl<'a> Rest<'a> {
-    ghost use Rattle.std.specs.Prelude.{IfSome, List, Ok, ℕ};
-
-    /// Reads the verb.
-    pub fn new(text: &'a [u8]) -> Self
-        ensures { result ≡ text.now }
-    {
-        let mut fields = Fields::new(text);
-        match fields.next() {
-            Some(word) => Rest {
-                text,
-                verb: Verb::read(word),
-                args: fields.rest(),
-            },
-            None => Rest {
-                text,
-                verb: None,
-                args: None,
-            },
-        }
-    }
-
-    /// The call, if a client that says this asks for one.
-    #[inline(always)]
-    pub fn call(&self) -> Option<Call>
-        ensures { IfSome result (λ call. (client : List ℕ)
-            → body_read (Who.Named client) self.now ≡ Ok (ScriptBody.Ask call)) }
-    {
-        let verb = self.verb?;
-        read_asked(verb, Fields::left(self.args))
-    }
-
-    /// What is said. It isn't inlined, so that a call has no room to clear for it.
-    #[inline(never)]
-    pub fn body(self, who: &Who) -> Result<ScriptBody, Refusal>
-        ensures { result ≡ body_read who.now self.entry }
-    {
-        read_body(who, self.text, self.verb, self.args)
-    }
 }
 
 /// Reads a line that is not too long.
@@ -185,7 +97,7 @@ pub(crate) fn read_short(text: &[u8]) -> ScriptLine
     let (who, rest) = read_client(text);
     match rest {
         Some(rest) => {
-            let body = Rest::new(rest).body(&who);
+            let body = read_said(&who, rest);
             ScriptLine { who, body }
         }
         None => ScriptLine {

@@ -1,47 +1,23 @@
 //! What is said after a client and a space, read and answered.
 
-ghost use Rattle.std.specs.Prelude.{◌≡◌, ◌<◌, OnOk, IfErr};
+ghost use Rattle.std.specs.Prelude.{◌≡◌, ◌<◌, List, ℕ, OnOk, IfErr};
 
 use crate::engine::Engine;
 use crate::fault::ScriptFault;
 use crate::line_id::LineId;
 use crate::text::refuse;
 use pt_lines::{
-    Rest, Who, asked_at_start, moment_at_start, named_at_start, timed_at_start, wait_at_start,
+    Who, asked_at_start, moment_at_start, named_at_start, read_said, timed_at_start, wait_at_start,
 };
 use pt_model::Event;
-use pt_types::{Call, ClientId, Clock, Name};
+use pt_types::{Call, ClientId, Clock, MOST_IN_LINE, Name, Refusal};
 use std::alloc::Allocator;
 
 impl<A: Allocator + Copy> Engine<A> {
-    ghost use Rattle.pt_lines.specs.Script.{body_read};
+    ghost use Rattle.pt_lines.specs.Script.{asked_or_refused, body_read};
     ghost use Rattle.pt_script.specs.Scripts.{event_of_body, lines_of_who, number_of};
     ghost use Rattle.pt_script.specs.Says.{SaysTo};
     ghost use Rattle.pt_script.specs.Engines.{Adds, known_by};
-
-    // Answers what is said, be it a call or not. It isn't inlined, so that calls have no room to
-    // clear for it.
-    #[inline(never)]
-    #[tactic(auto, using(crate::proofs::Lines::says_refused))]
-    fn answer_said(
-        &mut self,
-        line: &LineId,
-        client: Option<ClientId>,
-        rest: Rest,
-        out: &mut Vec<u8, A>,
-    ) -> Result<(), ScriptFault>
-        requires counted { 0 < lines_of_who self.old.seen line.now.who }
-        requires client { client ≡ number_of self.old.clients line.now.who }
-        ensures ok { OnOk result (Adds (SaysTo (known_by self.old) line.now
-            (event_of_body (known_by self.old) line.now.who (body_read line.now.who rest.entry))
-            (known_by self.new)) out.old.items out.new.items) }
-        ensures why { IfErr result (λ fault. fault ≡ ScriptFault.Memory) }
-    {
-        match rest.body(&line.who) {
-            Ok(body) => self.answer_body(line, client, body, out),
-            Err(refusal) => refuse(out, line, refusal),
-        }
-    }
 
     // Answers what is seldom said. It isn't inlined, so that what is said more often has no room to
     // clear for it.
@@ -61,13 +37,33 @@ impl<A: Allocator + Copy> Engine<A> {
             (known_by self.new)) out.old.items out.new.items) }
         ensures why { IfErr result (λ fault. fault ≡ ScriptFault.Memory) }
     {
-        let rest = Rest::new(rest);
-        if let Who::Named(_) = line.who
-            && let Some(call) = rest.call()
-        {
-            return self.ask(line, client, call, out);
+        match read_said(&line.who, rest) {
+            Ok(body) => self.answer_body(line, client, body, out),
+            Err(refusal) => refuse(out, line, refusal),
         }
-        self.answer_said(line, client, rest, out)
+    }
+
+    // Answers a client's line that says a call or nothing that can be read.
+    #[inline(always)]
+    fn ask_or_refuse(
+        &mut self,
+        line: &LineId,
+        client: Option<ClientId>,
+        asked: Option<Call>,
+        out: &mut Vec<u8, A>,
+    ) -> Result<(), ScriptFault>
+        requires counted { 0 < lines_of_who self.old.seen line.now.who }
+        requires client { client ≡ number_of self.old.clients line.now.who }
+        requires named { (name : List ℕ) × (line.now.who ≡ Who.Named name) }
+        ensures ok { OnOk result (Adds (SaysTo (known_by self.old) line.now
+            (event_of_body (known_by self.old) line.now.who (asked_or_refused asked))
+            (known_by self.new)) out.old.items out.new.items) }
+        ensures why { IfErr result (λ fault. fault ≡ ScriptFault.Memory) }
+    {
+        match asked {
+            Some(call) => self.ask(line, client, call, out),
+            None => refuse(out, line, Refusal::Syntax),
+        }
     }
 
     // Answers what begins as a making of a mutex or a barrier may, or as a wait with a deadline. It
@@ -88,9 +84,10 @@ impl<A: Allocator + Copy> Engine<A> {
         ensures why { IfErr result (λ fault. fault ≡ ScriptFault.Memory) }
     {
         if let Who::Named(_) = line.who
-            && let Some(call) = asked_at_start(rest)
+            && let Some(asked) = asked_at_start(rest)
+            && rest.len() <= MOST_IN_LINE
         {
-            return self.ask(line, client, call, out);
+            return self.ask_or_refuse(line, client, asked, out);
         }
         self.answer_rare(line, client, rest, out)
     }
@@ -140,9 +137,10 @@ impl<A: Allocator + Copy> Engine<A> {
         ensures why { IfErr result (λ fault. fault ≡ ScriptFault.Memory) }
     {
         if let Who::Named(_) = line.who
-            && let Some(call) = timed_at_start(rest)
+            && let Some(asked) = timed_at_start(rest)
+            && rest.len() <= MOST_IN_LINE
         {
-            return self.ask(line, client, call, out);
+            return self.ask_or_refuse(line, client, asked, out);
         }
         self.answer_asked(line, client, rest, out)
     }
@@ -188,11 +186,12 @@ impl<A: Allocator + Copy> Engine<A> {
             (known_by self.new)) out.old.items out.new.items) }
         ensures why { IfErr result (λ fault. fault ≡ ScriptFault.Memory) }
     {
-        match (&line.who, rest.first()) {
-            (Who::Star, _) => self.answer_moment(line, client, rest, out),
-            (_, Some(b'w')) => self.answer_wait(line, client, rest, out),
-            (_, Some(b't')) => self.answer_timed(line, client, rest, out),
-            (_, Some(b'm' | b'b')) => self.answer_asked(line, client, rest, out),
+        match (&line.who, rest.first(), rest.get(6)) {
+            (Who::Star, _, _) => self.answer_moment(line, client, rest, out),
+            (_, Some(b'w'), _) => self.answer_wait(line, client, rest, out),
+            (_, Some(b't'), Some(b'a')) => self.answer_asked(line, client, rest, out),
+            (_, Some(b't'), _) => self.answer_timed(line, client, rest, out),
+            (_, Some(b'm' | b'b'), _) => self.answer_asked(line, client, rest, out),
             _ => self.answer_rare(line, client, rest, out),
         }
     }
@@ -216,9 +215,13 @@ impl<A: Allocator + Copy> Engine<A> {
     {
         if let Who::Named(_) = line.who
             && let Some((verb, name)) = named_at_start(rest)
-            && let Some(name) = Name::new(name)
         {
-            return self.ask(line, client, verb.call(name), out);
+            if let Some(name) = Name::new(name) {
+                return self.ask(line, client, verb.call(name), out);
+            }
+            if rest.len() <= MOST_IN_LINE {
+                return refuse(out, line, Refusal::Syntax);
+            }
         }
         self.answer_other(line, client, rest, out)
     }

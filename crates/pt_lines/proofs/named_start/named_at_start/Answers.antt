@@ -1,4 +1,7 @@
-use Rattle.std.proofs.Common.{◌≡◌, ◌++◌, ◌∷◌, List, ℕ, Option, Some, None, Ok, IfSome, Bor}
+use Rattle.std.proofs.Common.{◌≡◌, ◌++◌, ◌∷◌, List, ℕ, Option, Some, None, Ok, Err, IfSome, Bor}
+use Rattle.std.proofs.Common.{◌≤◌, length}
+use Rattle.pt_types.specs.declared.outcome.Refusal.TheVariants.{Syntax}
+use Rattle.pt_lines.proofs.AskedLemmas.{named_refused}
 use Rattle.pt_types.specs.Names.{IsName}
 use Rattle.pt_types.specs.NamedVerbs.{call_on}
 use Rattle.pt_types.specs.declared.named_verb.NamedVerb.{NamedVerb}
@@ -17,5 +20,17 @@ if_read :
 if_read text None h = tt
 if_read text (Some said) h = named_spelled text said.0 said.1.now h
 
-pub returns : goal.returns
-returns c = if_read c.args.text.now c.said_at_start.result c.said_at_start.ensures
+if_refused :
+    (text : List ℕ) (o : Option (NamedVerb × Bor (List ℕ)))
+    → IfSome o (λ said. text ≡ named_word said.0 ++ 32 ∷ said.1.now)
+    → IfSome o (λ said. (client : List ℕ) → (IsName said.1.now → ⊥) → length text ≤ 128
+    → body_read (Named client) text ≡ Err Syntax)
+if_refused text None h = tt
+if_refused text (Some said) h = named_refused text said.0 said.1.now h
+
+pub returns-clause-called : goal.returns-clause-called
+returns-clause-called c = if_read c.args.text.now c.said_at_start.result c.said_at_start.ensures
+
+pub returns-clause-refused : goal.returns-clause-refused
+returns-clause-refused c =
+    if_refused c.args.text.now c.said_at_start.result c.said_at_start.ensures

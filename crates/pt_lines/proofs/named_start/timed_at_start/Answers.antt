@@ -1,19 +1,29 @@
-use Rattle.std.proofs.Common.{◌≡◌, ◌∙◌, sym, ap, subst, Ok, Some}
-use Rattle.pt_types.specs.declared.call.Call.{Call}
-use Rattle.pt_lines.specs.declared.client.Who.TheVariants.{Named}
-use Rattle.pt_lines.specs.declared.script_line.ScriptBody.TheVariants.{Ask}
-use Rattle.pt_lines.specs.Script.{body_read}
-use Rattle.pt_lines.specs.Arguments.{name_and_deadline}
-use Rattle.pt_lines.proofs.ScriptLemmas.{timed_said}
+use Rattle.std.proofs.Common.{◌≡◌, ◌≤◌, ◌∙◌, ◌++◌, ◌∷◌, [], ap, refl, length, arith, nat_le, true}
+use Rattle.pt_lines.specs.declared.verb.TimedVerb.{TimedVerb}
+use Rattle.pt_lines.specs.declared.verb.TimedVerb.TheVariants.{Timedlock, Timedrdlock}
+use Rattle.pt_lines.specs.declared.verb.TimedVerb.TheVariants.{Timedwrlock}
+use Rattle.pt_lines.specs.declared.verb.Verb.TheVariants.{Timed}
+use Rattle.pt_lines.specs.Fields.{fields}
+use Rattle.pt_lines.specs.Reading.{line_of}
+use Rattle.pt_lines.specs.Verbs.{timed_word}
+use Rattle.pt_lines.proofs.AskedLemmas.{begins, is_long, said_or_refused}
+use Rattle.pt_lines.proofs.WordLemmas.{read_by_word}
 use Rattle.pt_lines.proofs.named_start.timed_at_start.Goals as goal
 
+enough : (verb : TimedVerb) → nat_le 4 (length (timed_word verb ++ 32 ∷ [])) ≡ true
+enough Timedlock = refl
+enough Timedrdlock = refl
+enough Timedwrlock = refl
+
 pub returns : goal.returns
-returns c = λ client.
-    subst
-    (λ (asked : Call). body_read (Named client) c.args.text.now ≡ Ok (Ask asked))
-    (sym c.on.ensures)
-    (timed_said c.args.text.now c.in_ok-verb.args.now c.in_ok-verb.verb
-    (Some (c.in_ok-name.name, c.in_ok-name.deadline)) c.in_ok-verb.ensures
-    (sym c.in_ok-name.was ∙ c.name_and_deadline.ensures
-    ∙ ap name_and_deadline c.new.ensures)
-    client)
+returns c =
+    let text = c.args.text.now in
+    let verb = c.in_ok-verb.verb in
+    let args = c.in_ok-verb.args.now in
+    let start = timed_word verb ++ 32 ∷ [] in
+    let parts : text ≡ start ++ args = c.in_ok-verb.ensures ∙ begins (timed_word verb) args in
+    let some : nat_le 4 (length start) ≡ true = enough verb in
+    let long : 4 ≤ length start = grind arith in
+    said_or_refused text (fields args) (Timed verb) c.read_timed.result
+    (is_long text start args parts long) (read_by_word text args start (Timed verb) refl parts)
+    (c.read_timed.ensures ∙ ap (line_of (Timed verb)) c.new.ensures)

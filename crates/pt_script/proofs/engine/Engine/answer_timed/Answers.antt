@@ -1,8 +1,6 @@
 use Rattle.std.proofs.Common.{OnOk, sym, ap, ◌∙◌, subst}
-use Rattle.pt_model.specs.declared.entry.Event.TheVariants as event
-use Rattle.pt_lines.specs.declared.client.Who.TheVariants.{Named}
 use Rattle.pt_lines.specs.Script.{body_read}
-use Rattle.pt_script.specs.Scripts.{event_of_body, number_of, of_client}
+use Rattle.pt_script.specs.Scripts.{event_of_body}
 use Rattle.pt_script.specs.Says.{SaysTo}
 use Rattle.pt_script.specs.Engines.{Adds, known_by}
 use Rattle.pt_script.proofs.engine.Engine.answer_timed.Goals as goal
@@ -11,14 +9,11 @@ pub returns-clause-ok : goal.returns-clause-ok
 returns-clause-ok g c =
     let s = known_by c.args.self.now in
     let who = c.in-Named.is in
-    let client = Named c.in-Named.field-0 in
-    let call = c.in-Some.call in
     let asks =
-    ap (λ w. event_of_body s w (body_read w c.args.rest.now)) who
-    ∙ ap (event_of_body s client) (c.in-Some.ensures c.in-Named.field-0)
-    ∙ ap (of_client (λ d. event.Call d call))
-    (sym (c.requires.client ∙ ap (number_of s.clients) who)) in
+    ap (λ w. body_read w c.args.rest.now) who
+    ∙ c.in-Some.ensures c.in-Named.field-0 c.if-rest-le-MOST_IN_LINE.true in
     subst
-    (λ v. OnOk c.ask.result (Adds (SaysTo s c.args.line.now v (known_by c.ask.new.self))
-    c.args.out.now.items c.ask.new.out.items))
-    (sym asks) c.ask.ensures.ok
+    (λ said. OnOk c.ask_or_refuse.result (Adds (SaysTo s c.args.line.now
+    (event_of_body s c.args.line.now.who said) (known_by c.ask_or_refuse.new.self))
+    c.args.out.now.items c.ask_or_refuse.new.out.items))
+    (sym asks) c.ask_or_refuse.ensures.ok
