@@ -82,6 +82,7 @@ pub fn only_name(args: Fields) -> Option<Name>
 
 // A number, and no more. No number has a space either.
 #[tactic(auto, using(crate::proofs::WholeLemmas::whole_number))]
+#[inline(always)]
 fn only_number(args: Fields) -> Option<u64>
     ensures value { result ≡ alone number_of args.entry }
     ensures fits { IfSome result IsNumber }

@@ -86,6 +86,7 @@ impl<'a> Fields<'a> {
     }
 
     /// The next field.
+    #[inline(always)]
     pub fn next(&mut self) -> Option<&'a [u8]>
         ensures { MatchOption result ((self.old ≡ []) × (self.new ≡ []))
             (λ field. self.old ≡ field.now ∷ self.new) }

@@ -8,6 +8,7 @@ fn is_digit(byte: u8) -> bool
 }
 
 /// The number that a field is: 1 to 10 digits without a leading zero, or `0`.
+#[inline(always)]
 pub fn read_number(field: &[u8]) -> Option<u64>
     ensures value { result ≡ number_of field.now }
     ensures fits { IfSome result IsNumber }
