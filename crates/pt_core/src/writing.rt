@@ -1,6 +1,7 @@
 //! One accepted event, written without a seal.
 
-ghost use Rattle.std.specs.Prelude.{◌≡◌, ◌≤◌, ◌<◌, ◌+◌, length, None, true, false, IfOk, IfErr, IsOk, OnErr};
+ghost use Rattle.std.specs.Prelude.{◌≡◌, ◌≤◌, ◌<◌, ◌+◌, length, None, true, false, IfOk, IfErr};
+ghost use Rattle.std.specs.Prelude.{IsOk, OnErr};
 ghost use Rattle.pt_model.specs.Room.{refusal as refusal_in, entry_for};
 ghost use Rattle.pt_state.specs.Adds.{past};
 ghost use Rattle.pt_state.specs.Reads.{AreTables};

@@ -1,7 +1,7 @@
 -- GrantedAtRest: nothing must follow the Grant of a call that is granted as it comes.
 use Rattle.std.proofs.Common.{◌≡◌, ℕ, ◌<◌, Bool, true, false, cond, not, ◌||◌, ◌&&◌, ◌==◌, nat_lt}
-use Rattle.std.proofs.Common.{suc, ◌-◌, Option, Some, None, is_some, is_none, filter, refl, sym, ap, ◌∙◌}
-use Rattle.std.proofs.Common.{List, subst, arith, eq-eqb}
+use Rattle.std.proofs.Common.{suc, ◌-◌, Option, Some, None, is_some, is_none, filter, refl, sym, ap}
+use Rattle.std.proofs.Common.{◌∙◌, List, subst, arith, eq-eqb}
 use Rattle.std.proofs.lemmas.Bool.{false≢true}
 use Rattle.std.proofs.lemmas.Bool.Decides.{nat_tests}
 use Rattle.std.specs.Prelude.{option_map}
@@ -40,8 +40,8 @@ use Rattle.pt_records.proofs.LockViews.{class-found}
 use Rattle.pt_state.proofs.Orphans.{orphan-rests}
 use Rattle.pt_state.proofs.StepLemmas.{Called, called as known_call}
 use Rattle.pt_touched.specs.Candidates.{candidate, candidate_by, candidate_if, comes_back, entering}
-use Rattle.pt_touched.specs.Candidates.{first_at, if_passes, is_write_if, open_call_if, rwlock_candidate}
-use Rattle.pt_touched.specs.Candidates.{reads_again_at}
+use Rattle.pt_touched.specs.Candidates.{first_at, if_passes, is_write_if, open_call_if}
+use Rattle.pt_touched.specs.Candidates.{rwlock_candidate, reads_again_at}
 use Rattle.pt_touched.specs.Touched.{touched, waiting_if}
 use Rattle.pt_touched.proofs.Candidates.{candidates, serves_touched}
 use Rattle.pt_touched.proofs.ClientCalls.{open_call-found, open_call-is}
@@ -264,7 +264,8 @@ module _ (h : History) (f : Follows h) (c : ℕ) (call : Asked) (had : IsGranted
                 (ap (λ b. is_some (reader h o) && b) k ∙ and_false (is_some (reader h o))))
                 ∙ was_it
 
-        written : (b : Bool) → cond b None (cond (is_some (reader t o) && is_write_if (first_at t o))
+        written : (b : Bool)
+            → cond b None (cond (is_some (reader t o) && is_write_if (first_at t o))
             again (first_at t o)) ≡ None
         written true = refl
         written false =

@@ -51,7 +51,8 @@ impl<A: Allocator + Copy> Names<A> {
         self.hints.get(key_of(name.as_bytes()))
     }
 
-    /// Notes the slot in which the row of a name with this key is looked for first.
+    /// Notes the slot in which the row of a name with this key is looked for first. The key is made
+    /// before the row: a read of what was just written would wait until all is written.
     #[inline(always)]
     pub(crate) fn note(&mut self, key: u64, slot: usize)
         ensures { self.new ≡ self.old }

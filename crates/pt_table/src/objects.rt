@@ -90,8 +90,7 @@ fn make_room_named<T, A: Allocator + Copy>(
     names.reserve_one()
 }
 
-// Puts a row with a new number and a new name in, if there is room, and returns its slot. The key is
-// the name's: it is made before the row, since a read of what was just written waits for all writes.
+// Puts a row with a new number and a new name in, if there is room, and returns its slot.
 #[inline(always)]
 fn put_named<T, A: Allocator + Copy>(
     rows: &mut Slab<ObjectRow<T>, A>,
@@ -203,7 +202,7 @@ impl<T, A: Allocator + Copy> Objects<T, A> {
         self.has(number) || self.find(name).is_some()
     }
 
-    ghost use Rattle.pt_table.specs.ObjectLends.{lends_at};
+    ghost use Rattle.pt_table.specs.ObjectLends.{lends_at, lends_if_at};
 
     // The slot of an object's row, if there is such an object, found with no hint.
     fn slot_if(&self, number: u64) -> Option<usize>
@@ -222,8 +221,6 @@ impl<T, A: Allocator + Copy> Objects<T, A> {
         let slot = slot_by(&self.rows, &self.numbers, slot, number);
         self.rows[slot].value_mut()
     }
-
-    ghost use Rattle.pt_table.specs.ObjectLends.{lends_if_at};
 
     // The value of an object whose number's hint is of no use.
     #[cold]

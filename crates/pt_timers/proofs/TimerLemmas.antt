@@ -64,8 +64,8 @@ other-place k l a b e = go (is_one k a l b) refl
         absurd (grind (arith, nat_tests))
 
 -- the same deadlines
-pub same-timers : (places later : List (ℕ × (Clock × ℕ))) (is_due is_later : Clock → TimerKey → Bool)
-    → AreTimers places is_due → later ≡ places
+pub same-timers : (places later : List (ℕ × (Clock × ℕ)))
+    (is_due is_later : Clock → TimerKey → Bool) → AreTimers places is_due → later ≡ places
     → ((k : Clock) (q : TimerKey) → is_later k q ≡ is_due k q) → AreTimers later is_later
 same-timers places later is_due is_later kept is same = record {
   placed = λ k q e.

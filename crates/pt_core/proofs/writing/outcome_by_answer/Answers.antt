@@ -15,7 +15,8 @@ returns-in-Call-None g c =
     let j = c.args.first in
     let at : place (past s) ≡ suc j =
     omega (arith, place_of_next s.stored, c.len.ensures, c.if-len-first.true, c.requires.some) in
-    let still : IsToldStill (Call c.in-Call-None.field-0-0 c.in-Call-None.field-1-0) None (past s) j =
+    let its = Call c.in-Call-None.field-0-0 c.in-Call-None.field-1-0 in
+    let still : IsToldStill its None (past s) j =
     subst (λ (v : Event). IsToldStill v None (past s) j) c.in-Call-None.is-0
     (subst (λ (a : Option Outcome). IsToldStill c.args.event.now a (past s) j)
     c.in-Call-None.is-1 c.requires.still) in
