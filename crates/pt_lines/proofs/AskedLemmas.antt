@@ -2,6 +2,7 @@
 use Rattle.std.proofs.Common.{◌≡◌, ◌≤◌, ◌∙◌, ℕ, Bool, true, false, cond, List, ◌∷◌, ◌++◌, []}
 use Rattle.std.proofs.Common.{length, nat_lt, nat_le, refl, ap, sym, arith, Option, None, Some}
 use Rattle.std.proofs.Common.{Ok, Err, codes, length-append, subst}
+use Rattle.std.specs.Prelude.{IfSome}
 use Rattle.std.specs.Option.{ok_or, option_map}
 use Rattle.std.specs.Str.{bytes_eq}
 use Rattle.pt_types.specs.declared.call.Call.{Call}
@@ -13,7 +14,7 @@ use Rattle.pt_types.specs.Names.{IsName}
 use Rattle.pt_lines.specs.Arguments.{name_of}
 use Rattle.pt_lines.specs.declared.call_line.CallLine.TheVariants as line
 use Rattle.pt_lines.specs.declared.client.Who.TheVariants.{Named}
-use Rattle.pt_lines.specs.declared.script_line.ScriptBody.TheVariants.{Die}
+use Rattle.pt_lines.specs.declared.script_line.ScriptBody.TheVariants.{Ask, Die}
 use Rattle.pt_lines.specs.declared.verb.Verb.{Verb}
 use Rattle.pt_lines.specs.declared.verb.Verb.TheVariants as first
 use Rattle.pt_lines.specs.Reading.{call_read, line_read, line_of}
@@ -46,6 +47,16 @@ refused text client long short none =
     (λ b. body_from (Named client)
     (cond b (Err refusal.Long) (ok_or (line_read text) refusal.Syntax))) test
     ∙ ap (λ o. body_from (Named client) (ok_or o refusal.Syntax)) none
+
+-- what is read as a call of a verb, however long it is
+pub said_if_asked :
+    (text : List ℕ) (args : List (List ℕ)) (verb : Verb) (o : Option Call)
+    → line_read text ≡ line_of verb args → option_map line.Ask o ≡ line_of verb args
+    → IfSome o (λ asked. (client : List ℕ) → body_read (Named client) text ≡ Ok (Ask asked))
+said_if_asked text args verb None read asked = tt
+said_if_asked text args verb (Some call) read asked = λ client.
+    called_again client text (line.Ask call)
+    (spells-line_read text (line.Ask call) (read ∙ sym asked))
 
 -- what is read as a call of a verb or as nothing
 pub said_or_refused :

@@ -194,7 +194,9 @@ fn timed_word_at_start(text: &[u8]) -> Option<(TimedVerb, &[u8])>
 /// says this makes it, or is refused as SYNTAX if there is none.
 #[inline(always)]
 pub fn timed_at_start(text: &[u8]) -> Option<Option<Call>>
-    ensures { IfSome result (λ asked. (client : List ℕ) → length text.now ≤ 128
+    ensures called { IfSome result (λ asked. IfSome asked (λ call. (client : List ℕ)
+        → body_read (who.Named client) text.now ≡ Ok (body.Ask call))) }
+    ensures read { IfSome result (λ asked. (client : List ℕ) → length text.now ≤ 128
         → body_read (who.Named client) text.now ≡ asked_or_refused asked) }
 {
     let (verb, args) = timed_word_at_start(text)?;
@@ -208,7 +210,9 @@ fn asked_by(text: &[u8], verb: Verb, start: &[u8]) -> Option<Option<Call>>
     requires long { 4 ≤ length start.now }
     requires asks { (args : List (List ℕ)) (asked : Option Call) → IsAsked verb args asked
         → option_map line.Ask asked ≡ line_of verb args }
-    ensures { IfSome result (λ asked. (client : List ℕ) → length text.now ≤ 128
+    ensures called { IfSome result (λ asked. IfSome asked (λ call. (client : List ℕ)
+        → body_read (who.Named client) text.now ≡ Ok (body.Ask call))) }
+    ensures read { IfSome result (λ asked. (client : List ℕ) → length text.now ≤ 128
         → body_read (who.Named client) text.now ≡ asked_or_refused asked) }
 {
     let args = after(text, start)?;
@@ -219,7 +223,9 @@ fn asked_by(text: &[u8], verb: Verb, start: &[u8]) -> Option<Option<Call>>
 /// of one. A client's line that says this asks for it, or is refused as SYNTAX if there is none.
 #[inline(always)]
 pub fn asked_at_start(text: &[u8]) -> Option<Option<Call>>
-    ensures { IfSome result (λ asked. (client : List ℕ) → length text.now ≤ 128
+    ensures called { IfSome result (λ asked. IfSome asked (λ call. (client : List ℕ)
+        → body_read (who.Named client) text.now ≡ Ok (body.Ask call))) }
+    ensures read { IfSome result (λ asked. (client : List ℕ) → length text.now ≤ 128
         → body_read (who.Named client) text.now ≡ asked_or_refused asked) }
 {
     match text.first() {

@@ -6,7 +6,7 @@ use Rattle.pt_lines.specs.declared.verb.Verb.TheVariants.{Timed}
 use Rattle.pt_lines.specs.Fields.{fields}
 use Rattle.pt_lines.specs.Reading.{line_of}
 use Rattle.pt_lines.specs.Verbs.{timed_word}
-use Rattle.pt_lines.proofs.AskedLemmas.{begins, is_long, said_or_refused}
+use Rattle.pt_lines.proofs.AskedLemmas.{begins, is_long, said_if_asked, said_or_refused}
 use Rattle.pt_lines.proofs.WordLemmas.{read_by_word}
 use Rattle.pt_lines.proofs.named_start.timed_at_start.Goals as goal
 
@@ -15,8 +15,8 @@ enough Timedlock = refl
 enough Timedrdlock = refl
 enough Timedwrlock = refl
 
-pub returns : goal.returns
-returns c =
+pub returns-clause-read : goal.returns-clause-read
+returns-clause-read c =
     let text = c.args.text.now in
     let verb = c.in_ok-verb.verb in
     let args = c.in_ok-verb.args.now in
@@ -26,4 +26,15 @@ returns c =
     let long : 4 ≤ length start = grind arith in
     said_or_refused text (fields args) (Timed verb) c.read_timed.result
     (is_long text start args parts long) (read_by_word text args start (Timed verb) refl parts)
+    (c.read_timed.ensures ∙ ap (line_of (Timed verb)) c.new.ensures)
+
+pub returns-clause-called : goal.returns-clause-called
+returns-clause-called c =
+    let text = c.args.text.now in
+    let verb = c.in_ok-verb.verb in
+    let args = c.in_ok-verb.args.now in
+    let start = timed_word verb ++ 32 ∷ [] in
+    let parts : text ≡ start ++ args = c.in_ok-verb.ensures ∙ begins (timed_word verb) args in
+    said_if_asked text (fields args) (Timed verb) c.read_timed.result
+    (read_by_word text args start (Timed verb) refl parts)
     (c.read_timed.ensures ∙ ap (line_of (Timed verb)) c.new.ensures)
