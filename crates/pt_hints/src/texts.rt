@@ -1,4 +1,4 @@
-//! Whether two short texts are the same. No call is needed for that.
+//! Whether two short texts are the same, by numbers of four and of eight bytes.
 
 ghost use Rattle.std.specs.Prelude.{◌≡◌, ◌-◌, ◌≤◌, ◌*◌, length, true, take, drop};
 
@@ -99,6 +99,21 @@ fn halves_equal(one: &[u8], other: &[u8]) -> bool
     eights_equal(&one[from..], &other[from..]) && eights_equal(&one[..16], &other[..16])
 }
 
+// Whether texts of one length, of 4 to 32 bytes, are the same. It isn't inlined: with all that it
+// does a caller would grow too large to be inlined itself.
+#[inline(never)]
+fn are_long_equal(one: &[u8], other: &[u8]) -> bool
+    requires same { length one.now ≡ length other.now }
+    requires few { length other.now ≤ 32 }
+    ensures { result ≡ true → one.now ≡ other.now }
+{
+    match other.len() {
+        0..=8 => fours_equal(one, other),
+        9..=16 => eights_equal(one, other),
+        _ => halves_equal(one, other),
+    }
+}
+
 // Whether texts of one length, of at most 32 bytes, are the same.
 #[inline(always)]
 fn are_equal(one: &[u8], other: &[u8]) -> bool
@@ -108,9 +123,7 @@ fn are_equal(one: &[u8], other: &[u8]) -> bool
 {
     match other.len() {
         0..=3 => one == other,
-        4..=8 => fours_equal(one, other),
-        9..=16 => eights_equal(one, other),
-        _ => halves_equal(one, other),
+        _ => are_long_equal(one, other),
     }
 }
 

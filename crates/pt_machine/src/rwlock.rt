@@ -19,7 +19,6 @@ use std::alloc::Allocator;
 impl<Q: WaitList, A: Allocator + Copy> Body<Q, A> {
     /// Whether a writer of the client's priority or a higher one waits at the lock; one that
     /// doesn't live has priority 0.  [XSH pthread_rwlock_rdlock]
-    #[inline(always)]
     pub(crate) fn is_blocked(&self, r: ObjectId, c: ClientId) -> bool
         requires { AreTables self.now }
         ensures { result
@@ -32,7 +31,6 @@ impl<Q: WaitList, A: Allocator + Copy> Body<Q, A> {
     }
 
     /// A client's call to read.  [XSH pthread_rwlock_rdlock]
-    #[inline(always)]
     pub(crate) fn read_verdict(
         &self,
         c: ClientId,

@@ -45,7 +45,7 @@ fn is_locked_once<A: Allocator + Copy>(objects: &Objects<Object<A>, A>, m: Objec
 }
 
 // The mutex is one of those that the client owns.
-#[inline(always)]
+#[inline(never)]
 fn own<A: Allocator + Copy>(
     clients: &mut Clients<Caller, A>,
     objects: &mut Objects<Object<A>, A>,

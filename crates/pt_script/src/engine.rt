@@ -174,7 +174,7 @@ impl<A: Allocator + Copy> Engine<A> {
 
     // Does what a counted line of this client asks for, which is a call, and appends its answer.
     // Most lines are such.
-    #[inline(never)]
+    #[inline(always)]
     fn run_call(
         &mut self,
         event: &Event,

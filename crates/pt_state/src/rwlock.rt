@@ -58,7 +58,6 @@ impl<A: Allocator + Copy> State<A> {
     }
 
     /// A call gets its read lock.  [XSH pthread_rwlock_rdlock]
-    #[inline(always)]
     pub(crate) fn push_grant_read(&mut self, found: &Open)
         requires ready { IsReadyFor self.old (entry.Grant found.now.call.place
             (grant_outcome_in (past self.old) (called found.now))) }
@@ -121,7 +120,6 @@ impl<A: Allocator + Copy> State<A> {
 
     /// A client's call to read, given whether a writer goes before it.
     /// [XSH pthread_rwlock_rdlock]
-    #[inline(always)]
     pub fn read_verdict(&self, c: ClientId, r: ObjectId, blocked: bool, how: &How) -> Verdict
         requires read { AreTables self.now }
         requires lock { kind_of (past self.now) r ≡ Some ObjectKind.Rwlock }
@@ -132,7 +130,6 @@ impl<A: Allocator + Copy> State<A> {
     }
 
     /// A client's call to write.  [XSH pthread_rwlock_wrlock]
-    #[inline(always)]
     pub fn write_verdict(
         &self,
         c: ClientId,
@@ -151,7 +148,6 @@ impl<A: Allocator + Copy> State<A> {
     }
 
     /// A client's call to give a read-write lock back.  [XSH pthread_rwlock_unlock]
-    #[inline(always)]
     pub fn rwunlocks_verdict(&self, c: ClientId, n: &Name, object: Option<ObjectId>) -> Verdict
         requires read { AreTables self.now }
         requires found { object ≡ find_in (past self.now) n.now RwlockClass }
