@@ -11,7 +11,7 @@ returns-clause-ok g c =
     let who = c.in-Named.is in
     let asks =
     ap (λ w. body_read w c.args.rest.now) who
-    ∙ c.in-Some.ensures c.in-Named.field-0 c.if-rest-le-MOST_IN_LINE.true in
+    ∙ c.in-Some.ensures.read c.in-Named.field-0 c.if-rest-le-MOST_IN_LINE.true in
     subst
     (λ said. OnOk c.ask_or_refuse.result (Adds (SaysTo s c.args.line.now
     (event_of_body s c.args.line.now.who said) (known_by c.ask_or_refuse.new.self))
