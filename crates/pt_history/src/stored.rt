@@ -231,7 +231,7 @@ impl<A: Allocator + Copy> History<A> {
     }
 
     /// Appends the entry of a call, in room that was made for it. It takes no memory.
-    #[inline(always)]
+    #[inline(never)]
     pub fn push_call(&mut self, client: ClientId, call: &Call, outcome: Option<Outcome>)
         requires { 0 < self.old.room }
         ensures { self.new

@@ -151,7 +151,6 @@ impl<Q: WaitList, A: Allocator + Copy> Body<Q, A> {
     }
 
     // The call that is served at a barrier: the first, if it is full.  [XSH pthread_barrier_wait]
-    #[inline(always)]
     fn barrier_candidate(&self, b: ObjectId, barrier: &BarrierObj) -> Option<&Open>
         requires read { AreTables self.now }
         requires stored { object_value self.now.objects b ≡ Some (row.Barrier barrier.now) }

@@ -83,7 +83,6 @@ impl<A: Allocator + Copy> State<A> {
     }
 
     /// A client's open call, with its move.
-    #[inline(always)]
     pub fn open_of(&self, c: ClientId) -> Option<&Open>
         requires { AreTables self.now }
         ensures { option_copied result ≡ open_in (client_value self.now.clients c) }

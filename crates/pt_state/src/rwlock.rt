@@ -45,7 +45,6 @@ impl<A: Allocator + Copy> State<A> {
     }
 
     /// A holder of a read-write lock gives it back.  [XSH pthread_rwlock_unlock]
-    #[inline(always)]
     pub fn push_rwunlock(&mut self, c: ClientId, call: &Call, n: &Name, object: Option<ObjectId>)
         requires ready { IsReadyFor self.old (entry.Call c call.now (Some told.Done)) }
         requires operation { operation call.now ≡ Rwunlocks n.now }
