@@ -33,7 +33,7 @@ pub mod QueueReads
 pub mod QueueCounts
 -- QueueFirsts: the first of a queue is the first of the calls that wait there
 pub mod QueueFirsts
--- QueueAhead: the first of a queue tells the greatest priority of those that wait there
+-- QueueAhead: the first of a queue has the greatest priority of those that wait there
 pub mod QueueAhead
 -- BarrierArrivals: the waiters of a barrier's queue are those of the calls that wait at it
 pub mod BarrierArrivals

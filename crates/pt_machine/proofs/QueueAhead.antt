@@ -1,4 +1,4 @@
--- QueueAhead: the first of a queue tells the greatest priority of those that wait there.
+-- QueueAhead: the first of a queue has the greatest priority of those that wait there.
 use Rattle.std.proofs.Common.{◌≡◌, ℕ, ◌==◌, ◌<◌, Bool, true, false, List, Option, Some, None, refl}
 use Rattle.std.proofs.Common.{sym, ◌∙◌, arith}
 use Rattle.std.proofs.lemmas.Bool.Decides.{nat_tests}

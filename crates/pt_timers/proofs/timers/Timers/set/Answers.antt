@@ -32,8 +32,8 @@ invariant_of-self-in-Err g c =
     same-timers t.places.entries c.insert-2.new.self.entries (is_due_at t.orders)
     (is_due_at c.remove.new.self) c.self.invariant c.in-Err.ensures.err
     (undone t.places.entries (is_due_at t.orders) c.self.invariant c.args.clock
-    c.nanos_of-nanos.result c.args.place unset (is_due_at c.insert.new.self) (is_due_at c.remove.new.self)
-    c.in_ok-insert.ensures.ok c.remove.ensures)
+    c.nanos_of-nanos.result c.args.place unset (is_due_at c.insert.new.self)
+    (is_due_at c.remove.new.self) c.in_ok-insert.ensures.ok c.remove.ensures)
 
 pub returns-in-Ok-clause-ok : goal.returns-in-Ok-clause-ok
 returns-in-Ok-clause-ok g c p =
