@@ -8,7 +8,7 @@ use std::alloc::{AllocError, Allocator};
 const FEWEST: usize = 256;
 
 /// How many hints there are at most.
-const MOST: usize = 4096;
+const MOST: usize = 16384;
 
 /// For each value of a key's low bits, the place that was noted last with such a key.
 ///

@@ -1,5 +1,8 @@
 //! The keys of names.
 
+ghost use Rattle.std.specs.Prelude.{◌≡◌, ◌<◌, length};
+ghost use Rattle.pt_hints.specs.Keys.{few_digits, four_digits, key};
+
 /// How far names that differ in their length alone lie apart, so that as many may end in
 /// consecutive numbers.
 const APART: u64 = 1909;
@@ -7,20 +10,25 @@ const APART: u64 = 1909;
 /// Four digits 0.
 const ZEROS: u32 = 0x3030_3030;
 
-// The sum of these bytes, each times the power of ten that a digit in its place stands for.
+// Fewer than four bytes, each times the power of ten that a digit in its place stands for.
 #[inline(always)]
-fn as_digits(bytes: &[u8]) -> u64 {
-    let mut sum = 0u64;
-    for byte in bytes {
-        sum = sum.wrapping_mul(10).wrapping_add(*byte as u64);
+fn as_few_digits(bytes: &[u8]) -> u64
+    ensures { length bytes.now < 4 → result ≡ few_digits bytes.now }
+{
+    match bytes {
+        [] => 0,
+        [a] => *a as u64,
+        [a, b] => *a as u64 * 10 + *b as u64,
+        [a, b, c, ..] => *a as u64 * 100 + *b as u64 * 10 + *c as u64,
     }
-    sum
 }
 
 // The sum of four bytes, each times the power of ten that a digit in its place stands for. Two
 // bytes are summed up at once, and then both sums.
 #[inline(always)]
-fn as_four_digits(bytes: [u8; 4]) -> u64 {
+fn as_four_digits(bytes: [u8; 4]) -> u64
+    ensures { result ≡ four_digits bytes }
+{
     let digits = u32::from_le_bytes(bytes).wrapping_sub(ZEROS);
     let pairs = (digits.wrapping_mul(10 << 8 | 1) >> 8) & 0x00FF_00FF;
     (pairs.wrapping_mul(100 << 16 | 1) >> 16) as u64
@@ -29,10 +37,12 @@ fn as_four_digits(bytes: [u8; 4]) -> u64 {
 /// The key of a name. Names that end in consecutive numbers have consecutive keys, but for a step
 /// in a few rows of them.
 #[inline(always)]
-pub fn key_of(bytes: &[u8]) -> u64 {
+pub fn key_of(bytes: &[u8]) -> u64
+    ensures { result ≡ key bytes.now }
+{
     let end = match bytes.last_chunk::<4>() {
         Some(last) => as_four_digits(*last),
-        None => as_digits(bytes),
+        None => as_few_digits(bytes),
     };
     end.wrapping_add(APART.wrapping_mul(bytes.len() as u64))
 }

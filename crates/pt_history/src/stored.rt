@@ -196,6 +196,25 @@ impl<A: Allocator + Copy> History<A> {
         true
     }
 
+    // Appends the entry of the making of a mutex or of a barrier, if its hint finds that name, and
+    // reports whether it does.
+    #[inline(always)]
+    fn push_made_again(&mut self, client: ClientId, call: &Call, outcome: Option<Outcome>) -> bool
+        requires { 0 < self.old.room }
+        ensures { self.new
+            ≡ if result then pushed (CallEntry client call.now outcome) self.old else self.old }
+    {
+        let again = self.records.made_again(self.base, client, call, outcome);
+        let Some(compact) = again else {
+            return false;
+        };
+        self.outer += 1;
+        self.entries.push_reserved(compact);
+        self.room -= 1;
+        self.memory -= 1;
+        true
+    }
+
     // Appends the entry of a wait, if its hint finds both names, and reports whether it does.
     #[inline(always)]
     fn push_wait_again(&mut self, client: ClientId, call: &Call, outcome: Option<Outcome>) -> bool
@@ -242,6 +261,9 @@ impl<A: Allocator + Copy> History<A> {
     {
         let pushed = match call {
             Call::Wait(..) => self.push_wait_again(client, call, outcome),
+            Call::MutexInit(..) | Call::BarrierInit(..) => self.push_made_again(
+                client, call, outcome,
+            ),
             _ => self.push_named_again(client, call, outcome),
         };
         if !pushed {

@@ -163,6 +163,57 @@ impl<A: Allocator + Copy> Records<A> {
         Some(Compact::Named(Word::Named(verb), answer_of(outcome), length, client, from))
     }
 
+    // As `named_again`, also of the making of a mutex.
+    fn word_again(
+        &self,
+        base: u64,
+        client: ClientId,
+        call: &Call,
+        outcome: Option<Outcome>,
+    ) -> Option<Compact>
+        ensures { ShowsIfSome base (CallEntry client call.now outcome) self.now self.now result }
+    {
+        let (word, name) = named(call)?;
+        let from = found(&self.texts, &self.hints, name)?;
+        let client = near(base, client.0)?;
+        let length = name.as_bytes().len() as u8;
+        Some(Compact::Named(word, answer_of(outcome), length, client, from))
+    }
+
+    // The stored form of the making of a barrier, if its hint finds that name.
+    fn barrier_again(
+        &self,
+        base: u64,
+        client: ClientId,
+        call: &Call,
+        outcome: Option<Outcome>,
+    ) -> Option<Compact>
+        ensures { ShowsIfSome base (CallEntry client call.now outcome) self.now self.now result }
+    {
+        let (name, count) = barrier(call)?;
+        let from = found(&self.texts, &self.hints, name)?;
+        let client = near(base, client.0)?;
+        let length = name.as_bytes().len() as u8;
+        Some(Compact::Barrier(answer_of(outcome), length, client, from, count))
+    }
+
+    /// The stored form of the making of a mutex or of a barrier, if its hint finds that name.
+    #[inline(always)]
+    pub(crate) fn made_again(
+        &self,
+        base: u64,
+        client: ClientId,
+        call: &Call,
+        outcome: Option<Outcome>,
+    ) -> Option<Compact>
+        ensures { ShowsIfSome base (CallEntry client call.now outcome) self.now self.now result }
+    {
+        match call {
+            Call::BarrierInit(..) => self.barrier_again(base, client, call, outcome),
+            _ => self.word_again(base, client, call, outcome),
+        }
+    }
+
     /// The stored form of a wait without a deadline, if its hint finds both names.
     #[inline(always)]
     pub(crate) fn wait_again(

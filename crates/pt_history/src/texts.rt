@@ -43,6 +43,12 @@ pub(crate) fn lies_at(texts: &[u8], from: usize, name: &Name) -> bool
     }
 }
 
+// The key with which a name is looked for.
+#[inline(always)]
+fn key_for(name: &Name) -> u64 {
+    key_of(name.as_bytes())
+}
+
 // The index at which the name with a key is looked for.
 #[inline(always)]
 fn hint_of<A: Allocator + Copy>(hints: &Hints<A>, key: u64) -> u32 {
@@ -54,7 +60,7 @@ fn hint_of<A: Allocator + Copy>(hints: &Hints<A>, key: u64) -> u32 {
 pub(crate) fn found<A: Allocator + Copy>(texts: &[u8], hints: &Hints<A>, name: &Name) -> Option<u32>
     ensures { IfSome result (λ i. LiesAt texts.now name.now i) }
 {
-    let hint = hint_of(hints, key_of(name.as_bytes()));
+    let hint = hint_of(hints, key_for(name));
     if !lies_at(texts, hint as usize, name) {
         return None;
     }
@@ -93,7 +99,7 @@ pub(crate) fn one_text<A: Allocator + Copy>(
     ensures none { result ≡ None → texts.new ≡ texts.old }
     ensures same { result ≡ None → hints.new ≡ hints.old }
 {
-    let key = key_of(name.as_bytes());
+    let key = key_for(name);
     let length = name.as_bytes().len();
     let hint = hint_of(hints, key);
     if lies_at(texts, hint as usize, name) {
@@ -120,7 +126,7 @@ pub(crate) fn two_texts<A: Allocator + Copy>(
     ensures none { result ≡ None → texts.new ≡ texts.old }
     ensures same { result ≡ None → hints.new ≡ hints.old }
 {
-    let key = key_of(one.as_bytes());
+    let key = key_for(one);
     let first = one.as_bytes().len();
     let second = other.as_bytes().len();
     let hint = hint_of(hints, key);

@@ -1,89 +1,72 @@
--- Gathered: a chain that is made of rising numbers, the last one first.
-use Rattle.std.proofs.Common.{◌≡◌, ◌∙◌, ◌||◌, ℕ, true, false, nat_eq, List, [], ◌∷◌, ◌++◌, Option}
-use Rattle.std.proofs.Common.{Some, None, refl, sym, ap, subst, inl, inr, arith, true≢false}
-use Rattle.std.proofs.lemmas.List.{append-nil, append_assoc}
-use Rattle.std.proofs.lemmas.Bool.Decides.{nat_tests}
+-- Gathered: the numbers of a chain, read one by one from its head on.
+use Rattle.std.proofs.Common.{◌≡◌, ◌∙◌, ◌<◌, ◌≤◌, ◌+◌, ℕ, suc, List, [], ◌∷◌, ◌++◌, length, take}
+use Rattle.std.proofs.Common.{Option, Some, None, sym, ap, subst, arith}
+use Rattle.std.proofs.Math.ListN.{set}
+use Rattle.std.proofs.Math.Seq.{take-suc-set}
+use Rattle.std.proofs.lemmas.List.{append-nil, append_assoc, length-append}
 use Rattle.pt_table.specs.declared.objects.ObjectRow.{ObjectRow}
-use Rattle.pt_table.specs.ObjectRows.{has_object}
-use Rattle.pt_table.specs.Linked.{is_linked, next_number, number_before, unlinked, IsChain, IsOneOf}
-use Rattle.pt_table.specs.Linked.{IsRising, KeepsOthers}
-use Rattle.pt_table.proofs.Chained.{differs, all-linked}
-use Rattle.pt_table.proofs.ChainCallers.{same-has}
-use Rattle.pt_table.proofs.Members.{in-left, in-right, less-than-last}
+use Rattle.pt_table.specs.Linked.{is_linked, next_number, number_before, IsChain, Leads}
+use Rattle.pt_table.proofs.Lookups.{some_inj, none_some}
 
-module _ {T : Type 0} where
-  -- the last numbers of a list are a chain now
-  pub record IsGathered (old now : List (ObjectRow T)) (all left : List ℕ) (head : Option ℕ)
-      : Type 0 where
-    pub done : List ℕ
-    pub split : all ≡ left ++ done
-    pub chain : IsChain now head done
-    pub others : (other : Option ℕ) (os : List ℕ) → IsChain old other os → IsChain now other os
-    pub free : (n : ℕ) → IsOneOf left n → is_linked now n ≡ false
-    pub linked : (n : ℕ) → (IsOneOf all n → ⊥) → is_linked now n ≡ is_linked old n
-    pub rows : unlinked now ≡ unlinked old
+-- one more number is written
+pub one-written : (i : ℕ) (ns : List ℕ) (n : ℕ) → i < length ns
+    → take (i + 1) (set ns i n) ≡ take i ns ++ n ∷ []
+one-written i ns n within =
+    let e : i + 1 ≡ suc i = omega arith in
+    ap (λ k. take k (set ns i n)) e ∙ take-suc-set ns i n within
 
-  pub gathers-none : (old : List (ObjectRow T)) (all : List ℕ)
-      → ((n : ℕ) → IsOneOf all n → is_linked old n ≡ false) → IsGathered old old all all None
-  gathers-none old all free = record {
-    done = [];
-    split = sym (append-nil all);
-    chain = refl;
-    others = λ other os m. m;
-    free = free;
-    linked = λ n out. refl;
-    rows = refl;
-  }
+module _ {T : Type 0} (rows : List (ObjectRow T)) (head : Option ℕ) where
+  -- these numbers of the chain of a head are read, and it goes on here
+  pub record IsGathered (rest : Option ℕ) (done : List ℕ) : Type 0 where
+    pub left : List ℕ
+    pub whole : IsChain rows head (done ++ left)
+    pub from : Option ℕ
+    pub leads : Leads (next_number rows) (number_before rows) (is_linked rows) from rest left
 
-  module _ (old now : List (ObjectRow T)) (all left : List ℕ) (head : Option ℕ)
-      (d : IsGathered old now all left head) (rest : List ℕ) (number : ℕ)
-      (last : left ≡ rest ++ number ∷ []) where
-    seam : all ≡ rest ++ number ∷ d.done
-    seam = d.split ∙ ap (λ ns. ns ++ d.done) last ∙ append_assoc rest (number ∷ []) d.done
+  pub gathers-none : (ns : List ℕ) → IsChain rows head ns → (done : List ℕ) → done ≡ []
+      → IsGathered head done
+  gathers-none ns l done e =
+      subst (λ d. IsGathered head d) (sym e)
+      (record { left = ns; whole = l; from = None; leads = l })
 
-    in-all : IsOneOf all number
-    in-all = subst (λ ns. IsOneOf ns number) (sym seam)
-        (in-right rest (number ∷ d.done) number (inl refl))
+  module _ (rest : Option ℕ) (done : List ℕ) (d : IsGathered rest done) where
+    -- there is room for a number while there is one
+    pub has-room : (most : ℕ) → ((ns : List ℕ) → IsChain rows head ns → length ns ≤ most)
+        → (first : ℕ) → rest ≡ Some first → length done < most
+    has-room most within first e =
+        go d.left d.leads (within (done ++ d.left) d.whole) (length-append done d.left)
+      where
+        go : (left : List ℕ)
+            → Leads (next_number rows) (number_before rows) (is_linked rows) d.from rest left
+            → length (done ++ left) ≤ most → length (done ++ left) ≡ length done + length left
+            → length done < most
+        go [] l fits sum = absurd (none_some (sym l ∙ e))
+        go (n ∷ ns) l fits sum = omega (arith, fits, sum)
 
-    pub last-free : is_linked now number ≡ false
-    last-free = d.free number (subst (λ ns. IsOneOf ns number) (sym last)
-        (in-right rest (number ∷ []) number (inl refl)))
+    -- one more is read
+    pub gathers-more : (first : ℕ) → rest ≡ Some first
+        → IsGathered (next_number rows first) (done ++ first ∷ [])
+    gathers-more first e = go d.left d.whole d.leads
+      where
+        go : (left : List ℕ) → IsChain rows head (done ++ left)
+            → Leads (next_number rows) (number_before rows) (is_linked rows) d.from rest left
+            → IsGathered (next_number rows first) (done ++ first ∷ [])
+        go [] w l = absurd (none_some (sym l ∙ e))
+        go (n ∷ tail) w l =
+            let same : n ≡ first = some_inj (sym l.0 ∙ e) in
+            subst (λ m. IsGathered (next_number rows m) (done ++ m ∷ [])) same (record {
+              left = tail;
+              whole = subst (IsChain rows head) (sym (append_assoc done (n ∷ []) tail)) w;
+              from = Some n;
+              leads = l.4;
+            })
 
-    pub last-there : ((n : ℕ) → IsOneOf all n → has_object old n ≡ true)
-        → has_object now number ≡ true
-    last-there there = same-has old now d.rows number ∙ there number in-all
-
-    -- one more is put first
-    pub gathers-more : (new : List (ObjectRow T)) → IsRising all
-        → ((n : ℕ) → IsOneOf all n → is_linked old n ≡ false)
-        → ((ns : List ℕ) → IsChain now head ns → IsChain new (Some number) (number ∷ ns))
-        → KeepsOthers now new head
-        → ((n : ℕ) → is_linked new n ≡ (nat_eq number n || is_linked now n))
-        → unlinked new ≡ unlinked now
-        → IsGathered old new all rest (Some number)
-    gathers-more new rise free chain keeps linked rows = record {
-      done = number ∷ d.done;
-      split = seam;
-      chain = chain d.done d.chain;
-      others = λ other os m. keeps d.done d.chain other os (d.others other os m) (λ n i j.
-          true≢false (sym (all-linked (next_number old) (number_before old) (is_linked old) None
-          other os m n j) ∙ free n (subst (λ ns. IsOneOf ns n) (sym seam)
-          (in-right rest (number ∷ d.done) n (inr i)))));
-      free = λ n i.
-          let less = less-than-last rest d.done number n (subst IsRising seam rise) i in
-          let other : nat_eq number n ≡ false = grind (arith, nat_tests) in
-          linked n ∙ ap (λ b. b || is_linked now n) other
-          ∙ d.free n (subst (λ ns. IsOneOf ns n) (sym last) (in-left rest (number ∷ []) n i));
-      linked = λ n out.
-          linked n
-          ∙ ap (λ b. b || is_linked now n)
-          (differs number n (λ e. out (subst (IsOneOf all) e in-all)))
-          ∙ d.linked n out;
-      rows = rows ∙ d.rows;
-    }
-
-  -- all are in the chain
-  pub gathers-all : (old now : List (ObjectRow T)) (all left : List ℕ) (head : Option ℕ)
-      → IsGathered old now all left head → left ≡ [] → IsChain now head all
-  gathers-all old now all left head d e =
-      subst (IsChain now head) (sym (d.split ∙ ap (λ ns. ns ++ d.done) e)) d.chain
+    -- all are read
+    pub gathers-all : rest ≡ None → IsChain rows head done
+    gathers-all e = go d.left d.whole d.leads
+      where
+        go : (left : List ℕ) → IsChain rows head (done ++ left)
+            → Leads (next_number rows) (number_before rows) (is_linked rows) d.from rest left
+            → IsChain rows head done
+        go [] w l = subst (IsChain rows head) (append-nil done) w
+        go (n ∷ tail) w l = absurd (none_some (sym e ∙ l.0))

@@ -8,8 +8,10 @@ mod Added
 mod Written
 -- Removed: taking a row out: its slot is empty, and its number is no longer listed
 mod Removed
--- Named: the names of the listed rows: a look-up by name goes through the slots of the names
+-- Named: the names of the listed rows: a look-up by name goes through the cells of the names
 mod Named
+-- Filed: cells that are written: which names still have theirs
+mod Filed
 -- Links: what a written link leaves of the rows, and of what each leads to
 mod Links
 -- Chained: what the numbers of a chain lead to, as one is put in or taken out
@@ -26,13 +28,13 @@ mod Taken
 mod Counted
 -- Members: the numbers of a list, of two lists, and of one in another order
 mod Members
--- Drained: a chain whose rows are taken out one by one
-mod Drained
 -- Walked: a chain that is followed some steps from its head
 mod Walked
--- Gathered: a chain that is made of numbers, the last one first
+-- Gathered: the numbers of a chain, read one by one from its head on
 mod Gathered
--- Sorted: a chain whose numbers are taken apart, sorted, and linked again
+-- Relinked: rows that are linked anew in the order of their numbers, the last one first
+mod Relinked
+-- Sorted: a chain whose numbers are gathered, sorted, and linked anew
 mod Sorted
 -- ChainCallers: for callers: chains and rows as rows are linked, written, added or taken out
 pub mod ChainCallers

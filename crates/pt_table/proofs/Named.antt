@@ -1,10 +1,10 @@
--- The names of the listed rows: a look-up by name goes through the slots of the names.
+-- The names of the listed rows: a look-up by name goes through the cells of the names.
 use Rattle.std.proofs.Common.{◌≡◌, ◌≢◌, ◌∙◌, ℕ, Bool, true, false, cond, nat_eq, List, [], ◌∷◌}
-use Rattle.std.proofs.Common.{◌++◌, refl, ap, sym, Option, None, Some, true≢false, inl, inr, ◌||◌}
-use Rattle.std.proofs.Common.{is_some}
+use Rattle.std.proofs.Common.{refl, ap, sym, Option, None, Some, true≢false, inl, inr, ◌||◌}
+use Rattle.std.proofs.Common.{is_some, subst}
 use Rattle.std.proofs.Math.ListN.{set}
 use Rattle.std.specs.List.{cons_option}
-use Rattle.std.specs.Option.{option_map, option_and_then}
+use Rattle.std.specs.Option.{option_map}
 use Rattle.std.specs.Map.{lookup}
 use Rattle.std.proofs.lemmas.Bool.Decides.{eqb_tells}
 use Rattle.std.proofs.lemmas.Slice.Eq.{bytes_eq-Decides}
@@ -12,9 +12,9 @@ use Rattle.pt_types.specs.Names.{same_name}
 use Rattle.pt_table.specs.declared.objects.ObjectRow.{ObjectRow}
 use Rattle.pt_table.specs.ObjectRows.{object_at, object_named, has_object, is_taken}
 use Rattle.pt_table.specs.Slots.{row_in_slot, rows_listed, Listed, IsNumbered}
-use Rattle.pt_table.specs.NameSlots.{name_in, IsNamed}
-use Rattle.pt_table.proofs.Lookups.{some_inj, none_some, none_of, lookup-append_some}
-use Rattle.pt_table.proofs.Lookups.{lookup-append_none}
+use Rattle.pt_table.specs.NameSlots.{name_in, Cells, IsFiled, IsFirst, IsNamed, IsOther}
+use Rattle.pt_table.specs.NameSlots.{IsRowIn, IsRowInMap, IsRowNamed}
+use Rattle.pt_table.proofs.Lookups.{some_inj, none_some, none_of}
 use Rattle.pt_table.proofs.Listed.{first_row}
 use Rattle.pt_table.proofs.Written.{same_in}
 use Rattle.pt_table.proofs.Removed.{kept, other_slot}
@@ -90,196 +90,198 @@ module _ {T : Type 0} (slots : List (Option (ObjectRow T))) where
           absurd (none e.1 (ap (option_map (λ row. row.name)) at_slot ∙ ap Some named))
       by ih false first eq at_slot = ih
 
+-- of a table, with its rows
 module _ {T : Type 0} {slots : List (Option (ObjectRow T))} {numbers : List (ℕ × ℕ)}
-    {names : List (List ℕ × ℕ)} {most : ℕ}
-    (h : IsNumbered (λ row. row.number) slots numbers most) (k : IsNamed slots names)
+    {cells : Cells} {others : List (List ℕ × ℕ)} {most : ℕ}
+    (h : IsNumbered (λ row. row.number) slots numbers most) (k : IsNamed slots cells others)
     (rows : List (ObjectRow T)) (view : rows_listed slots numbers ≡ rows) where
-  object_named-names : (t : List ℕ) → object_named (rows_listed slots numbers) t
-      ≡ option_and_then (row_in_slot slots) (lookup (same_name t) names)
-  object_named-names t = by (lookup (same_name t) names) refl
-    where
-      by : (o : Option ℕ) → lookup (same_name t) names ≡ o
-          → object_named (rows_listed slots numbers) t ≡ option_and_then (row_in_slot slots) o
-      by None e =
-          name_missing slots numbers t h.listed (λ s there. none_some (sym e ∙ k.listed s t there))
-      by (Some s) e =
-          let r = row_of_name (row_in_slot slots s) t (k.named t s e) in
-          let only : (j : ℕ) → name_in slots j ≡ Some t → j ≡ s =
-          λ j there. some_inj (sym (k.listed j t there) ∙ e) in
-          let at = h.numbered s r.0.number (ap (option_map (λ row. row.number)) r.1) in
-          name_found slots numbers t s r.0.number r.0 h.listed r.1 r.2 only at ∙ sym r.1
-
-  -- from what the names give at a name to the row
-  pub found_of : (t : List ℕ) (slot : Option ℕ) (o : Option (ObjectRow T))
-      → slot ≡ lookup (same_name t) names → o ≡ option_and_then (row_in_slot slots) slot
-      → o ≡ object_named rows t
-  found_of t slot o found row =
-      row ∙ ap (option_and_then (row_in_slot slots)) found ∙ sym (object_named-names t)
+  -- the row with a name is the one that the table has for it
+  pub row_found : (t : List ℕ) (row : ObjectRow T) (s : ℕ) → row_in_slot slots s ≡ Some row
+      → row.name ≡ t → Some row ≡ object_named rows t
+  row_found t row s here name =
+      let at = h.numbered s row.number (ap (option_map (λ r. r.number)) here) in
+      let mine : name_in slots s ≡ Some t = ap (option_map (λ r. r.name)) here ∙ ap Some name in
+      let only : (j : ℕ) → name_in slots j ≡ Some t → j ≡ s = λ j there. k.once t j s there mine in
+      sym (name_found slots numbers t s row.number row h.listed here name only at)
       ∙ ap (λ rs. object_named rs t) view
 
-  -- a name with no row has no slot
-  pub name_free : (t : List ℕ) → object_named rows t ≡ None → lookup (same_name t) names ≡ None
-  name_free t free = by (lookup (same_name t) names) refl
-    where
-      by : (o : Option ℕ) → lookup (same_name t) names ≡ o → lookup (same_name t) names ≡ None
-      by None e = e
-      by (Some s) e =
-          let r = row_of_name (row_in_slot slots s) t (k.named t s e) in
-          let has = ap (λ rs. object_named rs t) (sym view) ∙ object_named-names t
-          ∙ ap (option_and_then (row_in_slot slots)) e ∙ r.1 in
-          absurd (none_some (sym free ∙ has))
+  -- with no row of a name there is none in the table
+  pub row_missing : (t : List ℕ) → ((s : ℕ) → name_in slots s ≢ Some t)
+      → None ≡ object_named rows t
+  row_missing t none =
+      sym (name_missing slots numbers t h.listed none) ∙ ap (λ rs. object_named rs t) view
+
+  -- a name that no row has is in no slot
+  pub name_free : (t : List ℕ) → object_named rows t ≡ None → (s : ℕ) → name_in slots s ≢ Some t
+  name_free t free s there =
+      let r = row_of_name (row_in_slot slots s) t there in
+      none_some (sym free ∙ sym (row_found t r.0 s r.1 r.2))
+
+-- from the slots in which a name is looked for to its row
+pub row_after : {T : Type 0} {slots : List (Option (ObjectRow T))} {cells : Cells}
+    {others : List (List ℕ × ℕ)} → IsNamed slots cells others → (t : List ℕ) (first : Option ℕ)
+    → ((s : ℕ) → IsFirst cells t s → first ≡ Some s)
+    → ((s : ℕ) → first ≡ Some s → name_in slots s ≢ Some t)
+    → (o : Option (ObjectRow T)) → IsRowInMap slots cells others t o → IsRowNamed slots t o
+row_after k t first at_first not_first None none =
+    λ s there.
+    elim (k.filed s t there) [
+      | inl f ↦ not_first s (at_first s f) there
+      | inr f ↦ none s f there
+    ]
+row_after k t first at_first not_first (Some row) found = found
+
+pub row_by_map : {T : Type 0} (slots : List (Option (ObjectRow T))) (cells : Cells)
+    (others : List (List ℕ × ℕ)) (t : List ℕ) (other : Option ℕ)
+    → ((s : ℕ) → IsOther cells others t s → other ≡ Some s)
+    → (o : Option (ObjectRow T)) → IsRowIn slots other t o
+    → IsRowInMap slots cells others t o
+row_by_map slots cells others t other at_other None none = λ s f. none s (at_other s f)
+row_by_map slots cells others t other at_other (Some row) found = found
+
+differ : (t u : List ℕ) → t ≢ u → same_name t u ≡ false
+differ t u apart = by (same_name t u) refl
+  where
+    by : (b : Bool) → same_name t u ≡ b → same_name t u ≡ false
+    by true e = absurd (apart (true-same t u e))
+    by false e = e
 
 -- the names after a new row
-module _ {T : Type 0} {slots : List (Option (ObjectRow T))} {names : List (List ℕ × ℕ)}
-    (new : List (Option (ObjectRow T))) (row : ObjectRow T) (key : ℕ) (k : IsNamed slots names)
-    (vacant : row_in_slot slots key ≡ None)
+module _ {T : Type 0} {slots : List (Option (ObjectRow T))} {cells : Cells}
+    {others : List (List ℕ × ℕ)} (new : List (Option (ObjectRow T))) (row : ObjectRow T) (key : ℕ)
+    (cells' : Cells) (others' : List (List ℕ × ℕ)) (k : IsNamed slots cells others)
     (here : row_in_slot new key ≡ Some row)
-    (others : (s : ℕ) → s ≢ key → row_in_slot new s ≡ row_in_slot slots s)
-    (name_new : lookup (same_name row.name) names ≡ None) where
-  older : (s : ℕ) (t : List ℕ) → name_in slots s ≡ Some t → s ≢ key
-  older s t e same =
-      let none = ap (option_map (λ row. row.name)) (ap (row_in_slot slots) same ∙ vacant) in
-      none_some (sym none ∙ e)
+    (same : (s : ℕ) → s ≢ key → row_in_slot new s ≡ row_in_slot slots s)
+    (free : (s : ℕ) → name_in slots s ≢ Some row.name)
+    (filed : IsFiled cells' others' row.name key)
+    (still : (t : List ℕ) (s : ℕ) → same_name row.name t ≡ false → IsFiled cells others t s
+    → IsFiled cells' others' t s) where
+  was : (s : ℕ) (t : List ℕ) → s ≢ key → name_in new s ≡ Some t → name_in slots s ≡ Some t
+  was s t apart e = sym (ap (option_map (λ r. r.name)) (same s apart)) ∙ e
 
-  named_again : (t : List ℕ) (s : ℕ)
-      → lookup (same_name t) (names ++ (row.name, key) ∷ []) ≡ Some s → name_in new s ≡ Some t
-  named_again t s e = by (lookup (same_name t) names) refl (same_name t row.name) refl
-    where
-      by : (o : Option ℕ) → lookup (same_name t) names ≡ o → (b : Bool)
-          → same_name t row.name ≡ b → name_in new s ≡ Some t
-      by (Some j) found b eq =
-          let still = lookup-append_some (same_name t) names row.name key j found in
-          let there = k.named t s (found ∙ sym still ∙ e) in
-          ap (option_map (λ row. row.name)) (others s (older s t there)) ∙ there
-      by None found true eq =
-          let now = lookup-append_none (same_name t) names row.name key found in
-          let slot = some_inj (sym (now ∙ ap (λ b. cond b (Some key) None) eq) ∙ e) in
-          ap (name_in new) (sym slot) ∙ ap (option_map (λ row. row.name)) here
-          ∙ ap Some (sym (true-same t row.name eq))
-      by None found false eq =
-          let now = lookup-append_none (same_name t) names row.name key found in
-          absurd (none_some (sym (now ∙ ap (λ b. cond b (Some key) None) eq) ∙ e))
+  its : (s : ℕ) (t : List ℕ) → s ≡ key → name_in new s ≡ Some t → row.name ≡ t
+  its s t is e =
+      some_inj (sym (ap (option_map (λ r. r.name)) (ap (row_in_slot new) is ∙ here)) ∙ e)
 
-  listed_again : (s : ℕ) (t : List ℕ) → name_in new s ≡ Some t
-      → lookup (same_name t) (names ++ (row.name, key) ∷ []) ≡ Some s
-  listed_again s t e = elim (eqb_tells s key) [
-    | inl same ↦ at_key same.1
-    | inr apart ↦
-        let had = sym (ap (option_map (λ row. row.name)) (others s apart.1)) ∙ e in
-        lookup-append_some (same_name t) names row.name key s (k.listed s t had)
-  ]
-    where
-      at_key : s ≡ key → lookup (same_name t) (names ++ (row.name, key) ∷ []) ≡ Some s
-      at_key same =
-          let is = ap (row_in_slot new) same ∙ here in
-          let named : row.name ≡ t = some_inj (sym (ap (option_map (λ row. row.name)) is) ∙ e) in
-          let none = sym (ap (λ m. lookup (same_name m) names) named) ∙ name_new in
-          lookup-append_none (same_name t) names row.name key none
-          ∙ ap (λ b. cond b (Some key) None) (same-true t row.name (sym named))
-          ∙ ap Some (sym same)
+  never : (s : ℕ) (t : List ℕ) → row.name ≡ t → name_in slots s ≡ Some t → ⊥
+  never s t is e = free s (e ∙ ap Some (sym is))
 
-  pub IsNamed-added : IsNamed new (names ++ (row.name, key) ∷ [])
-  IsNamed-added = record { named = named_again; listed = listed_again }
+  once_again : (t : List ℕ) (s j : ℕ) → name_in new s ≡ Some t → name_in new j ≡ Some t → s ≡ j
+  once_again t s j at_s at_j =
+      elim (eqb_tells s key) [
+        | inl s_is ↦
+            elim (eqb_tells j key) [
+              | inl j_is ↦ s_is.1 ∙ sym j_is.1
+              | inr j_not ↦ absurd (never j t (its s t s_is.1 at_s) (was j t j_not.1 at_j))
+            ]
+        | inr s_not ↦
+            elim (eqb_tells j key) [
+              | inl j_is ↦ absurd (never s t (its j t j_is.1 at_j) (was s t s_not.1 at_s))
+              | inr j_not ↦ k.once t s j (was s t s_not.1 at_s) (was j t j_not.1 at_j)
+            ]
+      ]
+
+  filed_again : (s : ℕ) (t : List ℕ) → name_in new s ≡ Some t → IsFiled cells' others' t s
+  filed_again s t e =
+      elim (eqb_tells s key) [
+        | inl is ↦
+            subst (λ n. IsFiled cells' others' n s) (its s t is.1 e)
+            (subst (λ j. IsFiled cells' others' row.name j) (sym is.1) filed)
+        | inr apart ↦
+            let had = was s t apart.1 e in
+            still t s (differ row.name t (λ is. never s t is had)) (k.filed s t had)
+      ]
+
+  pub IsNamed-added : IsNamed new cells' others'
+  IsNamed-added = record { once = once_again; filed = filed_again }
 
 -- the names after a row is changed that keeps its number and its name
 pub IsNamed-written : {T : Type 0} {slots : List (Option (ObjectRow T))} {numbers : List (ℕ × ℕ)}
-    {names : List (List ℕ × ℕ)} {most : ℕ} (row : ObjectRow T) (slot : ℕ)
+    {cells : Cells} {others : List (List ℕ × ℕ)} {most : ℕ} (row : ObjectRow T) (slot : ℕ)
     (change : ObjectRow T → ObjectRow T)
     → ((r : ObjectRow T) → (change r).number ≡ r.number) → (change row).name ≡ row.name
-    → IsNumbered (λ r. r.number) slots numbers most → IsNamed slots names
+    → IsNumbered (λ r. r.number) slots numbers most → IsNamed slots cells others
     → row_in_slot slots slot ≡ Some row
-    → IsNamed (set slots slot (Some (change row))) names
+    → IsNamed (set slots slot (Some (change row))) cells others
 IsNamed-written {T} {slots} row slot change keeps name h k here =
     let same : (s : ℕ) → name_in (set slots slot (Some (change row))) s ≡ name_in slots s =
     same_in row slot change keeps h here (λ r. r.name) name in
     record {
-      named = λ t s e. same s ∙ k.named t s e;
-      listed = λ s t e. k.listed s t (sym (same s) ∙ e);
+      once = λ t s j at_s at_j. k.once t s j (sym (same s) ∙ at_s) (sym (same j) ∙ at_j);
+      filed = λ s t e. k.filed s t (sym (same s) ∙ e);
     }
 
 -- the names after a row is taken out, and its name with it
 module _ {T : Type 0} {slots : List (Option (ObjectRow T))} {numbers : List (ℕ × ℕ)}
-    {names : List (List ℕ × ℕ)} {most : ℕ} (names' : List (List ℕ × ℕ))
+    {cells : Cells} {others : List (List ℕ × ℕ)} {most : ℕ}
+    (cells' : Cells) (others' : List (List ℕ × ℕ))
     (row : ObjectRow T) (n slot : ℕ)
-    (h : IsNumbered (λ r. r.number) slots numbers most) (k : IsNamed slots names)
+    (h : IsNumbered (λ r. r.number) slots numbers most) (k : IsNamed slots cells others)
     (at : lookup (nat_eq n) numbers ≡ Some slot)
     (here : row_in_slot slots slot ≡ Some row)
-    (gone : (t : List ℕ) → lookup (same_name t) names'
-    ≡ cond (same_name row.name t) None (lookup (same_name t) names)) where
-  named_left : (t : List ℕ) (s : ℕ) → lookup (same_name t) names' ≡ Some s
-      → name_in (set slots slot None) s ≡ Some t
-  named_left t s e = by (same_name row.name t) refl (sym (gone t) ∙ e)
-    where
-      by : (b : Bool) → same_name row.name t ≡ b
-          → cond b None (lookup (same_name t) names) ≡ Some s
-          → name_in (set slots slot None) s ≡ Some t
-      by true eq f = cc
-      by false eq f =
-          let had = k.named t s f in
-          let of_row : s ≡ slot → row.name ≡ t = λ same.
-          some_inj (sym (ap (name_in slots) same
-          ∙ ap (option_map (λ r. r.name)) here) ∙ had) in
-          let apart : s ≢ slot = λ same.
-          true≢false (sym (same-true row.name t (of_row same)) ∙ eq) in
-          ap (option_map (λ r. r.name)) (kept row n slot h at here s apart) ∙ had
+    (still : (t : List ℕ) (s : ℕ) → same_name row.name t ≡ false
+    → lookup (nat_eq n) numbers ≢ Some s → IsFiled cells others t s
+    → IsFiled cells' others' t s) where
+  apart_from : (s : ℕ) (t : List ℕ) → name_in (set slots slot None) s ≡ Some t → s ≢ slot
+  apart_from s t e = other_slot row n slot h at here (λ r. r.name) s t e
 
-  listed_left : (s : ℕ) (t : List ℕ) → name_in (set slots slot None) s ≡ Some t
-      → lookup (same_name t) names' ≡ Some s
-  listed_left s t e =
-      let apart = other_slot row n slot h at here (λ r. r.name) s t e in
-      let same = kept row n slot h at here s apart in
-      let had = k.listed s t (sym (ap (option_map (λ r. r.name)) same) ∙ e) in
-      gone t ∙ by had apart (same_name row.name t) refl
-    where
-      by : lookup (same_name t) names ≡ Some s → s ≢ slot → (b : Bool)
-          → same_name row.name t ≡ b → cond b None (lookup (same_name t) names) ≡ Some s
-      by had apart true eq =
-          let its = k.listed slot row.name (ap (option_map (λ r. r.name)) here) in
-          let mine = ap (λ x. lookup (same_name x) names) (sym (true-same row.name t eq)) ∙ its in
-          absurd (apart (some_inj (sym had ∙ mine)))
-      by had apart false eq = had
+  had : (s : ℕ) (t : List ℕ) → name_in (set slots slot None) s ≡ Some t → name_in slots s ≡ Some t
+  had s t e =
+      sym (ap (option_map (λ r. r.name)) (kept row n slot h at here s (apart_from s t e))) ∙ e
 
-  pub IsNamed-removed : IsNamed (set slots slot None) names'
-  IsNamed-removed = record { named = named_left; listed = listed_left }
+  filed_left : (s : ℕ) (t : List ℕ) → name_in (set slots slot None) s ≡ Some t
+      → IsFiled cells' others' t s
+  filed_left s t e =
+      let apart = apart_from s t e in
+      let own : name_in slots slot ≡ Some row.name = ap (option_map (λ r. r.name)) here in
+      let other : row.name ≢ t = λ is.
+      apart (k.once t s slot (had s t e) (own ∙ ap Some is)) in
+      still t s (differ row.name t other) (λ is. apart (some_inj (sym is ∙ at)))
+      (k.filed s t (had s t e))
+
+  pub IsNamed-removed : IsNamed (set slots slot None) cells' others'
+  IsNamed-removed =
+      record {
+        once = λ t s j at_s at_j. k.once t s j (had s t at_s) (had j t at_j);
+        filed = filed_left;
+      }
 
 -- the same of the rows that `take_out` leaves
 pub named_removed : {T : Type 0} {slots : List (Option (ObjectRow T))} {numbers : List (ℕ × ℕ)}
-    {names : List (List ℕ × ℕ)} {most : ℕ}
-    → IsNumbered (λ r. r.number) slots numbers most → IsNamed slots names
+    {cells : Cells} {others : List (List ℕ × ℕ)} {most : ℕ}
+    → IsNumbered (λ r. r.number) slots numbers most → IsNamed slots cells others
     → (n : ℕ) (new : List (Option (ObjectRow T))) (row : ObjectRow T)
     → (slot : ℕ) × (lookup (nat_eq n) numbers ≡ Some slot)
     × (row_in_slot slots slot ≡ Some row) × (new ≡ set slots slot None)
-    → (names' : List (List ℕ × ℕ))
-    → ((t : List ℕ) → lookup (same_name t) names'
-    ≡ cond (same_name row.name t) None (lookup (same_name t) names))
-    → IsNamed new names'
-named_removed h k n new row taken names' gone =
-    rw taken.3 (IsNamed-removed names' row n taken.0 h k taken.1 taken.2 gone)
+    → (cells' : Cells) (others' : List (List ℕ × ℕ))
+    → ((t : List ℕ) (s : ℕ) → same_name row.name t ≡ false
+    → lookup (nat_eq n) numbers ≢ Some s → IsFiled cells others t s → IsFiled cells' others' t s)
+    → IsNamed new cells' others'
+named_removed h k n new row taken cells' others' still =
+    rw taken.3 (IsNamed-removed cells' others' row n taken.0 h k taken.1 taken.2 still)
 
 -- the same of a new row, for a table that first made room
-pub named_added : {T : Type 0} {slots : List (Option (ObjectRow T))} {names : List (List ℕ × ℕ)}
-    → IsNamed slots names → (roomy : List (Option (ObjectRow T))) (roomy_names : List (List ℕ × ℕ))
-    → roomy ≡ slots → roomy_names ≡ names
-    → (new : List (Option (ObjectRow T))) (new_names : List (List ℕ × ℕ))
-    → (row : ObjectRow T) (key : ℕ)
-    → row_in_slot roomy key ≡ None → row_in_slot new key ≡ Some row
-    → ((s : ℕ) → s ≢ key → row_in_slot new s ≡ row_in_slot roomy s)
-    → new_names ≡ roomy_names ++ (row.name, key) ∷ []
-    → lookup (same_name row.name) roomy_names ≡ None
-    → IsNamed new new_names
-named_added k roomy names' same same_names new new_names row key vacant here others longer free =
-    let still : IsNamed roomy names' = rw (same, same_names) k in
-    rw longer (IsNamed-added new row key still vacant here others free)
-
--- a name with no row has no slot there
-pub new_name : {T : Type 0} {slots : List (Option (ObjectRow T))} {numbers : List (ℕ × ℕ)}
-    {names : List (List ℕ × ℕ)} {most : ℕ}
-    → IsNumbered (λ row. row.number) slots numbers most → IsNamed slots names
+pub named_added : {T : Type 0} {slots : List (Option (ObjectRow T))} {numbers : List (ℕ × ℕ)}
+    {cells : Cells} {others : List (List ℕ × ℕ)} {most : ℕ}
+    → IsNumbered (λ r. r.number) slots numbers most → IsNamed slots cells others
     → (rows : List (ObjectRow T)) → rows_listed slots numbers ≡ rows
-    → (roomy_names : List (List ℕ × ℕ)) → roomy_names ≡ names
-    → (t : List ℕ) → object_named rows t ≡ None → lookup (same_name t) roomy_names ≡ None
-new_name h k rows view roomy_names same t free =
-    ap (lookup (same_name t)) same ∙ name_free h k rows view t free
+    → (roomy : List (Option (ObjectRow T))) (roomy_cells : Cells)
+    (roomy_others : List (List ℕ × ℕ))
+    → roomy ≡ slots → roomy_cells ≡ cells → roomy_others ≡ others
+    → (new : List (Option (ObjectRow T))) (cells' : Cells) (others' : List (List ℕ × ℕ))
+    → (row : ObjectRow T) (key : ℕ) → row_in_slot new key ≡ Some row
+    → ((s : ℕ) → s ≢ key → row_in_slot new s ≡ row_in_slot roomy s)
+    → IsFiled cells' others' row.name key
+    → ((t : List ℕ) (s : ℕ) → same_name row.name t ≡ false → IsFiled roomy_cells roomy_others t s
+    → IsFiled cells' others' t s)
+    → object_named rows row.name ≡ None → IsNamed new cells' others'
+named_added h k rows view roomy roomy_cells roomy_others same same_cells same_others new cells'
+    others' row key here others filed still free =
+    let as_named : IsNamed roomy roomy_cells roomy_others =
+    rw (same, same_cells, same_others) k in
+    let no_slot : (s : ℕ) → name_in roomy s ≢ Some row.name =
+    rw same (name_free h k rows view row.name free) in
+    IsNamed-added new row key cells' others' as_named here others no_slot filed still
 
 -- what isn't taken has no row, neither by its number nor by its name
 pub number_free : {T : Type 0} (rows : List (ObjectRow T)) (n : ℕ) (t : List ℕ)

@@ -1,4 +1,4 @@
--- Sorted: a chain whose numbers are taken apart, sorted, and linked again.
+-- Sorted: a chain whose numbers are gathered, sorted, and linked anew.
 use Rattle.std.proofs.Common.{◌≡◌, ◌∙◌, ◌<◌, ◌≤◌, ◌-◌, ℕ, suc, List, [], ◌∷◌, ◌++◌, length, take}
 use Rattle.std.proofs.Common.{Option, None, refl, sym, ap, subst, inl, inr, arith}
 use Rattle.std.specs.Prelude.{slice_index_or, IsPermutation}
@@ -7,9 +7,10 @@ use Rattle.std.proofs.Math.Seq.{take-suc}
 use Rattle.std.proofs.lemmas.List.Sorted.{IsPermutation-sym}
 use Rattle.pt_table.specs.declared.objects.ObjectRow.{ObjectRow}
 use Rattle.pt_table.specs.Linked.{is_linked, next_number, number_before, IsChain, IsOneOf, IsRising}
-use Rattle.pt_table.specs.Linked.{IsSortedTo}
+use Rattle.pt_table.specs.Linked.{IsSortedTo, KeepsOthers}
 use Rattle.pt_table.proofs.Chained.{all-linked, same-list}
 use Rattle.pt_table.proofs.Counted.{once-chain, chain-fits}
+use Rattle.pt_table.proofs.Relinked.{same-leads}
 use Rattle.pt_table.proofs.Members.{in-or-out, members, sorted-rises}
 
 -- the front of a list up to an index, and what is there, are the front past it
@@ -25,6 +26,12 @@ whole-front (n ∷ ns) = ap (λ ms. n ∷ ms) (whole-front ns)
 
 pub no-front : (i : ℕ) (ns : List ℕ) → i ≡ 0 → take i ns ≡ []
 no-front i ns e = ap (λ k. take k ns) e
+
+-- at most one number rises
+short-rises : (ns : List ℕ) → length ns ≤ 1 → IsRising ns
+short-rises [] e = tt
+short-rises (n ∷ []) e = (tt, tt)
+short-rises (n ∷ k ∷ ns) e = absurd (omega (arith, e))
 
 module _ {T : Type 0} where
   module _ (old : List (ObjectRow T)) (head : Option ℕ) (ns ms : List ℕ)
@@ -57,33 +64,44 @@ module _ {T : Type 0} where
         )
 
     -- what was linked is linked again, and nothing else
-    pub linked-again : (apart new : List (ObjectRow T)) (after : Option ℕ)
-        → IsChain new after ms
-        → ((n : ℕ) → (IsOneOf ns n → ⊥) → is_linked apart n ≡ is_linked old n)
-        → ((n : ℕ) → (IsOneOf ms n → ⊥) → is_linked new n ≡ is_linked apart n)
+    pub linked-again : (new : List (ObjectRow T)) (after : Option ℕ) → IsChain new after ms
+        → ((n : ℕ) → (IsOneOf ms n → ⊥) → is_linked new n ≡ is_linked old n)
         → (n : ℕ) → is_linked new n ≡ is_linked old n
-    linked-again apart new after l out back n = elim (in-or-out ns n) [
+    linked-again new after l back n = elim (in-or-out ns n) [
       | inl i ↦
           all-linked (next_number new) (number_before new) (is_linked new) None after ms l n
           (still-there n i)
           ∙ sym (all-linked (next_number old) (number_before old) (is_linked old) None head ns
           chain n i)
-      | inr o ↦ back n (λ i. o (was-there n i)) ∙ out n o
+      | inr o ↦ back n (λ i. o (was-there n i))
     ]
 
-  -- a chain with at most one row is in order
-  pub short-sorted : (rows : List (ObjectRow T)) (head : Option ℕ)
-      → ((ns : List ℕ) → IsChain rows head ns → length ns ≤ 1) → IsSortedTo rows rows head head
-  short-sorted rows head short ns l = (ns, l, rising ns (short ns l), λ n. (λ i. i, λ i. i))
-    where
-      rising : (ms : List ℕ) → length ms ≤ 1 → IsRising ms
-      rising [] e = tt
-      rising (m ∷ []) e = (tt, tt)
-      rising (m ∷ k ∷ ms) e = absurd (omega (arith, e))
+    -- chains that have no number in common with these stay
+    pub others-kept : (new : List (ObjectRow T))
+        → ((n : ℕ) → (IsOneOf ms n → ⊥) → next_number new n ≡ next_number old n)
+        → ((n : ℕ) → (IsOneOf ms n → ⊥) → number_before new n ≡ number_before old n)
+        → ((n : ℕ) → (IsOneOf ms n → ⊥) → is_linked new n ≡ is_linked old n)
+        → KeepsOthers old new head
+    others-kept new next before linked numbers l other os m apart =
+        same-leads (next_number old) (next_number new) (number_before old) (number_before new)
+        (is_linked old) (is_linked new) None other os (λ n i. next n (out n i))
+        (λ n i. before n (out n i)) (λ n i. linked n (out n i)) m
+      where
+        out : (n : ℕ) → IsOneOf os n → IsOneOf ms n → ⊥
+        out n i j =
+            let e : ns ≡ numbers =
+            same-list (next_number old) (number_before old) (is_linked old) None head ns numbers
+            chain l in
+            apart n (subst (λ xs. IsOneOf xs n) e (was-there n j)) i
 
-  -- so is each chain of a table with at most one row
-  pub table-short : (rows : List (ObjectRow T)) (head : Option ℕ) → length rows < 2
-      → (ns : List ℕ) → IsChain rows head ns → length ns ≤ 1
-  table-short rows head few ns l =
+  -- a chain whose numbers rise is in order
+  pub risen-sorted : (rows : List (ObjectRow T)) (head : Option ℕ)
+      → ((ns : List ℕ) → IsChain rows head ns → IsRising ns) → IsSortedTo rows rows head head
+  risen-sorted rows head up ns l = (ns, l, up ns l, λ n. (λ i. i, λ i. i))
+
+  -- each chain of a table with at most one row rises
+  pub table-rises : (rows : List (ObjectRow T)) (head : Option ℕ) → length rows < 2
+      → (ns : List ℕ) → IsChain rows head ns → IsRising ns
+  table-rises rows head few ns l =
       let fits = chain-fits rows head ns l in
-      omega (arith, fits, few)
+      short-rises ns (omega (arith, fits, few))

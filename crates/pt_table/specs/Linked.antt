@@ -33,6 +33,12 @@ abbrev pub is_number : Option ℕ → ℕ → Bool
 is_number None n = false
 is_number (Some m) n = nat_eq m n
 
+-- the last of some numbers
+abbrev pub last_number : List ℕ → Option ℕ
+last_number [] = None
+last_number (n ∷ []) = Some n
+last_number (n ∷ m ∷ ms) = last_number (m ∷ ms)
+
 -- each number is less than those after it
 abbrev pub IsRising : List ℕ → Type 0
 IsRising [] = Unit {0}

@@ -1,8 +1,10 @@
 -- Name slots: where the row of each name lies.
-use Rattle.std.specs.Prelude.{◌≡◌, ℕ, List, Option, Some, None, if◌then◌else◌}
+use Rattle.std.specs.Prelude.{◌≡◌, ◌≢◌, ◌<◌, ◌%◌, ◌⊎◌, ℕ, Bool, true, false, List, Option, Some}
+use Rattle.std.specs.Prelude.{None, if◌then◌else◌, slice_index_or}
 use Rattle.std.specs.Option.{option_map}
 use Rattle.std.specs.Map.{lookup}
 use Rattle.pt_types.specs.Names.{same_name}
+use Rattle.pt_hints.specs.Keys.{key}
 use Rattle.pt_table.specs.declared.objects.ObjectRow.{ObjectRow}
 use Rattle.pt_table.specs.Slots.{row_in_slot}
 
@@ -12,20 +14,75 @@ IsForgotten old name new =
     (t : List ℕ) → lookup (same_name t) new
     ≡ (if same_name name t then None else lookup (same_name t) old)
 
--- the names with their slots, and for how many more there is room
+-- the cells: in each the slot of one name, and whether others of its names are in the map
+pub record Cells : Type 0 where
+  pub firsts : List (Option ℕ)
+  pub shared : List Bool
+
+-- the cells, the names in the map with their slots, and for how many more there is room in it
 pub record Naming : Type 0 where
-  pub entries : List (List ℕ × ℕ)
+  pub cells : Cells
+  pub others : List (List ℕ × ℕ)
   pub room : ℕ
+
+-- the index of a name's cell
+abbrev pub place_of : List ℕ → ℕ
+place_of name = key name % 16384
+
+-- the slot in the cell of a name
+abbrev pub first_of : Cells → List ℕ → Option ℕ
+first_of cells name = slice_index_or cells.firsts (place_of name) None
+
+-- whether names of the cell of a name are in the map
+abbrev pub is_shared : Cells → List ℕ → Bool
+is_shared cells name = slice_index_or cells.shared (place_of name) false
+
+-- the slot is in the name's cell
+abbrev pub IsFirst : Cells → List ℕ → ℕ → Type 0
+IsFirst cells name slot = first_of cells name ≡ Some slot
+
+-- the slot is the name's in the map, and the cell says that some are there
+abbrev pub IsOther : Cells → List (List ℕ × ℕ) → List ℕ → ℕ → Type 0
+IsOther cells others name slot =
+    (is_shared cells name ≡ true) × (lookup (same_name name) others ≡ Some slot)
+
+-- the slot of a name is found in one of both
+abbrev pub IsFiled : Cells → List (List ℕ × ℕ) → List ℕ → ℕ → Type 0
+IsFiled cells others name slot = IsFirst cells name slot ⊎ IsOther cells others name slot
+
+-- the name's cell has room for the slot, or the map has room
+abbrev pub CanFile : Naming → List ℕ → ℕ → Type 0
+CanFile names name slot =
+    ((first_of names.cells name ≡ None) × (slot < 65536)) ⊎ (0 < names.room)
 
 module _ {T : Type 0} where
   -- the name of the row in a slot
   abbrev pub name_in : List (Option (ObjectRow T)) → ℕ → Option (List ℕ)
   name_in slots slot = option_map (λ row. row.name) (row_in_slot slots slot)
 
-  -- the names list each row once
-  pub record IsNamed (slots : List (Option (ObjectRow T))) (names : List (List ℕ × ℕ)) :
-      Type 0 where
-    pub named : (name : List ℕ) (slot : ℕ) → lookup (same_name name) names ≡ Some slot
-        → name_in slots slot ≡ Some name
-    pub listed : (slot : ℕ) (name : List ℕ) → name_in slots slot ≡ Some name
-        → lookup (same_name name) names ≡ Some slot
+  -- it is the row of the name, or there is none
+  abbrev pub IsRowNamed : List (Option (ObjectRow T)) → List ℕ → Option (ObjectRow T) → Type 0
+  IsRowNamed slots name None = (slot : ℕ) → name_in slots slot ≢ Some name
+  IsRowNamed slots name (Some row) =
+      (slot : ℕ) × (row_in_slot slots slot ≡ Some row) × (row.name ≡ name)
+
+  -- it is the row of the name, or there is none in this slot
+  abbrev pub IsRowIn : List (Option (ObjectRow T)) → Option ℕ → List ℕ → Option (ObjectRow T)
+      → Type 0
+  IsRowIn slots slot name None = (s : ℕ) → slot ≡ Some s → name_in slots s ≢ Some name
+  IsRowIn slots slot name (Some row) = IsRowNamed slots name (Some row)
+
+  -- it is the row of the name, or the map leads to none
+  abbrev pub IsRowInMap : List (Option (ObjectRow T)) → Cells → List (List ℕ × ℕ) → List ℕ
+      → Option (ObjectRow T) → Type 0
+  IsRowInMap slots cells others name None =
+      (s : ℕ) → IsOther cells others name s → name_in slots s ≢ Some name
+  IsRowInMap slots cells others name (Some row) = IsRowNamed slots name (Some row)
+
+  -- no two rows have one name, and the slot of each name is found
+  pub record IsNamed (slots : List (Option (ObjectRow T))) (cells : Cells)
+      (others : List (List ℕ × ℕ)) : Type 0 where
+    pub once : (name : List ℕ) (slot other : ℕ) → name_in slots slot ≡ Some name
+        → name_in slots other ≡ Some name → slot ≡ other
+    pub filed : (slot : ℕ) (name : List ℕ) → name_in slots slot ≡ Some name
+        → IsFiled cells others name slot

@@ -8,7 +8,7 @@ use Rattle.pt_table.specs.declared.link.Link.{Link}
 use Rattle.pt_table.specs.declared.objects.ObjectRow.{ObjectRow}
 use Rattle.pt_table.specs.Rows.{row_at, without, changed_at}
 use Rattle.pt_table.specs.Slots.{IsNumbered}
-use Rattle.pt_table.specs.NameSlots.{IsNamed}
+use Rattle.pt_table.specs.NameSlots.{Cells, IsNamed}
 
 -- the link of a row that is in no chain
 abbrev pub out_of_chains : Link
@@ -82,7 +82,8 @@ module _ {T : Type 0} where
   abbrev pub without_object : List (ObjectRow T) → ℕ → List (ObjectRow T)
   without_object rows number = without (λ row. row.number) rows number
 
-  -- numbers and names list each object once, and there are at most 4,096
-  abbrev pub AreObjects : List (Option (ObjectRow T)) → List (ℕ × ℕ) → List (List ℕ × ℕ) → Type 0
-  AreObjects slots numbers names =
-      IsNumbered (λ row. row.number) slots numbers most_objects × IsNamed slots names
+  -- numbers list each object once, names lead to it, and there are at most 4,096
+  abbrev pub AreObjects : List (Option (ObjectRow T)) → List (ℕ × ℕ) → Cells
+      → List (List ℕ × ℕ) → Type 0
+  AreObjects slots numbers cells others =
+      IsNumbered (λ row. row.number) slots numbers most_objects × IsNamed slots cells others

@@ -60,8 +60,8 @@ impl<T, A: Allocator + Copy> Objects<T, A> {
         }
     }
 
-    // Writes the link of a row that has none, or that has one no longer.
-    fn set_own(&mut self, slot: usize, number: u64, link: Link)
+    // Writes the link of a row.
+    pub(crate) fn set_own(&mut self, slot: usize, number: u64, link: Link)
         requires { has_object self.old number ≡ true }
         ensures next { (n : ℕ)
             → next_number self.new n

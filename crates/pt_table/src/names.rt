@@ -1,11 +1,11 @@
 //! The names of the objects, and the slot of each object's row.
 
-ghost use Rattle.std.specs.Prelude.{◌≡◌, ◌<◌, ◌++◌, [], ◌∷◌, None, OnOk};
+ghost use Rattle.std.specs.Prelude.{◌≡◌, ◌≢◌, ◌<◌, ℕ, List, Some, OnOk, false};
 ghost use Rattle.std.specs.Map.{lookup};
 ghost use Rattle.pt_types.specs.Names.{same_name};
+ghost use Rattle.pt_table.specs.NameSlots.{place_of, CanFile, IsFiled, IsFirst, IsOther};
 ghost use Rattle.pt_table.specs.NameSlots.{IsForgotten};
 
-use crate::slot_hints::SlotHints;
 use indexmap::IndexMap;
 use pt_hints::key_of;
 use pt_types::Name;
@@ -13,16 +13,27 @@ use std::alloc::{AllocError, Allocator};
 use std::hash::{BuildHasherDefault, FoldHasher};
 use std::marker::Model;
 
-/// The slot of each name.
+/// How many cells there are.
+const COUNT: usize = 16384;
+
+/// The slots below this one fit a cell.
+const MOST_SLOTS: usize = 65536;
+
+/// Slots of names.
 type NameMap<A> = IndexMap<Name, usize, BuildHasherDefault<FoldHasher>, A>;
 
-/// The names, each with the slot of its row.
+/// Where the rows of names lie.
 ///
-/// A name's row is first looked for in the slot that its hint gives, and else by the name's hash.
+/// A name's cell is the one of its key's low bits. It has the slot of one name's row, and says
+/// whether others of these names are in the map: so a name is hashed only where two of them share
+/// a cell.
 #[derive(Drop)]
 pub(crate) struct Names<A: Allocator + Copy> {
-    hints: SlotHints,
-    slots: NameMap<A>,
+    /// Of each cell the slot of one name's row, if it has one.
+    firsts: [Option<u16>; COUNT],
+    /// Of each cell whether others of its names are in the map.
+    shared: [bool; COUNT],
+    others: NameMap<A>,
 }
 
 impl<A: Allocator + Copy> Model for Names<A> {
@@ -31,63 +42,139 @@ impl<A: Allocator + Copy> Model for Names<A> {
 
     ghost Value = { Naming };
 
-    ghost view = { λ n. record { entries = n.slots.entries; room = spare n.slots } };
+    ghost view = { λ n. record {
+      cells = record { firsts = n.firsts; shared = n.shared };
+      others = n.others.entries;
+      room = spare n.others;
+    } };
+}
+
+// The index of a name's cell.
+#[inline(always)]
+fn place_of(name: &Name) -> usize
+    ensures { result ≡ place_of name.now }
+{
+    key_of(name.as_bytes()) as usize % COUNT
 }
 
 impl<A: Allocator + Copy> Names<A> {
     /// No name. It takes no memory.
-    pub(crate) fn new(alloc: A) -> Self
-        ensures { result.entries ≡ [] }
-    {
+    pub(crate) fn new(alloc: A) -> Self {
         Names {
-            hints: SlotHints::new(),
-            slots: IndexMap::new(alloc),
+            firsts: [None; COUNT],
+            shared: [false; COUNT],
+            others: IndexMap::new(alloc),
         }
     }
 
-    /// The slot in which the row of a name is looked for first. It may be another's.
+    /// The slot in a name's cell, if there is one. It may be another's.
     #[inline(always)]
-    pub(crate) fn hint(&self, name: &Name) -> usize {
-        self.hints.get(key_of(name.as_bytes()))
+    pub(crate) fn first(&self, name: &Name) -> Option<usize>
+        ensures { (slot : ℕ) → IsFirst self.now.cells name.now slot → result ≡ Some slot }
+    {
+        match self.firsts[place_of(name)] {
+            Some(slot) => Some(slot as usize),
+            None => None,
+        }
     }
 
-    /// Notes the slot in which the row of a name with this key is looked for first. The key is made
-    /// before the row: a read of what was just written would wait until all is written.
+    // The slot of a name in the map.
+    #[cold]
+    #[inline(never)]
+    fn in_map(&self, name: &Name) -> Option<usize>
+        ensures { result ≡ lookup (same_name name.now) self.now.others }
+    {
+        self.others.get(name).copied()
+    }
+
+    /// The slot of a name that is in the map. It may be another's.
     #[inline(always)]
-    pub(crate) fn note(&mut self, key: u64, slot: usize)
-        ensures { self.new ≡ self.old }
+    pub(crate) fn other(&self, name: &Name) -> Option<usize>
+        ensures { (slot : ℕ) → IsOther self.now.cells self.now.others name.now slot
+            → result ≡ Some slot }
     {
-        self.hints.set(key, slot);
+        if !self.shared[place_of(name)] {
+            return None;
+        }
+        self.in_map(name)
     }
 
-    /// The slot of a name.
-    pub(crate) fn get(&self, name: &Name) -> Option<usize>
-        ensures { result ≡ lookup (same_name name.now) self.now.entries }
-    {
-        self.slots.get(name).copied()
-    }
-
-    /// Makes room for one more name.
-    pub(crate) fn reserve_one(&mut self) -> Result<(), AllocError>
-        ensures entries { self.new.entries ≡ self.old.entries }
+    // Makes room for one more name in the map.
+    #[cold]
+    #[inline(never)]
+    fn reserve_other(&mut self) -> Result<(), AllocError>
+        ensures cells { self.new.cells ≡ self.old.cells }
+        ensures others { self.new.others ≡ self.old.others }
         ensures room { OnOk result (0 < self.new.room) }
     {
-        self.slots.reserve(1)
+        self.others.reserve(1)
     }
 
-    /// Adds a new name with its slot, if there is room.
-    pub(crate) fn insert(&mut self, name: Name, slot: usize)
-        requires room { 0 < self.old.room }
-        requires new { lookup (same_name name) self.old.entries ≡ None }
-        ensures { self.new.entries ≡ self.old.entries ++ (name, slot) ∷ [] }
+    /// Makes room for a name whose row will lie in a slot.
+    #[inline(always)]
+    pub(crate) fn reserve_for(&mut self, name: &Name, slot: usize) -> Result<(), AllocError>
+        ensures cells { self.new.cells ≡ self.old.cells }
+        ensures others { self.new.others ≡ self.old.others }
+        ensures room { OnOk result (CanFile self.new name.now slot) }
     {
-        self.slots.insert(name, slot).unwrap();
+        if self.firsts[place_of(name)].is_none() && slot < MOST_SLOTS {
+            return Ok(());
+        }
+        self.reserve_other()
     }
 
-    /// Takes a name out.
-    pub(crate) fn forget(&mut self, name: &Name)
-        ensures { IsForgotten self.old.entries name.now self.new.entries }
+    // Adds a name with its slot to the map, if there is room.
+    #[cold]
+    #[inline(never)]
+    fn insert_other(&mut self, name: &Name, slot: usize)
+        requires { 0 < self.old.room }
+        ensures filed { IsOther self.new.cells self.new.others name.now slot }
+        ensures kept { (t : List ℕ) (s : ℕ) → same_name name.now t ≡ false
+            → IsFiled self.old.cells self.old.others t s
+            → IsFiled self.new.cells self.new.others t s }
     {
-        let _ = self.slots.swap_remove(name);
+        self.shared[place_of(name)] = true;
+        self.others.insert(name.copied(), slot).unwrap();
+    }
+
+    /// Adds a name with its slot, if there is room.
+    #[inline(always)]
+    pub(crate) fn insert(&mut self, name: &Name, slot: usize)
+        requires { CanFile self.old name.now slot }
+        ensures filed { IsFiled self.new.cells self.new.others name.now slot }
+        ensures kept { (t : List ℕ) (s : ℕ) → same_name name.now t ≡ false
+            → IsFiled self.old.cells self.old.others t s
+            → IsFiled self.new.cells self.new.others t s }
+    {
+        let place = place_of(name);
+        if self.firsts[place].is_none() && slot < MOST_SLOTS {
+            self.firsts[place] = Some(slot as u16);
+        } else {
+            self.insert_other(name, slot);
+        }
+    }
+
+    // Takes a name out of the map.
+    #[cold]
+    #[inline(never)]
+    fn forget_other(&mut self, name: &Name)
+        ensures cells { self.new.cells ≡ self.old.cells }
+        ensures others { IsForgotten self.old.others name.now self.new.others }
+    {
+        let _ = self.others.swap_remove(name);
+    }
+
+    /// Takes a name out, whose row lies in a slot.
+    #[inline(always)]
+    pub(crate) fn forget(&mut self, name: &Name, slot: usize)
+        ensures { (t : List ℕ) (s : ℕ) → same_name name.now t ≡ false → s ≢ slot
+            → IsFiled self.old.cells self.old.others t s
+            → IsFiled self.new.cells self.new.others t s }
+    {
+        let place = place_of(name);
+        match self.firsts[place] {
+            Some(first) if first as usize == slot => self.firsts[place] = None,
+            _ => self.forget_other(name),
+        }
     }
 }

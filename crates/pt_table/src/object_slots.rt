@@ -1,22 +1,25 @@
 //! Where the rows of objects lie, by their numbers and by their names.
 
-ghost use Rattle.std.specs.Prelude.{◌≡◌, Some, None, IsSome, IfSome, IfNone, OnSome, nat_eq};
+ghost use Rattle.std.specs.Prelude.{◌≡◌, ◌≢◌, ◌<◌, ◌++◌, [], ◌∷◌, ℕ, List, Some, None, IsSome};
+ghost use Rattle.std.specs.Prelude.{IfSome, IfNone, OnOk, OnSome, false, nat_eq};
 ghost use Rattle.std.specs.Option.{option_copied};
 ghost use Rattle.std.specs.Map.{lookup};
+ghost use Rattle.slab.specs.Slab.{HasRoomFor};
 ghost use Rattle.pt_types.specs.Limits.{most_objects};
 ghost use Rattle.pt_types.specs.Names.{same_name};
 ghost use Rattle.pt_table.specs.Slots.{row_in_any, row_in_slot, without_number, HasRow};
-ghost use Rattle.pt_table.specs.Slots.{HasRowIfListed, IsNumbered, Leaves};
-ghost use Rattle.pt_table.specs.NameSlots.{IsForgotten, IsNamed};
+ghost use Rattle.pt_table.specs.Slots.{HasRowIfListed, IsNumbered, Leaves, SameBut};
+ghost use Rattle.pt_table.specs.NameSlots.{CanFile, IsFiled, IsNamed, IsRowIn, IsRowInMap};
+ghost use Rattle.pt_table.specs.NameSlots.{IsRowNamed};
 
 use crate::names::Names;
 use crate::numbers::Numbers;
 use crate::objects::ObjectRow;
-use crate::rows::{row_by_number, row_in, slot_of};
+use crate::rows::{make_room, put, row_by_number, slot_of};
 use pt_hints::are_same;
 use pt_types::Name;
 use slab::Slab;
-use std::alloc::Allocator;
+use std::alloc::{AllocError, Allocator};
 
 // The slot of a number's row, if the number's hint is right.
 #[inline(always)]
@@ -52,52 +55,65 @@ pub(crate) fn row_of<'a, T, A: Allocator + Copy>(
     }
 }
 
-// The slot of a name's row, if the name's hint is right.
-#[inline(always)]
-fn slot_by_name_hint<T, A: Allocator + Copy>(
-    rows: &Slab<ObjectRow<T>, A>,
-    names: &Names<A>,
-    name: &Name,
-) -> Option<usize>
-    requires { IsNamed rows.now.slots names.now.entries }
-    ensures { IfSome result (λ slot. lookup (same_name name.now) names.now.entries ≡ Some slot) }
+// Whether two names are the same, of which it is not known that they differ.
+#[cold]
+#[inline(never)]
+fn are_equal(one: &Name, other: &Name) -> bool
+    ensures { result ≡ same_name one.now other.now }
 {
-    let hint = names.hint(name);
-    let text = name.as_bytes();
-    match rows.get(hint) {
-        Some(row) if are_same(row.name.as_bytes(), text) => Some(hint),
+    *one == *other
+}
+
+// Whether two names are the same.
+#[inline(always)]
+fn is_same(one: &Name, other: &Name) -> bool
+    ensures { result ≡ same_name one.now other.now }
+{
+    are_same(one.as_bytes(), other.as_bytes()) || are_equal(one, other)
+}
+
+// The row in a slot, if it is that of a name.
+#[inline(always)]
+fn row_if_named<'a, T, A: Allocator + Copy>(
+    rows: &'a Slab<ObjectRow<T>, A>,
+    slot: Option<usize>,
+    name: &Name,
+) -> Option<&'a ObjectRow<T>>
+    ensures { IsRowIn rows.now.slots slot name.now (option_copied result) }
+{
+    match rows.get(slot?) {
+        Some(row) if is_same(&row.name, name) => Some(row),
         _ => None,
     }
 }
 
-// The row of a name, which is looked for by the map alone.
+// The row of a name that is in the map, if it is there.
 #[cold]
 #[inline(never)]
-pub(crate) fn row_by_name<'a, T, A: Allocator + Copy>(
+fn row_in_map<'a, T, A: Allocator + Copy>(
     rows: &'a Slab<ObjectRow<T>, A>,
     names: &Names<A>,
     name: &Name,
 ) -> Option<&'a ObjectRow<T>>
-    ensures { option_copied result
-        ≡ row_in_any rows.now.slots (lookup (same_name name.now) names.now.entries) }
+    ensures { IsRowInMap rows.now.slots names.now.cells names.now.others name.now
+        (option_copied result) }
 {
-    row_in(rows, names.get(name))
+    row_if_named(rows, names.other(name), name)
 }
 
-// The row of a name, which is looked for by the name's hint first.
+// The row of a name. It is looked for where the name's cell says, and then by the map.
 #[inline(always)]
 pub(crate) fn row_named<'a, T, A: Allocator + Copy>(
     rows: &'a Slab<ObjectRow<T>, A>,
     names: &Names<A>,
     name: &Name,
 ) -> Option<&'a ObjectRow<T>>
-    requires { IsNamed rows.now.slots names.now.entries }
-    ensures { option_copied result
-        ≡ row_in_any rows.now.slots (lookup (same_name name.now) names.now.entries) }
+    requires { IsNamed rows.now.slots names.now.cells names.now.others }
+    ensures { IsRowNamed rows.now.slots name.now (option_copied result) }
 {
-    match slot_by_name_hint(rows, names, name) {
-        Some(slot) => rows.get(slot),
-        None => row_by_name(rows, names, name),
+    match row_if_named(rows, names.first(name), name) {
+        Some(row) => Some(row),
+        None => row_in_map(rows, names, name),
     }
 }
 
@@ -134,13 +150,64 @@ pub(crate) fn take_named<T, A: Allocator + Copy>(
     ensures absent { IfNone result (lookup (nat_eq number) numbers.old.entries ≡ None) }
     ensures rows_kept { IfNone result (rows.new.slots ≡ rows.old.slots) }
     ensures numbers_kept { IfNone result (numbers.new.entries ≡ numbers.old.entries) }
-    ensures names_kept { IfNone result (names.new.entries ≡ names.old.entries) }
+    ensures names_kept { IfNone result (names.new ≡ names.old) }
     ensures row { IfSome result (Leaves rows.old.slots numbers.old.entries number rows.new.slots) }
     ensures left { OnSome result (numbers.new.entries ≡ without_number numbers.old.entries number) }
-    ensures name { IfSome result (λ row. IsForgotten names.old.entries row.name names.new.entries) }
+    ensures names { IfSome result (λ row. (name : List ℕ) (slot : ℕ)
+        → same_name row.name name ≡ false
+        → lookup (nat_eq number) numbers.old.entries ≢ Some slot
+        → IsFiled names.old.cells names.old.others name slot
+        → IsFiled names.new.cells names.new.others name slot) }
 {
     let slot = numbers.take(number)?;
     let row = rows.get(slot)?;
-    names.forget(&row.name);
+    names.forget(&row.name, slot);
     rows.try_remove(slot)
+}
+
+// Makes room for one more row with its name.
+#[inline(always)]
+pub(crate) fn make_room_named<T, A: Allocator + Copy>(
+    rows: &mut Slab<ObjectRow<T>, A>,
+    numbers: &mut Numbers<A>,
+    names: &mut Names<A>,
+    name: &Name,
+) -> Result<(), AllocError>
+    ensures rows { rows.new.slots ≡ rows.old.slots }
+    ensures numbers { numbers.new.entries ≡ numbers.old.entries }
+    ensures cells { names.new.cells ≡ names.old.cells }
+    ensures others { names.new.others ≡ names.old.others }
+    ensures row_room { OnOk result (HasRoomFor rows.new 1) }
+    ensures number_room { OnOk result (0 < numbers.new.room) }
+    ensures name_room { OnOk result (CanFile names.new name.now rows.new.vacant_key) }
+{
+    make_room(rows, numbers)?;
+    names.reserve_for(name, rows.vacant_key())
+}
+
+// Puts a row with a new number and a new name in, if there is room, and returns its slot.
+#[inline(always)]
+pub(crate) fn put_named<T, A: Allocator + Copy>(
+    rows: &mut Slab<ObjectRow<T>, A>,
+    numbers: &mut Numbers<A>,
+    names: &mut Names<A>,
+    row: ObjectRow<T>,
+    name: &Name,
+) -> usize
+    requires row_room { HasRoomFor rows.old 1 }
+    requires number_room { 0 < numbers.old.room }
+    requires name_room { CanFile names.old name.now rows.old.vacant_key }
+    requires number_new { lookup (nat_eq row.number) numbers.old.entries ≡ None }
+    ensures vacant { row_in_slot rows.old.slots result ≡ None }
+    ensures row { row_in_slot rows.new.slots result ≡ Some row }
+    ensures others { SameBut rows.old.slots rows.new.slots result }
+    ensures numbers { numbers.new.entries ≡ numbers.old.entries ++ (row.number, result) ∷ [] }
+    ensures filed { IsFiled names.new.cells names.new.others name.now result }
+    ensures kept { (t : List ℕ) (s : ℕ) → same_name name.now t ≡ false
+        → IsFiled names.old.cells names.old.others t s
+        → IsFiled names.new.cells names.new.others t s }
+{
+    let slot = put(rows, numbers, row.number, row);
+    names.insert(name, slot);
+    slot
 }

@@ -1,27 +1,24 @@
-ghost use Rattle.std.specs.Prelude.{◌≡◌, ◌↔◌, ◌≤◌, ◌<◌, ◌++◌, [], ◌∷◌, Some, None, IsSome, IfSome};
-ghost use Rattle.std.specs.Prelude.{IfErr, OnOk, OnErr, OnSome, IsTrue, is_some, nat_eq, length};
+ghost use Rattle.std.specs.Prelude.{◌≡◌, ◌↔◌, ◌≤◌, ◌<◌, [], List, Some, None, IsSome};
+ghost use Rattle.std.specs.Prelude.{IfSome, IfErr, OnOk, OnErr, OnSome, IsTrue, is_some, length};
 ghost use Rattle.std.specs.Prelude.{false, slice_get};
 ghost use Rattle.std.specs.Option.{option_map, option_copied, option_copied_mut};
 ghost use Rattle.std.specs.Borrow.{sem};
-ghost use Rattle.std.specs.Map.{lookup};
-ghost use Rattle.slab.specs.Slab.{HasRoomFor};
 ghost use Rattle.pt_types.specs.Limits.{most_objects};
-ghost use Rattle.pt_types.specs.Names.{same_name};
 ghost use Rattle.pt_table.specs.Faults.{IsFault};
 ghost use Rattle.pt_table.specs.ObjectRows.{object_at, object_value, link_of, has_object};
 ghost use Rattle.pt_table.specs.ObjectRows.{number_of, is_taken, nth_number, nth_value, and_object};
 ghost use Rattle.pt_table.specs.ObjectRows.{with_link, without_object, IsFullFor, leading_on};
 ghost use Rattle.pt_table.specs.ObjectRows.{leading_back};
-ghost use Rattle.pt_table.specs.Slots.{row_in_slot, SameBut};
 ghost use Rattle.pt_table.specs.declared.link.Link.{Link};
 
 use crate::fault::TableFault;
 use crate::link::Link;
 use crate::names::Names;
 use crate::numbers::Numbers;
-use crate::object_slots::{row_by_name, row_named, row_of, slot_by, slot_by_hint, take_named};
-use crate::rows::{make_room, nth_row, put};
-use pt_hints::key_of;
+use crate::object_slots::{
+    make_room_named, put_named, row_named, row_of, slot_by, slot_by_hint, take_named,
+};
+use crate::rows::nth_row;
 use pt_types::{MOST_OBJECTS, Name};
 use slab::Slab;
 use std::alloc::{AllocError, Allocator, Global};
@@ -69,52 +66,8 @@ impl<T, A: Allocator + Copy> Model for Objects<T, A> {
 
     ghost view = { λ o. rows_listed o.rows.slots o.numbers.entries };
 
-    ghost invariant = { λ o. AreObjects o.rows.slots o.numbers.entries o.names.entries };
-}
-
-// Makes room for one more row with its name.
-#[inline(always)]
-fn make_room_named<T, A: Allocator + Copy>(
-    rows: &mut Slab<ObjectRow<T>, A>,
-    numbers: &mut Numbers<A>,
-    names: &mut Names<A>,
-) -> Result<(), AllocError>
-    ensures rows { rows.new.slots ≡ rows.old.slots }
-    ensures numbers { numbers.new.entries ≡ numbers.old.entries }
-    ensures names { names.new.entries ≡ names.old.entries }
-    ensures row_room { OnOk result (HasRoomFor rows.new 1) }
-    ensures number_room { OnOk result (0 < numbers.new.room) }
-    ensures name_room { OnOk result (0 < names.new.room) }
-{
-    make_room(rows, numbers)?;
-    names.reserve_one()
-}
-
-// Puts a row with a new number and a new name in, if there is room, and returns its slot.
-#[inline(always)]
-fn put_named<T, A: Allocator + Copy>(
-    rows: &mut Slab<ObjectRow<T>, A>,
-    numbers: &mut Numbers<A>,
-    names: &mut Names<A>,
-    row: ObjectRow<T>,
-    key: u64,
-) -> usize
-    requires row_room { HasRoomFor rows.old 1 }
-    requires number_room { 0 < numbers.old.room }
-    requires name_room { 0 < names.old.room }
-    requires number_new { lookup (nat_eq row.number) numbers.old.entries ≡ None }
-    requires name_new { lookup (same_name row.name) names.old.entries ≡ None }
-    ensures vacant { row_in_slot rows.old.slots result ≡ None }
-    ensures row { row_in_slot rows.new.slots result ≡ Some row }
-    ensures others { SameBut rows.old.slots rows.new.slots result }
-    ensures numbers { numbers.new.entries ≡ numbers.old.entries ++ (row.number, result) ∷ [] }
-    ensures names { names.new.entries ≡ names.old.entries ++ (row.name, result) ∷ [] }
-{
-    let name = row.name.copied();
-    let slot = put(rows, numbers, row.number, row);
-    names.insert(name, slot);
-    names.note(key, slot);
-    slot
+    ghost invariant = { λ o. AreObjects o.rows.slots o.numbers.entries
+        o.names.cells o.names.others };
 }
 
 impl<T, A: Allocator + Copy> Objects<T, A> {
@@ -152,7 +105,7 @@ impl<T, A: Allocator + Copy> Objects<T, A> {
     pub fn find(&self, name: &Name) -> Option<u64>
         ensures { result ≡ number_of self.now name.now }
     {
-        match row_by_name(&self.rows, &self.names, name) {
+        match row_named(&self.rows, &self.names, name) {
             Some(row) => Some(row.number),
             None => None,
         }
@@ -350,15 +303,20 @@ impl<T, A: Allocator + Copy> Objects<T, A> {
         ensures ok { OnOk result (self.new ≡ and_object self.old number name.now value) }
         ensures err { OnErr result (self.new ≡ self.old) }
     {
-        let key = key_of(name.as_bytes());
-        make_room_named(&mut self.rows, &mut self.numbers, &mut self.names)?;
+        make_room_named(&mut self.rows, &mut self.numbers, &mut self.names, name)?;
         let row = ObjectRow {
             number,
             name: name.copied(),
             value,
             link: Link::out(),
         };
-        put_named(&mut self.rows, &mut self.numbers, &mut self.names, row, key);
+        put_named(
+            &mut self.rows,
+            &mut self.numbers,
+            &mut self.names,
+            row,
+            name,
+        );
         Ok(())
     }
 
@@ -383,17 +341,22 @@ impl<T, A: Allocator + Copy> Objects<T, A> {
         if self.len() >= MOST_OBJECTS {
             return Err((value, TableFault::AtLimit));
         }
-        if make_room_named(&mut self.rows, &mut self.numbers, &mut self.names).is_err() {
+        if make_room_named(&mut self.rows, &mut self.numbers, &mut self.names, &name).is_err() {
             return Err((value, TableFault::Memory));
         }
-        let key = key_of(name.as_bytes());
         let row = ObjectRow {
             number,
-            name,
+            name: name.copied(),
             value,
             link: Link::out(),
         };
-        put_named(&mut self.rows, &mut self.numbers, &mut self.names, row, key);
+        put_named(
+            &mut self.rows,
+            &mut self.numbers,
+            &mut self.names,
+            row,
+            &name,
+        );
         Ok(())
     }
 }

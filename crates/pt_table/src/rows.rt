@@ -90,6 +90,7 @@ pub(crate) fn put<R, A: Allocator + Copy>(
     requires row_room { HasRoomFor rows.old 1 }
     requires number_room { 0 < numbers.old.room }
     requires number_new { lookup (nat_eq number) numbers.old.entries ≡ None }
+    ensures slot { result ≡ rows.old.vacant_key }
     ensures vacant { row_in_slot rows.old.slots result ≡ None }
     ensures row { row_in_slot rows.new.slots result ≡ Some row }
     ensures others { SameBut rows.old.slots rows.new.slots result }

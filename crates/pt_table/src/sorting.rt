@@ -1,13 +1,15 @@
 //! Putting a chain in rising order. It takes no memory.
 
 ghost use Rattle.std.specs.Bool.{OnTrue};
-ghost use Rattle.std.specs.Prelude.{◌≡◌, ◌≤◌, ℕ, List, Option, true, false, length, take};
+ghost use Rattle.std.specs.Prelude.{◌≡◌, ◌<◌, ◌≤◌, ℕ, List, true, length, take};
 ghost use Rattle.std.specs.Prelude.{IsPermutation};
 ghost use Rattle.std.specs.List.Sorted.{IsNonDecreasing};
 ghost use Rattle.pt_table.specs.ObjectRows.{has_object};
 ghost use Rattle.pt_table.specs.Linked.{is_linked, unlinked, HasChain, IsAtMost, IsChain, IsOneOf};
-ghost use Rattle.pt_table.specs.Linked.{IsRising, IsSortedTo, KeepsOthers};
+ghost use Rattle.pt_table.specs.Linked.{IsRising, IsSortedTo, KeepsOthers, last_number};
+ghost use Rattle.pt_table.specs.Linked.{next_number, number_before};
 
+use crate::link::{Link, noted};
 use crate::objects::Objects;
 use pt_types::MOST_OBJECTS;
 use std::alloc::Allocator;
@@ -24,50 +26,65 @@ fn sort_numbers(numbers: &mut [u64])
     numbers.sort_unstable();
 }
 
+// The number before this index.
+#[inline(always)]
+fn number_ahead(numbers: &[u64], i: usize) -> Option<u64>
+    requires { i < length numbers.now }
+    ensures { result ≡ last_number (take i numbers.now) }
+{
+    if i == 0 { None } else { Some(numbers[i - 1]) }
+}
+
 impl<T, A: Allocator + Copy> Objects<T, A> {
-    // Takes each row out of the chain of a head, writes their numbers to the front of a slice, and
-    // returns how many they are.
-    fn take_apart(&mut self, head: Option<u64>, numbers: &mut [u64]) -> usize
-        requires chain { HasChain self.old head }
-        requires room { IsAtMost self.old head (length numbers.old) }
+    // Writes the numbers of the chain of a head to the front of a slice, and returns how many they
+    // are.
+    fn gather(&self, head: Option<u64>, numbers: &mut [u64]) -> usize
+        requires chain { HasChain self.now head }
+        requires room { IsAtMost self.now head (length numbers.old) }
         ensures len { result ≤ length numbers.new }
-        ensures chain { IsChain self.old head (take result numbers.new) }
-        ensures others { KeepsOthers self.old self.new head }
-        ensures free { (n : ℕ)
-            → IsOneOf (take result numbers.new) n
-            → is_linked self.new n ≡ false }
-        ensures linked { (n : ℕ)
-            → (IsOneOf (take result numbers.new) n → ⊥)
-            → is_linked self.new n ≡ is_linked self.old n }
-        ensures rows { unlinked self.new ≡ unlinked self.old }
+        ensures chain { IsChain self.now head (take result numbers.new) }
     {
         let mut rest = head;
         let mut count = 0;
         while let Some(first) = rest {
             numbers[count] = first;
             count += 1;
-            rest = self.unlink(first, first);
+            rest = self.next(first);
         }
         count
     }
 
-    // Makes a chain of these numbers, the last of which is put in first.
+    // Links rows to one another in the order of their numbers, whatever they were linked to, and
+    // returns the head of their chain. The last is linked first.
     fn link_each(&mut self, numbers: &[u64]) -> Option<u64>
         requires rising { IsRising numbers.now }
         requires rows { (n : ℕ) → IsOneOf numbers.now n → has_object self.old n ≡ true }
-        requires free { (n : ℕ) → IsOneOf numbers.now n → is_linked self.old n ≡ false }
         ensures chain { IsChain self.new result numbers.now }
-        ensures others { (other : Option ℕ) (others : List ℕ)
-            → IsChain self.old other others
-            → IsChain self.new other others }
+        ensures next { (n : ℕ)
+            → (IsOneOf numbers.now n → ⊥)
+            → next_number self.new n ≡ next_number self.old n }
+        ensures before { (n : ℕ)
+            → (IsOneOf numbers.now n → ⊥)
+            → number_before self.new n ≡ number_before self.old n }
         ensures linked { (n : ℕ)
             → (IsOneOf numbers.now n → ⊥)
             → is_linked self.new n ≡ is_linked self.old n }
         ensures rows { unlinked self.new ≡ unlinked self.old }
     {
         let mut head = None;
+        let mut head_slot = 0;
         for i in (0..numbers.len()).rev() {
-            head = Some(self.link(head, numbers[i]));
+            let slot = self.slot_near(numbers[i]);
+            let link = Link {
+                linked: true,
+                next_slot: head_slot,
+                before_slot: 0,
+                next: head,
+                before: number_ahead(numbers, i),
+            };
+            self.set_own(slot, numbers[i], link);
+            head = Some(numbers[i]);
+            head_slot = noted(slot);
         }
         head
     }
@@ -81,7 +98,7 @@ impl<T, A: Allocator + Copy> Objects<T, A> {
         ensures linked { (n : ℕ) → is_linked self.new n ≡ is_linked self.old n }
         ensures rows { unlinked self.new ≡ unlinked self.old }
     {
-        let count = self.take_apart(head, room);
+        let count = self.gather(head, room);
         let (numbers, _) = room.split_at_mut(count);
         sort_numbers(numbers);
         self.link_each(numbers)
@@ -101,6 +118,27 @@ impl<T, A: Allocator + Copy> Objects<T, A> {
         rest.is_none()
     }
 
+    // Whether the numbers of a chain rise, as those that were taken in falling order do.
+    fn is_rising(&self, head: Option<u64>) -> bool
+        ensures { OnTrue result ((numbers : List ℕ)
+            → IsChain self.now head numbers
+            → IsRising numbers) }
+    {
+        let Some(mut last) = head else {
+            return true;
+        };
+        for _ in 0..self.len() {
+            let Some(next) = self.next(last) else {
+                return true;
+            };
+            if next <= last {
+                return false;
+            }
+            last = next;
+        }
+        false
+    }
+
     /// Puts the chain of a head in rising order, and returns its head.
     pub fn sort(&mut self, head: Option<u64>) -> Option<u64>
         requires { HasChain self.old head }
@@ -109,7 +147,7 @@ impl<T, A: Allocator + Copy> Objects<T, A> {
         ensures linked { (n : ℕ) → is_linked self.new n ≡ is_linked self.old n }
         ensures rows { unlinked self.new ≡ unlinked self.old }
     {
-        if self.len() < 2 || self.is_within(head, 1) {
+        if self.len() < 2 || self.is_rising(head) {
             return head;
         }
         if self.is_within(head, FEW) {

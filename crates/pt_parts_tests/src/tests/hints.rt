@@ -37,12 +37,12 @@ fn rows_are_noted_after_a_growth(rt: HostRuntime) -> Result<(), Fail> {
 }
 
 #[test]
-fn at_most_4096_hints(rt: HostRuntime) -> Result<(), Fail> {
+fn at_most_16384_hints(rt: HostRuntime) -> Result<(), Fail> {
     let mut hints = Hints::new(rt.alloc());
     for _ in 0..8 {
-        hints.grow_for(5000, row_at)?;
+        hints.grow_for(17000, row_at)?;
     }
-    assert!(rt; hints.get(4097) == Some(10) && hints.get(2049) == Some(20490));
+    assert!(rt; hints.get(16385) == Some(10) && hints.get(12291) == Some(122_910));
     Ok(())
 }
 

@@ -4,12 +4,15 @@ ghost use Rattle.pt_timers.specs.Deadlines.{deadline_at};
 
 use pt_failing_alloc::{Refusing, refuse_each};
 use pt_timers::Timers;
-use pt_types::{Clock, Deadline, Moment, Refusal};
+use pt_types::{ClientId, Clock, Deadline, Moment, Refusal};
 use std::alloc::Global;
 use std::test::Fail;
 
+// A place that is due, with its client.
+type Due = (u64, ClientId);
+
 // What can be seen at the end of second 20 of both clocks.
-fn seen(timers: &Timers<&Refusing<Global>>) -> Result<([Option<Deadline>; 2], Option<u64>), Fail> {
+fn seen(timers: &Timers<&Refusing<Global>>) -> Result<([Option<Deadline>; 2], Option<Due>), Fail> {
     let now = Moment::new(20, 999_999_999).ok_or("moment")?;
     let least = [timers.least(Clock::Real), timers.least(Clock::Mono)];
     Ok((least, timers.least_due(Some(now), Some(now))))
@@ -24,6 +27,11 @@ fn clock_of(number: u64) -> Clock {
     }
 }
 
+// The client of the call at a place.
+fn client_at(place: u64) -> ClientId {
+    ClientId(u64::MAX - place)
+}
+
 // Sets the deadline of the next place, once more if there was no memory for it.
 fn set_next(
     timers: &mut Timers<&Refusing<Global>>,
@@ -36,14 +44,14 @@ fn set_next(
 {
     let before = seen(timers)?;
     let clock = clock_of(place);
-    let Err(refusal) = timers.set(place, clock, deadline) else {
+    let Err(refusal) = timers.set(place, client_at(place), clock, deadline) else {
         return Ok(false);
     };
     if refusal != Refusal::Enomem || seen(timers)? != before {
         return Err("a refused deadline changes nothing".into());
     }
     timers
-        .set(place, clock, deadline)
+        .set(place, client_at(place), clock, deadline)
         .ok()
         .ok_or("the second time")?;
     Ok(true)
@@ -54,10 +62,11 @@ fn take_all(timers: &mut Timers<&Refusing<Global>>) -> Result<(), Fail> {
     for left in 0..20 {
         let place = 19 - left;
         let deadline = Deadline::new(left + 1, 0);
-        if timers.least(clock_of(place)) != deadline || seen(timers)?.1 != Some(place) {
+        let due = Some((place, client_at(place)));
+        if timers.least(clock_of(place)) != deadline || seen(timers)?.1 != due {
             return Err("each is there in its turn".into());
         }
-        timers.cancel(place);
+        timers.cancel(place, clock_of(place), (left + 1) * 1_000_000_000);
     }
     if seen(timers)? != ([None, None], None) {
         return Err("there is no other".into());
@@ -85,10 +94,17 @@ fn set_timers(heap: &Refusing<Global>) -> Result<bool, Fail> {
 
 // The place that is due at these seconds of both clocks, the last nanosecond of the second counted.
 fn due_in(timers: &Timers, real: u64, mono: u64) -> Option<u64> {
-    timers.least_due(
+    due_at(
+        timers,
         Moment::new(real, 999_999_999),
         Moment::new(mono, 999_999_999),
     )
+}
+
+// The place that is due at these moments of both clocks.
+fn due_at(timers: &Timers, real: Option<Moment>, mono: Option<Moment>) -> Option<u64> {
+    let (place, _) = timers.least_due(real, mono)?;
+    Some(place)
 }
 
 // Whether three timers of one clock are due by their deadlines, and then by their places.
@@ -98,16 +114,18 @@ fn are_due_in_order(alloc: Global, soon: Deadline, late: Deadline) -> bool
 {
     let mut timers = Timers::new(alloc);
     let none = timers.least(Clock::Real);
-    let is_set = timers.set(4, Clock::Real, late).is_ok()
-        && timers.set(7, Clock::Real, soon).is_ok()
-        && timers.set(3, Clock::Real, soon).is_ok();
+    let is_set = timers.set(4, client_at(4), Clock::Real, late).is_ok()
+        && timers.set(7, client_at(7), Clock::Real, soon).is_ok()
+        && timers.set(3, client_at(3), Clock::Real, soon).is_ok();
     let least = timers.least(Clock::Real);
     let early = due_in(&timers, 4, 0);
-    let first = timers.least_due(Moment::new(5, 0), None);
-    timers.cancel(3);
-    timers.cancel(3);
+    let first = due_at(&timers, Moment::new(5, 0), None);
+    timers.cancel(3, Clock::Real, soon.nanos());
+    timers.cancel(3, Clock::Real, soon.nanos());
+    timers.cancel(7, Clock::Real, late.nanos());
+    timers.cancel(7, Clock::Mono, soon.nanos());
     let second = due_in(&timers, 5, 0);
-    timers.cancel(7);
+    timers.cancel(7, Clock::Real, soon.nanos());
     is_set
         && (none, least) == (None, Some(soon))
         && [early, first, second] == [None, Some(3), Some(7)]
@@ -132,18 +150,18 @@ fn are_due_by_their_clocks(alloc: Global, soon: Deadline, late: Deadline) -> boo
         return false;
     };
     let mut timers = Timers::new(alloc);
-    let is_set = timers.set(2, Clock::Real, late).is_ok()
-        && timers.set(3, Clock::Mono, soon).is_ok()
-        && timers.set(4, Clock::Real, soon).is_ok();
-    let none = timers.least_due(None, None);
-    let real = timers.least_due(Some(nine), None);
-    let mono = timers.least_due(None, Some(nine));
-    let early = timers.least_due(Some(nine), Moment::new(4, 999_999_999));
+    let is_set = timers.set(2, client_at(2), Clock::Real, late).is_ok()
+        && timers.set(3, client_at(3), Clock::Mono, soon).is_ok()
+        && timers.set(4, client_at(4), Clock::Real, soon).is_ok();
+    let none = due_at(&timers, None, None);
+    let real = due_at(&timers, Some(nine), None);
+    let mono = due_at(&timers, None, Some(nine));
+    let early = due_at(&timers, Some(nine), Moment::new(4, 999_999_999));
     let both = due_in(&timers, 5, 5);
-    timers.cancel(4);
+    timers.cancel(4, Clock::Real, soon.nanos());
     let (by_real, by_mono) = (timers.least(Clock::Real), timers.least(Clock::Mono));
-    let due = timers.least_due(Some(nine), Moment::new(5, 0));
-    timers.cancel(3);
+    let due = due_at(&timers, Some(nine), Moment::new(5, 0));
+    timers.cancel(3, Clock::Mono, soon.nanos());
     is_set
         && (none, real, mono) == (None, Some(4), Some(3))
         && (early, both, due) == (Some(4), Some(3), Some(3))

@@ -1,7 +1,7 @@
-use Rattle.std.proofs.Common.{◌∙◌, ap, sym}
-use Rattle.pt_table.specs.Slots.{row_in_any}
+use Rattle.pt_table.proofs.Named.{row_after}
 use Rattle.pt_table.proofs.object_slots.row_named.Goals as goal
 
-pub returns-in-Some : goal.returns-in-Some
-returns-in-Some g c =
-    c.get.ensures ∙ ap (row_in_any c.args.rows.now.slots) (sym c.in-Some.ensures)
+pub returns-in-None : goal.returns-in-None
+returns-in-None g c =
+    row_after c.requires c.args.name.now c.first.result c.first.ensures c.in-None.ensures _
+    c.row_in_map.ensures

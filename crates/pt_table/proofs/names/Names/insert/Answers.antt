@@ -1,12 +1,15 @@
-use Rattle.std.proofs.Common.{◌∙◌, ◌++◌, ◌∷◌, [], ap}
-use Rattle.std.specs.Map.{lookup}
-use Rattle.pt_types.specs.Names.{same_name}
-use Rattle.indexmap.proofs.CallerLemmas.{insert_entry-new}
+use Rattle.std.proofs.Common.{◌∙◌, not, ap, sym, subst, arith}
+use Rattle.pt_table.specs.NameSlots.{Cells, IsFiled}
+use Rattle.pt_table.proofs.Filed.{filed_first}
 use Rattle.pt_table.proofs.names.Names.insert.Goals as goal
 
-pub returns : goal.returns
-returns g c =
-    let new = rw c.unwrap.ensures at c.insert.ensures.entries in
-    rw new (insert_entry-new same_name c.self.inside.slots c.args.name c.args.slot
-    (ap (λ v. lookup (same_name c.args.name) v.entries) c.self.view_is ∙ c.requires.new)
-    ∙ ap (λ v. v.entries ++ (c.args.name, c.args.slot) ∷ []) c.self.view_is)
+pub returns-then-slot-lt-MOST_SLOTS-clause-kept : goal.returns-then-slot-lt-MOST_SLOTS-clause-kept
+returns-then-slot-lt-MOST_SLOTS-clause-kept g c =
+    let inside = c.self.inside in
+    let cells : Cells = record { firsts = inside.firsts; shared = inside.shared } in
+    let others = inside.others.entries in
+    λ t s other filed.
+    filed_first cells c.place_of-place.result _
+    (omega (arith, c.self.told, c.place_of-place.ensures)) others t s
+    (c.is_none.ensures ∙ ap not c.if-is_none.true)
+    (subst (λ v. IsFiled v.cells v.others t s) (sym c.self.view_is) filed)

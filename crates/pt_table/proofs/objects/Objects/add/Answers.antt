@@ -1,9 +1,14 @@
-use Rattle.std.proofs.Common.{◌<◌, ◌∙◌, [], ◌∷◌, ◌++◌, ap, sym, arith, length}
+use Rattle.std.proofs.Common.{◌≡◌, ◌<◌, ◌∙◌, ℕ, false, List, None, [], ◌∷◌, ◌++◌, ap, sym, subst}
+use Rattle.std.proofs.Common.{arith, length}
+use Rattle.pt_types.specs.Names.{same_name}
+use Rattle.pt_types.specs.declared.name.Name.{Name}
+use Rattle.pt_table.specs.NameSlots.{IsFiled}
+use Rattle.pt_table.specs.ObjectRows.{object_named, out_of_chains}
 use Rattle.pt_types.specs.Limits.{most_objects}
 use Rattle.pt_table.specs.declared.link.Link.{Link}
 use Rattle.pt_table.specs.declared.objects.ObjectRow.{ObjectRow}
 use Rattle.pt_table.proofs.Added.{new_number, numbered_added, view_added}
-use Rattle.pt_table.proofs.Named.{number_free, unnamed, new_name, named_added}
+use Rattle.pt_table.proofs.Named.{number_free, unnamed, named_added}
 use Rattle.pt_table.proofs.objects.Objects.add.Goals as goal
 
 pub put_named-requires-clause-number_new : goal.put_named-requires-clause-number_new
@@ -12,13 +17,6 @@ put_named-requires-clause-number_new g c =
     c.make_room_named.new.numbers.entries c.make_room_named.ensures.rows
     c.make_room_named.ensures.numbers c.args.number
     (number_free c.args.self.now c.args.number c.args.name
-    (sym c.is_taken.ensures ∙ c.if-is_taken.false))
-
-pub put_named-requires-clause-name_new : goal.put_named-requires-clause-name_new
-put_named-requires-clause-name_new g c =
-    new_name c.self.invariant.0 c.self.invariant.1 c.args.self.now c.self.view_is
-    c.make_room_named.new.names.entries c.make_room_named.ensures.names c.args.name
-    (unnamed c.args.self.now c.args.number c.args.name
     (sym c.is_taken.ensures ∙ c.if-is_taken.false))
 
 pub invariant_of-self-2 : goal.invariant_of-self-2
@@ -32,13 +30,19 @@ invariant_of-self-2 g c =
           c.put_named.ensures.numbers
           (number_free c.args.self.now c.args.number c.args.name
           (sym c.is_taken.ensures ∙ c.if-is_taken.false)) below,
-      named_added c.self.invariant.1 c.make_room_named.new.rows.slots
-          c.make_room_named.new.names.entries c.make_room_named.ensures.rows
-          c.make_room_named.ensures.names c.put_named.new.rows.slots c.put_named.new.names.entries _
-          c.put_named.result c.put_named.ensures.vacant c.put_named.ensures.row
-          c.put_named.ensures.others c.put_named.ensures.names
-          (new_name c.self.invariant.0 c.self.invariant.1 c.args.self.now c.self.view_is
-          c.make_room_named.new.names.entries c.make_room_named.ensures.names c.args.name
+      named_added c.self.invariant.0 c.self.invariant.1 c.args.self.now c.self.view_is
+          c.make_room_named.new.rows.slots c.make_room_named.new.names.cells
+          c.make_room_named.new.names.others c.make_room_named.ensures.rows
+          c.make_room_named.ensures.cells c.make_room_named.ensures.others
+          c.put_named.new.rows.slots c.put_named.new.names.cells c.put_named.new.names.others _
+          c.put_named.result c.put_named.ensures.row c.put_named.ensures.others
+          (subst (λ n. IsFiled c.put_named.new.names.cells c.put_named.new.names.others n
+          c.put_named.result) (sym c.copied.ensures) c.put_named.ensures.filed)
+          (subst (λ n. (t : List ℕ) (s : ℕ) → same_name n t ≡ false
+          → IsFiled c.make_room_named.new.names.cells c.make_room_named.new.names.others t s
+          → IsFiled c.put_named.new.names.cells c.put_named.new.names.others t s)
+          (sym c.copied.ensures) c.put_named.ensures.kept)
+          (subst (λ n. object_named c.args.self.now n ≡ None) (sym c.copied.ensures)
           (unnamed c.args.self.now c.args.number c.args.name
           (sym c.is_taken.ensures ∙ c.if-is_taken.false))),
     )
@@ -46,8 +50,8 @@ invariant_of-self-2 g c =
 pub returns-clause-ok : goal.returns-clause-ok
 returns-clause-ok g c =
     let below : length c.args.self.now < most_objects = omega (arith, c.len.ensures.len) in
-    let row : Link → ObjectRow g.row.T.Denot = λ link.
-    record { number = c.args.number; name = c.args.name; value = c.args.value; link = link } in
+    let row : Name → Link → ObjectRow g.row.T.Denot = λ name link.
+    record { number = c.args.number; name = name; value = c.args.value; link = link } in
     view_added c.self.invariant.0 c.args.self.now c.self.view_is
     c.make_room_named.new.rows.slots c.make_room_named.new.numbers.entries
     c.make_room_named.ensures.rows c.make_room_named.ensures.numbers
@@ -56,4 +60,5 @@ returns-clause-ok g c =
     c.put_named.ensures.numbers
     (number_free c.args.self.now c.args.number c.args.name
     (sym c.is_taken.ensures ∙ c.if-is_taken.false)) below
-    ∙ ap (λ link. c.args.self.now ++ row link ∷ []) c.out.ensures
+    ∙ (ap (λ link. c.args.self.now ++ row c.copied.result link ∷ []) c.out.ensures
+    ∙ ap (λ name. c.args.self.now ++ row name out_of_chains ∷ []) c.copied.ensures)

@@ -1,10 +1,12 @@
-use Rattle.std.proofs.Common.{◌≡◌, ◌∙◌, false, [], ◌∷◌, ◌++◌, ap, sym, subst}
+use Rattle.std.proofs.Common.{◌≡◌, ◌∙◌, ℕ, false, List, None, [], ◌∷◌, ◌++◌, ap, sym, subst}
+use Rattle.pt_types.specs.Names.{same_name}
 use Rattle.pt_types.specs.declared.name.Name.{Name}
 use Rattle.pt_table.specs.declared.link.Link.{Link}
 use Rattle.pt_table.specs.declared.objects.ObjectRow.{ObjectRow}
-use Rattle.pt_table.specs.ObjectRows.{is_taken, out_of_chains}
+use Rattle.pt_table.specs.NameSlots.{IsFiled}
+use Rattle.pt_table.specs.ObjectRows.{object_named, out_of_chains}
 use Rattle.pt_table.proofs.Added.{new_number, numbered_added, view_added}
-use Rattle.pt_table.proofs.Named.{number_free, unnamed, new_name, named_added}
+use Rattle.pt_table.proofs.Named.{number_free, unnamed, named_added}
 use Rattle.pt_table.proofs.objects.Objects.add_new.Goals as goal
 
 pub put_named-requires-clause-number_new : goal.put_named-requires-clause-number_new
@@ -13,14 +15,6 @@ put_named-requires-clause-number_new g c =
     c.make_room_named.new.numbers.entries c.make_room_named.ensures.rows
     c.make_room_named.ensures.numbers c.args.number
     (number_free c.args.self.now c.args.number c.args.name.now c.requires.new)
-
-pub put_named-requires-clause-name_new : goal.put_named-requires-clause-name_new
-put_named-requires-clause-name_new g c =
-    new_name c.self.invariant.0 c.self.invariant.1 c.args.self.now c.self.view_is
-    c.make_room_named.new.names.entries c.make_room_named.ensures.names c.copied.result
-    (unnamed c.args.self.now c.args.number c.copied.result
-    (subst (λ n. is_taken c.args.self.now c.args.number n ≡ false) (sym c.copied.ensures)
-    c.requires.new))
 
 pub invariant_of-self-2 : goal.invariant_of-self-2
 invariant_of-self-2 g c = (
@@ -31,16 +25,20 @@ invariant_of-self-2 g c = (
       c.put_named.ensures.vacant c.put_named.ensures.row c.put_named.ensures.others
       c.put_named.ensures.numbers
       (number_free c.args.self.now c.args.number c.args.name.now c.requires.new) c.requires.room,
-  named_added c.self.invariant.1 c.make_room_named.new.rows.slots
-      c.make_room_named.new.names.entries c.make_room_named.ensures.rows
-      c.make_room_named.ensures.names c.put_named.new.rows.slots c.put_named.new.names.entries _
-      c.put_named.result c.put_named.ensures.vacant c.put_named.ensures.row
-      c.put_named.ensures.others c.put_named.ensures.names
-      (new_name c.self.invariant.0 c.self.invariant.1 c.args.self.now c.self.view_is
-      c.make_room_named.new.names.entries c.make_room_named.ensures.names c.copied.result
-      (unnamed c.args.self.now c.args.number c.copied.result
-      (subst (λ n. is_taken c.args.self.now c.args.number n ≡ false) (sym c.copied.ensures)
-      c.requires.new))),
+  named_added c.self.invariant.0 c.self.invariant.1 c.args.self.now c.self.view_is
+      c.make_room_named.new.rows.slots c.make_room_named.new.names.cells
+      c.make_room_named.new.names.others c.make_room_named.ensures.rows
+      c.make_room_named.ensures.cells c.make_room_named.ensures.others
+      c.put_named.new.rows.slots c.put_named.new.names.cells c.put_named.new.names.others _
+      c.put_named.result c.put_named.ensures.row c.put_named.ensures.others
+      (subst (λ n. IsFiled c.put_named.new.names.cells c.put_named.new.names.others n
+      c.put_named.result) (sym c.copied.ensures) c.put_named.ensures.filed)
+      (subst (λ n. (t : List ℕ) (s : ℕ) → same_name n t ≡ false
+      → IsFiled c.make_room_named.new.names.cells c.make_room_named.new.names.others t s
+      → IsFiled c.put_named.new.names.cells c.put_named.new.names.others t s)
+      (sym c.copied.ensures) c.put_named.ensures.kept)
+      (subst (λ n. object_named c.args.self.now n ≡ None) (sym c.copied.ensures)
+      (unnamed c.args.self.now c.args.number c.args.name.now c.requires.new)),
 )
 
 pub returns-clause-ok : goal.returns-clause-ok

@@ -27,8 +27,8 @@ invariant_of-self-2 g c = (
       c.take_named.new.rows.slots c.take_named.new.numbers.entries c.in_ok-row.row
       c.in_ok-row.ensures.row c.in_ok-row.ensures.left,
   named_removed c.self.invariant.0 c.self.invariant.1 c.args.number c.take_named.new.rows.slots
-      c.in_ok-row.row c.in_ok-row.ensures.row c.take_named.new.names.entries
-      c.in_ok-row.ensures.name,
+      c.in_ok-row.row c.in_ok-row.ensures.row c.take_named.new.names.cells
+      c.take_named.new.names.others c.in_ok-row.ensures.names,
 )
 
 pub returns-clause-value : goal.returns-clause-value
