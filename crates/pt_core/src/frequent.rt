@@ -45,6 +45,22 @@ struct Signals;
 
 struct Arrivals;
 
+struct MutexMakes;
+
+struct RwlockMakes;
+
+struct CondMakes;
+
+struct BarrierMakes;
+
+struct MutexEnds;
+
+struct RwlockEnds;
+
+struct CondEnds;
+
+struct BarrierEnds;
+
 struct Moments;
 
 impl Frequent for Locks {
@@ -114,6 +130,62 @@ impl Frequent for Arrivals {
     #[inline(always)]
     fn is(event: &Event) -> bool {
         matches!(event, Event::Call(_, Call::Bwait(_)))
+    }
+}
+
+impl Frequent for MutexMakes {
+    #[inline(always)]
+    fn is(event: &Event) -> bool {
+        matches!(event, Event::Call(_, Call::MutexInit(..)))
+    }
+}
+
+impl Frequent for RwlockMakes {
+    #[inline(always)]
+    fn is(event: &Event) -> bool {
+        matches!(event, Event::Call(_, Call::RwlockInit(_)))
+    }
+}
+
+impl Frequent for CondMakes {
+    #[inline(always)]
+    fn is(event: &Event) -> bool {
+        matches!(event, Event::Call(_, Call::CondInit(_)))
+    }
+}
+
+impl Frequent for BarrierMakes {
+    #[inline(always)]
+    fn is(event: &Event) -> bool {
+        matches!(event, Event::Call(_, Call::BarrierInit(..)))
+    }
+}
+
+impl Frequent for MutexEnds {
+    #[inline(always)]
+    fn is(event: &Event) -> bool {
+        matches!(event, Event::Call(_, Call::MutexDestroy(_)))
+    }
+}
+
+impl Frequent for RwlockEnds {
+    #[inline(always)]
+    fn is(event: &Event) -> bool {
+        matches!(event, Event::Call(_, Call::RwlockDestroy(_)))
+    }
+}
+
+impl Frequent for CondEnds {
+    #[inline(always)]
+    fn is(event: &Event) -> bool {
+        matches!(event, Event::Call(_, Call::CondDestroy(_)))
+    }
+}
+
+impl Frequent for BarrierEnds {
+    #[inline(always)]
+    fn is(event: &Event) -> bool {
+        matches!(event, Event::Call(_, Call::BarrierDestroy(_)))
     }
 }
 
@@ -213,6 +285,14 @@ fn try_by_kind<Q: WaitList, A: Allocator + Copy>(body: &mut Body<Q, A>, event: &
         Event::Call(_, Call::Wait(..)) => try_frequent::<Waits, Q, A>(body, event),
         Event::Call(_, Call::Signal(_)) => try_frequent::<Signals, Q, A>(body, event),
         Event::Call(_, Call::Bwait(_)) => try_frequent::<Arrivals, Q, A>(body, event),
+        Event::Call(_, Call::MutexInit(..)) => try_frequent::<MutexMakes, Q, A>(body, event),
+        Event::Call(_, Call::RwlockInit(_)) => try_frequent::<RwlockMakes, Q, A>(body, event),
+        Event::Call(_, Call::CondInit(_)) => try_frequent::<CondMakes, Q, A>(body, event),
+        Event::Call(_, Call::BarrierInit(..)) => try_frequent::<BarrierMakes, Q, A>(body, event),
+        Event::Call(_, Call::MutexDestroy(_)) => try_frequent::<MutexEnds, Q, A>(body, event),
+        Event::Call(_, Call::RwlockDestroy(_)) => try_frequent::<RwlockEnds, Q, A>(body, event),
+        Event::Call(_, Call::CondDestroy(_)) => try_frequent::<CondEnds, Q, A>(body, event),
+        Event::Call(_, Call::BarrierDestroy(_)) => try_frequent::<BarrierEnds, Q, A>(body, event),
         Event::Moment(..) => try_frequent::<Moments, Q, A>(body, event),
         _ => Tried::Left,
     }

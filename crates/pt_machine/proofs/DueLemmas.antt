@@ -31,7 +31,7 @@ use Rattle.pt_model.proofs.Found.{one_open}
 use Rattle.pt_state.specs.declared.state.State.{State}
 use Rattle.pt_state.specs.Clocks.{AreClocks}
 use Rattle.pt_state.proofs.ServingOrders.{expires-one}
-use Rattle.pt_machine.specs.Timed.{timed, is_set, setting, setting_if, AreTimed}
+use Rattle.pt_machine.specs.Timed.{timed, is_set, setting, setting_if, AreTimed, IsFirstLate}
 use Rattle.pt_machine.proofs.NoBadDeadlines.{grants-bad}
 use Rattle.pt_machine.proofs.OpenPlaces.{place-in, place-one}
 
@@ -157,7 +157,7 @@ module _ (h : History) (f : Follows h) where
             )
 
         -- where nothing that is set is due, no call is overdue
-        pub none-overdue : IsLeastDue ts now None
+        none-overdue : IsLeastDue ts now None
             → least expires_before (filter (is_overdue h) (open_calls h)) ≡ None
         none-overdue due =
             none-least expires_before (filter (is_overdue h) (open_calls h))
@@ -165,9 +165,8 @@ module _ (h : History) (f : Follows h) where
             false≢true (sym (due w.place w.clock d.0 d.3) ∙ d.2))
 
         -- else the first to be due is the first that is overdue
-        pub first-overdue : (p : ℕ) → IsLeastDue ts now (Some p)
-            → at_place p (open_calls h)
-            ≡ least expires_before (filter (is_overdue h) (open_calls h))
+        first-overdue : (p : ℕ) → IsLeastDue ts now (Some p)
+            → IsFirstLate h (Some p)
         first-overdue p due =
             let r = set_by p due.0 due.1 due.2 in
             let w = r.0 in
@@ -176,15 +175,22 @@ module _ (h : History) (f : Follows h) where
             ∙ (ap (λ t. is_due t w.deadline) (sym (same due.0))
             ∙ (ap (is_due (now due.0)) r.5 ∙ (sym (reached_due (now due.0) due.1) ∙ due.3))) in
             let there = filter-in (is_overdue h) (open_calls h) w r.1
-            (and_from (not (is_moved h w)) _ r.3 late) in
-            place-one p (open_calls h) w r.1 r.2
-            (λ v j at. one_open h f v w j r.1 (at ∙ sym r.2))
-            ∙ sym (least_at expires_before expires_before-order
-            (filter (is_overdue h) (open_calls h)) w there
-            (λ v j. let d = due_set v j in
-            rw (d.1, r.5, r.2) (due.4 v.place v.clock d.0 d.3 d.2))
-            (λ v j a b. expires-one h f v w (In-filter (is_overdue h) (open_calls h) v j).0 r.1 a
-            b))
+            (and_from (not (is_moved h w)) _ r.3 late) in (
+              w,
+              least_at expires_before expires_before-order
+                  (filter (is_overdue h) (open_calls h)) w there
+                  (λ v j. let d = due_set v j in
+                  rw (d.1, r.5, r.2) (due.4 v.place v.clock d.0 d.3 d.2))
+                  (λ v j a b. expires-one h f v w
+                  (In-filter (is_overdue h) (open_calls h) v j).0 r.1 a b),
+              place-one p (open_calls h) w r.1 r.2
+                  (λ v j at. one_open h f v w j r.1 (at ∙ sym r.2)),
+            )
+
+        -- what is due first is the first that is overdue, or none is
+        pub first-late : (found : Option ℕ) → IsLeastDue ts now found → IsFirstLate h found
+        first-late None due = none-overdue due
+        first-late (Some p) due = first-overdue p due
 
       -- a deadline by this clock is set
       on_clock : (k : Clock) (w : WaitingCall) → In w (filter (has_deadline h k) (open_calls h))

@@ -345,3 +345,26 @@ module _ (h : History) (f : Follows h) where
       go (Some o) q =
           let r = open_of-kept h rows a c o q in
           test o r.0 r.1 (o.call.place == p) refl
+
+  -- a client's open call that came at a place is the one that is found there
+  pub open-there : (rows : List (ClientRow Caller)) → AreCallers h rows → (p c : ℕ) (o : Open)
+      → Some o ≡ keep (λ o. o.call.place == p) (open_in (client_value rows c))
+      → ◌≡◌ {A = Option WaitingCall} (Some (called o)) (at_place p (open_calls h))
+  open-there rows a p c o e = go (open_in (client_value rows c)) refl e
+    where
+      test : (u : Open) → In (called u) (open_calls h) → (b : Bool) → (u.call.place == p) ≡ b
+          → Some o ≡ cond b (Some u) None
+          → ◌≡◌ {A = Option WaitingCall} (Some (called o)) (at_place p (open_calls h))
+      test u i true t q =
+          let same : u ≡ o = cc in
+          let at : u.call.place ≡ p = grind (arith, nat_tests) in
+          ap (λ (x : Open). Some (called x)) (sym same)
+          ∙ sym (place-one p (open_calls h) (called u) i at
+          (λ v j k. one_open h f v (called u) j i (k ∙ sym at)))
+      test u i false t q = absurd cc
+
+      go : (kept : Option Open) → open_in (client_value rows c) ≡ kept
+          → Some o ≡ keep (λ (u : Open). u.call.place == p) kept
+          → ◌≡◌ {A = Option WaitingCall} (Some (called o)) (at_place p (open_calls h))
+      go None k q = absurd cc
+      go (Some u) k q = test u (open_of-kept h rows a c u k).0 (u.call.place == p) refl q

@@ -29,12 +29,14 @@ use Rattle.pt_records.specs.declared.clients.Open.{Open}
 use Rattle.pt_state.specs.declared.state.State.{State}
 use Rattle.pt_state.specs.Adds.{past, Adds, IsReadyFor}
 use Rattle.pt_records.specs.Callers.{opens_of}
-use Rattle.pt_state.specs.Serving.{move_of, AreOpen}
+use Rattle.pt_state.specs.Serving.{called, move_of, AreOpen}
 use Rattle.pt_state.proofs.ServingFinds.{are-open}
-use Rattle.pt_machine.specs.Timed.{set_at, AreTimed, can_move_waits, is_from, was_moved_at}
+use Rattle.pt_machine.specs.Timed.{set_at, AreTimed, HasOwnDeadline, can_move_waits, is_from}
+use Rattle.pt_machine.specs.Timed.{was_moved_at}
 use Rattle.pt_machine.proofs.QueuedSame.{past-adds}
 use Rattle.pt_machine.proofs.QueuedCalls.{open-answered}
 use Rattle.pt_machine.proofs.TimedSteps.{set-same, set-moved}
+use Rattle.pt_machine.proofs.TimedStates.{own-deadline}
 use Rattle.pt_machine.proofs.TimerDrops.{went, dropped}
 use Rattle.pt_history.proofs.Places.{place_of_next}
 
@@ -133,6 +135,14 @@ module _ {A : Type 0} (old new : State A) (timers later : List (ℕ × (Clock ×
       subst (λ (h : History). AreOpen h (opens_of new.clients))
       (past-adds old new (Call c call (Some x)) adds)
       (are-open (past new) new.clients adds.read.follows adds.read.callers)
+
+  -- what is set at the places of the open calls is still their own
+  pub own-answered : AreTimed (past old) timers → (o : Open) → In o (opens_of new.clients)
+      → HasOwnDeadline timers (called o)
+  own-answered timed o i =
+      own-deadline (past old) ready.read.follows timers timed (called o)
+      (subst (λ (ws : List WaitingCall). In (called o) ws)
+      (open-answered (past old) c call x ready.read.follows ready.step) (opens-new.known o i).0)
 
   -- the deadlines that are left are those of the history with the call
   pub timed-answered : (k : ℕ) → k ≡ old.stored.start.at + length old.stored.entries

@@ -1,19 +1,22 @@
 -- The deadlines that are set beside a state, as entries are pushed.
-use Rattle.std.proofs.Common.{◌+◌, ◌≡◌, ℕ, Bool, true, false, cond, ◌==◌, List, Option, Some, None}
+use Rattle.std.proofs.Common.{◌+◌, ◌≡◌, ℕ, Bool, true, false, cond, ◌==◌, ◌&&◌, List, Option, Some, None}
 use Rattle.std.proofs.Common.{Result, Ok, Err, OnOk, OnErr, length, refl, sym, ap, ◌∙◌, subst}
-use Rattle.std.proofs.Common.{arith}
+use Rattle.std.proofs.Common.{rules, arith}
 use Rattle.std.proofs.lemmas.Bool.Decides.{nat_tests}
 use Rattle.std.specs.Prelude.{option_map}
 use Rattle.pt_types.specs.declared.call.Call.{Call as Asked}
 use Rattle.pt_types.specs.Times.{Timespec, deadline_nanos, is_bad_deadline}
 use Rattle.pt_types.specs.declared.time.Clock.{Clock}
 use Rattle.pt_types.specs.Operations.{operation, clock_of}
-use Rattle.pt_timers.specs.Deadlines.{deadline_at}
+use Rattle.pt_types.specs.declared.time.Clock.TheVariants.{Real, Mono}
+use Rattle.pt_timers.specs.Deadlines.{deadline_at, is_set_to}
 use Rattle.pt_model.specs.declared.entry.Entry.{Entry}
 use Rattle.pt_model.specs.declared.entry.Entry.TheVariants.{Call, Death, Grant, Trip, Yield, Expire}
 use Rattle.pt_model.specs.Searches.{In}
 use Rattle.pt_model.specs.Histories.{History, ◌▷◌, place}
+use Rattle.pt_model.specs.declared.waiting_call.WaitingCall.{WaitingCall}
 use Rattle.pt_model.specs.WaitingCall.{is_arrival}
+use Rattle.pt_model.specs.Steps.{Follows}
 use Rattle.pt_model.specs.Answers.{open_calls, open_place}
 use Rattle.pt_model.specs.Grants.{grant_outcome}
 use Rattle.pt_model.specs.Forced.{service}
@@ -24,10 +27,10 @@ use Rattle.pt_records.specs.Callers.{opens_of}
 use Rattle.pt_state.specs.Reads.{AreTables}
 use Rattle.pt_state.specs.Serving.{called}
 use Rattle.pt_state.proofs.ServingFinds.{are-open}
-use Rattle.pt_machine.specs.Timed.{asked, set_at, AreTimed, good_of}
+use Rattle.pt_machine.specs.Timed.{asked, is_set, set_at, setting, AreTimed, HasOwnDeadline, good_of}
 use Rattle.pt_machine.proofs.QueuedSame.{past-adds, past-stays}
 use Rattle.pt_machine.proofs.TimedSteps.{set-new, set-yield, set-grant, set-expire, set-death-free}
-use Rattle.pt_machine.proofs.TimedSteps.{set-death}
+use Rattle.pt_machine.proofs.TimedSteps.{set-death, set-open}
 use Rattle.pt_machine.proofs.TimedCalls.{set-arrival, set-trip, set-left}
 use Rattle.pt_history.proofs.Places.{place_of_next}
 
@@ -52,6 +55,66 @@ set_back set between after j n e one two p =
     both : (b : Bool) → cond b None (cond b (Some n) (set p)) ≡ cond b None (set p)
     both true = refl
     both false = refl
+
+-- what is set is this, where it is
+own_setting : (k : Clock) (n : ℕ) → is_set_to k n (Some (k, n)) ≡ true
+own_setting Real n = grind (arith, nat_tests)
+own_setting Mono n = grind (arith, nat_tests)
+
+-- what is set at a place and is taken away by its clock and its nanoseconds is gone
+pub taken : (timers later : List (ℕ × (Clock × ℕ))) (j : ℕ) (k : Clock) (n : ℕ)
+    → ((d : Clock × ℕ) → deadline_at timers j ≡ Some d → Some (k, n) ≡ Some d)
+    → ((p : ℕ) → deadline_at later p
+    ≡ cond ((j == p) && is_set_to k n (deadline_at timers p)) None (deadline_at timers p))
+    → (p : ℕ) → deadline_at later p ≡ cond (j == p) None (deadline_at timers p)
+taken timers later j k n own less p = less p ∙ go (j == p) refl (deadline_at timers p) refl
+  where
+    go : (b : Bool) → (j == p) ≡ b → (o : Option (Clock × ℕ)) → deadline_at timers p ≡ o
+        → cond (b && is_set_to k n o) None o ≡ cond b None o
+    go false t o e = refl
+    go true t None e = search rules
+    go true t (Some d) e =
+        let here : j ≡ p = grind (arith, nat_tests) in
+        ap (λ (x : Option (Clock × ℕ)). cond {A = Option (Clock × ℕ)} (is_set_to k n x) None
+        (Some d)) (sym (own d (ap (deadline_at timers) here ∙ e)))
+        ∙ ap (λ b. cond {A = Option (Clock × ℕ)} b None (Some d)) (own_setting k n)
+
+-- what was just set at a place is this
+pub just-set : (timers between : List (ℕ × (Clock × ℕ))) (j : ℕ) (k : Clock) (n m : ℕ) → n ≡ m
+    → ((p : ℕ) → deadline_at between p ≡ cond (j == p) (Some (k, m)) (deadline_at timers p))
+    → (d : Clock × ℕ) → deadline_at between j ≡ Some d
+    → ◌≡◌ {A = Option (Clock × ℕ)} (Some (k, n)) (Some d)
+just-set timers between j k n m same set d e =
+    let here : (j == j) ≡ true = grind (arith, nat_tests) in
+    ap (λ i. Some (k, i)) same
+    ∙ (sym (ap (λ b. cond b (Some (k, m)) (deadline_at timers j)) here) ∙ (sym (set j) ∙ e))
+
+-- a call with no deadline has none set at its place
+pub own-none : (timers : List (ℕ × (Clock × ℕ))) (w : WaitingCall) → HasOwnDeadline timers w
+    → w.deadline ≡ None → deadline_at timers w.place ≡ None
+own-none timers w own none = go (deadline_at timers w.place) refl
+  where
+    go : (o : Option (Clock × ℕ)) → deadline_at timers w.place ≡ o → o ≡ None
+    go None e = refl
+    go (Some d) e =
+        let both = sym (ap (option_map (λ n. (w.clock, n))) none) ∙ own d e in absurd cc
+
+-- what is set at the place of an open call is its own deadline
+pub own-deadline : (h : History) → Follows h → (timers : List (ℕ × (Clock × ℕ)))
+    → AreTimed h timers → (w : WaitingCall) → In w (open_calls h) → HasOwnDeadline timers w
+own-deadline h f timers timed w i d e =
+    go (is_set h w) (sym (timed w.place ∙ set-open h f w i) ∙ e)
+  where
+    go : (b : Bool) → cond b (setting w) None ≡ Some d → setting w ≡ Some d
+    go true x = x
+    go false x = absurd cc
+
+pub own-deadlines : {A : Type 0} (s : State A) (timers : List (ℕ × (Clock × ℕ))) → AreTables s
+    → AreTimed (past s) timers → (o : Open) → In o (opens_of s.clients)
+    → HasOwnDeadline timers (called o)
+own-deadlines s timers read timed o known =
+    own-deadline (past s) read.follows timers timed (called o)
+    ((are-open (past s) s.clients read.follows read.callers).known o known).0
 
 module _ {A : Type 0} (old new : State A) (timers later : List (ℕ × (Clock × ℕ)))
     (timed : AreTimed (past old) timers) where

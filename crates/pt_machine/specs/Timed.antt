@@ -1,6 +1,6 @@
 -- Timed: the deadlines that are set, as they are read off a history.
 use Rattle.std.specs.Prelude.{◌/◌, ◌%◌, option_map, ℕ, ◌≡◌, ◌==◌, Bool, true, false, not, ◌&&◌}
-use Rattle.std.specs.Prelude.{List, Option, Some, None, if◌then◌else◌}
+use Rattle.std.specs.Prelude.{List, Option, Some, None, MatchOption, if◌then◌else◌}
 use Rattle.std.specs.List.{filter}
 use Rattle.pt_types.specs.declared.time.Clock.{Clock}
 use Rattle.pt_types.specs.Times.{Timespec, has_bad_deadline}
@@ -15,6 +15,8 @@ use Rattle.pt_model.specs.declared.waiting_call.WaitingCall.{WaitingCall}
 use Rattle.pt_model.specs.declared.waiting_call.Move.{Move}
 use Rattle.pt_model.specs.WaitingCall.{calls_below, at_place}
 use Rattle.pt_model.specs.Answers.{open_calls}
+use Rattle.pt_model.specs.Forced.{expires_before, is_overdue}
+use Rattle.pt_model.specs.Searches.{least}
 use Rattle.pt_model.specs.Moves.{is_moved}
 use Rattle.pt_model.specs.Queries.{deadline_if}
 use Rattle.pt_records.specs.declared.clients.Open.{Open}
@@ -62,6 +64,22 @@ set_at h p = setting_if (at_place p (filter (is_set h) (open_calls h)))
 -- the deadlines that are set are those of open calls  [XSH pthread_mutex_timedlock]
 abbrev pub AreTimed : History → List (ℕ × (Clock × ℕ)) → Type 0
 AreTimed h timers = (p : ℕ) → deadline_at timers p ≡ set_at h p
+
+-- what is set at the place of a call, if anything is, is its own deadline
+-- [XSH pthread_mutex_timedlock]
+abbrev pub HasOwnDeadline : List (ℕ × (Clock × ℕ)) → WaitingCall → Type 0
+HasOwnDeadline timers w =
+    (d : Clock × ℕ) → deadline_at timers w.place ≡ Some d → setting w ≡ Some d
+
+-- the place of the open call whose deadline passed first, or none if none has
+-- [XSH pthread_mutex_timedlock; the order is profile]
+abbrev pub IsFirstLate : History → Option ℕ → Type 0
+IsFirstLate h found =
+    MatchOption found
+    (least expires_before (filter (is_overdue h) (open_calls h)) ≡ None)
+    (λ p. (w : WaitingCall)
+    × (least expires_before (filter (is_overdue h) (open_calls h)) ≡ Some w)
+    × (at_place p (open_calls h) ≡ Some w))
 
 -- a deadline that is a time, or none  [XSH pthread_mutex_timedlock, EINVAL]
 abbrev pub good_of : Option Timespec → Option Timespec

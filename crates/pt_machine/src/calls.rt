@@ -26,10 +26,10 @@ use pt_types::{Call, ClientId, How, Name, ObjectId, Outcome, Refusal, Verdict};
 use pt_waitq::WaitList;
 use std::alloc::Allocator;
 
-/// Pushes a call that waits, and puts it into its queue. ENOMEM if there is no memory for its row
-/// in a read-write lock; no other call needs memory.  [XSH, the call's page]
+// Pushes a call that waits, and puts it into its queue. ENOMEM if there is no memory for its row in
+// a read-write lock; no other call needs memory.  [XSH, the call's page]
 #[inline(always)]
-pub(crate) fn push_left<Q: WaitList, A: Allocator + Copy>(
+fn leave<Q: WaitList, A: Allocator + Copy>(
     state: &mut State<A>,
     queues: &mut Q,
     c: ClientId,
@@ -51,6 +51,102 @@ pub(crate) fn push_left<Q: WaitList, A: Allocator + Copy>(
             Ok(())
         }
         Err(refusal) => Err(refusal),
+    }
+}
+
+// As `leave`, for any call.
+#[inline(never)]
+fn leave_any<Q: WaitList, A: Allocator + Copy>(
+    state: &mut State<A>,
+    queues: &mut Q,
+    c: ClientId,
+    call: &Call,
+    request: &Request,
+) -> Result<(), Refusal>
+    requires ready { IsReadyFor state.old (entry.Call c call.now None) }
+    requires asks { IsRequest (past state.old) (operation call.now) request.now }
+    requires queued { IsQueued (past state.old) (Q.seen queues.old) }
+    ensures ok { OnOk result (Adds state.old (entry.Call c call.now None) state.new) }
+    ensures err { OnErr result (Stays state.old state.new) }
+    ensures reason { IfErr result (λ refusal. refusal ≡ Refusal.Enomem) }
+    ensures enough { asks_to_read (operation call.now) ≡ false → IsOk result }
+    ensures queued { IsQueued (past state.new) (Q.seen queues.new) }
+{
+    leave(state, queues, c, call, request)
+}
+
+// As `leave`, for an arrival at a barrier.
+#[inline(never)]
+fn leave_arrival<Q: WaitList, A: Allocator + Copy>(
+    state: &mut State<A>,
+    queues: &mut Q,
+    c: ClientId,
+    call: &Call,
+    request: &Request,
+) -> Result<(), Refusal>
+    requires ready { IsReadyFor state.old (entry.Call c call.now None) }
+    requires asks { IsRequest (past state.old) (operation call.now) request.now }
+    requires queued { IsQueued (past state.old) (Q.seen queues.old) }
+    ensures ok { OnOk result (Adds state.old (entry.Call c call.now None) state.new) }
+    ensures err { OnErr result (Stays state.old state.new) }
+    ensures reason { IfErr result (λ refusal. refusal ≡ Refusal.Enomem) }
+    ensures enough { asks_to_read (operation call.now) ≡ false → IsOk result }
+    ensures queued { IsQueued (past state.new) (Q.seen queues.new) }
+{
+    match call {
+        Call::Bwait(_) => leave(state, queues, c, call, request),
+        _ => leave_any(state, queues, c, call, request),
+    }
+}
+
+// As `leave`, for a wait with no deadline.
+#[inline(never)]
+fn leave_wait<Q: WaitList, A: Allocator + Copy>(
+    state: &mut State<A>,
+    queues: &mut Q,
+    c: ClientId,
+    call: &Call,
+    request: &Request,
+) -> Result<(), Refusal>
+    requires ready { IsReadyFor state.old (entry.Call c call.now None) }
+    requires asks { IsRequest (past state.old) (operation call.now) request.now }
+    requires queued { IsQueued (past state.old) (Q.seen queues.old) }
+    ensures ok { OnOk result (Adds state.old (entry.Call c call.now None) state.new) }
+    ensures err { OnErr result (Stays state.old state.new) }
+    ensures reason { IfErr result (λ refusal. refusal ≡ Refusal.Enomem) }
+    ensures enough { asks_to_read (operation call.now) ≡ false → IsOk result }
+    ensures queued { IsQueued (past state.new) (Q.seen queues.new) }
+{
+    match call {
+        Call::Wait(..) => leave(state, queues, c, call, request),
+        _ => leave_any(state, queues, c, call, request),
+    }
+}
+
+/// Pushes a call that waits, and puts it into its queue, in a function of its own for each call
+/// that comes often. ENOMEM if there is no memory for its row in a read-write lock; no other call
+/// needs memory.  [XSH, the call's page]
+#[inline(always)]
+pub(crate) fn push_left<Q: WaitList, A: Allocator + Copy>(
+    state: &mut State<A>,
+    queues: &mut Q,
+    c: ClientId,
+    call: &Call,
+    request: &Request,
+) -> Result<(), Refusal>
+    requires ready { IsReadyFor state.old (entry.Call c call.now None) }
+    requires asks { IsRequest (past state.old) (operation call.now) request.now }
+    requires queued { IsQueued (past state.old) (Q.seen queues.old) }
+    ensures ok { OnOk result (Adds state.old (entry.Call c call.now None) state.new) }
+    ensures err { OnErr result (Stays state.old state.new) }
+    ensures reason { IfErr result (λ refusal. refusal ≡ Refusal.Enomem) }
+    ensures enough { asks_to_read (operation call.now) ≡ false → IsOk result }
+    ensures queued { IsQueued (past state.new) (Q.seen queues.new) }
+{
+    match call {
+        Call::Bwait(_) => leave_arrival(state, queues, c, call, request),
+        Call::Wait(..) => leave_wait(state, queues, c, call, request),
+        _ => leave_any(state, queues, c, call, request),
     }
 }
 

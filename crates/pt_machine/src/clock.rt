@@ -8,7 +8,8 @@ ghost use Rattle.std.specs.Prelude.{IfErr, IsOk, None, OnErr, OnOk, Some, ℕ, �
 ghost use Rattle.std.specs.Prelude.{◌≡◌, false, if◌then◌else◌, true};
 ghost use Rattle.pt_types.specs.Operations.{operation};
 ghost use Rattle.pt_machine.specs.Timed.{AreTimed, asked, can_move_waits as can_move_waits_in};
-ghost use Rattle.pt_machine.specs.Timed.{good_of, was_moved_at};
+ghost use Rattle.pt_machine.specs.Timed.{HasOwnDeadline, good_of, was_moved_at};
+ghost use Rattle.pt_records.specs.declared.clients.Open.{Open};
 ghost use Rattle.std.specs.List.{list_any};
 ghost use Rattle.pt_timers.specs.Deadlines.{deadline_at};
 ghost use Rattle.pt_records.specs.Callers.{opens_of};
@@ -22,6 +23,7 @@ ghost use Rattle.pt_model.specs.Forced.{service};
 
 use crate::{calls, clients, forced};
 use pt_model::Event;
+use pt_model::waiting_call::WaitingCall;
 use pt_records::Open;
 use pt_state::{Forced, Request, State};
 use pt_timers::Timers;
@@ -94,9 +96,24 @@ fn has_none<A: Allocator + Copy>(timers: &Timers<A>) -> bool
     }
 }
 
+/// Drops the deadline of a call, if one is set at its place.
+#[inline(always)]
+pub(crate) fn drop_deadline<A: Allocator + Copy>(timers: &mut Timers<A>, call: &WaitingCall)
+    requires { HasOwnDeadline timers.old call.now }
+    ensures { (p : ℕ)
+        → deadline_at timers.new p
+        ≡ (if «call».now.place == p then None else deadline_at timers.old p) }
+{
+    if let Some(nanos) = call.deadline {
+        timers.cancel(call.place, call.clock, nanos);
+    }
+}
+
 // Drops the deadlines of the calls that the entry at this place moved.
 // [XSH pthread_cond_broadcast]
 fn drop_moved<A: Allocator + Copy>(timers: &mut Timers<A>, state: &State<A>, place: u64)
+    requires { (o : Open) → In o (opens_of state.now.clients)
+        → HasOwnDeadline timers.old (called o) }
     ensures { (p : ℕ)
         → deadline_at timers.new p
         ≡ (if list_any (λ o. was_moved_at place o && (o.call.place == p))
@@ -110,7 +127,7 @@ fn drop_moved<A: Allocator + Copy>(timers: &mut Timers<A>, state: &State<A>, pla
     for i in 0..state.clients.len() {
         if let Some(open) = state.open_nth(i) {
             if was_moved(&open, place) {
-                timers.cancel(open.call.place);
+                drop_deadline(timers, &open.call);
             }
         }
     }
@@ -141,13 +158,14 @@ fn push_timed<Q: WaitList, A: Allocator + Copy>(
     ensures timed { AreTimed (past state.new) timers.new }
 {
     let place = state.stored.len();
-    if let Err(refusal) = timers.set(place, clock_of(call), deadline) {
+    let clock = clock_of(call);
+    if let Err(refusal) = timers.set(place, c, clock, deadline) {
         return Err(refusal);
     }
     match calls::push_left(state, queues, c, call, request) {
         Ok(()) => Ok(()),
         Err(refusal) => {
-            timers.cancel(place);
+            timers.cancel(place, clock, deadline.nanos());
             Err(refusal)
         }
     }
@@ -236,11 +254,10 @@ fn push_death<Q: WaitList, A: Allocator + Copy>(
     ensures queued { IsQueued (past state.new) (Q.seen queues.new) }
     ensures timed { AreTimed (past state.new) timers.new }
 {
-    let open = state.open_place(c);
-    clients::push_death(state, queues, c);
-    if let Some(place) = open {
-        timers.cancel(place);
+    if let Some(open) = state.open_of(c) {
+        drop_deadline(timers, &open.call);
     }
+    clients::push_death(state, queues, c);
 }
 
 // Pushes a call, with the answer that it gets at once. ENOMEM if a growth is refused.
@@ -333,7 +350,7 @@ pub(crate) fn push_served<Q: WaitList, A: Allocator + Copy>(
     ensures timed { AreTimed (past state.new) timers.new }
 {
     forced::push_served(state, queues, found);
-    timers.cancel(found.call.place);
+    drop_deadline(timers, &found.call);
 }
 
 /// Pushes what must follow, and drops the deadline of the call that it serves or ends.
@@ -355,12 +372,12 @@ pub(crate) fn push_forced<Q: WaitList, A: Allocator + Copy>(
     match forced {
         Forced::Serve(found) => {
             forced::push_forced(state, queues, forced);
-            timers.cancel(found.call.place);
+            drop_deadline(timers, &found.call);
         }
         Forced::Yield(_) => forced::push_forced(state, queues, forced),
         Forced::Expire(late) => {
             forced::push_forced(state, queues, forced);
-            timers.cancel(late.call.place);
+            drop_deadline(timers, &late.call);
         }
     }
 }

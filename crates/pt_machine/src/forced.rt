@@ -9,7 +9,7 @@ ghost use Rattle.pt_model.specs.declared.waiting_call.WaitingCall.{WaitingCall};
 ghost use Rattle.pt_records.specs.Callers.{call_of};
 ghost use Rattle.pt_model.specs.Searches.{In, least};
 ghost use Rattle.pt_model.specs.Histories.{place};
-ghost use Rattle.pt_model.specs.WaitingCall.{is_arrival as is_arrival_role};
+ghost use Rattle.pt_model.specs.WaitingCall.{at_place, is_arrival as is_arrival_role};
 ghost use Rattle.pt_model.specs.WaitingCall.{is_wait as is_wait_role, mutex_of as mutex_of_role};
 ghost use Rattle.pt_records.specs.Counts.{counted, reserved_open};
 ghost use Rattle.pt_types.specs.MutexTable.{is_acquired as is_acquired_it};
@@ -160,26 +160,6 @@ impl<Q: WaitList, A: Allocator + Copy> Body<Q, A> {
         self.candidate(self.touched?)
     }
 
-    /// What must follow, if anything: service, then yields, then deadlines.
-    /// [XSH pthread_mutex_unlock, pthread_mutex_lock EOWNERDEAD, pthread_mutex_timedlock]
-    pub fn next_forced(&self) -> Option<Forced>
-        requires { AreTables self.now }
-        ensures entry { option_map (entry_of (past self.now)) result
-            ≡ forced_in (past self.now) }
-        ensures known { IfSome result (IsFor (opens_of self.now.clients)) }
-    {
-        if let Some(served) = self.first_served() {
-            return Some(Forced::Serve(*served));
-        }
-        if let Some(m) = self.state.first_orphan() {
-            return Some(Forced::Yield(m));
-        }
-        match self.first_overdue() {
-            Some(late) => Some(Forced::Expire(late)),
-            None => None,
-        }
-    }
-
     // A call gets its mutex, or is answered that it is lost. What is touched stays so.
     // [XSH pthread_mutex_unlock]
     #[inline(always)]
@@ -192,7 +172,7 @@ impl<Q: WaitList, A: Allocator + Copy> Body<Q, A> {
     {
         let had = self.state.push_grant_mutex(found, m);
         self.queues.remove(found.call.client);
-        self.timers.cancel(found.call.place);
+        clock::drop_deadline(&mut self.timers, &found.call);
         self.need -= used_by_gain(found, had);
     }
 
@@ -246,26 +226,17 @@ impl<Q: WaitList, A: Allocator + Copy> Body<Q, A> {
         self.need -= 1;
     }
 
-    // Pushes what must follow next, and returns whether anything must. A deadline is seldom due, so
-    // it is not inlined.
-    #[cold]
+    // The deadline of the call at a place has passed. The client is looked at first.
+    // [XSH pthread_cond_timedwait, pthread_mutex_timedlock]
     #[inline(never)]
-    fn push_any(&mut self) -> bool
+    fn push_overdue(&mut self, place: u64, c: ClientId)
         requires read { AreTables self.old }
-        requires ready { (e : Entry) → forced_in (past self.old) ≡ Some e
-            → IsReadyFor self.old e }
-        ensures pushed { result ≡ true → (e : Entry)
-            × (forced_in (past self.old) ≡ Some e) × Adds self.old e self.new }
-        ensures none { result ≡ false → (forced_in (past self.old) ≡ None)
-            × (self.new ≡ self.old) }
+        requires waits { IsSome (at_place place (open_calls (past self.old))) }
+        requires ready { IsReadyFor self.old (entry.Expire place) }
+        ensures { Adds self.old (entry.Expire place) self.new }
     {
-        match self.next_forced() {
-            Some(forced) => {
-                self.push_forced(&forced);
-                true
-            }
-            None => false,
-        }
+        let late = *self.open_at(place, c).unwrap();
+        self.push_forced(&Forced::Expire(late));
     }
 
     /// Pushes what must follow next, and returns whether anything must: service, then yields, then
@@ -290,9 +261,12 @@ impl<Q: WaitList, A: Allocator + Copy> Body<Q, A> {
             self.push_yield(m);
             return true;
         }
-        if !self.is_overdue() {
-            return false;
+        match self.first_due() {
+            Some((place, c)) => {
+                self.push_overdue(place, c);
+                true
+            }
+            None => false,
         }
-        self.push_any()
     }
 }

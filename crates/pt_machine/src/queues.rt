@@ -41,6 +41,7 @@ fn waiter_of(open: &Open, prio: Priority) -> Waiter
 
 /// The client's open call takes its place in the queue of the object at which an open call waits.
 /// [XSH 2.8.4, pthread_rwlock_unlock]
+#[inline(always)]
 pub(crate) fn take_place<Q: WaitList, A: Allocator + Copy>(
     queues: &mut Q,
     state: &State<A>,

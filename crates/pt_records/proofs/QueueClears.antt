@@ -1,7 +1,8 @@
 -- A queue whose first is taken out until none is left.
 use Rattle.std.proofs.Common.{◌≡◌, ℕ, ◌<◌, ◌≤◌, length, ◌==◌, Bool, true, false, cond, not, ◌||◌}
-use Rattle.std.proofs.Common.{filter, List, [], ◌∷◌, ◌++◌, map, Some, None, refl, sym, ap, ◌∙◌}
-use Rattle.std.proofs.Common.{subst, append_assoc, arith, eq-eqb}
+use Rattle.std.proofs.Common.{filter, List, [], ◌∷◌, ◌++◌, map, Option, Some, None, refl, sym, ap}
+use Rattle.std.proofs.Common.{◌∙◌, subst, append_assoc, arith, eq-eqb}
+use Rattle.std.specs.Prelude.{IfSome, IfNone}
 use Rattle.std.specs.List.{list_any}
 use Rattle.std.proofs.lemmas.Bool.{false≢true}
 use Rattle.std.proofs.lemmas.Bool.Decides.{nat_tests}
@@ -28,6 +29,18 @@ first-out (v ∷ vs) w e =
     let same : v ≡ w = cc in
     let own : v.client ≡ w.client = ap (λ (x : Waiter). x.client) same in
     rw (eq-eqb v.client w.client own) (omega (arith, without-length w.client vs))
+
+-- what is known of the queues as the first of one is taken out, if there is one
+module _ (queue queue' : ℕ → List Waiter) (found : Option Waiter) where
+  pub taken : (w : Waiter) → found ≡ Some w
+      → IfSome found (λ v. (q : ℕ) → queue' q ≡ without v.client (queue q))
+      → (q : ℕ) → queue' q ≡ without w.client (queue q)
+  taken w is out =
+      subst (λ o. IfSome o (λ v. (q : ℕ) → queue' q ≡ without v.client (queue q))) is out
+
+  pub left : found ≡ None → IfNone found ((q : ℕ) → queue' q ≡ queue q)
+      → (q : ℕ) → queue' q ≡ queue q
+  left is same = subst (λ o. IfNone o ((q : ℕ) → queue' q ≡ queue q)) is same
 
 -- the first of one queue is in no other
 pub others-stay :

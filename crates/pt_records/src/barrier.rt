@@ -49,8 +49,7 @@ fn tell_queue<Q: WaitList, A: Allocator + Copy>(
     ensures capacity { vec_capacity answers.new ≡ vec_capacity answers.old }
     ensures emptied { Empties b (Q.seen queues.old) (Q.seen queues.new) }
 {
-    while let Some(first) = queues.first(b) {
-        queues.remove(first.client);
+    while let Some(first) = queues.take_first(b) {
         answers.push_reserved(passed(at, &first));
     }
 }

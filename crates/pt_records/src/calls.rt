@@ -14,6 +14,7 @@ use pt_types::{ClientId, ObjectId, Outcome};
 use std::alloc::Allocator;
 
 /// The client's latest call came at this place, and is open.
+#[inline(always)]
 pub fn stand<A: Allocator + Copy>(
     clients: &mut Clients<Caller, A>,
     c: ClientId,

@@ -38,6 +38,7 @@ impl<A: Allocator + Copy> State<A> {
     }
 
     // An arrival at a barrier.  [XSH pthread_barrier_wait]
+    #[inline(always)]
     pub(crate) fn push_arrival(
         &mut self,
         c: ClientId,

@@ -97,6 +97,7 @@ impl<A: Allocator + Copy> State<A> {
     }
 
     /// A client's call that is entered now.
+    #[inline(always)]
     pub fn entered(
         &self,
         c: ClientId,
@@ -149,6 +150,7 @@ impl<A: Allocator + Copy> State<A> {
     }
 
     // A call for a lock.  [XSH pthread_mutex_lock, pthread_rwlock_rdlock, pthread_rwlock_wrlock]
+    #[inline(always)]
     fn push_acquire(
         &mut self,
         c: ClientId,
@@ -179,6 +181,7 @@ impl<A: Allocator + Copy> State<A> {
 
     /// A call that is left waiting. ENOMEM if there is no memory for its row in a read-write
     /// lock. No other operation than these three is left so.  [XSH, the call's page]
+    #[inline(always)]
     pub fn push_left(&mut self, c: ClientId, call: &Call, request: &Request) -> Result<(), Refusal>
         requires ready { IsReadyFor self.old (entry.Call c call.now None) }
         requires asks { IsRequest (past self.old) (operation call.now) request.now }

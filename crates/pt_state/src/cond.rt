@@ -59,6 +59,7 @@ impl<A: Allocator + Copy> State<A> {
     }
 
     /// A wait: its client gives one lock on the mutex back.  [XSH pthread_cond_wait]
+    #[inline(always)]
     pub fn push_wait(&mut self, c: ClientId, call: &Call, m: ObjectId, open: Open)
         requires ready { IsReadyFor self.old (entry.Call c call.now None) }
         requires left { IsLeft (past self.old) c call.now «open» }
@@ -70,6 +71,7 @@ impl<A: Allocator + Copy> State<A> {
     }
 
     // A wait at a condition.  [XSH pthread_cond_wait]
+    #[inline(always)]
     pub(crate) fn push_await(
         &mut self,
         c: ClientId,

@@ -28,6 +28,16 @@ module _ (w : List (ℕ × (Clock × ℕ))) (real mono : Option ℕ) where
       first q Real m e r = absurd (let late = one q m e in cc)
       first q Mono m e r = other.2 q m e
 
+  -- one is due by the real clock alone
+  pub real-alone : (t : TimerKey) → IsFirstDue w Real real (Some t) → IsFirstDue w Mono mono None
+      → IsLeastDue w (moments real mono) (Some t.place)
+  real-alone t one other = (Real, t.nanos, one.0, one.1, first)
+    where
+      first : (q : ℕ) (l : Clock) (m : ℕ) → deadline_at w q ≡ Some (l, m)
+          → is_reached (moments real mono l) m ≡ true → pair_before (m, q) (pair_of t) ≡ false
+      first q Real m e r = one.2 q m e
+      first q Mono m e r = absurd (let late = other q m e in cc)
+
   -- one is due by each clock
   by_both : (a b : TimerKey) → IsFirstDue w Real real (Some a) → IsFirstDue w Mono mono (Some b)
       → IsLeastDue w (moments real mono) (Some (sooner_of (Some a) b).place)

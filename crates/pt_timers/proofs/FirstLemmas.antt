@@ -10,7 +10,7 @@ use Rattle.std.specs.BTreeSet.{BTreeSet, btree_set_len, IsLowerBound}
 use Rattle.pt_types.specs.declared.time.Clock.{Clock}
 use Rattle.pt_types.specs.Times.{Timespec, deadline_nanos, is_bad_deadline, pair_before}
 use Rattle.pt_timers.specs.declared.key.TimerKey.{TimerKey}
-use Rattle.pt_timers.specs.Deadlines.{deadline_at, pair_of, key_cmp, is_in, most_nanos, AreTimers}
+use Rattle.pt_timers.specs.Deadlines.{deadline_at, pair_of, key_cmp, key_of, is_in, most_nanos, AreTimers}
 use Rattle.pt_timers.specs.Deadlines.{IsFirstDue, IsLeast}
 
 -- what isn't above a key isn't before it
@@ -33,16 +33,16 @@ module _ (places w : List (ℕ × (Clock × ℕ))) (view : places ≡ w)
   where
     -- what is set is in its order
     listed : (q m : ℕ) → deadline_at w q ≡ Some (k, m)
-        → is_in order (record { nanos = m; place = q }) ≡ true
+        → is_in order (key_of m q) ≡ true
     listed q m e =
-        own (record { nanos = m; place = q })
+        own (key_of m q)
         ∙ kept.ordered q k m (ap (λ ts. deadline_at ts q) view ∙ e)
 
     module _ (none : 0 < btree_set_len order → false ≡ true) where
       -- where the order is empty, nothing is set
       not-set : (q m : ℕ) → deadline_at w q ≡ Some (k, m) → ⊥
       not-set q m e =
-          let key : TimerKey = record { nanos = m; place = q } in
+          let key : TimerKey = key_of m q in
           false≢true (sym (none-in order.keys none key) ∙ listed q m e)
 
       pub no-first : (now : Option ℕ) → IsFirstDue w k now None
@@ -65,8 +65,8 @@ module _ (places w : List (ℕ × (Clock × ℕ))) (view : places ≡ w)
       not-sooner : (q m : ℕ) → deadline_at w q ≡ Some (k, m)
           → pair_before (m, q) (pair_of key) ≡ false
       not-sooner q m e =
-          not-before key (record { nanos = m; place = q })
-          (least (record { nanos = m; place = q }) (listed q m e))
+          not-before key (key_of m q)
+          (least (key_of m q) (listed q m e))
 
       pub first-due : (now : ℕ) → key.nanos ≤ now → IsFirstDue w k (Some now) (Some key)
       first-due now le = (here, grind (arith, nat_tests, le), not-sooner)

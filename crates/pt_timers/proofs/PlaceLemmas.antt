@@ -1,23 +1,112 @@
--- What is set at a place, as the map of the places has it.
-use Rattle.std.proofs.Common.{rules, ◌≡◌, ℕ, ◌==◌, nat_eq, cond, List, [], ◌∷◌, Option, Some, refl}
-use Rattle.std.proofs.Common.{sym, ap, ◌∙◌}
-use Rattle.std.specs.Map.{lookup}
+-- What is set at a place, as the orders of the clocks have it.
+use Rattle.std.proofs.Common.{◌≡◌, ℕ, ◌==◌, ◌||◌, ◌++◌, ◌⊎◌, Bool, true, false, cond}
+use Rattle.std.proofs.Common.{List, [], ◌∷◌, Option, Some, None, unwrap_or, refl, ap, ◌∙◌}
+use Rattle.std.proofs.Common.{inl, inr, ⊎_elim, arith, subst, append-nil}
+use Rattle.std.proofs.lemmas.Bool.{false≢true}
+use Rattle.std.proofs.lemmas.Bool.Decides.{nat_tests}
+use Rattle.std.specs.List.{list_any}
+use Rattle.std.specs.BTreeMap.{is_at}
 use Rattle.pt_types.specs.declared.time.Clock.{Clock}
-use Rattle.pt_timers.specs.Deadlines.{deadline_at}
+use Rattle.pt_types.specs.declared.time.Clock.TheVariants.{Real, Mono}
+use Rattle.pt_timers.specs.declared.key.TimerKey.{TimerKey}
+use Rattle.pt_timers.specs.declared.orders.Orders.{Orders}
+use Rattle.pt_timers.specs.Deadlines.{deadline_at, key_cmp, key_of}
+use Rattle.pt_timers.specs.Orders.{by_places, is_due_at, listed}
 
-turned : (x y : ℕ) → nat_eq x y ≡ (y == x)
-turned x y = search rules
+-- whether these keys have one that is equal to this
+abbrev has : List TimerKey → TimerKey → Bool
+has ks q = list_any (is_at (key_cmp q)) ks
 
--- what the map finds is what is set
-pub as-found : (ts : List (ℕ × (Clock × ℕ))) (p : ℕ) → deadline_at ts p ≡ lookup (nat_eq p) ts
-as-found [] p = refl
-as-found (t ∷ ts) p =
-    ap (λ b. cond b (Some t.1) (deadline_at ts p)) (sym (turned p t.0))
-    ∙ ap (cond (nat_eq p t.0) (Some t.1)) (as-found ts p)
+pub same-number : (x y : ℕ) → (x == y) ≡ true → x ≡ y
+same-number x y e = grind (arith, nat_tests)
 
--- the map has this at a place, and what it had at each other
-pub as-changed : (old new : List (ℕ × (Clock × ℕ))) (place : ℕ) (w : Option (Clock × ℕ))
-    → ((q : ℕ) → lookup (nat_eq q) new ≡ cond (nat_eq place q) w (lookup (nat_eq q) old))
-    → (p : ℕ) → deadline_at new p ≡ cond (place == p) w (deadline_at old p)
-as-changed old new place w change p =
-    as-found new p ∙ (change p ∙ ap (cond (place == p) w) (sym (as-found old p)))
+pub same-parts : (k l : Clock) (n m : ℕ)
+    → ◌≡◌ {A = Option (Clock × ℕ)} (Some (k, n)) (Some (l, m)) → (k ≡ l) × (n ≡ m)
+same-parts k l n m e = (
+  ap (λ (o : Option (Clock × ℕ)). (unwrap_or o (k, n)).0) e,
+  ap (λ (o : Option (Clock × ℕ)). (unwrap_or o (k, n)).1) e,
+)
+
+own-key : (n p : ℕ) (q : TimerKey) → q.nanos ≡ n → q.place ≡ p
+    → is_at (key_cmp (key_of n p)) q ≡ true
+own-key n p q e f = grind (arith, nat_tests, e, f)
+
+at-key : (a q : TimerKey) → is_at (key_cmp a) q ≡ true → (q.nanos ≡ a.nanos) × (q.place ≡ a.place)
+at-key a q e = (grind (arith, nat_tests), grind (arith, nat_tests))
+
+module _ (k : Clock) (rest : List (ℕ × (Clock × ℕ))) (p : ℕ) where
+  -- what is set at a place is a key's of this clock, or comes after those
+  pub set-in : (qs : List TimerKey) (l : Clock) (n : ℕ)
+      → deadline_at (by_places k qs ++ rest) p ≡ Some (l, n)
+      → ((k ≡ l) × (has qs (key_of n p) ≡ true)) ⊎ (deadline_at rest p ≡ Some (l, n))
+  set-in [] l n e = inr e
+  set-in (q ∷ qs) l n e = go (set-in qs l n) (q.place == p) refl e
+    where
+      go : (deadline_at (by_places k qs ++ rest) p ≡ Some (l, n)
+          → ((k ≡ l) × (has qs (key_of n p) ≡ true)) ⊎ (deadline_at rest p ≡ Some (l, n)))
+          → (b : Bool) → (q.place == p) ≡ b
+          → cond b (Some (k, q.nanos)) (deadline_at (by_places k qs ++ rest) p) ≡ Some (l, n)
+          → ((k ≡ l) × (has (q ∷ qs) (key_of n p) ≡ true)) ⊎ (deadline_at rest p ≡ Some (l, n))
+      go after true t f =
+          let parts = same-parts k l q.nanos n f in
+          inl (
+            parts.0,
+            ap (λ b. b || has qs (key_of n p))
+                (own-key n p q parts.1 (same-number q.place p t)),
+          )
+      go after false t f =
+          ⊎_elim (λ one. inl (one.0, later (is_at (key_cmp (key_of n p)) q) one.1)) (λ o. inr o)
+          (after f)
+        where
+          later : (b : Bool) → has qs (key_of n p) ≡ true → (b || has qs (key_of n p)) ≡ true
+          later true h = refl
+          later false h = h
+
+  -- nothing is set at a place, so no key of this clock has it, and nothing is set after those
+  pub none-set : (qs : List TimerKey) → deadline_at (by_places k qs ++ rest) p ≡ None
+      → ((a : TimerKey) → a.place ≡ p → has qs a ≡ true → ⊥) × (deadline_at rest p ≡ None)
+  none-set [] e = (λ a at h. false≢true h, e)
+  none-set (q ∷ qs) e = go (none-set qs) (q.place == p) refl e
+    where
+      go : (deadline_at (by_places k qs ++ rest) p ≡ None
+          → ((a : TimerKey) → a.place ≡ p → has qs a ≡ true → ⊥) × (deadline_at rest p ≡ None))
+          → (b : Bool) → (q.place == p) ≡ b
+          → cond b (Some (k, q.nanos)) (deadline_at (by_places k qs ++ rest) p) ≡ None
+          → ((a : TimerKey) → a.place ≡ p → has (q ∷ qs) a ≡ true → ⊥)
+          × (deadline_at rest p ≡ None)
+      go after true t f = absurd cc
+      go after false t f =
+          (λ a at h. none a at (is_at (key_cmp a) q) refl h, (after f).1)
+        where
+          none : (a : TimerKey) → a.place ≡ p → (b : Bool) → is_at (key_cmp a) q ≡ b
+              → (b || has qs a) ≡ true → ⊥
+          none a at true i h =
+              let here = (at-key a q i).1 ∙ at in
+              absurd (grind (arith, nat_tests))
+          none a at false i h = (after f).0 a at h
+
+module _ {A : Type 0} (o : Orders A) where
+  -- what is set at a place is due
+  pub is-due : (p : ℕ) (k : Clock) (n : ℕ) → deadline_at (listed o) p ≡ Some (k, n)
+      → is_due_at o k (key_of n p) ≡ true
+  is-due p k n e =
+      ⊎_elim (λ one. subst (λ c. is_due_at o c (key_of n p) ≡ true) one.0 one.1) other
+      (set-in Real (by_places Mono o.mono.keys) p o.real.keys k n e)
+    where
+      other : deadline_at (by_places Mono o.mono.keys) p ≡ Some (k, n)
+          → is_due_at o k (key_of n p) ≡ true
+      other f =
+          ⊎_elim (λ one. subst (λ c. is_due_at o c (key_of n p) ≡ true) one.0 one.1)
+          (λ none. absurd cc)
+          (set-in Mono [] p o.mono.keys k n
+          (ap (λ ts. deadline_at ts p) (append-nil (by_places Mono o.mono.keys)) ∙ f))
+
+  -- where nothing is set, nothing is due
+  pub not-due-at : (p : ℕ) → deadline_at (listed o) p ≡ None
+      → (k : Clock) (q : TimerKey) → q.place ≡ p → is_due_at o k q ≡ true → ⊥
+  not-due-at p e Real q at h =
+      (none-set Real (by_places Mono o.mono.keys) p o.real.keys e).0 q at h
+  not-due-at p e Mono q at h =
+      (none-set Mono [] p o.mono.keys
+      (ap (λ ts. deadline_at ts p) (append-nil (by_places Mono o.mono.keys))
+      ∙ (none-set Real (by_places Mono o.mono.keys) p o.real.keys e).1)).0 q at h

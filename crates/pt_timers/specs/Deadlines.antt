@@ -6,6 +6,7 @@ use Rattle.std.specs.Ordering.{ordering_then, nat_cmp}
 use Rattle.std.specs.BTreeSet.{BTreeSet, contains}
 use Rattle.pt_types.specs.declared.time.Clock.{Clock}
 use Rattle.pt_types.specs.declared.time.Clock.TheVariants.{Real, Mono}
+use Rattle.pt_types.specs.Operations.{same_clock}
 use Rattle.pt_types.specs.Limits.{second}
 use Rattle.pt_types.specs.Times.{Timespec, deadline_nanos, is_bad_deadline, pair_before}
 use Rattle.pt_timers.specs.declared.key.TimerKey.{TimerKey}
@@ -14,6 +15,11 @@ use Rattle.pt_timers.specs.declared.key.TimerKey.{TimerKey}
 abbrev pub deadline_at : List (ℕ × (Clock × ℕ)) → ℕ → Option (Clock × ℕ)
 deadline_at [] p = None
 deadline_at (t ∷ ts) p = if t.0 == p then Some t.1 else deadline_at ts p
+
+-- whether what is set at a place is this
+abbrev pub is_set_to : Clock → ℕ → Option (Clock × ℕ) → Bool
+is_set_to k n None = false
+is_set_to k n (Some d) = same_clock k d.0 && (n == d.1)
 
 -- what each of the clocks shows; before its first moment nothing
 abbrev pub moments : Option ℕ → Option ℕ → Clock → Option ℕ
@@ -61,7 +67,11 @@ abbrev pub sooner_of : Option TimerKey → TimerKey → TimerKey
 sooner_of None t = t
 sooner_of (Some b) t = if pair_before (pair_of t) (pair_of b) then t else b
 
--- whether two keys are the same
+-- a key of these nanoseconds and this place
+abbrev pub key_of : ℕ → ℕ → TimerKey
+key_of n p = record { nanos = n; place = p; client = 0 }
+
+-- whether two keys are of the same deadline and place
 abbrev pub same_key : TimerKey → TimerKey → Bool
 same_key a b = (a.nanos == b.nanos) && (a.place == b.place)
 
@@ -84,4 +94,4 @@ pub record AreTimers (places : List (ℕ × (Clock × ℕ)))
   pub placed : (k : Clock) (q : TimerKey) → is_due k q ≡ true
       → (deadline_at places q.place ≡ Some (k, q.nanos)) × (q.nanos < most_nanos)
   pub ordered : (p : ℕ) (k : Clock) (n : ℕ) → deadline_at places p ≡ Some (k, n)
-      → is_due k (record { nanos = n; place = p }) ≡ true
+      → is_due k (key_of n p) ≡ true

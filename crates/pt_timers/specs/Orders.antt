@@ -1,5 +1,5 @@
 -- Orders: the deadlines of each clock, by their keys.
-use Rattle.std.specs.Prelude.{Bool}
+use Rattle.std.specs.Prelude.{ℕ, Bool, List, [], ◌∷◌, ◌++◌}
 use Rattle.std.specs.BTreeSet.{BTreeSet}
 use Rattle.pt_types.specs.declared.time.Clock.{Clock}
 use Rattle.pt_types.specs.declared.time.Clock.TheVariants.{Real, Mono}
@@ -15,3 +15,12 @@ order_of o Mono = o.mono
 -- whether a deadline of a clock has this key  [XSH pthread_mutex_clocklock]
 abbrev pub is_due_at : {A : Type 0} → Orders A → Clock → TimerKey → Bool
 is_due_at o k key = is_in (order_of o k) key
+
+-- the deadlines of a clock with these keys, by their places
+abbrev pub by_places : Clock → List TimerKey → List (ℕ × (Clock × ℕ))
+by_places k [] = []
+by_places k (q ∷ qs) = (q.place, (k, q.nanos)) ∷ by_places k qs
+
+-- the deadlines of both clocks, by their places
+abbrev pub listed : {A : Type 0} → Orders A → List (ℕ × (Clock × ℕ))
+listed o = by_places Real o.real.keys ++ by_places Mono o.mono.keys

@@ -44,8 +44,8 @@ impl<A: Allocator + Copy> Orders<A> {
         ensures ok { OnOk result ((k : Clock) (q : TimerKey)
             → is_due_at self.new k q
             ≡ ((same_clock clock k && same_key key q) || is_due_at self.old k q)) }
-        ensures err { OnErr result ((k : Clock) (q : TimerKey)
-            → is_due_at self.new k q ≡ is_due_at self.old k q) }
+        ensures err { OnErr result ((k : Clock)
+            → (order_of self.new k).keys ≡ (order_of self.old k).keys) }
         ensures refusal { IfErr result (λ refusal. refusal ≡ Refusal.Enomem) }
     {
         match clock {
@@ -73,7 +73,7 @@ fn insert<A: Allocator + Copy>(
 ) -> Result<(), Refusal>
     ensures ok { OnOk result ((q : TimerKey)
         → is_in order.new q ≡ (same_key key q || is_in order.old q)) }
-    ensures err { OnErr result ((q : TimerKey) → is_in order.new q ≡ is_in order.old q) }
+    ensures err { OnErr result (order.new.keys ≡ order.old.keys) }
     ensures refusal { IfErr result (λ refusal. refusal ≡ Refusal.Enomem) }
 {
     match order.insert(key) {

@@ -4,10 +4,8 @@ ghost use Rattle.pt_timers.specs.Deadlines.{most_nanos};
 
 use crate::key::{TimerKey, sooner};
 use crate::orders::Orders;
-use indexmap::IndexMap;
-use pt_types::{Clock, Deadline, Moment, Refusal};
+use pt_types::{ClientId, Clock, Deadline, Moment, Refusal};
 use std::alloc::{Allocator, Global};
-use std::hash::{BuildHasherDefault, FoldHasher};
 use std::marker::Model;
 
 // A time has fewer nanoseconds beside its seconds.
@@ -33,12 +31,9 @@ fn deadline_of(nanos: u64) -> Deadline
 }
 
 /// Deadlines by the places of their calls. Only `set` takes memory. Each call takes time that
-/// grows with the logarithm of how many are set, but for a `set` now and then that makes the map of
-/// the places larger.
+/// grows with the logarithm of how many are set.
 #[derive(Drop)]
 pub struct Timers<A: Allocator + Copy = Global> {
-    /// By the place: the clock, and the nanoseconds.
-    places: IndexMap<u64, (Clock, u64), BuildHasherDefault<FoldHasher>, A>,
     orders: Orders<A>,
 }
 
@@ -46,32 +41,39 @@ impl<A: Allocator + Copy> Model for Timers<A> {
     ghost use Rattle.std.specs.Prelude.{List, ℕ};
     ghost use Rattle.pt_types.specs.declared.time.Clock.{Clock};
     ghost use Rattle.pt_timers.specs.Deadlines.{AreTimers};
-    ghost use Rattle.pt_timers.specs.Orders.{is_due_at};
+    ghost use Rattle.pt_timers.specs.Orders.{is_due_at, listed};
 
     ghost Value = { List (ℕ × (Clock × ℕ)) };
 
-    ghost view = { λ t. t.places.entries };
+    ghost view = { λ t. listed t.orders };
 
-    ghost invariant = { λ t. AreTimers t.places.entries (is_due_at t.orders) };
+    ghost invariant = { λ t. AreTimers (listed t.orders) (is_due_at t.orders) };
 }
 
 impl<A: Allocator + Copy> Timers<A> {
     ghost use Rattle.std.specs.Prelude.{ℕ, false, OnOk, OnErr, IfErr, if◌then◌else◌, Some, None};
-    ghost use Rattle.pt_timers.specs.Deadlines.{deadline_at, moments, IsFirstDue, IsLeastDue};
-    ghost use Rattle.pt_timers.specs.Deadlines.{IsLeast};
+    ghost use Rattle.std.specs.Prelude.{◌&&◌, option_map};
+    ghost use Rattle.pt_timers.specs.Deadlines.{deadline_at, is_set_to, moments, IsFirstDue};
+    ghost use Rattle.pt_timers.specs.Deadlines.{IsLeast, IsLeastDue};
 
     /// No deadline. It takes no memory.
     pub fn new(alloc: A) -> Self
         ensures { (p : ℕ) → deadline_at result p ≡ None }
     {
         Timers {
-            places: IndexMap::new(alloc),
             orders: Orders::new(alloc),
         }
     }
 
-    /// Sets the deadline of a place that has none; `Enomem` if a growth is refused.
-    pub fn set(&mut self, place: u64, clock: Clock, deadline: Deadline) -> Result<(), Refusal>
+    /// Sets the deadline of a place that has none; `Enomem` if a growth is refused. The client is
+    /// what `least_due` gives with the place.
+    pub fn set(
+        &mut self,
+        place: u64,
+        client: ClientId,
+        clock: Clock,
+        deadline: Deadline,
+    ) -> Result<(), Refusal>
         requires good { is_bad_deadline deadline ≡ false }
         requires unset { deadline_at self.old place ≡ None }
         ensures ok { OnOk result ((p : ℕ)
@@ -83,40 +85,32 @@ impl<A: Allocator + Copy> Timers<A> {
         ensures err { OnErr result (self.new ≡ self.old) }
         ensures refusal { IfErr result (λ refusal. refusal ≡ Refusal.Enomem) }
     {
-        let nanos = nanos_of(deadline);
-        let key = TimerKey { nanos, place };
-        self.orders.insert(clock, key)?;
-        match self.places.insert(place, (clock, nanos)) {
-            Ok(_) => Ok(()),
-            Err(_) => {
-                self.orders.remove(clock, key);
-                Err(Refusal::Enomem)
-            }
-        }
+        let key = TimerKey {
+            nanos: nanos_of(deadline),
+            place,
+            client,
+        };
+        self.orders.insert(clock, key)
     }
 
-    /// Takes the deadline of a place away, if it has one. It takes no memory.
-    #[inline(always)]
-    pub fn cancel(&mut self, place: u64)
+    /// Takes the deadline of a place away, if it is this one. It takes no memory.
+    pub fn cancel(&mut self, place: u64, clock: Clock, nanos: u64)
         ensures { (p : ℕ)
-            → deadline_at self.new p ≡ (if place == p then None else deadline_at self.old p) }
+            → deadline_at self.new p
+            ≡ (if (place == p) && is_set_to clock nanos (deadline_at self.old p)
+            then None
+            else deadline_at self.old p) }
     {
-        if !self.places.is_empty() {
-            self.take_away(place);
-        }
-    }
-
-    // Takes the deadline of a place away, if it has one.
-    fn take_away(&mut self, place: u64)
-        ensures { (p : ℕ)
-            → deadline_at self.new p ≡ (if place == p then None else deadline_at self.old p) }
-    {
-        if let Some((clock, nanos)) = self.places.swap_remove(&place) {
-            self.orders.remove(clock, TimerKey { nanos, place });
-        }
+        let key = TimerKey {
+            nanos,
+            place,
+            client: ClientId(0),
+        };
+        self.orders.remove(clock, key);
     }
 
     // Of a clock's deadlines the first, if the clock has reached it.
+    #[inline(always)]
     fn first_due(&self, clock: Clock, now: Option<Moment>) -> Option<TimerKey>
         ensures { IsFirstDue self.now clock now result }
     {
@@ -128,17 +122,19 @@ impl<A: Allocator + Copy> Timers<A> {
         }
     }
 
-    /// The place that is due: of the deadlines at or before the moment of their own clock the
-    /// least, whichever the clock, and of equal ones that of the least place.
-    /// [XSH pthread_mutex_clocklock; the order is profile]
-    pub fn least_due(&self, real: Option<Moment>, mono: Option<Moment>) -> Option<u64>
-        ensures { IsLeastDue self.now (moments real mono) result }
+    /// The place that is due, with the client that was set with it: of the deadlines at or before the
+    /// moment of their own clock the least, whichever the clock, and of equal ones that of the least
+    /// place.  [XSH pthread_mutex_clocklock; the order is profile]
+    #[inline(always)]
+    pub fn least_due(&self, real: Option<Moment>, mono: Option<Moment>) -> Option<(u64, ClientId)>
+        ensures { IsLeastDue self.now (moments real mono) (option_map (λ due. due.0) result) }
     {
         let by_real = self.first_due(Clock::Real, real);
-        match self.first_due(Clock::Mono, mono) {
-            Some(key) => Some(sooner(by_real, key).place),
-            None => Some(by_real?.place),
-        }
+        let due = match self.first_due(Clock::Mono, mono) {
+            Some(key) => sooner(by_real, key),
+            None => by_real?,
+        };
+        Some((due.place, due.client))
     }
 
     /// The least deadline of a clock.

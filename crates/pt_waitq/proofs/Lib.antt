@@ -42,3 +42,5 @@ mod BusyLemmas
 mod BoxLemmas
 -- EmptiedLemmas: a queue whose last waiter is taken out gives its box back
 mod EmptiedLemmas
+-- FirstOut: the first of a queue, as it is taken out
+mod FirstOut

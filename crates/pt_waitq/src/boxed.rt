@@ -71,6 +71,7 @@ impl<A: Allocator + Copy> BoxedQueue<A> {
     }
 
     /// Makes a node the tail of one of its chains, and returns the previous tail.
+    #[inline(always)]
     pub(crate) fn put_in(
         &mut self,
         spares: &mut Spares<A>,

@@ -155,6 +155,26 @@ impl<A: Allocator + Copy> WaitList for Chains<A> {
         Some((ObjectId(place.object), waiter))
     }
 
+    #[inline(always)]
+    fn take_first(&mut self, object: ObjectId) -> Option<Waiter> {
+        let node = sides::first_of(&self.queues, object.0)?;
+        let place = nodes::place_at(&self.nodes, node);
+        let waiter = place.waiter;
+        let p = waiter.prio.level() as usize - 1;
+        let freed = sides::remove(
+            &mut self.queues,
+            object.0,
+            waiter.writer,
+            p,
+            place.before,
+            place.next,
+        );
+        nodes::remove(&mut self.nodes, node, place.before, place.next);
+        spares::put_back(&mut self.spares, freed);
+        self.log = self.log.and(&None, &waiter);
+        Some(waiter)
+    }
+
     fn at(&self, client: ClientId) -> Option<(ObjectId, Waiter)> {
         let place = nodes::place_of(&self.homes, &self.nodes, client.0)?;
         Some((ObjectId(place.object), place.waiter))

@@ -285,6 +285,29 @@ pub(crate) fn place_of<A: Allocator + Copy>(
     })
 }
 
+/// The place of a node that is in a chain.
+#[inline(always)]
+pub(crate) fn place_at<A: Allocator + Copy>(nodes: &Slab<Node, A>, index: NodeIndex) -> Place
+    requires { IsSome (entry_in nodes.now.slots index) }
+    ensures index { result.node ≡ index }
+    ensures node { node_in nodes.now.slots index
+        ≡ Some (record {
+          object = Some result.object;
+          waiter = result.waiter;
+          next = result.next;
+          before = result.before;
+        }) }
+{
+    let node = nodes.get(index.get()).unwrap();
+    Place {
+        node: index,
+        object: node.object.unwrap(),
+        waiter: node.waiter,
+        before: node.before,
+        next: node.next,
+    }
+}
+
 /// Makes room for one more node, if there are not too many.
 pub(crate) fn make_room<A: Allocator + Copy>(
     homes: &mut Rows<NodeIndex, A>,

@@ -112,6 +112,7 @@ pub(crate) fn take(side: &mut Side, p: usize, before: Link, next: Link)
 }
 
 /// Makes a node the tail of one of a queue's chains, and returns the tail before.
+#[inline(always)]
 pub(crate) fn put_in(queue: &mut Queue, writer: bool, p: usize, node: NodeIndex) -> Link
     requires index { p < most_priority }
     requires room { slice_index (side_of writer queue.old).counts p + 1 < 2 ^ 32 }

@@ -1,4 +1,7 @@
-use Rattle.std.proofs.Common.{◌∙◌, refl, arith, sym}
+use Rattle.std.proofs.Common.{◌≡◌, ◌∙◌, ℕ, Bool, true, false, cond, Option, Some, None, refl, arith}
+use Rattle.std.proofs.Common.{sym}
+use Rattle.pt_types.specs.declared.time.Clock.{Clock}
+use Rattle.pt_records.proofs.RowLoops.{nth-in}
 use Rattle.pt_timers.specs.Deadlines.{deadline_at}
 use Rattle.pt_machine.proofs.TimerDrops.{drops-none, row-moved, row-kept, row-empty, rows-all}
 use Rattle.pt_machine.proofs.clock.drop_moved.Goals as goal
@@ -13,6 +16,18 @@ returns-then-has_none g c p =
 pub loop-i-init : goal.loop-i-init
 loop-i-init g c p = refl
 
+-- what is still set was set before
+was-set : (b : Bool) (x : Option (Clock × ℕ)) (d : Clock × ℕ) → cond b None x ≡ Some d
+    → x ≡ Some d
+was-set true x d e = absurd cc
+was-set false x d e = e
+
+pub drop_deadline-requires : goal.drop_deadline-requires
+drop_deadline-requires g c = λ d e.
+    let o = c.in-Some.open in
+    c.requires o (nth-in c.args.state.now.clients c.loop-i.i o (sym c.open_nth.ensures ∙ c.in-Some.is))
+    d (was-set _ _ d (sym (c.loop-i.invariant o.call.place) ∙ e))
+
 -- one row more was seen
 pub loop-i-preserved : goal.loop-i-preserved
 loop-i-preserved g c =
@@ -21,8 +36,8 @@ loop-i-preserved g c =
           (row-moved c.args.place c.args.state.now.clients c.loop-i.i
           (deadline_at c.args.timers.now) (deadline_at c.loop-i.timers) c.loop-i.invariant
           w.in-Some.open (sym c.open_nth.ensures ∙ w.in-Some.is)
-          (sym w.was_moved.ensures ∙ w.if-was_moved.true) (deadline_at w.cancel.new.self)
-          w.cancel.ensures)
+          (sym w.was_moved.ensures ∙ w.if-was_moved.true) (deadline_at w.drop_deadline.new.timers)
+          w.drop_deadline.ensures)
       | in-Some+else-was_moved w ↦ rw w.timers-is
           (row-kept c.args.place c.args.state.now.clients c.loop-i.i
           (deadline_at c.args.timers.now) (deadline_at c.loop-i.timers) c.loop-i.invariant

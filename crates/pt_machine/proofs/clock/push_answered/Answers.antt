@@ -1,6 +1,12 @@
 use Rattle.std.proofs.Common.{◌∙◌, sym}
-use Rattle.pt_machine.proofs.TimedMoves.{timed-answered, timed-unmoved}
+use Rattle.pt_machine.proofs.TimedMoves.{own-answered, timed-answered, timed-unmoved}
 use Rattle.pt_machine.proofs.clock.push_answered.Goals as goal
+
+pub drop_moved-requires : goal.drop_moved-requires
+drop_moved-requires g c =
+    own-answered c.args.state.now c.push_answered.new.state c.args.timers.now c.args.timers.now
+    c.args.c c.args.call.now c.args.answer c.requires.ready c.in_ok-push_answered.ensures.ok
+    c.requires.timed
 
 -- the deadlines of those that the call moved are dropped
 pub returns-then-moves-clause-timed : goal.returns-then-moves-clause-timed

@@ -3,18 +3,30 @@ use Rattle.pt_state.specs.declared.forced.Forced.{Forced}
 use Rattle.pt_state.specs.Adds.{past, Adds}
 use Rattle.pt_records.specs.Callers.{opens_of}
 use Rattle.pt_state.specs.Serving.{entry_of, IsFor}
-use Rattle.pt_machine.proofs.TimedStates.{timed-served, timed-yield, timed-late}
+use Rattle.pt_machine.proofs.TimedStates.{own-deadlines, timed-served, timed-yield, timed-late}
 use Rattle.pt_machine.proofs.clock.push_forced.Goals as goal
+
+pub drop_deadline-requires : goal.drop_deadline-requires
+drop_deadline-requires g c =
+    let old = c.args.state.now in
+    own-deadlines old c.args.timers.now c.requires.ready.read c.requires.timed c.in-Serve.found
+    (subst (λ (x : Forced). IsFor (opens_of old.clients) x) c.in-Serve.is c.requires.known)
+
+pub drop_deadline-requires-in-Expire : goal.drop_deadline-requires-in-Expire
+drop_deadline-requires-in-Expire g c =
+    let old = c.args.state.now in
+    own-deadlines old c.args.timers.now c.requires.ready.read c.requires.timed c.in-Expire.late
+    (subst (λ (x : Forced). IsFor (opens_of old.clients) x) c.in-Expire.is c.requires.known)
 
 -- a call is served
 pub returns-in-Serve-clause-timed : goal.returns-in-Serve-clause-timed
 returns-in-Serve-clause-timed g c =
     let old = c.args.state.now in
     let new = c.push_forced.new.state in
-    timed-served old new c.args.timers.now c.cancel.new.self c.requires.ready.read
+    timed-served old new c.args.timers.now c.drop_deadline.new.timers c.requires.ready.read
     c.requires.timed c.in-Serve.found
     (subst (λ (x : Forced). IsFor (opens_of old.clients) x) c.in-Serve.is c.requires.known)
-    c.cancel.ensures
+    c.drop_deadline.ensures
     (subst (λ (x : Forced). Adds old (entry_of (past old) x) new) c.in-Serve.is
     c.push_forced.ensures.adds)
 
@@ -33,9 +45,9 @@ pub returns-in-Expire-clause-timed : goal.returns-in-Expire-clause-timed
 returns-in-Expire-clause-timed g c =
     let old = c.args.state.now in
     let new = c.push_forced-in-Expire.new.state in
-    timed-late old new c.args.timers.now c.cancel-in-Expire.new.self c.requires.ready.read
+    timed-late old new c.args.timers.now c.drop_deadline-in-Expire.new.timers c.requires.ready.read
     c.requires.timed c.in-Expire.late
     (subst (λ (x : Forced). IsFor (opens_of old.clients) x) c.in-Expire.is c.requires.known)
-    c.cancel-in-Expire.ensures
+    c.drop_deadline-in-Expire.ensures
     (subst (λ (x : Forced). Adds old (entry_of (past old) x) new) c.in-Expire.is
     c.push_forced-in-Expire.ensures.adds)

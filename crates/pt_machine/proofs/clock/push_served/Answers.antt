@@ -1,8 +1,13 @@
-use Rattle.pt_machine.proofs.TimedStates.{timed-served}
+use Rattle.pt_machine.proofs.TimedStates.{own-deadlines, timed-served}
 use Rattle.pt_machine.proofs.clock.push_served.Goals as goal
+
+pub drop_deadline-requires : goal.drop_deadline-requires
+drop_deadline-requires g c =
+    own-deadlines c.args.state.now c.args.timers.now c.requires.ready.read c.requires.timed
+    c.args.found.now c.requires.known
 
 pub returns-clause-timed : goal.returns-clause-timed
 returns-clause-timed g c =
-    timed-served c.args.state.now c.push_served.new.state c.args.timers.now c.cancel.new.self
-    c.requires.ready.read c.requires.timed c.args.found.now c.requires.known c.cancel.ensures
+    timed-served c.args.state.now c.push_served.new.state c.args.timers.now c.drop_deadline.new.timers
+    c.requires.ready.read c.requires.timed c.args.found.now c.requires.known c.drop_deadline.ensures
     c.push_served.ensures.adds

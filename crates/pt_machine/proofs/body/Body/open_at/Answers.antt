@@ -1,24 +1,16 @@
-use Rattle.std.proofs.Common.{◌∙◌, ap, sym}
-use Rattle.std.specs.Prelude.{option_map}
+use Rattle.std.proofs.Common.{Some, ap, sym, ◌∙◌}
+use Rattle.std.specs.Option.{option_copied}
 use Rattle.pt_state.specs.Adds.{past}
-use Rattle.pt_state.specs.Serving.{called}
-use Rattle.pt_machine.proofs.OpenPlaces.{none-came, client-came, kept-in}
+use Rattle.pt_machine.proofs.OpenPlaces.{kept-in, open-there}
 use Rattle.pt_machine.proofs.body.Body.open_at.Goals as goal
 
-pub returns-in_err-caller_at-clause-value : goal.returns-in_err-caller_at-clause-value
-returns-in_err-caller_at-clause-value g c =
-    ap (option_map called) c.from_residual.ensures
-    ∙ sym (none-came (past c.args.self.now) c.requires.follows c.args.place
-    c.in_err-caller_at.ensures)
-
-pub returns-clause-value : goal.returns-clause-value
-returns-clause-value g c =
+pub returns-in-Some-clause-value : goal.returns-in-Some-clause-value
+returns-in-Some-clause-value g c =
     let s = c.args.self.now in
-    ap (option_map called) c.open_if_at.ensures
-    ∙ client-came (past s) c.requires.follows s.clients c.requires.callers c.args.place
-    c.in_ok-caller_at.field-0 c.in_ok-caller_at.ensures
+    open-there (past s) c.requires.follows s.clients c.requires.callers c.args.place c.args.c
+    c.in-Some.open.now (sym (ap option_copied c.in-Some.is) ∙ c.open_if_at.ensures)
 
-pub returns-clause-known : goal.returns-clause-known
-returns-clause-known g c =
-    kept-in c.args.self.now.clients c.in_ok-caller_at.field-0 c.args.place c.open_if_at.result
-    c.open_if_at.ensures
+pub returns-in-Some-clause-known : goal.returns-in-Some-clause-known
+returns-in-Some-clause-known g c =
+    kept-in c.args.self.now.clients c.args.c c.args.place (Some c.in-Some.open.now)
+    (sym (ap option_copied c.in-Some.is) ∙ c.open_if_at.ensures)

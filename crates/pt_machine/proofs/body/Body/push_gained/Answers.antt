@@ -12,7 +12,7 @@ use Rattle.pt_machine.proofs.LastTouches.{still-touched, touched-forced}
 use Rattle.pt_machine.proofs.NeedSteps.{reserved-forced}
 use Rattle.pt_machine.proofs.NeedUses.{no_arrival, row-reserved, serves-mutex, uses-gain}
 use Rattle.pt_machine.proofs.QueuedForced.{queued-granted}
-use Rattle.pt_machine.proofs.TimedStates.{timed-served}
+use Rattle.pt_machine.proofs.TimedStates.{own-deadlines, timed-served}
 use Rattle.pt_machine.proofs.body.Body.push_gained.Goals as goal
 
 pub push_grant_mutex-had-requires-clause-ready : goal.push_grant_mutex-had-requires-clause-ready
@@ -22,6 +22,14 @@ push_grant_mutex-had-requires-clause-ready g c =
     let ready : IsReadyFor old (service (past old) w) = rw c.self.view_is c.requires.ready in
     subst (λ (e : Entry). IsReadyFor old e) (serves-mutex (past old) w c.args.m c.requires.mutex)
     ready
+
+pub drop_deadline-requires : goal.drop_deadline-requires
+drop_deadline-requires g c =
+    let old = c.self.inside.state in
+    let o = c.args.found.now in
+    let known : In o (opens_of old.clients) = rw c.self.view_is c.requires.known in
+    let read : AreTables old = rw c.self.view_is c.requires.read in
+    own-deadlines old c.self.inside.timers read c.self.invariant.1 o known
 
 pub overflow_sub-self : goal.overflow_sub-self
 overflow_sub-self g c =
@@ -78,8 +86,8 @@ invariant_of-self g c =
           (g.Q.WaitList.seen c.remove.new.self).made
           read known c.remove.ensures.admitted c.remove.ensures.made c.self.invariant.0 adds
           (no_arrival w.role w.object c.args.m c.requires.mutex) c.remove.ensures.queues,
-      timed-served old new c.self.inside.timers c.cancel.new.self read c.self.invariant.1 o known
-          c.cancel.ensures adds,
+      timed-served old new c.self.inside.timers c.drop_deadline.new.timers read c.self.invariant.1 o known
+          c.drop_deadline.ensures adds,
       touched-forced old new c.self.inside.touched c.self.inside.entering (Serve o) adds
           (c.self.invariant.2.touches ∙ still-touched (past old) w) c.self.invariant.2.enters,
       reserved-forced old new (service (past old) w) adds c.self.inside.need

@@ -1,0 +1,34 @@
+use Rattle.std.proofs.Common.{◌≡◌, ℕ, Option, Some, sym, ap, ◌∙◌, subst}
+use Rattle.std.specs.Prelude.{option_map}
+use Rattle.std.specs.Option.{option_copied}
+use Rattle.pt_model.specs.Answers.{open_calls}
+use Rattle.pt_model.specs.declared.entry.Entry.TheVariants.{Expire}
+use Rattle.pt_model.specs.WaitingCall.{at_place}
+use Rattle.pt_records.specs.declared.clients.Open.{Open}
+use Rattle.pt_state.specs.declared.state.State.{State}
+use Rattle.pt_state.specs.Adds.{Adds, IsReadyFor, past}
+use Rattle.pt_state.specs.Serving.{called}
+use Rattle.pt_machine.proofs.OpenPlaces.{place-in}
+use Rattle.pt_machine.proofs.body.Body.push_overdue.Goals as goal
+
+-- the call that is found came at the place
+at-its-place : {A : Type 0} (s : State A) (p : ℕ) (found : Option Open) (o : Open)
+    → option_map called found ≡ at_place p (open_calls (past s)) → found ≡ Some o
+    → o.call.place ≡ p
+at-its-place s p found o e is =
+    (place-in p (open_calls (past s)) (called o)
+    (sym e ∙ ap (option_map called) is)).1
+
+pub push_forced-requires-clause-ready : goal.push_forced-requires-clause-ready
+push_forced-requires-clause-ready g c =
+    let s = c.args.self.now in
+    subst (λ (p : ℕ). IsReadyFor s (Expire p))
+    (sym (at-its-place s c.args.place (option_copied c.open_at.result) c.unwrap-late.result.now
+    c.open_at.ensures.value (ap option_copied c.unwrap-late.ensures))) c.requires.ready
+
+pub returns : goal.returns
+returns g c =
+    let s = c.args.self.now in
+    subst (λ (p : ℕ). Adds s (Expire p) c.push_forced.new.self)
+    (at-its-place s c.args.place (option_copied c.open_at.result) c.unwrap-late.result.now
+    c.open_at.ensures.value (ap option_copied c.unwrap-late.ensures)) c.push_forced.ensures
