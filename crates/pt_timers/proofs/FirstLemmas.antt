@@ -10,7 +10,8 @@ use Rattle.std.specs.BTreeSet.{BTreeSet, btree_set_len, IsLowerBound}
 use Rattle.pt_types.specs.declared.time.Clock.{Clock}
 use Rattle.pt_types.specs.Times.{Timespec, deadline_nanos, is_bad_deadline, pair_before}
 use Rattle.pt_timers.specs.declared.key.TimerKey.{TimerKey}
-use Rattle.pt_timers.specs.Deadlines.{deadline_at, pair_of, key_cmp, key_of, is_in, most_nanos, AreTimers}
+use Rattle.pt_timers.specs.Deadlines.{deadline_at, pair_of, key_cmp, key_of, is_in, most_nanos}
+use Rattle.pt_timers.specs.Deadlines.{AreTimers}
 use Rattle.pt_timers.specs.Deadlines.{IsFirstDue, IsLeast}
 
 -- what isn't above a key isn't before it

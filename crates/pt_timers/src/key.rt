@@ -3,8 +3,8 @@ ghost use Rattle.pt_timers.specs.Deadlines.{sooner_of};
 
 use pt_types::ClientId;
 
-/// What says which deadline is due first: its nanoseconds, then the place of its call. The client of
-/// the call comes along.
+/// What says which deadline is due first: its nanoseconds, then the place of its call. The client
+/// of the call comes along.
 #[derive(Clone, Copy)]
 #[derive_where(PartialEq, Eq, PartialOrd, Ord)]
 pub(crate) struct TimerKey {

@@ -122,9 +122,9 @@ impl<A: Allocator + Copy> Timers<A> {
         }
     }
 
-    /// The place that is due, with the client that was set with it: of the deadlines at or before the
-    /// moment of their own clock the least, whichever the clock, and of equal ones that of the least
-    /// place.  [XSH pthread_mutex_clocklock; the order is profile]
+    /// The place that is due, with the client that was set with it: of the deadlines at or before
+    /// the moment of their own clock the least, whichever the clock, and of equal ones that of the
+    /// least place.  [XSH pthread_mutex_clocklock; the order is profile]
     #[inline(always)]
     pub fn least_due(&self, real: Option<Moment>, mono: Option<Moment>) -> Option<(u64, ClientId)>
         ensures { IsLeastDue self.now (moments real mono) (option_map (λ due. due.0) result) }

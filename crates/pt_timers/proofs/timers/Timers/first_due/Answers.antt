@@ -19,8 +19,8 @@ returns-then-nanos g c =
     let t = c.self.inside in
     let first = c.in_ok-key.ensures in
     rw c.in_ok-now.was
-    (first-due (listed t.orders) c.args.self.now c.self.view_is (is_due_at t.orders) c.self.invariant
-    c.args.clock c.of.result.now (λ q. ap (λ order. is_in order q) c.of.ensures)
+    (first-due (listed t.orders) c.args.self.now c.self.view_is (is_due_at t.orders)
+    c.self.invariant c.args.clock c.of.result.now (λ q. ap (λ order. is_in order q) c.of.ensures)
     c.in_ok-key.key.now first.member first.least c.in_ok-now.field-0
     (omega (arith, c.nanos.ensures, c.if-nanos.true)))
 

@@ -12,14 +12,16 @@ returns g c =
     let w = c.args.self.now in
     elim c.match-first_due.branch [
       | in-Some r ↦
-          subst (λ (key : TimerKey). IsLeastDue w (moments c.args.real c.args.mono) (Some key.place))
+          subst
+          (λ (key : TimerKey). IsLeastDue w (moments c.args.real c.args.mono) (Some key.place))
           (sym (r.due-is ∙ r.sooner-due.ensures))
           (sooner-due w c.args.real c.args.mono c.first_due-by_real.result r.in-Some.key
           c.first_due-by_real.ensures
           (subst (λ (found : Option TimerKey). IsFirstDue w Mono c.args.mono found) r.in-Some.is
           c.first_due.ensures))
       | in-None+in_ok-due-in-None r ↦
-          subst (λ (key : TimerKey). IsLeastDue w (moments c.args.real c.args.mono) (Some key.place))
+          subst
+          (λ (key : TimerKey). IsLeastDue w (moments c.args.real c.args.mono) (Some key.place))
           (sym r.due-is)
           (real-alone w c.args.real c.args.mono r.in_ok-due-in-None.due
           (subst (λ (found : Option TimerKey). IsFirstDue w Real c.args.real found)
