@@ -1,5 +1,6 @@
 -- The deadlines that are set beside a state, as entries are pushed.
-use Rattle.std.proofs.Common.{◌+◌, ◌≡◌, ℕ, Bool, true, false, cond, ◌==◌, ◌&&◌, List, Option, Some, None}
+use Rattle.std.proofs.Common.{◌+◌, ◌≡◌, ℕ, Bool, true, false, cond, ◌==◌, ◌&&◌, List, Option, Some}
+use Rattle.std.proofs.Common.{None}
 use Rattle.std.proofs.Common.{Result, Ok, Err, OnOk, OnErr, length, refl, sym, ap, ◌∙◌, subst}
 use Rattle.std.proofs.Common.{rules, arith}
 use Rattle.std.proofs.lemmas.Bool.Decides.{nat_tests}
@@ -27,7 +28,8 @@ use Rattle.pt_records.specs.Callers.{opens_of}
 use Rattle.pt_state.specs.Reads.{AreTables}
 use Rattle.pt_state.specs.Serving.{called}
 use Rattle.pt_state.proofs.ServingFinds.{are-open}
-use Rattle.pt_machine.specs.Timed.{asked, is_set, set_at, setting, AreTimed, HasOwnDeadline, good_of}
+use Rattle.pt_machine.specs.Timed.{asked, is_set, set_at, setting, AreTimed, HasOwnDeadline}
+use Rattle.pt_machine.specs.Timed.{good_of}
 use Rattle.pt_machine.proofs.QueuedSame.{past-adds, past-stays}
 use Rattle.pt_machine.proofs.TimedSteps.{set-new, set-yield, set-grant, set-expire, set-death-free}
 use Rattle.pt_machine.proofs.TimedSteps.{set-death, set-open}
@@ -56,7 +58,7 @@ set_back set between after j n e one two p =
     both true = refl
     both false = refl
 
--- what is set is this, where it is
+-- a deadline is the same as itself
 own_setting : (k : Clock) (n : ℕ) → is_set_to k n (Some (k, n)) ≡ true
 own_setting Real n = grind (arith, nat_tests)
 own_setting Mono n = grind (arith, nat_tests)
