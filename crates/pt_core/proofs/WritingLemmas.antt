@@ -1,6 +1,6 @@
 -- What an accepted event wrote, without a seal.
 use Rattle.std.proofs.Common.{◌≡◌, ℕ, ◌+◌, ◌-◌, ◌≤◌, List, [], ◌∷◌, ◌++◌, Option, None, length, sym}
-use Rattle.std.proofs.Common.{ap, ◌∙◌, subst, arith, length-append}
+use Rattle.std.proofs.Common.{ap, ◌∙◌, subst, arith, length-append, Bool, true}
 use Rattle.pt_types.specs.declared.outcome.Outcome.{Outcome}
 use Rattle.pt_model.specs.declared.entry.Entry.{Entry}
 use Rattle.pt_model.specs.declared.entry.Event.{Event}
@@ -12,10 +12,18 @@ use Rattle.pt_model.specs.StartRows.{StartRows, reads_of}
 use Rattle.pt_history.specs.Stored.{Stored, past_of}
 use Rattle.pt_history.proofs.Places.{place_of_next}
 use Rattle.pt_core.specs.Cores.{kept}
-use Rattle.pt_core.specs.Applying.{Writes, IsWritten, told_at_once}
-use Rattle.pt_core.specs.Settling.{Enters, IsMade}
+use Rattle.pt_core.specs.Applying.{AnswersOwn, Writes, IsWritten, told_at_once}
+use Rattle.pt_core.specs.Settling.{Enters, IsAlone, IsMade}
 use Rattle.pt_core.proofs.AcceptingLemmas.{unrefused-itself, same-past}
 use Rattle.pt_core.proofs.SettlingLemmas.{applied-extends, applied-legal}
+
+-- no other call than the event's own is answered, by its place and its answer
+pub alone-at : (new : Stored) (v : Event) (first : ℕ) {j : ℕ} → first ≡ j → (x : Option Outcome)
+    → x ≡ told_at_once v (past_of new) first → IsAlone new v j
+    → AnswersOwn (reads_of new.start) new.entries v first x
+alone-at new v first ef x ex is =
+    subst (AnswersOwn (reads_of new.start) new.entries v first) (sym ex)
+    (subst (IsAlone new v) (sym ef) is)
 
 module _ (old made new : Stored) (v : Event) (m : IsMade old v made) (e : Enters made v new)
     (ok : refusal_within old.limit (past_of old) v ≡ None) where
@@ -80,16 +88,18 @@ module _ (old made new : Stored) (v : Event) (m : IsMade old v made) (e : Enters
         length-append old.entries (entry_for (past_of old) v ∷ ext.0),
       )
 
-  pub entered-written : (first len : ℕ) (x : Option Outcome) (at : Option ℕ)
+  pub entered-written : (first len : ℕ) (x : Option Outcome) (at : Option ℕ) (alone : Bool)
       → first ≡ made.start.at + length made.entries → len ≡ new.start.at + length new.entries
       → x ≡ told_at_once v (past_of new) first
+      → (alone ≡ true → AnswersOwn (reads_of new.start) new.entries v first x)
       → IsWritten (kept old) v (kept new) (record {
         first = first;
         last = len - 1;
         outcome = x;
         sealed = at;
+        alone = alone;
       })
-  entered-written first len x at ef el ex =
+  entered-written first len x at alone ef el ex ea =
       record {
         writes = entered_writes;
         first = ef ∙ (sym (place_of_next made) ∙ ap place made_past);
@@ -105,4 +115,5 @@ module _ (old made new : Stored) (v : Event) (m : IsMade old v made) (e : Enters
           entered_bounded,
         );
         told = ex;
+        alone = ea;
       }

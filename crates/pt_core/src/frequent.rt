@@ -223,6 +223,8 @@ fn apply_any<Q: WaitList, A: Allocator + Copy>(
 // What came of an event for which a copy of the steps was tried.
 #[derive(Clone, Copy)]
 enum Tried {
+    // It is written, its call has this answer by then, and no other call was answered.
+    Alone(Outcome),
     // It is written, and its call has this answer by then.
     Answered(Outcome),
     // It is written, and has no answer.
@@ -239,6 +241,7 @@ fn without_places(written: Result<Applied, Refusal>) -> Tried
 {
     match written {
         Ok(applied) => match applied.outcome {
+            Some(outcome) if applied.alone => Tried::Alone(outcome),
             Some(outcome) => Tried::Answered(outcome),
             None => Tried::Unanswered,
         },
@@ -298,12 +301,14 @@ fn try_by_kind<Q: WaitList, A: Allocator + Copy>(body: &mut Body<Q, A>, event: &
     }
 }
 
-// What an event wrote from a place on, that did not seal.
+// What an event wrote from a place on, that did not seal, and whether it is known that it answered
+// no other call.
 #[inline(always)]
 fn applied<Q: WaitList, A: Allocator + Copy>(
     body: &Body<Q, A>,
     first: u64,
     outcome: Option<Outcome>,
+    alone: bool,
 ) -> Applied
     requires { 0 < body.now.stored.start.at + length body.now.stored.entries }
     ensures first { result.first ≡ first }
@@ -311,12 +316,14 @@ fn applied<Q: WaitList, A: Allocator + Copy>(
         ≡ body.now.stored.start.at + length body.now.stored.entries }
     ensures outcome { result.outcome ≡ outcome }
     ensures unsealed { result.sealed ≡ None }
+    ensures alone { result.alone ≡ alone }
 {
     Applied {
         first,
         last: body.len() - 1,
         outcome,
         sealed: None,
+        alone,
     }
 }
 
@@ -341,8 +348,9 @@ pub fn apply_accepted<Q: WaitList, A: Allocator + Copy>(
 {
     let first = body.len();
     match try_by_kind(body, event) {
-        Tried::Answered(outcome) => Ok(applied(body, first, Some(outcome))),
-        Tried::Unanswered => Ok(applied(body, first, None)),
+        Tried::Alone(outcome) => Ok(applied(body, first, Some(outcome), true)),
+        Tried::Answered(outcome) => Ok(applied(body, first, Some(outcome), false)),
+        Tried::Unanswered => Ok(applied(body, first, None, false)),
         Tried::Refused(refusal) => Err(refusal),
         Tried::Left => apply_any(body, event),
     }

@@ -84,15 +84,16 @@ pub fn write<Q: WaitList, A: Allocator + Copy>(
         return Err(refusal);
     }
     let first = body.len();
-    let answer = match enter(body, event, plan) {
-        Ok(answer) => answer,
+    let pushed = match enter(body, event, plan) {
+        Ok(pushed) => pushed,
         Err(refusal) => return Err(refusal),
     };
-    let outcome = outcome_by_answer(body, event, answer, first);
+    let outcome = outcome_by_answer(body, event, pushed.answer, first);
     Ok(Applied {
         first,
         last: body.len() - 1,
         outcome,
         sealed: None,
+        alone: pushed.rests,
     })
 }

@@ -1,6 +1,6 @@
 -- GrantedStates: the tables after a call that is granted as it comes, and after its Grant.
 use Rattle.std.proofs.Common.{◌≡◌, ℕ, ◌+◌, ◌&&◌, Bool, true, false, cond, not, List, Option, Some}
-use Rattle.std.proofs.Common.{None, is_none, refl, sym, ap, ◌∙◌, subst, eq-eqb}
+use Rattle.std.proofs.Common.{None, is_none, refl, sym, ap, ◌∙◌, subst, eq-eqb, [], ◌∷◌, ◌++◌}
 use Rattle.std.specs.Option.{option_or}
 use Rattle.pt_model.specs.Answers.{outcome}
 use Rattle.std.proofs.lemmas.Bool.{and_parts}
@@ -23,9 +23,10 @@ use Rattle.pt_model.specs.declared.waiting_call.Role.TheVariants.{ForMutex}
 use Rattle.pt_model.specs.Mutexes.{owner}
 use Rattle.pt_model.specs.Objects.{find, is_robust, kind_of}
 use Rattle.pt_model.specs.Histories.{History, ◌▷◌, place}
+use Rattle.pt_model.specs.declared.entry.Entry.{Entry}
 use Rattle.pt_model.specs.Searches.{In}
-use Rattle.pt_model.specs.WaitingCall.{is_arrival, mutex_of, role_needed}
-use Rattle.pt_model.specs.Answers.{open_calls}
+use Rattle.pt_model.specs.WaitingCall.{at_place, is_arrival, mutex_of, role_needed, stood}
+use Rattle.pt_model.specs.Answers.{client_if, is_open_by, open_calls, told as told_in}
 use Rattle.pt_model.specs.Forced.{forced, service}
 use Rattle.pt_model.specs.Grants.{grant_outcome}
 use Rattle.pt_model.specs.Room.{need, reserved_for}
@@ -36,6 +37,9 @@ use Rattle.pt_records.specs.Counts.{one_if}
 use Rattle.pt_records.specs.Objects.{IsRwlock}
 use Rattle.pt_state.specs.declared.state.State.{State}
 use Rattle.pt_state.specs.Adds.{Adds, IsReadyFor, past}
+use Rattle.pt_model.proofs.Found.{found as in_stood}
+use Rattle.pt_model.specs.Records.{Told}
+use Rattle.pt_model.proofs.Lists.{In-filter}
 use Rattle.pt_state.specs.Had.{AddsHad, IsHad}
 use Rattle.pt_state.specs.Requests.{IsRequest, object_meant}
 use Rattle.pt_state.specs.declared.request.Request.{Request}
@@ -44,13 +48,15 @@ use Rattle.pt_state.proofs.CallerFinds.{call_of-open}
 use Rattle.pt_state.proofs.GrantLemmas.{read-same}
 use Rattle.pt_touched.specs.Touched.{touched_by}
 use Rattle.pt_machine.specs.declared.planning.Plan.{Plan}
-use Rattle.pt_machine.specs.GrantedAtOnce.{AddsGranted, IsForMutex, IsFree, IsFreeLock}
+use Rattle.pt_machine.specs.GrantedAtOnce.{AddsGranted, AnswersOne, IsForMutex, IsFree}
+use Rattle.pt_machine.specs.GrantedAtOnce.{IsFreeLock}
 use Rattle.pt_machine.specs.GrantedAtOnce.{IsGrantedAtOnce, IsReadyAfter, asks_for_mutex}
 use Rattle.pt_machine.specs.LastTouched.{IsTouched}
 use Rattle.pt_machine.specs.Planned.{IsPlanned}
 use Rattle.pt_machine.specs.Queued.{IsQueued}
 use Rattle.pt_machine.specs.Reserved.{IsReserved, gives_owner}
 use Rattle.pt_machine.specs.Timed.{AreTimed}
+use Rattle.pt_machine.proofs.AnswersAdded.{answers-two}
 use Rattle.pt_machine.proofs.GrantedAtRest.{rests}
 use Rattle.pt_machine.proofs.GrantsAtOnce.{after, comes, comes-open, comes-stays, granted, grants}
 use Rattle.pt_machine.proofs.GrantsAtOnce.{owner_kept, queued, serves, stands, timed}
@@ -201,6 +207,30 @@ module _ {A : Type 0} (old mid : State A) (c : ℕ) (call : Asked)
             (eq-eqb (place h) (place h) refl)
             ∙ ap Some (sym (told
             ∙ (ap (λ k. grant_outcome k (called o)) same ∙ ap (grant_outcome g) is_it))))
+
+        -- no other call is answered
+        pub alone-granted : (y : Outcome) → y ≡ grant_outcome (past mid) (called o)
+            → AnswersOne new.stored c (place h) y
+        alone-granted y told =
+            answers-two old.stored mid.stored new.stored (Call c call None)
+            (service (past mid) (called o)) a.stored next.stored
+            ∙ (ap (λ (e : Entry). told_in g e ++ []) granting
+            ∙ ap (λ (w : Option WaitingCall). answer w ∷ []) its_call)
+          where
+            answer : Option WaitingCall → Told
+            answer w = record { client = client_if w; place = place h; outcome = y }
+
+            granting : service (past mid) (called o) ≡ Grant (place h) y
+            granting =
+                serves_it ∙ grants h ready.read.follows c call had ready.step
+                ∙ ap (Grant (place h)) (sym (told
+                ∙ (ap (λ k. grant_outcome k (called o)) same ∙ ap (grant_outcome g) is_it)))
+
+            its_call : at_place (place h) (stood g) ≡ Some its
+            its_call =
+                in_stood g (ready.read.follows, ready.step) its
+                (In-filter (is_open_by g (outcome g)) (stood g) its
+                (comes-open h ready.read.follows c call had ready.step)).0
 
         -- the queues stay
         pub queued-granted : (v : QueuesView) → IsQueued h v → IsQueued (past new) v

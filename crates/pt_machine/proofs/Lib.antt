@@ -16,6 +16,8 @@ pub mod CandidateRows
 pub mod GrantsAtOnce
 -- GrantedAtRest: nothing must follow the Grant of a call that is granted as it comes
 pub mod GrantedAtRest
+-- AnswersAdded: the answers of the entries that were added to a stored history
+pub mod AnswersAdded
 -- GrantedStates: the tables after a call that is granted as it comes, and after its Grant
 pub mod GrantedStates
 -- LastTouches: what is touched, and whose call came last, as entries are pushed

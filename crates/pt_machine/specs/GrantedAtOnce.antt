@@ -1,5 +1,6 @@
 -- GrantedAtOnce: a call for a lock that is granted as it comes, and its entry with its Grant.
-use Rattle.std.specs.Prelude.{ℕ, ◌≡◌, ◌+◌, ◌<◌, ◌||◌, ◌==◌, Bool, true, false, List, Some, None}
+use Rattle.std.specs.Prelude.{ℕ, ◌≡◌, ◌+◌, ◌<◌, ◌||◌, ◌==◌, Bool, true, false, List, [], ◌∷◌}
+use Rattle.std.specs.Prelude.{Some, None}
 use Rattle.std.specs.Prelude.{is_none, is_some, unwrap_or}
 use Rattle.pt_types.specs.declared.call.Call.{Call as Asked}
 use Rattle.pt_types.specs.declared.call.How.{How}
@@ -24,8 +25,11 @@ use Rattle.pt_model.specs.Moves.{at_object}
 use Rattle.pt_model.specs.Room.{entry_for, reserved_for}
 use Rattle.pt_model.specs.Forced.{forced, service}
 use Rattle.pt_model.specs.Grants.{grant_outcome}
+use Rattle.pt_model.specs.Queries.{answers_behind}
+use Rattle.pt_model.specs.StartRows.{reads_of}
 use Rattle.pt_model.specs.WaitingCall.{mutex_of}
 use Rattle.pt_types.specs.declared.operations.ObjectClass.TheVariants.{Mutex as MutexClass}
+use Rattle.pt_history.specs.Stored.{Stored}
 use Rattle.pt_table.specs.ClientRows.{client_value}
 use Rattle.pt_records.specs.declared.clients.Open.{Open}
 use Rattle.pt_records.specs.Callers.{open_in}
@@ -78,6 +82,12 @@ pub record IsForMutex (h : History) (call : Asked) (m : ℕ) : Type 0 where
   pub how : How
   pub asks : operation call ≡ Acquires name MutexLock how
   pub found : find h name MutexClass ≡ Some m
+
+-- the entries from a place on answer this client's call that came there, and no other
+abbrev pub AnswersOne : Stored → ℕ → ℕ → Outcome → Type 0
+AnswersOne s c j x =
+    answers_behind (reads_of s.start) j s.entries
+    ≡ record { client = c; place = j; outcome = x } ∷ []
 
 module _ {A : Type 0} where
   -- once the entry was added, there is room for the one that must follow

@@ -16,7 +16,8 @@ ghost use Rattle.pt_types.specs.Operations.{operation, operation as operation_me
 ghost use Rattle.pt_types.specs.Shown.{shown_operation};
 ghost use Rattle.pt_state.specs.Outer.{asks_to_read};
 ghost use Rattle.pt_state.specs.Requests.{IsRequest};
-ghost use Rattle.pt_machine.specs.GrantedAtOnce.{AddsBoth, AddsGranted, IsAhead, IsForMutex};
+ghost use Rattle.pt_machine.specs.GrantedAtOnce.{AddsBoth, AddsGranted, AnswersOne};
+ghost use Rattle.pt_machine.specs.GrantedAtOnce.{IsAhead, IsForMutex};
 ghost use Rattle.pt_machine.specs.GrantedAtOnce.{IsFree, IsFreeLock, IsGrantedAtOnce};
 ghost use Rattle.pt_machine.specs.GrantedAtOnce.{IsReadyAfter};
 ghost use Rattle.pt_machine.specs.GrantedAtOnce.{asks_for_mutex as asks_for_mutex_of};
@@ -265,6 +266,8 @@ impl<Q: WaitList, A: Allocator + Copy> Body<Q, A> {
             (AddsBoth self.old (entry_is.Call c call.now None) self.new) }
         ensures told { IfOk result (λ x.
             outcome (past self.new) (place (past self.old)) ≡ Some x) }
+        ensures alone { IfOk result
+            (AnswersOne self.new.stored c (place (past self.old))) }
         ensures rests { OnOk result (forced (past self.new) ≡ None) }
         ensures err { OnErr result (Stays self.old self.new) }
         ensures reason { IfErr result (λ refusal. refusal ≡ Refusal.Enomem) }

@@ -1,6 +1,6 @@
 -- An event that no entry follows answers its own call, or none.
 use Rattle.std.proofs.Common.{◌≡◌, ℕ, ◌+◌, cond, List, [], ◌∷◌, ◌++◌, length, Option}
-use Rattle.std.proofs.Common.{Some, None, refl, sym, ap, ◌∙◌, arith, eq-eqb, append-nil}
+use Rattle.std.proofs.Common.{Some, None, true, refl, sym, ap, ◌∙◌, arith, eq-eqb, append-nil}
 use Rattle.std.specs.Option.{option_or}
 use Rattle.pt_types.specs.declared.outcome.Outcome.{Outcome}
 use Rattle.pt_types.specs.Tables.{reply}
@@ -19,7 +19,7 @@ use Rattle.pt_model.proofs.Histories.{place-onto}
 use Rattle.pt_model.proofs.Sound.{Fresh-follows}
 use Rattle.pt_core.specs.declared.applied.Applied.{Applied}
 use Rattle.pt_core.specs.Cores.{Kept, past}
-use Rattle.pt_core.specs.Applying.{IsApplied, IsWritten, opened, told_at_once}
+use Rattle.pt_core.specs.Applying.{IsApplied, IsWritten, opened, own_told, told_at_once}
 use Rattle.pt_script.specs.declared.line_id.LineId.{LineId}
 use Rattle.pt_script.specs.declared.mark.Mark.{Mark}
 use Rattle.pt_script.specs.declared.mark.Mark.TheVariants as mark
@@ -90,16 +90,32 @@ answers_alone core next v a m is done marks same =
     written_alone (opened core v) next v a (legal_opened core is.legal v) done.written same
     ∙ ap (λ n. own_answers n a.first a.outcome) (sym marks)
 
-own_told : (asked : List (ℕ × LineId)) (m : Mark) (line : LineId) (place : ℕ) (o : Option Outcome)
+own_as : (v : Event) (j : ℕ) (x : Option Outcome) → own_told v j x ≡ own_answers (mark_of v) j x
+own_as (event.Call c call) j (Some x) = refl
+own_as (event.Call c call) j None = refl
+own_as (event.Join p) j x = refl
+own_as (event.Death c) j x = refl
+own_as (event.Moment k t) j x = refl
+
+-- the answers of an accepted event that is known to have answered its own call alone
+pub answers_only : (core next : Kept) (v : Event) (a : Applied) (m : Mark)
+    → IsApplied core v next a → m ≡ mark_of v → a.alone ≡ true
+    → answers_behind next.start a.first next.entries ≡ own_answers m a.first a.outcome
+answers_only core next v a m done marks only =
+    done.written.alone only
+    ∙ own_as v a.first a.outcome
+    ∙ ap (λ n. own_answers n a.first a.outcome) (sym marks)
+
+own_said : (asked : List (ℕ × LineId)) (m : Mark) (line : LineId) (place : ℕ) (o : Option Outcome)
     → own_text m line o ≡ latest_text (own_first m line asked) (own_answers m place o)
-own_told asked (mark.Call c) line place (Some x) =
+own_said asked (mark.Call c) line place (Some x) =
     ap (λ b. told_line (cond b (Some line) (latest_line asked c)) x) (sym (eq-eqb c c refl))
     ∙ sym (append-nil _)
-own_told asked (mark.Call c) line place None = refl
-own_told asked mark.Client line place (Some x) = refl
-own_told asked mark.Client line place None = refl
-own_told asked mark.Nothing line place (Some x) = refl
-own_told asked mark.Nothing line place None = refl
+own_said asked (mark.Call c) line place None = refl
+own_said asked mark.Client line place (Some x) = refl
+own_said asked mark.Client line place None = refl
+own_said asked mark.Nothing line place (Some x) = refl
+own_said asked mark.Nothing line place None = refl
 
 -- the event's own answer was appended, and there is no other
 pub alone_text : (asked : List (ℕ × LineId)) (m : Mark) (line : LineId) (place : ℕ)
@@ -108,5 +124,5 @@ pub alone_text : (asked : List (ℕ × LineId)) (m : Mark) (line : LineId) (plac
     → told ≡ out ++ latest_text (own_first m line asked) answers
 alone_text asked m line place o answers out told are tells =
     tells
-    ∙ ap (λ xs. out ++ xs) (own_told asked m line place o)
+    ∙ ap (λ xs. out ++ xs) (own_said asked m line place o)
     ∙ ap (λ ts. out ++ latest_text (own_first m line asked) ts) (sym are)

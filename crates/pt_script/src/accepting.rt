@@ -1,6 +1,6 @@
 //! What is stored and written for an accepted line.
 
-ghost use Rattle.std.specs.Prelude.{◌≡◌, ◌<◌, ◌++◌, None, OnOk, IfErr};
+ghost use Rattle.std.specs.Prelude.{◌≡◌, ◌<◌, ◌++◌, None, true, OnOk, IfErr};
 ghost use Rattle.pt_model.specs.Queries.{answers_behind};
 ghost use Rattle.pt_core.specs.Cores.{shown};
 ghost use Rattle.pt_script.specs.Scripts.{lines_of_who, number_of};
@@ -72,8 +72,9 @@ pub fn greet<A: Allocator + Copy>(
     }
 }
 
-/// Appends the answers that an event gave, whose mark and line these are. If no entry followed its
-/// own, it answered its own call alone, or none, and its answers need not be looked for.
+/// Appends the answers that an event gave, whose mark and line these are. If it is known that it
+/// answered its own call alone, or none, as if no entry followed its own, its answers need not be
+/// looked for.
 #[inline(always)]
 #[tactic(auto, using(crate::proofs::Alone::alone_text))]
 pub fn tell_from<'a, A: Allocator + Copy>(
@@ -84,6 +85,9 @@ pub fn tell_from<'a, A: Allocator + Copy>(
     line: &'a LineId,
     done: &'a Applied,
 ) -> Result<(), ScriptFault>
+    requires only { done.now.alone ≡ true
+        → answers_behind (shown core.now).start done.now.first core.now.entries
+        ≡ own_answers mark.now done.now.first done.now.outcome }
     requires alone { done.now.last ≡ done.now.first
         → answers_behind (shown core.now).start done.now.first core.now.entries
         ≡ own_answers mark.now done.now.first done.now.outcome }
@@ -92,7 +96,7 @@ pub fn tell_from<'a, A: Allocator + Copy>(
         (answers_behind (shown core.now).start done.now.first core.now.entries)) }
     ensures why { IfErr result (λ fault. fault ≡ ScriptFault.Memory) }
 {
-    if done.last == done.first {
+    if done.alone || done.last == done.first {
         return tell_own(out, mark, line, done.outcome);
     }
     tell_all(out, asked, mark, line, core.answers_since(done.first))

@@ -6,7 +6,9 @@ use Rattle.pt_history.proofs.Places.{place_of_next}
 use Rattle.pt_model.specs.Histories.{History, place}
 use Rattle.pt_model.specs.declared.entry.Event.{Event}
 use Rattle.pt_model.specs.declared.entry.Event.TheVariants as event
-use Rattle.pt_core.specs.Applying.{IsToldStill}
+use Rattle.pt_core.specs.Applying.{AnswersOwn, IsToldStill}
+use Rattle.pt_core.specs.Settling.{IsAlone}
+use Rattle.pt_model.specs.StartRows.{reads_of}
 use Rattle.pt_core.proofs.AnswersStay.{told-settled, told-still}
 use Rattle.pt_model.specs.declared.entry.Entry.{Entry}
 use Rattle.pt_model.specs.declared.entry.Entry.TheVariants.{Call}
@@ -99,3 +101,13 @@ returns-in_ok-push_outer-in_default-clause-told g c = λ u st.
     told-still s.stored u c.args.event.now c.requires.open.made.ready c.requires.accepted
     (begins.enters u st) c.args.plan.now.answer (place (past s)) c.requires.planned.enters
     (place_of_next s.stored)
+
+pub returns-in_ok-outcome-in-Call-clause-alone :
+    goal.returns-in_ok-outcome-in-Call-clause-alone
+returns-in_ok-outcome-in-Call-clause-alone g c = λ rests.
+    let s = c.args.body.now in
+    let new = c.push_granted_at_once.new.self in
+    subst (λ (v : Event). IsAlone new.stored v (place (past s))) (sym c.in-Call.is)
+    (subst (AnswersOwn (reads_of new.stored.start) new.stored.entries
+    (event.Call c.in-Call.c c.in-Call.call) (place (past s)))
+    (sym c.in_ok-outcome-in-Call.ensures.told) c.in_ok-outcome-in-Call.ensures.alone)

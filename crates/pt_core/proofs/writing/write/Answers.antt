@@ -9,7 +9,7 @@ use Rattle.pt_history.specs.Stored.{past_of}
 use Rattle.pt_history.proofs.Places.{place_of_next}
 use Rattle.pt_core.specs.Applying.{IsToldStill}
 use Rattle.pt_core.proofs.AcceptingLemmas.{same-past}
-use Rattle.pt_core.proofs.WritingLemmas.{entered-written}
+use Rattle.pt_core.proofs.WritingLemmas.{alone-at, entered-written}
 use Rattle.pt_core.proofs.OpenLemmas.{memory-open, open-within}
 use Rattle.pt_core.proofs.WholeLemmas.{whole-entered}
 use Rattle.pt_core.proofs.writing.write.Goals as goal
@@ -32,7 +32,8 @@ pub outcome_by_answer-outcome-requires-clause-still :
     goal.outcome_by_answer-outcome-requires-clause-still
 outcome_by_answer-outcome-requires-clause-still g c =
     let made = c.make_room.new.body.stored in
-    subst (λ n. IsToldStill c.args.event.now c.in-Ok.answer (past_of c.enter.new.body.stored) n)
+    subst
+    (λ n. IsToldStill c.args.event.now c.in-Ok.pushed.answer (past_of c.enter.new.body.stored) n)
     (sym (c.len-first.ensures ∙ sym (place_of_next made))) c.in-Ok.ensures.told
 
 -- an entry was added
@@ -64,8 +65,12 @@ returns-clause-ok g c =
     entered-written c.args.body.now.stored c.make_room.new.body.stored c.enter.new.body.stored
     c.args.event.now o.made c.in-Ok.ensures.ok
     (open-within c.args.body.now c.make_room.new.body c.args.event.now o c.requires.accepted)
-    c.len-first.result c.len.result c.outcome_by_answer-outcome.result None
+    c.len-first.result c.len.result c.outcome_by_answer-outcome.result None c.in-Ok.pushed.rests
     c.len-first.ensures c.len.ensures c.outcome_by_answer-outcome.ensures
+    (λ rests. alone-at c.enter.new.body.stored c.args.event.now
+    c.len-first.result (c.len-first.ensures ∙ sym (place_of_next c.make_room.new.body.stored))
+    c.outcome_by_answer-outcome.result c.outcome_by_answer-outcome.ensures
+    (c.in-Ok.ensures.alone rests))
 
 pub returns-in-Err-clause-enough : goal.returns-in-Err-clause-enough
 returns-in-Err-clause-enough g c = λ there small.

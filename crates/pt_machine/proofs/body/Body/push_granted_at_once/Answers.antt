@@ -6,7 +6,7 @@ use Rattle.pt_model.specs.Forced.{service}
 use Rattle.pt_state.specs.Adds.{IsReadyFor, past}
 use Rattle.pt_machine.specs.GrantedAtOnce.{IsGrantedAtOnce, IsReadyAfter}
 use Rattle.pt_machine.specs.Planned.{IsPlanned}
-use Rattle.pt_machine.proofs.GrantedStates.{must-follow, uses, reserves}
+use Rattle.pt_machine.proofs.GrantedStates.{alone-granted, must-follow, uses, reserves}
 use Rattle.pt_machine.proofs.GrantedStates.{queued-granted, rests-granted, timed-granted}
 use Rattle.pt_machine.proofs.GrantedStates.{told-granted, touched-granted}
 use Rattle.pt_machine.proofs.NeedSteps.{reserved-forced}
@@ -112,3 +112,15 @@ returns-clause-rests g c =
     rests-granted old both.mid c.args.c c.args.call.now ready granted both.first both.its
     both.found c.push_both.new.state both.second
     (after both.mid both.first (service (past both.mid) both.its.call) must)
+
+pub returns-clause-alone : goal.returns-clause-alone
+returns-clause-alone g c =
+    let old = c.self.inside.state in
+    let e = Call c.args.c c.args.call.now None in
+    let ready : IsReadyFor old e = rw c.self.view_is c.requires.ready in
+    let granted : IsGrantedAtOnce (past old) c.args.c c.args.call.now =
+    rw c.self.view_is c.requires.granted in
+    let both = c.in_ok-granted.ensures.ok in
+    rw (← c.self.view_is)
+    (alone-granted old both.mid c.args.c c.args.call.now ready granted both.first both.its
+    both.found c.push_both.new.state both.second c.in_ok-granted.granted.outcome both.told)

@@ -2,7 +2,7 @@ use Rattle.std.proofs.Common.{refl, sym, ap, subst}
 use Rattle.pt_core.specs.Cores.{shown}
 use Rattle.pt_script.specs.Engines.{IsAsked, known_by}
 use Rattle.pt_script.proofs.Accepted.{accepted, refused}
-use Rattle.pt_script.proofs.Alone.{answers_alone}
+use Rattle.pt_script.proofs.Alone.{answers_alone, answers_only}
 use Rattle.pt_script.proofs.Asked.{kept_lines, told_alike}
 use Rattle.pt_script.proofs.engine.Engine.run_marked.Goals as goal
 
@@ -44,6 +44,9 @@ invariant_of-self-in-Ok g c =
 
 pub tell_from-requires : goal.tell_from-requires
 tell_from-requires g c = record {
+  only = λ same.
+      answers_only (shown c.self.inside.core) _ c.args.event.now c.in-Ok.done
+      c.args.mark.now c.in-Ok.ensures.ok c.requires.mark same;
   alone = λ same.
       answers_alone (shown c.self.inside.core) _ c.args.event.now c.in-Ok.done
       c.args.mark.now c.self.invariant.0 c.in-Ok.ensures.ok c.requires.mark same;
