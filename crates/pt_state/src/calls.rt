@@ -83,7 +83,7 @@ impl<A: Allocator + Copy> State<A> {
             place,
             outcome,
         });
-        self.stored.push_call(c, call, Some(outcome));
+        self.stored.push_call_apart(c, call, Some(outcome));
     }
 
     /// As `finish`, for calls that are seldom answered so. It isn't inlined.

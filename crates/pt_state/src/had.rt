@@ -116,7 +116,7 @@ impl<A: Allocator + Copy> State<A> {
         self.take(m, c, had);
         let place = self.stored.len();
         note_call(&mut self.clients, c, place, outcome);
-        self.stored.push_call(c, call, None);
+        self.stored.push_call_apart(c, call, None);
         let answered = Answered {
             at: self.stored.len(),
             client: c,

@@ -160,6 +160,7 @@ impl<A: Allocator + Copy> State<A> {
 
     /// A call for a read lock: its client gets a row in the lock. ENOMEM if there is no memory
     /// for it.  [XSH pthread_rwlock_rdlock]
+    #[inline(always)]
     pub fn push_reading(&mut self, c: ClientId, call: &Call, open: &Open) -> Result<(), Refusal>
         requires ready { IsReadyFor self.old (entry.Call c call.now None) }
         requires left { IsLeft (past self.old) c call.now «open».now }
