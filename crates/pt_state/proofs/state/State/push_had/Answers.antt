@@ -57,7 +57,8 @@ returns-clause-adds g c = λ o had.
     let first = c.len-place.ensures
     ∙ (ap (λ (t : State g.row.A.Denot). t.stored.start.at + length t.stored.entries) rest
     ∙ sym (place_of_next s.stored)) in
-    let called = c.push_call_apart.ensures ∙ ap (λ (t : State g.row.A.Denot). pushed t.stored e) rest in
+    let called =
+    c.push_call_apart.ensures ∙ ap (λ (t : State g.row.A.Denot). pushed t.stored e) rest in
     let middle = mid s c.args.c c.args.call.now c.args.m c.requires.ready o had in
     let next : c.len.result ≡ place (past middle) =
     c.len.ensures
