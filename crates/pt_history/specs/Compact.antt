@@ -40,10 +40,22 @@ use Rattle.pt_history.specs.declared.compact.Answer.TheVariants.{Waits, Done, Se
 use Rattle.pt_history.specs.declared.compact.Answer.TheVariants.{Ebusy, Eagain, Edeadlk, Etimedout}
 use Rattle.pt_history.specs.declared.compact.Answer.TheVariants.{Eownerdead, Enotrecoverable}
 use Rattle.pt_history.specs.declared.compact.TimeLimit.{TimeLimit}
+use Rattle.pt_history.specs.declared.compact.ForcedEntry.{ForcedEntry}
+use Rattle.pt_history.specs.declared.compact.ForcedEntry.TheVariants.{Grant as GrantForced}
+use Rattle.pt_history.specs.declared.compact.ForcedEntry.TheVariants.{Trip as TripForced}
+use Rattle.pt_history.specs.declared.compact.ForcedEntry.TheVariants.{Yield as YieldForced}
+use Rattle.pt_history.specs.declared.compact.ForcedEntry.TheVariants.{Expire as ExpireForced}
 use Rattle.pt_history.specs.declared.compact.Compact.{Compact}
 use Rattle.pt_history.specs.declared.compact.Compact.TheVariants.{Join, Named, Barrier, Timed, Wait}
 use Rattle.pt_history.specs.declared.compact.Compact.TheVariants.{TimedWait, Death, Moment, Grant}
 use Rattle.pt_history.specs.declared.compact.Compact.TheVariants.{Trip, Yield, Expire, Whole}
+
+-- the entry that must follow
+abbrev pub forced_entry : ForcedEntry → Entry
+forced_entry (GrantForced j x) = GrantEntry j x
+forced_entry (TripForced b) = TripEntry b
+forced_entry (YieldForced m) = YieldEntry m
+forced_entry (ExpireForced j) = ExpireEntry j
 
 -- the call of a word and a name
 abbrev pub spelled : Word → List ℕ → Call

@@ -2,13 +2,12 @@
 
 ghost use Rattle.std.specs.Prelude.{◌≡◌, ◌+◌, ◌-◌, IfSome};
 ghost use Rattle.pt_history.specs.Compact.{spelled, base_of, answered, with_limit, wait_until};
-ghost use Rattle.pt_history.specs.Compact.{ShowsAlone};
+ghost use Rattle.pt_history.specs.Compact.{ShowsAlone, forced_entry};
 ghost use Rattle.pt_types.specs.declared.call.Call.TheVariants.{BarrierInit};
-ghost use Rattle.pt_model.specs.declared.entry.Entry.TheVariants.{Grant};
 
 use pt_model::Entry;
 use pt_types::operations::LockKind;
-use pt_types::{Call, Clock, Deadline, MutexKind, Name, NamedVerb, Outcome, Priority};
+use pt_types::{Call, Clock, Deadline, MutexKind, Name, NamedVerb, ObjectId, Outcome, Priority};
 use std::mem::size_of;
 
 /// A call word that one name follows, with its other words.
@@ -75,6 +74,19 @@ pub(crate) enum Compact {
 }
 
 const _: () = prove!(size_of::<Compact>() == 16);
+
+/// An entry that must follow another one.  [XSH, the call's page]
+#[derive(Clone, Copy)]
+pub enum ForcedEntry {
+    /// The place of the call, and its outcome.
+    Grant(u64, Outcome),
+    /// The barrier.
+    Trip(ObjectId),
+    /// The mutex.
+    Yield(ObjectId),
+    /// The place of the call.
+    Expire(u64),
+}
 
 /// The stored form of an answer; None is a call that waits.
 #[inline(always)]
@@ -236,11 +248,29 @@ pub(crate) fn wait_call(cond: Name, mutex: Name, limit: TimeLimit) -> Call
     }
 }
 
-/// The stored form of a Grant; None if its place doesn't fit.
-pub(crate) fn granted(base: u64, place: u64, outcome: Outcome) -> Option<Compact>
-    ensures { IfSome result (λ c. ShowsAlone base c (Grant place outcome)) }
+/// The entry that must follow.
+pub(crate) fn entry_of(forced: &ForcedEntry) -> Entry
+    ensures { result ≡ forced_entry forced.now }
 {
-    Some(Compact::Grant(outcome, near(base, place)?))
+    match forced {
+        ForcedEntry::Grant(place, outcome) => Entry::Grant(*place, *outcome),
+        ForcedEntry::Trip(barrier) => Entry::Trip(*barrier),
+        ForcedEntry::Yield(mutex) => Entry::Yield(*mutex),
+        ForcedEntry::Expire(place) => Entry::Expire(*place),
+    }
+}
+
+/// The stored form of an entry that must follow; None if its number doesn't fit.
+#[inline(always)]
+pub(crate) fn stored_forced(base: u64, forced: &ForcedEntry) -> Option<Compact>
+    ensures { IfSome result (λ c. ShowsAlone base c (forced_entry forced.now)) }
+{
+    match forced {
+        ForcedEntry::Grant(place, outcome) => Some(Compact::Grant(*outcome, near(base, *place)?)),
+        ForcedEntry::Trip(barrier) => Some(Compact::Trip(near(base, barrier.0)?)),
+        ForcedEntry::Yield(mutex) => Some(Compact::Yield(near(base, mutex.0)?)),
+        ForcedEntry::Expire(place) => Some(Compact::Expire(near(base, *place)?)),
+    }
 }
 
 /// The stored form of an entry that needs nothing beside it.
@@ -250,10 +280,10 @@ pub(crate) fn alone(base: u64, entry: &Entry) -> Option<Compact>
     match entry {
         Entry::Join(client, priority) => Some(Compact::Join(*priority, near(base, client.0)?)),
         Entry::Death(client) => Some(Compact::Death(near(base, client.0)?)),
-        Entry::Grant(place, outcome) => granted(base, *place, *outcome),
-        Entry::Trip(barrier) => Some(Compact::Trip(near(base, barrier.0)?)),
-        Entry::Yield(mutex) => Some(Compact::Yield(near(base, mutex.0)?)),
-        Entry::Expire(place) => Some(Compact::Expire(near(base, *place)?)),
+        Entry::Grant(place, outcome) => stored_forced(base, &ForcedEntry::Grant(*place, *outcome)),
+        Entry::Trip(barrier) => stored_forced(base, &ForcedEntry::Trip(*barrier)),
+        Entry::Yield(mutex) => stored_forced(base, &ForcedEntry::Yield(*mutex)),
+        Entry::Expire(place) => stored_forced(base, &ForcedEntry::Expire(*place)),
         Entry::Call(..) | Entry::Moment(..) => None,
     }
 }

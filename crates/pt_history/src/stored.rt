@@ -2,7 +2,7 @@ ghost use Rattle.std.specs.Prelude.{◌≡◌, ◌+◌, ◌≤◌, if◌then◌e
 ghost use Rattle.pt_model.specs.Histories.{is_forced};
 ghost use Rattle.pt_history.specs.Records.{HasRoom, KeepsParts};
 
-use crate::compact::{Compact, base};
+use crate::compact::{Compact, ForcedEntry, base};
 use crate::memory::take_memory;
 use crate::records::Records;
 use pt_model::{Entry, Start};
@@ -92,7 +92,7 @@ impl<A: Allocator + Copy> History<A> {
     ghost use Rattle.pt_history.specs.Stored.{Stored, begun, caller_in, past_of, pushed};
     ghost use Rattle.pt_model.specs.Histories.{outer};
     ghost use Rattle.pt_model.specs.declared.entry.Entry.TheVariants.{Call as CallEntry};
-    ghost use Rattle.pt_model.specs.declared.entry.Entry.TheVariants.{Grant as GrantEntry};
+    ghost use Rattle.pt_history.specs.Compact.{forced_entry};
 
     /// An empty history of at most so many entries. It takes no memory.
     pub fn with_limit(alloc: A, limit: u32) -> History<A>
@@ -284,16 +284,17 @@ impl<A: Allocator + Copy> History<A> {
         self.push_call(client, call, outcome);
     }
 
-    /// Appends a Grant, in room that was made for it. It takes no memory.
-    pub fn push_grant(&mut self, place: u64, outcome: Outcome)
+    /// Appends an entry that must follow, in room that was made for it. It takes no memory.
+    #[inline(always)]
+    pub fn push_forced(&mut self, forced: ForcedEntry)
         requires { 0 < self.old.room }
         ensures { self.new
             ≡ record self.old {
-              entries = self.old.entries ++ GrantEntry place outcome ∷ [];
+              entries = self.old.entries ++ forced_entry forced ∷ [];
               room = self.old.room - 1;
             } }
     {
-        let compact = self.records.store_grant(self.base, place, outcome);
+        let compact = self.records.store_forced(self.base, &forced);
         self.entries.push_reserved(compact);
         self.room -= 1;
         self.memory -= 1;

@@ -1,14 +1,14 @@
 //! Entries as they are stored.
 
 ghost use Rattle.std.specs.Prelude.{◌≡◌, ◌+◌, ◌<◌, ◌≤◌, None, IfSome, vec_len};
-ghost use Rattle.pt_history.specs.Compact.{decoded, answered};
+ghost use Rattle.pt_history.specs.Compact.{answered, decoded, forced_entry};
 ghost use Rattle.pt_history.specs.Records.{HasRoom, Shows, ShowsIfSome};
 ghost use Rattle.pt_model.specs.declared.entry.Entry.TheVariants.{Call as CallEntry};
 ghost use Rattle.pt_model.specs.declared.entry.Entry.TheVariants.{Moment as MomentEntry};
-ghost use Rattle.pt_model.specs.declared.entry.Entry.TheVariants.{Grant as GrantEntry};
 
 use crate::compact::{
-    Answer, Compact, Word, alone, answer_of, barrier, granted, named, near, timed, timed_wait,
+    Answer, Compact, ForcedEntry, Word, alone, answer_of, barrier, entry_of, named, near,
+    stored_forced, timed, timed_wait,
 };
 use crate::reading::copied;
 use crate::records::Records;
@@ -296,34 +296,36 @@ impl<A: Allocator + Copy> Records<A> {
         self.store_whole(base, Entry::Call(client, call.copied(), outcome))
     }
 
-    // A Grant as it is. It is seldom needed, so it is not inlined.
+    // An entry that must follow, as it is. It is seldom needed, so it is not inlined.
     #[cold]
     #[inline(never)]
-    fn store_whole_grant(&mut self, base: u64, place: u64, outcome: Outcome) -> Compact
+    fn store_whole_forced(&mut self, base: u64, forced: &ForcedEntry) -> Compact
         requires room { HasRoom self.old 1 }
         requires few { vec_len self.old.wholes ≤ 4294967295 }
-        ensures { Shows base (GrantEntry place outcome) self.old self.new result }
+        ensures { Shows base (forced_entry forced.now) self.old self.new result }
     {
-        self.store_whole(base, Entry::Grant(place, outcome))
+        self.store_whole(base, entry_of(forced))
     }
 
-    // A Grant whose place fits.
-    fn store_short_grant(&mut self, base: u64, place: u64, outcome: Outcome) -> Option<Compact>
+    // An entry that must follow and whose number fits.
+    #[inline(always)]
+    fn store_short_forced(&mut self, base: u64, forced: &ForcedEntry) -> Option<Compact>
         requires { HasRoom self.old 1 }
-        ensures { ShowsIfSome base (GrantEntry place outcome) self.old self.new result }
+        ensures { ShowsIfSome base (forced_entry forced.now) self.old self.new result }
     {
-        granted(base, place, outcome)
+        stored_forced(base, forced)
     }
 
-    /// Stores a Grant, and returns its stored form. It takes no memory.
-    pub(crate) fn store_grant(&mut self, base: u64, place: u64, outcome: Outcome) -> Compact
+    /// Stores an entry that must follow, and returns its stored form. It takes no memory.
+    #[inline(always)]
+    pub(crate) fn store_forced(&mut self, base: u64, forced: &ForcedEntry) -> Compact
         requires room { HasRoom self.old 1 }
         requires few { vec_len self.old.wholes ≤ 4294967295 }
-        ensures { Shows base (GrantEntry place outcome) self.old self.new result }
+        ensures { Shows base (forced_entry forced.now) self.old self.new result }
     {
-        match self.store_short_grant(base, place, outcome) {
+        match self.store_short_forced(base, forced) {
             Some(compact) => compact,
-            None => self.store_whole_grant(base, place, outcome),
+            None => self.store_whole_forced(base, forced),
         }
     }
 

@@ -10,7 +10,7 @@ ghost use Rattle.pt_types.specs.Operations.{Arrives, operation};
 
 use crate::request::or_zero;
 use crate::state::State;
-use pt_model::Entry;
+use pt_history::ForcedEntry;
 use pt_model::waiting_call::Role;
 use pt_records::barrier::trip;
 use pt_types::operations::clock_of;
@@ -34,7 +34,7 @@ impl<A: Allocator + Copy> State<A> {
             &mut self.answers,
             b,
         );
-        self.stored.push(Entry::Trip(b));
+        self.stored.push_forced(ForcedEntry::Trip(b));
     }
 
     // An arrival at a barrier.  [XSH pthread_barrier_wait]

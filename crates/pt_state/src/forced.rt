@@ -15,8 +15,9 @@ ghost use Rattle.pt_model.specs.Grants.{grant_outcome as grant_outcome_in};
 ghost use Rattle.pt_state.specs.Reads.{AreTables};
 
 use crate::state::State;
+use pt_history::ForcedEntry;
+use pt_model::Cause;
 use pt_model::waiting_call::{Role, is_wait};
-use pt_model::{Cause, Entry};
 use pt_records::Open;
 use pt_records::cond::wake;
 use pt_types::{ObjectId, Outcome};
@@ -43,10 +44,10 @@ impl<A: Allocator + Copy> State<A> {
         if is_wait(call.role) {
             let at = self.stored.len();
             wake(&mut self.clients, call.client, at, Cause::Expired);
-            self.stored.push(Entry::Expire(call.place));
+            self.stored.push_forced(ForcedEntry::Expire(call.place));
         } else {
             self.answer(found, Outcome::Etimedout);
-            self.stored.push(Entry::Expire(call.place));
+            self.stored.push_forced(ForcedEntry::Expire(call.place));
         }
     }
 
@@ -57,7 +58,8 @@ impl<A: Allocator + Copy> State<A> {
         ensures { Adds self.old (entry.Grant found.now.call.place outcome) self.new }
     {
         self.answer(found, outcome);
-        self.stored.push_grant(found.call.place, outcome);
+        self.stored
+            .push_forced(ForcedEntry::Grant(found.call.place, outcome));
     }
 
     /// A call that waits at no barrier gets what it is for.

@@ -31,7 +31,7 @@ ghost use Rattle.pt_model.specs.Forced.{is_orphan as is_orphan_in};
 
 use crate::had::Had;
 use crate::state::State;
-use pt_model::Entry;
+use pt_history::ForcedEntry;
 use pt_model::waiting_call::{Move, is_expired};
 use pt_mutex::MutexObj;
 use pt_records::cond::any_returns;
@@ -115,7 +115,7 @@ impl<A: Allocator + Copy> State<A> {
         ensures { Adds self.old (entry.Yield m) self.new }
     {
         self.orphans = yield_dead(&mut self.objects, m);
-        self.stored.push(Entry::Yield(m));
+        self.stored.push_forced(ForcedEntry::Yield(m));
     }
 
     /// A call gets its mutex, or is answered that the mutex is lost. What it gets is returned.

@@ -1,5 +1,0 @@
-use Rattle.pt_history.proofs.Growing.{shows-alone}
-use Rattle.pt_history.proofs.records.Records.store_short_grant.Goals as goal
-
-pub returns : goal.returns
-returns g c = shows-alone _ _ _ _ c.granted.ensures
