@@ -1,10 +1,10 @@
 //! Entries of every kind are read as they were pushed, whatever their numbers.
 
-ghost use Rattle.std.specs.Prelude.{◌≤◌};
+ghost use Rattle.std.specs.Prelude.{false, ◌<◌, ◌≡◌, ◌≤◌};
 
 use super::priority;
 use linked_list_allocator::LocalHeap;
-use pt_history::History;
+use pt_history::{ForcedEntry, History};
 use pt_model::{Entry, Start};
 use pt_types::{Call, ClientId, Clock, Deadline, Moment, MutexKind, Name, ObjectId, Outcome};
 use std::alloc::{Allocator, Global};
@@ -151,11 +151,31 @@ fn begin<A: Allocator + Copy>(alloc: A, at: u64) -> History<A>
     history
 }
 
+// Pushes a call or an entry that must follow in the way that is for such entries. Reports whether it
+// is one.
+fn push_short(history: &mut History, entry: &Entry) -> bool
+    requires { 0 < history.old.room }
+    ensures { result ≡ false → history.new ≡ history.old }
+{
+    match entry {
+        Entry::Call(client, call, answer) => history.push_call_apart(*client, call, *answer),
+        Entry::Grant(place, outcome) => history.push_forced(ForcedEntry::Grant(*place, *outcome)),
+        Entry::Trip(barrier) => history.push_forced(ForcedEntry::Trip(*barrier)),
+        Entry::Yield(mutex) => history.push_forced(ForcedEntry::Yield(*mutex)),
+        Entry::Expire(place) => history.push_forced(ForcedEntry::Expire(*place)),
+        _ => return false,
+    }
+    true
+}
+
 // Pushes all entries, as far as there is room.
 fn push_all(history: &mut History, words: &Words, numbers: &[u64; 4]) {
     for index in 0..4 * ENTRIES {
         if history.room() > 0 {
-            history.push(sample(words, numbers, index));
+            let entry = sample(words, numbers, index);
+            if !push_short(history, &entry) {
+                history.push(entry);
+            }
         }
     }
 }
