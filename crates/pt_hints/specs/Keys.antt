@@ -26,4 +26,4 @@ end_digits bytes =
 
 -- the key of a name: its last bytes as digits, and so far apart for its length
 abbrev pub key : List ℕ → ℕ
-key bytes = (end_digits bytes + (1909 * length bytes) % 2 ^ 64) % 2 ^ 64
+key bytes = (end_digits bytes + (10615 * length bytes) % 2 ^ 64) % 2 ^ 64

@@ -5,7 +5,7 @@ ghost use Rattle.pt_hints.specs.Keys.{few_digits, four_digits, key};
 
 /// How far names that differ in their length alone lie apart, so that as many may end in
 /// consecutive numbers.
-const APART: u64 = 1909;
+const APART: u64 = 10615;
 
 /// Four digits 0.
 const ZEROS: u32 = 0x3030_3030;

@@ -1,9 +1,8 @@
 //! The names of the objects, and the slot of each object's row.
 
 ghost use Rattle.std.specs.Prelude.{◌≡◌, ◌≢◌, ◌<◌, ℕ, List, Some, OnOk, false};
-ghost use Rattle.std.specs.Map.{lookup};
 ghost use Rattle.pt_types.specs.Names.{same_name};
-ghost use Rattle.pt_table.specs.NameSlots.{place_of, CanFile, IsFiled, IsFirst, IsOther};
+ghost use Rattle.pt_table.specs.NameSlots.{place_of, is_shared, CanFile, IsFiled, IsFirst, IsOther};
 ghost use Rattle.pt_table.specs.NameSlots.{IsForgotten};
 
 use indexmap::IndexMap;
@@ -78,25 +77,20 @@ impl<A: Allocator + Copy> Names<A> {
         }
     }
 
-    // The slot of a name in the map.
-    #[cold]
-    #[inline(never)]
-    fn in_map(&self, name: &Name) -> Option<usize>
-        ensures { result ≡ lookup (same_name name.now) self.now.others }
+    /// Whether others of the names of a name's cell are in the map.
+    #[inline(always)]
+    pub(crate) fn is_shared(&self, name: &Name) -> bool
+        ensures { result ≡ is_shared self.now.cells name.now }
     {
-        self.others.get(name).copied()
+        self.shared[place_of(name)]
     }
 
     /// The slot of a name that is in the map. It may be another's.
-    #[inline(always)]
     pub(crate) fn other(&self, name: &Name) -> Option<usize>
         ensures { (slot : ℕ) → IsOther self.now.cells self.now.others name.now slot
             → result ≡ Some slot }
     {
-        if !self.shared[place_of(name)] {
-            return None;
-        }
-        self.in_map(name)
+        self.others.get(name).copied()
     }
 
     // Makes room for one more name in the map.

@@ -87,10 +87,10 @@ fn row_if_named<'a, T, A: Allocator + Copy>(
     }
 }
 
-// The row of a name that is in the map, if it is there.
+// The row of a name whose cell others share, if it is there.
 #[cold]
 #[inline(never)]
-fn row_in_map<'a, T, A: Allocator + Copy>(
+fn row_in_shared<'a, T, A: Allocator + Copy>(
     rows: &'a Slab<ObjectRow<T>, A>,
     names: &Names<A>,
     name: &Name,
@@ -99,6 +99,22 @@ fn row_in_map<'a, T, A: Allocator + Copy>(
         (option_copied result) }
 {
     row_if_named(rows, names.other(name), name)
+}
+
+// The row of a name that is in the map, if it is there.
+#[inline(always)]
+fn row_in_map<'a, T, A: Allocator + Copy>(
+    rows: &'a Slab<ObjectRow<T>, A>,
+    names: &Names<A>,
+    name: &Name,
+) -> Option<&'a ObjectRow<T>>
+    ensures { IsRowInMap rows.now.slots names.now.cells names.now.others name.now
+        (option_copied result) }
+{
+    if !names.is_shared(name) {
+        return None;
+    }
+    row_in_shared(rows, names, name)
 }
 
 // The row of a name. It is looked for where the name's cell says, and then by the map.

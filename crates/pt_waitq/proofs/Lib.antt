@@ -44,3 +44,7 @@ mod BoxLemmas
 mod EmptiedLemmas
 -- FirstOut: the first of a queue, as it is taken out
 mod FirstOut
+-- OpenedLemmas: the queues that are made, as one is made, opened or discarded
+mod OpenedLemmas
+-- OpenedRows: what is read of a queue that is made, from its row or from none
+mod OpenedRows

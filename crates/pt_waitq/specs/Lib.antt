@@ -17,3 +17,5 @@ pub mod Chains
 pub mod Highest
 -- Boxes: which queues have a box, and how many boxes there are
 pub mod Boxes
+-- Opened: the queues that are made, of which those with a row have its chains
+pub mod Opened

@@ -2,11 +2,10 @@
 ghost use Rattle.std.specs.Prelude.{◌≡◌};
 ghost use Rattle.pt_waitq.specs.Waits.{no_waits};
 
-use crate::boxed::BoxedQueue;
 use crate::link::NodeIndex;
 use crate::nodes::{self, Node};
+use crate::queues::{self, Queues};
 use crate::rows::Rows;
-use crate::sides;
 use crate::spares::{self, Spares};
 use crate::wait_list::WaitList;
 use crate::waiter::Waiter;
@@ -23,7 +22,7 @@ use std::marker::Model;
 pub struct Chains<A: Allocator + Copy = Global> {
     homes: Rows<NodeIndex, A>,
     nodes: Slab<Node, A>,
-    queues: Rows<BoxedQueue<A>, A>,
+    queues: Queues<A>,
     /// The boxes of no queue.
     spares: Spares<A>,
     /// How many boxes there are in all: as many as queues may have a waiter at once, which are no
@@ -42,12 +41,12 @@ impl<A: Allocator + Copy> Model for Chains<A> {
 
     ghost Value = { Waits };
 
-    ghost view = { λ p. waits_of (numbers p.homes.map.entries) (numbers p.queues.map.entries)
+    ghost view = { λ p. waits_of (numbers p.homes.map.entries) (numbers p.queues)
         (waiting_by p.log.items) };
 
-    ghost invariant = { λ p. AreChains p.homes.map.entries p.nodes.slots p.queues.map.entries
+    ghost invariant = { λ p. AreChains p.homes.map.entries p.nodes.slots p.queues
         (waiting_by p.log.items)
-        × AreBoxes (length p.homes.map.entries) (length (numbers p.queues.map.entries))
+        × AreBoxes (length p.homes.map.entries) (length (numbers p.queues))
         (waiting_by p.log.items) (vec_len p.spares) (vec_capacity p.spares) p.boxes
         × Each (λ b. HasNone b.value) p.spares.items };
 }
@@ -60,7 +59,7 @@ impl<A: Allocator + Copy> Chains<A> {
         Chains {
             homes: Rows::new(alloc),
             nodes: Slab::new(alloc),
-            queues: Rows::new(alloc),
+            queues: Queues::new(alloc),
             spares: Vec::new(alloc),
             boxes: 0,
             log: Log::new(),
@@ -88,7 +87,7 @@ impl<A: Allocator + Copy> WaitList for Chains<A> {
         let Ok(()) = nodes::make_room(&mut self.homes, &mut self.nodes) else {
             return Err(Refusal::Enomem);
         };
-        let wanted = self.queues.map.len().min(self.homes.map.len() + 1);
+        let wanted = self.queues.len().min(self.homes.map.len() + 1);
         let Ok(boxes) = spares::grow(&mut self.spares, self.boxes, wanted) else {
             return Err(Refusal::Enomem);
         };
@@ -102,12 +101,12 @@ impl<A: Allocator + Copy> WaitList for Chains<A> {
     }
 
     fn make(&mut self, object: ObjectId) -> Result<(), Refusal> {
-        let wanted = self.homes.map.len().min(self.queues.map.len() + 1);
+        let wanted = self.homes.map.len().min(self.queues.len() + 1);
         let Ok(boxes) = spares::grow(&mut self.spares, self.boxes, wanted) else {
             return Err(Refusal::Enomem);
         };
         self.boxes = boxes;
-        if sides::make(&mut self.queues, object.0) {
+        if queues::make(&mut self.queues, object.0) {
             Ok(())
         } else {
             Err(Refusal::Enomem)
@@ -116,7 +115,7 @@ impl<A: Allocator + Copy> WaitList for Chains<A> {
 
     #[inline(always)]
     fn discard(&mut self, object: ObjectId) {
-        sides::discard(&mut self.queues, object.0);
+        queues::discard(&mut self.queues, object.0);
     }
 
     #[inline(always)]
@@ -124,7 +123,7 @@ impl<A: Allocator + Copy> WaitList for Chains<A> {
         let client = waiter.client;
         let node = nodes::home_of(&self.homes, &self.nodes, client.0);
         let p = waiter.prio.level() as usize - 1;
-        let last = sides::insert(
+        let last = queues::insert(
             &mut self.queues,
             &mut self.spares,
             object.0,
@@ -141,7 +140,7 @@ impl<A: Allocator + Copy> WaitList for Chains<A> {
         let place = nodes::place_of(&self.homes, &self.nodes, client.0)?;
         let waiter = place.waiter;
         let p = waiter.prio.level() as usize - 1;
-        let emptied = sides::remove(
+        let emptied = queues::remove(
             &mut self.queues,
             place.object,
             waiter.writer,
@@ -157,11 +156,11 @@ impl<A: Allocator + Copy> WaitList for Chains<A> {
 
     #[inline(always)]
     fn take_first(&mut self, object: ObjectId) -> Option<Waiter> {
-        let node = sides::first_of(&self.queues, object.0)?;
+        let node = queues::first_of(&self.queues, object.0)?;
         let place = nodes::place_at(&self.nodes, node);
         let waiter = place.waiter;
         let p = waiter.prio.level() as usize - 1;
-        let freed = sides::remove(
+        let freed = queues::remove(
             &mut self.queues,
             object.0,
             waiter.writer,
@@ -182,19 +181,19 @@ impl<A: Allocator + Copy> WaitList for Chains<A> {
 
     #[inline(always)]
     fn first(&self, object: ObjectId) -> Option<Waiter> {
-        nodes::waiter_of(&self.nodes, sides::first_of(&self.queues, object.0))
+        nodes::waiter_of(&self.nodes, queues::first_of(&self.queues, object.0))
     }
 
     #[inline(always)]
     fn first_writer(&self, object: ObjectId) -> Option<Waiter> {
-        nodes::waiter_of(&self.nodes, sides::first_writer_of(&self.queues, object.0))
+        nodes::waiter_of(&self.nodes, queues::first_writer_of(&self.queues, object.0))
     }
 
     fn blocks_reader(&self, object: ObjectId, prio: Priority) -> bool {
-        sides::has_writer_from(&self.queues, object.0, prio.level() as usize - 1)
+        queues::has_writer_from(&self.queues, object.0, prio.level() as usize - 1)
     }
 
     fn len(&self, object: ObjectId) -> usize {
-        sides::len_of(&self.queues, object.0)
+        queues::len_of(&self.queues, object.0)
     }
 }

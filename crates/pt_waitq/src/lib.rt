@@ -13,6 +13,7 @@ mod link;
 mod marked;
 mod nodes;
 mod plain_list;
+mod queues;
 mod rows;
 mod sides;
 mod spares;

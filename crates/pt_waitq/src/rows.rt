@@ -9,12 +9,18 @@ use indexmap::IndexMap;
 use std::alloc::Allocator;
 use std::hash::{BuildHasherDefault, FoldHasher};
 
+/// For how many values of a number's low bits there is a hint.
+const COUNT: usize = 4096;
+
 /// Rows by number.
 #[derive(Drop)]
 pub(crate) struct Rows<T, A: Allocator + Copy> {
     pub(crate) map: IndexMap<u64, T, BuildHasherDefault<FoldHasher>, A>,
-    // The number of the row that was put in first. Others are looked for by their distance from it.
+    // The number of the row that was put in first.
     first: u64,
+    // For each value of a number's low bits, the index that was noted last with such a number. The
+    // row there may be another's.
+    hints: [u16; COUNT],
 }
 
 impl<T, A: Allocator + Copy> Rows<T, A> {
@@ -25,6 +31,7 @@ impl<T, A: Allocator + Copy> Rows<T, A> {
         Rows {
             map: IndexMap::new(alloc),
             first: 0,
+            hints: [0; COUNT],
         }
     }
 
@@ -42,15 +49,29 @@ impl<T, A: Allocator + Copy> Rows<T, A> {
             self.first = number;
         }
     }
+
+    /// Notes at which index a number's row is, if the index fits 16 bits.
+    pub(crate) fn note(&mut self, number: u64, index: usize)
+        ensures { self.new.map ≡ self.old.map }
+    {
+        if let Ok(index) = u16::try_from(index) {
+            self.hints[number as usize % COUNT] = index;
+        }
+    }
+
+    // The index at which a number's row is looked for first.
+    #[inline(always)]
+    fn hint(&self, number: u64) -> usize {
+        self.hints[number as usize % COUNT] as usize
+    }
 }
 
-// The row that is as far from the start as its number is above the first one. The distance of a
-// lower number wraps, and leads to no row or to one of another number.
+// The row where a number's hint is, if it is the number's.
 #[inline(always)]
-fn row_by_distance<T, A: Allocator + Copy>(rows: &Rows<T, A>, number: u64) -> Option<&T>
+fn row_by_hint<T, A: Allocator + Copy>(rows: &Rows<T, A>, number: u64) -> Option<&T>
     ensures { IfSome result (λ row. lookup (nat_eq number) rows.now.map.entries ≡ Some row.now) }
 {
-    match rows.map.get_index(number.wrapping_sub(rows.first) as usize) {
+    match rows.map.get_index(rows.hint(number)) {
         Some((listed, row)) if *listed == number => Some(row),
         _ => None,
     }
@@ -65,26 +86,26 @@ fn row_by_hash<T, A: Allocator + Copy>(rows: &Rows<T, A>, number: u64) -> Option
     rows.map.get(&number)
 }
 
-/// The row of a number, if there is one. Of numbers that follow one another it is found by their
-/// distance, and of any other by its hash.
+/// The row of a number, if there is one. It is looked for by the number's hint, and then by its
+/// hash.
 #[inline(always)]
 pub(crate) fn row_of<T, A: Allocator + Copy>(rows: &Rows<T, A>, number: u64) -> Option<&T>
     ensures { option_copied result ≡ lookup (nat_eq number) rows.now.map.entries }
 {
-    match row_by_distance(rows, number) {
+    match row_by_hint(rows, number) {
         Some(row) => Some(row),
         None => row_by_hash(rows, number),
     }
 }
 
-// The index of a number that is listed as far from the start as it is above the first one.
+// A number's hint, if the number is listed there.
 #[inline(always)]
-fn index_by_distance<T, A: Allocator + Copy>(rows: &Rows<T, A>, number: u64) -> Option<usize>
+fn index_by_hint<T, A: Allocator + Copy>(rows: &Rows<T, A>, number: u64) -> Option<usize>
     ensures { IfSome result (λ i. slice_get (numbers rows.now.map.entries) i ≡ Some number) }
 {
-    let distance = number.wrapping_sub(rows.first) as usize;
-    match rows.map.get_index(distance) {
-        Some((listed, _)) if *listed == number => Some(distance),
+    let hint = rows.hint(number);
+    match rows.map.get_index(hint) {
+        Some((listed, _)) if *listed == number => Some(hint),
         _ => None,
     }
 }
@@ -105,7 +126,7 @@ pub(crate) fn index_of<T, A: Allocator + Copy>(rows: &Rows<T, A>, number: u64) -
     ensures found { IfSome result (λ i. slice_get (numbers rows.now.map.entries) i ≡ Some number) }
     ensures none { IfNone result (lookup (nat_eq number) rows.now.map.entries ≡ None) }
 {
-    match index_by_distance(rows, number) {
+    match index_by_hint(rows, number) {
         Some(index) => Some(index),
         None => index_by_hash(rows, number),
     }

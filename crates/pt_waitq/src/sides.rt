@@ -1,23 +1,22 @@
 //! Queues as the ends and the counts of their chains.
 
-ghost use Rattle.std.specs.Prelude.{◌≡◌, ◌↔◌, ◌+◌, ◌++◌, ◌∷◌, [], false, IsTrue, ◌-◌, ◌<◌, ◌≤◌};
+ghost use Rattle.std.specs.Prelude.{◌≡◌, ◌↔◌, ◌+◌, false, IsTrue, ◌-◌, ◌<◌, ◌≤◌};
 ghost use Rattle.std.specs.Prelude.{◌^◌, ◌==◌, ◌&&◌, Some, None, IsSome, IfSome, unwrap_or};
 ghost use Rattle.std.specs.Prelude.{slice_index, slice_index_or, is_some, if◌then◌else◌, ℕ};
-ghost use Rattle.std.specs.Prelude.{not, nat_eq, vec_len, vec_capacity, length};
-ghost use Rattle.std.specs.List.{AllByRecursion as Each};
+ghost use Rattle.std.specs.Prelude.{not, nat_eq};
 ghost use Rattle.std.specs.Map.{lookup};
 ghost use Rattle.std.specs.Option.{option_map};
+ghost use Rattle.indexmap.specs.IndexMap.{spare};
 ghost use Rattle.pt_types.specs.Limits.{most_priority};
 ghost use Rattle.pt_waitq.specs.declared.sides.Queue.{Queue};
-ghost use Rattle.pt_waitq.specs.Boxes.{no_queue, IsEmptied};
-ghost use Rattle.pt_waitq.specs.Chains.{numbers, side_of, HasNone, IsPut};
+ghost use Rattle.pt_waitq.specs.Boxes.{IsEmptied};
+ghost use Rattle.pt_waitq.specs.Chains.{numbers, side_of};
 ghost use Rattle.pt_waitq.specs.Chains.{IsFirst, IsFirstWriter, HasWriterFrom};
 
 use crate::boxed::BoxedQueue;
 use crate::link::{Link, NodeIndex};
 use crate::marked::MarkedQueue;
 use crate::rows::{Rows, index_of, row_of};
-use crate::spares::Spares;
 use pt_types::MOST_PRIORITY;
 use std::alloc::Allocator;
 
@@ -190,44 +189,6 @@ pub(crate) fn len_of<A: Allocator + Copy>(queues: &Rows<BoxedQueue<A>, A>, objec
     }
 }
 
-/// Makes a node the tail of a chain of a queue that there is, and returns the tail before. A queue
-/// with no waiter takes a spare box.
-pub(crate) fn insert<A: Allocator + Copy>(
-    queues: &mut Rows<BoxedQueue<A>, A>,
-    spares: &mut Spares<A>,
-    object: u64,
-    writer: bool,
-    p: usize,
-    node: NodeIndex,
-) -> Link
-    requires index { p < most_priority }
-    requires there { IsSome (lookup (nat_eq object) queues.old.map.entries) }
-    requires room { IfSome (lookup (nat_eq object) queues.old.map.entries) (λ q.
-        slice_index (side_of writer q).counts p + 1 < 2 ^ 32) }
-    requires len { IfSome (lookup (nat_eq object) queues.old.map.entries) (λ q.
-        q.len + 1 < 2 ^ 64) }
-    requires spare { IfSome (lookup (nat_eq object) queues.old.map.entries) (λ q.
-        q.len ≡ 0 → 0 < vec_len spares.old) }
-    requires empty { Each (λ b. HasNone b.value) spares.old.items }
-    ensures numbers { numbers queues.new.map.entries ≡ numbers queues.old.map.entries }
-    ensures others { (x : ℕ)
-        → (object == x) ≡ false
-        → lookup (nat_eq x) queues.new.map.entries ≡ lookup (nat_eq x) queues.old.map.entries }
-    ensures queue { (old new : Queue)
-        → lookup (nat_eq object) queues.old.map.entries ≡ Some old
-        → lookup (nat_eq object) queues.new.map.entries ≡ Some new
-        → IsPut writer p node result old new }
-    ensures spares { (old : Queue)
-        → lookup (nat_eq object) queues.old.map.entries ≡ Some old
-        → vec_len spares.new + (if old.len == 0 then 1 else 0) ≡ vec_len spares.old }
-    ensures capacity { vec_capacity spares.new ≡ vec_capacity spares.old }
-    ensures empty { Each (λ b. HasNone b.value) spares.new.items }
-{
-    let index = index_of(queues, object).unwrap();
-    let queue = queues.map.get_index_mut(index).unwrap();
-    queue.put_in(spares, writer, p, node)
-}
-
 /// Takes a node out of a chain of a queue that there is, if it was between these two. Returns the
 /// queue's box if no one waits there any more.
 #[inline(always)]
@@ -252,43 +213,11 @@ pub(crate) fn remove<A: Allocator + Copy>(
         → lookup (nat_eq object) queues.old.map.entries ≡ Some old
         → lookup (nat_eq object) queues.new.map.entries ≡ Some new
         → IsEmptied writer p before next old new (option_map (λ b. b.value) result) }
+    ensures more { spare queues.new.map ≡ spare queues.old.map }
 {
     let index = index_of(queues, object).unwrap();
     let queue = queues.map.get_index_mut(index).unwrap();
     queue.take_out(writer, p, before, next)
-}
-
-/// Adds an empty queue, and returns whether there was memory.
-pub(crate) fn make<A: Allocator + Copy>(queues: &mut Rows<BoxedQueue<A>, A>, object: u64) -> bool
-    requires { lookup (nat_eq object) queues.old.map.entries ≡ None }
-    ensures numbers { numbers queues.new.map.entries
-        ≡ (if result
-        then numbers queues.old.map.entries ++ object ∷ []
-        else numbers queues.old.map.entries) }
-    ensures others { (x : ℕ)
-        → (object == x) ≡ false
-        → lookup (nat_eq x) queues.new.map.entries ≡ lookup (nat_eq x) queues.old.map.entries }
-    ensures queue { (new : Queue)
-        → lookup (nat_eq object) queues.new.map.entries ≡ Some new
-        → new ≡ no_queue }
-{
-    match queues.map.insert(object, BoxedQueue::new()) {
-        Ok(_) => {
-            queues.note_first(object);
-            true
-        }
-        Err(_) => false,
-    }
-}
-
-/// Takes a queue away, if it is there.
-pub(crate) fn discard<A: Allocator + Copy>(queues: &mut Rows<BoxedQueue<A>, A>, object: u64)
-    ensures queues { (x : ℕ)
-        → lookup (nat_eq x) queues.new.map.entries
-        ≡ (if object == x then None else lookup (nat_eq x) queues.old.map.entries) }
-    ensures len { length queues.new.map.entries ≤ length queues.old.map.entries }
-{
-    queues.map.swap_remove(&object);
 }
 
 /// The node of the first of a queue.

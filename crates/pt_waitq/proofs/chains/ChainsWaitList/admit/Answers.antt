@@ -31,7 +31,7 @@ invariant_of-self-2 g c =
     let room = c.make_room.ensures in
     let done = c.admit.ensures in
     let grown = c.in-Ok-grow.ensures in
-    let queues = c.self.inside.queues.map.entries in
+    let queues = c.self.inside.queues in
     let longer = ap length (done.homes ∙ ap (λ hs. hs ++ (k, c.admit.result) ∷ []) room.homes)
     ∙ length-more homes (k, c.admit.result) in
     let enough : min (length c.admit.new.homes.map.entries) (length (numbers queues))

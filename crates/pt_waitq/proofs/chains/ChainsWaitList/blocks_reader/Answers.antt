@@ -14,7 +14,7 @@ returns g c =
     let level : (c.level.result - 1) + 1 ≡ c.args.prio =
     omega (arith, c.level.ensures.value, c.level.ensures.least) in
     back-told c.self.inside.homes.map.entries c.self.inside.nodes.slots
-    c.self.inside.queues.map.entries es c.self.invariant.0 c.object.inside.0
+    c.self.inside.queues es c.self.invariant.0 c.object.inside.0
     c.has_writer_from.result (c.level.result - 1) c.args.prio level found.none found.queue
     ∙ (ap (λ o. list_any (holds_back c.args.prio) (queue_of o es)) c.object.view_is
     ∙ ap (list_any (holds_back c.args.prio))

@@ -13,7 +13,7 @@ invariant_of-self g c =
     let none = none-stands _ _ es _ c.args.client c.self.view_is stand c.requires.nowhere in
     let gone = c.dismiss.ensures in (
       chains-dismissed c.self.inside.homes.map.entries _ c.self.inside.nodes.slots _
-          c.self.inside.queues.map.entries es c.client.inside.0 c.self.invariant.0 gone.homes
+          c.self.inside.queues es c.client.inside.0 c.self.invariant.0 gone.homes
           gone.nodes gone.gone gone.len (ap (λ n. has_waiter n es) c.client.view_is ∙ none),
       boxes-kept (length c.self.inside.homes.map.entries) _ _ _ es _ _ _ _ c.self.inside.boxes
           c.self.invariant.1 gone.len (omega arith) refl (omega arith),
@@ -27,7 +27,7 @@ returns-clause-admitted g c = λ d.
     let none = none-stands _ _ es _ c.args.client c.self.view_is stand c.requires.nowhere in
     let gone = c.dismiss.ensures in
     let homes = c.self.inside.homes.map.entries in
-    dismissed-admits homes _ c.self.inside.nodes.slots _ c.self.inside.queues.map.entries es
+    dismissed-admits homes _ c.self.inside.nodes.slots _ c.self.inside.queues es
     c.client.inside.0 c.self.invariant.0 gone.homes gone.nodes gone.gone gone.len
     (ap (λ n. has_waiter n es) c.client.view_is ∙ none) d
     ∙ (ap (λ n. not (n == d) && (is_listed d (numbers homes) || has_waiter d es))

@@ -11,7 +11,7 @@ waiter_of-requires g c =
     let es = waiting_by c.self.inside.log.items in
     let found = c.first_writer_of.ensures in
     writer-known c.self.inside.homes.map.entries c.self.inside.nodes.slots
-    c.self.inside.queues.map.entries es c.self.invariant.0 c.object.inside.0 _ found.none
+    c.self.inside.queues es c.self.invariant.0 c.object.inside.0 _ found.none
     found.queue
 
 pub returns : goal.returns
@@ -20,7 +20,7 @@ returns g c =
     let found = c.first_writer_of.ensures in
     c.waiter_of.ensures
     ∙ (writer-told c.self.inside.homes.map.entries c.self.inside.nodes.slots
-    c.self.inside.queues.map.entries es c.self.invariant.0 c.object.inside.0 _ found.none
+    c.self.inside.queues es c.self.invariant.0 c.object.inside.0 _ found.none
     found.queue
     ∙ (ap (λ o. first_writer_of (queue_of o es)) c.object.view_is
     ∙ ap first_writer_of

@@ -31,7 +31,7 @@ insert-last-requires-clause-there g c =
     let o = c.object.inside.0 in
     let made = ap (λ s. is_made s o) c.self.view_is
     ∙ (ap (is_made c.args.self.now) c.object.view_is ∙ c.requires.made) in
-    sym (listed-lookup o c.self.inside.queues.map.entries) ∙ made
+    sym (listed-lookup o c.self.inside.queues) ∙ made
 
 pub insert-last-requires-clause-room : goal.insert-last-requires-clause-room
 insert-last-requires-clause-room g c =
@@ -41,7 +41,7 @@ insert-last-requires-clause-room g c =
     let none = none-stands _ _ es _ w.client c.self.view_is c.self.invariant.0.stand
     c.requires.nowhere in
     let nodes = c.self.inside.nodes.slots in
-    let queues = c.self.inside.queues.map.entries in
+    let queues = c.self.inside.queues in
     let o = c.object.inside.0 in
     let n = c.home_of-node.result in
     let home = ap (home_of homes) (sym c.client.view_is) ∙ c.home_of-node.ensures in
@@ -61,7 +61,7 @@ insert-last-requires-clause-len g c =
     let none = none-stands _ _ es _ w.client c.self.view_is c.self.invariant.0.stand
     c.requires.nowhere in
     let nodes = c.self.inside.nodes.slots in
-    let queues = c.self.inside.queues.map.entries in
+    let queues = c.self.inside.queues in
     let o = c.object.inside.0 in
     let n = c.home_of-node.result in
     let home = ap (home_of homes) (sym c.client.view_is) ∙ c.home_of-node.ensures in
@@ -78,7 +78,7 @@ insert-last-requires-clause-spare g c =
     let o = c.object.inside.0 in
     let made = ap (λ s. is_made s o) c.self.view_is
     ∙ (ap (is_made c.args.self.now) c.object.view_is ∙ c.requires.made) in
-    spare-there homes c.self.inside.nodes.slots c.self.inside.queues.map.entries es _ _
+    spare-there homes c.self.inside.nodes.slots c.self.inside.queues es _ _
     c.self.inside.boxes c.self.invariant.0 c.self.invariant.1 w.client c.home_of-node.result o home
     none made
 
@@ -90,7 +90,7 @@ insert-requires-clause-last g c =
     let none = none-stands _ _ es _ w.client c.self.view_is c.self.invariant.0.stand
     c.requires.nowhere in
     let nodes = c.self.inside.nodes.slots in
-    let queues = c.self.inside.queues.map.entries in
+    let queues = c.self.inside.queues in
     let o = c.object.inside.0 in
     let n = c.home_of-node.result in
     let home = ap (home_of homes) (sym c.client.view_is) ∙ c.home_of-node.ensures in
@@ -101,7 +101,7 @@ insert-requires-clause-last g c =
     let within : c.level.result - 1 < most_priority = omega (arith, least, most) in
     let made = ap (λ s. is_made s o) c.self.view_is
     ∙ (ap (is_made c.args.self.now) c.object.view_is ∙ c.requires.made) in
-    last-there homes nodes nodes queues c.insert-last.new.queues.map.entries es o
+    last-there homes nodes nodes queues c.insert-last.new.queues es o
     (c.level.result - 1) n w c.insert-last.result c.self.invariant.0 none home level within made
     c.insert-last.ensures.numbers c.insert-last.ensures.others c.insert-last.ensures.queue
 
@@ -113,7 +113,7 @@ invariant_of-self g c =
     let none = none-stands _ _ es _ w.client c.self.view_is c.self.invariant.0.stand
     c.requires.nowhere in
     let nodes = c.self.inside.nodes.slots in
-    let queues = c.self.inside.queues.map.entries in
+    let queues = c.self.inside.queues in
     let o = c.object.inside.0 in
     let n = c.home_of-node.result in
     let home = ap (home_of homes) (sym c.client.view_is) ∙ c.home_of-node.ensures in
@@ -132,14 +132,14 @@ invariant_of-self g c =
     let done = c.insert.ensures in
     let last = c.insert-last.ensures in
     let old = is-listed queues o made in (
-      subst (AreChains homes c.insert.new.nodes.slots c.insert-last.new.queues.map.entries)
+      subst (AreChains homes c.insert.new.nodes.slots c.insert-last.new.queues)
           (sym logged)
-          (step-put homes nodes c.insert.new.nodes.slots queues c.insert-last.new.queues.map.entries
+          (step-put homes nodes c.insert.new.nodes.slots queues c.insert-last.new.queues
           es o (c.level.result - 1) n w c.insert-last.result c.self.invariant.0 none home level
           within made last.numbers last.others last.queue
           done.there done.next done.before done.entry done.client latest),
       subst (λ ds. AreBoxes (length homes)
-          (length (numbers c.insert-last.new.queues.map.entries)) ds
+          (length (numbers c.insert-last.new.queues)) ds
           (vec_len c.insert-last.new.spares)
           (vec_capacity c.insert-last.new.spares) c.self.inside.boxes) (sym logged)
           (boxes-put homes nodes queues es _ _ c.self.inside.boxes c.self.invariant.0
@@ -156,7 +156,7 @@ returns-clause-queues g c = λ q.
     let none = none-stands _ _ es _ w.client c.self.view_is c.self.invariant.0.stand
     c.requires.nowhere in
     let nodes = c.self.inside.nodes.slots in
-    let queues = c.self.inside.queues.map.entries in
+    let queues = c.self.inside.queues in
     let o = c.object.inside.0 in
     let n = c.home_of-node.result in
     let home = ap (home_of homes) (sym c.client.view_is) ∙ c.home_of-node.ensures in
@@ -169,8 +169,8 @@ returns-clause-queues g c = λ q.
     ∙ (ap (is_made c.args.self.now) c.object.view_is ∙ c.requires.made) in
     let logged = ap waiting_by c.and-self-inside.ensures
     ∙ waiting-more c.self.inside.log.items (Some o, w) in
-    let stand = subst (AllStand (numbers c.insert-last.new.queues.map.entries)) (sym logged)
-    (put-stand homes nodes c.insert.new.nodes.slots queues c.insert-last.new.queues.map.entries es o
+    let stand = subst (AllStand (numbers c.insert-last.new.queues)) (sym logged)
+    (put-stand homes nodes c.insert.new.nodes.slots queues c.insert-last.new.queues es o
     (c.level.result - 1) n w c.insert-last.result c.self.invariant.0 none home level within made
     c.insert-last.ensures.numbers c.insert-last.ensures.others c.insert-last.ensures.queue) in
     let step = ap (queue_of q) logged

@@ -10,21 +10,21 @@ use Rattle.pt_waitq.proofs.chains.ChainsWaitList.make.Goals as goal
 
 pub make-requires : goal.make-requires
 make-requires g c =
-    not-listed c.self.inside.queues.map.entries c.object.inside.0
+    not-listed c.self.inside.queues c.object.inside.0
     (ap (λ w. is_made w c.object.inside.0) c.self.view_is
     ∙ (ap (is_made c.args.self.now) c.object.view_is ∙ c.requires))
 
 pub invariant_of-self-2 : goal.invariant_of-self-2
 invariant_of-self-2 g c =
     let homes = c.self.inside.homes.map.entries in
-    let queues = c.self.inside.queues.map.entries in
+    let queues = c.self.inside.queues in
     let o = c.object.inside.0 in
     let none = not-listed queues o (ap (λ w. is_made w o) c.self.view_is
     ∙ (ap (is_made c.args.self.now) c.object.view_is ∙ c.requires)) in
     let made = c.make.ensures in
     let grown = c.in-Ok.ensures in
     let longer = length-made c.make.result (numbers queues) _ o made.numbers in
-    let enough : min (length homes) (length (numbers c.make.new.queues.map.entries))
+    let enough : min (length homes) (length (numbers c.make.new.queues))
     ≤ c.in-Ok.boxes =
     omega (
       arith,
@@ -46,7 +46,7 @@ invariant_of-self-2 g c =
 pub returns-clause-queues : goal.returns-clause-queues
 returns-clause-queues g c = λ q.
     let es = waiting_by c.self.inside.log.items in
-    let queues = c.self.inside.queues.map.entries in
+    let queues = c.self.inside.queues in
     let o = c.object.inside.0 in
     let none = not-listed queues o (ap (λ w. is_made w o) c.self.view_is
     ∙ (ap (is_made c.args.self.now) c.object.view_is ∙ c.requires)) in

@@ -54,7 +54,7 @@ remove-emptied-requires-clause-there g c =
     let es = waiting_by c.self.inside.log.items in
     let homes = c.self.inside.homes.map.entries in
     let nodes = c.self.inside.nodes.slots in
-    let queues = c.self.inside.queues.map.entries in
+    let queues = c.self.inside.queues in
     let place = c.in_ok-place.place in
     let w = place.waiter in
     let there = place-entry homes nodes c.client.inside.0 place.node _
@@ -71,7 +71,7 @@ remove-emptied-requires-clause-stands g c =
     let es = waiting_by c.self.inside.log.items in
     let homes = c.self.inside.homes.map.entries in
     let nodes = c.self.inside.nodes.slots in
-    let queues = c.self.inside.queues.map.entries in
+    let queues = c.self.inside.queues in
     let place = c.in_ok-place.place in
     let w = place.waiter in
     let there = place-entry homes nodes c.client.inside.0 place.node _
@@ -95,7 +95,7 @@ remove-emptied-requires-clause-len g c =
     let es = waiting_by c.self.inside.log.items in
     let homes = c.self.inside.homes.map.entries in
     let nodes = c.self.inside.nodes.slots in
-    let queues = c.self.inside.queues.map.entries in
+    let queues = c.self.inside.queues in
     let place = c.in_ok-place.place in
     let w = place.waiter in
     let there = place-entry homes nodes c.client.inside.0 place.node _
@@ -119,7 +119,7 @@ remove-requires-clause-before g c =
     let es = waiting_by c.self.inside.log.items in
     let homes = c.self.inside.homes.map.entries in
     let nodes = c.self.inside.nodes.slots in
-    let queues = c.self.inside.queues.map.entries in
+    let queues = c.self.inside.queues in
     let place = c.in_ok-place.place in
     let w = place.waiter in
     let there = place-entry homes nodes c.client.inside.0 place.node _
@@ -145,7 +145,7 @@ remove-requires-clause-next g c =
     let es = waiting_by c.self.inside.log.items in
     let homes = c.self.inside.homes.map.entries in
     let nodes = c.self.inside.nodes.slots in
-    let queues = c.self.inside.queues.map.entries in
+    let queues = c.self.inside.queues in
     let place = c.in_ok-place.place in
     let w = place.waiter in
     let there = place-entry homes nodes c.client.inside.0 place.node _
@@ -171,7 +171,7 @@ put_back-requires-clause-emptied g c =
     let es = waiting_by c.self.inside.log.items in
     let homes = c.self.inside.homes.map.entries in
     let nodes = c.self.inside.nodes.slots in
-    let queues = c.self.inside.queues.map.entries in
+    let queues = c.self.inside.queues in
     let place = c.in_ok-place.place in
     let w = place.waiter in
     let there = place-entry homes nodes c.client.inside.0 place.node _
@@ -189,7 +189,7 @@ put_back-requires-clause-emptied g c =
     let done = c.remove.ensures in
     let out = c.remove-emptied.ensures in
     let emptied = step-emptied homes nodes c.remove.new.nodes.slots queues
-    c.remove-emptied.new.queues.map.entries es place.object (c.level.result - 1) place.node w
+    c.remove-emptied.new.queues es place.object (c.level.result - 1) place.node w
     place.next place.before c.self.invariant.0 found.0 home c.in_ok-place.ensures.node level within
     made out.numbers out.others done.there done.next done.before done.entry done.client
     (option_map (λ b. b.value) c.remove-emptied.result) out.queue in
@@ -200,7 +200,7 @@ put_back-requires-clause-room g c =
     let es = waiting_by c.self.inside.log.items in
     let homes = c.self.inside.homes.map.entries in
     let nodes = c.self.inside.nodes.slots in
-    let queues = c.self.inside.queues.map.entries in
+    let queues = c.self.inside.queues in
     let place = c.in_ok-place.place in
     let w = place.waiter in
     let there = place-entry homes nodes c.client.inside.0 place.node _
@@ -218,7 +218,7 @@ put_back-requires-clause-room g c =
     let done = c.remove.ensures in
     let out = c.remove-emptied.ensures in
     let emptied = step-emptied homes nodes c.remove.new.nodes.slots queues
-    c.remove-emptied.new.queues.map.entries es place.object (c.level.result - 1) place.node w
+    c.remove-emptied.new.queues es place.object (c.level.result - 1) place.node w
     place.next place.before c.self.invariant.0 found.0 home c.in_ok-place.ensures.node level within
     made out.numbers out.others done.there done.next done.before done.entry done.client
     (option_map (λ b. b.value) c.remove-emptied.result) out.queue in
@@ -232,7 +232,7 @@ invariant_of-self g c =
     let es = waiting_by c.self.inside.log.items in
     let homes = c.self.inside.homes.map.entries in
     let nodes = c.self.inside.nodes.slots in
-    let queues = c.self.inside.queues.map.entries in
+    let queues = c.self.inside.queues in
     let place = c.in_ok-place.place in
     let w = place.waiter in
     let there = place-entry homes nodes c.client.inside.0 place.node _
@@ -250,17 +250,17 @@ invariant_of-self g c =
     let done = c.remove.ensures in
     let out = c.remove-emptied.ensures in
     let emptied = step-emptied homes nodes c.remove.new.nodes.slots queues
-    c.remove-emptied.new.queues.map.entries es place.object (c.level.result - 1) place.node w
+    c.remove-emptied.new.queues es place.object (c.level.result - 1) place.node w
     place.next place.before c.self.invariant.0 found.0 home c.in_ok-place.ensures.node level within
     made out.numbers out.others done.there done.next done.before done.entry done.client
     (option_map (λ b. b.value) c.remove-emptied.result) out.queue in
     let logged = ap waiting_by c.and-self-inside.ensures
     ∙ waiting-more c.self.inside.log.items (None, w) in
     let back = c.put_back.ensures in (
-      subst (AreChains homes c.remove.new.nodes.slots c.remove-emptied.new.queues.map.entries)
+      subst (AreChains homes c.remove.new.nodes.slots c.remove-emptied.new.queues)
           (sym logged) emptied.chains,
       subst (λ ds. AreBoxes (length homes)
-          (length (numbers c.remove-emptied.new.queues.map.entries)) ds
+          (length (numbers c.remove-emptied.new.queues)) ds
           (vec_len c.put_back.new.spares)
           (vec_capacity c.put_back.new.spares) c.self.inside.boxes) (sym logged)
           (boxes-taken homes nodes queues es _ _ c.self.inside.boxes c.self.invariant.0
@@ -293,7 +293,7 @@ returns-clause-queues g c = λ q.
     let es = waiting_by c.self.inside.log.items in
     let homes = c.self.inside.homes.map.entries in
     let nodes = c.self.inside.nodes.slots in
-    let queues = c.self.inside.queues.map.entries in
+    let queues = c.self.inside.queues in
     let place = c.in_ok-place.place in
     let w = place.waiter in
     let there = place-entry homes nodes c.client.inside.0 place.node _
@@ -311,13 +311,13 @@ returns-clause-queues g c = λ q.
     let done = c.remove.ensures in
     let out = c.remove-emptied.ensures in
     let emptied = step-emptied homes nodes c.remove.new.nodes.slots queues
-    c.remove-emptied.new.queues.map.entries es place.object (c.level.result - 1) place.node w
+    c.remove-emptied.new.queues es place.object (c.level.result - 1) place.node w
     place.next place.before c.self.invariant.0 found.0 home c.in_ok-place.ensures.node level within
     made out.numbers out.others done.there done.next done.before done.entry done.client
     (option_map (λ b. b.value) c.remove-emptied.result) out.queue in
     let logged = ap waiting_by c.and-self-inside.ensures
     ∙ waiting-more c.self.inside.log.items (None, w) in
-    let stand = subst (AllStand (numbers c.remove-emptied.new.queues.map.entries)) (sym logged)
+    let stand = subst (AllStand (numbers c.remove-emptied.new.queues)) (sym logged)
     emptied.chains.stand in
     let step = ap (queue_of q) logged
     ∙ (queue_of-without w.client q es
@@ -330,7 +330,7 @@ returns-clause-admitted g c = λ d.
     let es = waiting_by c.self.inside.log.items in
     let homes = c.self.inside.homes.map.entries in
     let nodes = c.self.inside.nodes.slots in
-    let queues = c.self.inside.queues.map.entries in
+    let queues = c.self.inside.queues in
     let place = c.in_ok-place.place in
     let w = place.waiter in
     let there = place-entry homes nodes c.client.inside.0 place.node _

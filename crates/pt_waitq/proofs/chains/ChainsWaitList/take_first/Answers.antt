@@ -25,7 +25,7 @@ returns-in_err-node-clause-first g c =
     let found = c.in_err-node.ensures in
     c.from_residual.ensures
     ∙ (first-told c.self.inside.homes.map.entries c.self.inside.nodes.slots
-    c.self.inside.queues.map.entries es c.self.invariant.0 c.object.inside.0 None found.none
+    c.self.inside.queues es c.self.invariant.0 c.object.inside.0 None found.none
     found.queue
     ∙ (ap (λ o. head_of (queue_of o es)) c.object.view_is
     ∙ ap head_of (read-as _ _ es es _ c.self.view_is c.self.invariant.0.stand refl c.args.object)))
@@ -35,7 +35,7 @@ place_at-place-requires g c =
     let es = waiting_by c.self.inside.log.items in
     let found = c.in_ok-node.ensures in
     first-known c.self.inside.homes.map.entries c.self.inside.nodes.slots
-    c.self.inside.queues.map.entries es c.self.invariant.0 c.object.inside.0
+    c.self.inside.queues es c.self.invariant.0 c.object.inside.0
     (Some c.in_ok-node.node) found.none found.queue
 
 pub remove-freed-requires-clause-stands : goal.remove-freed-requires-clause-stands
@@ -43,7 +43,7 @@ remove-freed-requires-clause-stands g c =
     let es = waiting_by c.self.inside.log.items in
     let homes = c.self.inside.homes.map.entries in
     let nodes = c.self.inside.nodes.slots in
-    let queues = c.self.inside.queues.map.entries in
+    let queues = c.self.inside.queues in
     let o = c.object.inside.0 in
     let n = c.in_ok-node.node in
     let place = c.place_at-place.result in
@@ -66,7 +66,7 @@ remove-freed-requires-clause-len g c =
     let es = waiting_by c.self.inside.log.items in
     let homes = c.self.inside.homes.map.entries in
     let nodes = c.self.inside.nodes.slots in
-    let queues = c.self.inside.queues.map.entries in
+    let queues = c.self.inside.queues in
     let o = c.object.inside.0 in
     let n = c.in_ok-node.node in
     let place = c.place_at-place.result in
@@ -89,7 +89,7 @@ remove-requires-clause-before g c =
     let es = waiting_by c.self.inside.log.items in
     let homes = c.self.inside.homes.map.entries in
     let nodes = c.self.inside.nodes.slots in
-    let queues = c.self.inside.queues.map.entries in
+    let queues = c.self.inside.queues in
     let o = c.object.inside.0 in
     let n = c.in_ok-node.node in
     let place = c.place_at-place.result in
@@ -112,7 +112,7 @@ remove-requires-clause-next g c =
     let es = waiting_by c.self.inside.log.items in
     let homes = c.self.inside.homes.map.entries in
     let nodes = c.self.inside.nodes.slots in
-    let queues = c.self.inside.queues.map.entries in
+    let queues = c.self.inside.queues in
     let o = c.object.inside.0 in
     let n = c.in_ok-node.node in
     let place = c.place_at-place.result in
@@ -135,7 +135,7 @@ put_back-requires-clause-emptied g c =
     let es = waiting_by c.self.inside.log.items in
     let homes = c.self.inside.homes.map.entries in
     let nodes = c.self.inside.nodes.slots in
-    let queues = c.self.inside.queues.map.entries in
+    let queues = c.self.inside.queues in
     let o = c.object.inside.0 in
     let n = c.in_ok-node.node in
     let place = c.place_at-place.result in
@@ -153,7 +153,7 @@ put_back-requires-clause-emptied g c =
     let done = c.remove.ensures in
     let out = c.remove-freed.ensures in
     let emptied = step-emptied homes nodes c.remove.new.nodes.slots queues
-    c.remove-freed.new.queues.map.entries es o (c.level.result - 1) n w
+    c.remove-freed.new.queues es o (c.level.result - 1) n w
     place.next place.before c.self.invariant.0 h.there h.home h.node level within
     made out.numbers out.others done.there done.next done.before done.entry done.client
     (option_map (λ b. b.value) c.remove-freed.result) out.queue in
@@ -164,7 +164,7 @@ put_back-requires-clause-room g c =
     let es = waiting_by c.self.inside.log.items in
     let homes = c.self.inside.homes.map.entries in
     let nodes = c.self.inside.nodes.slots in
-    let queues = c.self.inside.queues.map.entries in
+    let queues = c.self.inside.queues in
     let o = c.object.inside.0 in
     let n = c.in_ok-node.node in
     let place = c.place_at-place.result in
@@ -182,7 +182,7 @@ put_back-requires-clause-room g c =
     let done = c.remove.ensures in
     let out = c.remove-freed.ensures in
     let emptied = step-emptied homes nodes c.remove.new.nodes.slots queues
-    c.remove-freed.new.queues.map.entries es o (c.level.result - 1) n w
+    c.remove-freed.new.queues es o (c.level.result - 1) n w
     place.next place.before c.self.invariant.0 h.there h.home h.node level within
     made out.numbers out.others done.there done.next done.before done.entry done.client
     (option_map (λ b. b.value) c.remove-freed.result) out.queue in
@@ -196,7 +196,7 @@ invariant_of-self g c =
     let es = waiting_by c.self.inside.log.items in
     let homes = c.self.inside.homes.map.entries in
     let nodes = c.self.inside.nodes.slots in
-    let queues = c.self.inside.queues.map.entries in
+    let queues = c.self.inside.queues in
     let o = c.object.inside.0 in
     let n = c.in_ok-node.node in
     let place = c.place_at-place.result in
@@ -214,17 +214,17 @@ invariant_of-self g c =
     let done = c.remove.ensures in
     let out = c.remove-freed.ensures in
     let emptied = step-emptied homes nodes c.remove.new.nodes.slots queues
-    c.remove-freed.new.queues.map.entries es o (c.level.result - 1) n w
+    c.remove-freed.new.queues es o (c.level.result - 1) n w
     place.next place.before c.self.invariant.0 h.there h.home h.node level within
     made out.numbers out.others done.there done.next done.before done.entry done.client
     (option_map (λ b. b.value) c.remove-freed.result) out.queue in
     let logged = ap waiting_by c.and-self-inside.ensures
     ∙ waiting-more c.self.inside.log.items (None, w) in
     let back = c.put_back.ensures in (
-      subst (AreChains homes c.remove.new.nodes.slots c.remove-freed.new.queues.map.entries)
+      subst (AreChains homes c.remove.new.nodes.slots c.remove-freed.new.queues)
           (sym logged) emptied.chains,
       subst (λ ds. AreBoxes (length homes)
-          (length (numbers c.remove-freed.new.queues.map.entries)) ds
+          (length (numbers c.remove-freed.new.queues)) ds
           (vec_len c.put_back.new.spares)
           (vec_capacity c.put_back.new.spares) c.self.inside.boxes) (sym logged)
           (boxes-taken homes nodes queues es _ _ c.self.inside.boxes c.self.invariant.0
@@ -240,7 +240,7 @@ returns-clause-first g c =
     let es = waiting_by c.self.inside.log.items in
     let homes = c.self.inside.homes.map.entries in
     let nodes = c.self.inside.nodes.slots in
-    let queues = c.self.inside.queues.map.entries in
+    let queues = c.self.inside.queues in
     let o = c.object.inside.0 in
     let n = c.in_ok-node.node in
     let place = c.place_at-place.result in
@@ -257,7 +257,7 @@ returns-clause-taken g c = λ q.
     let es = waiting_by c.self.inside.log.items in
     let homes = c.self.inside.homes.map.entries in
     let nodes = c.self.inside.nodes.slots in
-    let queues = c.self.inside.queues.map.entries in
+    let queues = c.self.inside.queues in
     let o = c.object.inside.0 in
     let n = c.in_ok-node.node in
     let place = c.place_at-place.result in
@@ -275,13 +275,13 @@ returns-clause-taken g c = λ q.
     let done = c.remove.ensures in
     let out = c.remove-freed.ensures in
     let emptied = step-emptied homes nodes c.remove.new.nodes.slots queues
-    c.remove-freed.new.queues.map.entries es o (c.level.result - 1) n w
+    c.remove-freed.new.queues es o (c.level.result - 1) n w
     place.next place.before c.self.invariant.0 h.there h.home h.node level within
     made out.numbers out.others done.there done.next done.before done.entry done.client
     (option_map (λ b. b.value) c.remove-freed.result) out.queue in
     let logged = ap waiting_by c.and-self-inside.ensures
     ∙ waiting-more c.self.inside.log.items (None, w) in
-    let stand = subst (AllStand (numbers c.remove-freed.new.queues.map.entries)) (sym logged)
+    let stand = subst (AllStand (numbers c.remove-freed.new.queues)) (sym logged)
     emptied.chains.stand in
     let step = ap (queue_of q) logged ∙ queue_of-without w.client q es in
     queue-change _ _ _ es _ _ c.self.view_is c.self.invariant.0.stand stand
@@ -292,7 +292,7 @@ returns-clause-admitted g c = λ d.
     let es = waiting_by c.self.inside.log.items in
     let homes = c.self.inside.homes.map.entries in
     let nodes = c.self.inside.nodes.slots in
-    let queues = c.self.inside.queues.map.entries in
+    let queues = c.self.inside.queues in
     let o = c.object.inside.0 in
     let n = c.in_ok-node.node in
     let place = c.place_at-place.result in

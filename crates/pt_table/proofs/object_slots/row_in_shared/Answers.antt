@@ -1,5 +1,5 @@
 use Rattle.pt_table.proofs.Named.{row_by_map}
-use Rattle.pt_table.proofs.object_slots.row_in_map.Goals as goal
+use Rattle.pt_table.proofs.object_slots.row_in_shared.Goals as goal
 
 pub returns : goal.returns
 returns g c =

@@ -1,0 +1,20 @@
+use Rattle.std.proofs.Common.{◌∙◌, ap, arith, length, sym}
+use Rattle.pt_waitq.specs.Opened.{made_by}
+use Rattle.pt_waitq.proofs.OpenedLemmas.{length-by}
+use Rattle.pt_waitq.proofs.queues.Queues.len.Goals as goal
+
+pub returns-clause-len : goal.returns-clause-len
+returns-clause-len g c =
+    c.self.invariant.count
+    ∙ sym (length-by (made_by c.self.inside.log.items) c.self.inside.rows.map.entries)
+    ∙ ap length c.self.view_is
+
+pub returns-clause-within : goal.returns-clause-within
+returns-clause-within g c =
+    omega (
+      arith,
+      c.self.invariant.count,
+      c.self.invariant.few,
+      length-by (made_by c.self.inside.log.items) c.self.inside.rows.map.entries,
+      ap length c.self.view_is,
+    )
