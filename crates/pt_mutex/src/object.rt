@@ -16,12 +16,12 @@ use std::marker::Model;
 /// A wait is bound to its mutex while it waits at its condition.
 #[derive(Debug, Drop)]
 pub struct MutexObj {
+    owner: Option<ClientId>,
+    bound_waits: u32,
+    count: u8,
     kind: MutexKind,
     robust: bool,
     consistency: Consistency,
-    owner: Option<ClientId>,
-    count: u8,
-    bound_waits: u32,
 }
 
 impl Model for MutexObj {

@@ -3,7 +3,7 @@ ghost use Rattle.std.specs.Prelude.{Some, is_some, false};
 ghost use Rattle.pt_types.specs.MutexTable.{is_number};
 ghost use Rattle.pt_types.specs.RwlockTable.{read_verdict, write_verdict, rwunlock_verdict, holds};
 
-use crate::rows::Rows;
+use crate::boxed::BoxedRows;
 use pt_types::{ClientId, How, MOST_READS, Outcome, Refusal, Verdict};
 use std::alloc::{Allocator, Global};
 use std::marker::Model;
@@ -25,7 +25,7 @@ pub enum Held {
 pub struct Holders<A: Allocator + Copy = Global> {
     writer: Option<ClientId>,
     /// By the number of the client.
-    reads: Rows<A>,
+    reads: BoxedRows<A>,
     /// How many clients have read locks.
     readers: usize,
 }
@@ -52,7 +52,7 @@ impl<A: Allocator + Copy> Holders<A> {
     {
         Holders {
             writer: None,
-            reads: Rows::new(alloc),
+            reads: BoxedRows::new(alloc),
             readers: 0,
         }
     }

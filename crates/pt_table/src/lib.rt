@@ -18,8 +18,10 @@ mod objects;
 mod rows;
 mod slot_hints;
 mod sorting;
+mod stored_link;
 
 pub use clients::{ClientRow, Clients};
 pub use fault::TableFault;
 pub use link::Link;
 pub use objects::{ObjectRow, Objects};
+pub use stored_link::StoredLink;

@@ -1,5 +1,5 @@
 ghost use Rattle.std.specs.Prelude.{◌≡◌};
-ghost use Rattle.pt_table.specs.ObjectRows.{leading_back, leading_on, out_of_chains};
+ghost use Rattle.pt_table.specs.ObjectRows.{out_of_chains};
 
 /// Where the row of an object is in a chain.
 #[derive(Clone, Copy, Debug)]
@@ -33,23 +33,5 @@ impl Link {
             next: None,
             before: None,
         }
-    }
-
-    // It leads on as another does, and back as it did.
-    #[inline(always)]
-    pub(crate) fn set_next(&mut self, link: Link)
-        ensures { self.new ≡ leading_on self.old link }
-    {
-        self.next = link.next;
-        self.next_slot = link.next_slot;
-    }
-
-    // It leads back as another does, and on as it did.
-    #[inline(always)]
-    pub(crate) fn set_before(&mut self, link: Link)
-        ensures { self.new ≡ leading_back self.old link }
-    {
-        self.before = link.before;
-        self.before_slot = link.before_slot;
     }
 }

@@ -19,6 +19,7 @@ use crate::object_slots::{
     make_room_named, put_named, row_named, row_of, slot_by, slot_by_hint, take_named,
 };
 use crate::rows::nth_row;
+use crate::stored_link::StoredLink;
 use pt_types::{MOST_OBJECTS, Name};
 use slab::Slab;
 use std::alloc::{AllocError, Allocator, Global};
@@ -30,7 +31,7 @@ pub struct ObjectRow<T> {
     pub number: u64,
     pub name: Name,
     pub value: T,
-    pub link: Link,
+    pub link: StoredLink,
 }
 
 impl<T> ObjectRow<T> {
@@ -222,7 +223,7 @@ impl<T, A: Allocator + Copy> Objects<T, A> {
         ensures { link_of self.now number ≡ Some result }
     {
         let slot = slot_by(&self.rows, &self.numbers, slot, number);
-        self.rows[slot].link
+        self.rows[slot].link.get()
     }
 
     // The link of an object's row.
@@ -230,7 +231,7 @@ impl<T, A: Allocator + Copy> Objects<T, A> {
         ensures { result ≡ link_of self.now number }
     {
         match row_of(&self.rows, &self.numbers, number) {
-            Some(row) => Some(row.link),
+            Some(row) => Some(row.link.get()),
             None => None,
         }
     }
@@ -241,7 +242,7 @@ impl<T, A: Allocator + Copy> Objects<T, A> {
         ensures { self.new ≡ with_link self.old number link }
     {
         let slot = slot_by(&self.rows, &self.numbers, slot, number);
-        self.rows[slot].link = link;
+        self.rows[slot].link = StoredLink::of(link);
     }
 
     // An object's row, which is looked for in this slot first, leads on as another does.
@@ -308,7 +309,7 @@ impl<T, A: Allocator + Copy> Objects<T, A> {
             number,
             name: name.copied(),
             value,
-            link: Link::out(),
+            link: StoredLink::of(Link::out()),
         };
         put_named(
             &mut self.rows,
@@ -348,7 +349,7 @@ impl<T, A: Allocator + Copy> Objects<T, A> {
             number,
             name: name.copied(),
             value,
-            link: Link::out(),
+            link: StoredLink::of(Link::out()),
         };
         put_named(
             &mut self.rows,

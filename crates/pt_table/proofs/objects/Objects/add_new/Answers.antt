@@ -52,5 +52,6 @@ returns-clause-ok g c =
     c.put_named.ensures.vacant c.put_named.ensures.row c.put_named.ensures.others
     c.put_named.ensures.numbers
     (number_free c.args.self.now c.args.number c.args.name.now c.requires.new) c.requires.room
-    ∙ (ap (λ link. c.args.self.now ++ row c.copied.result link ∷ []) c.out.ensures
+    ∙ (ap (λ link. c.args.self.now ++ row c.copied.result link ∷ [])
+    (c.of.ensures ∙ c.out.ensures)
     ∙ ap (λ name. c.args.self.now ++ row name out_of_chains ∷ []) c.copied.ensures)

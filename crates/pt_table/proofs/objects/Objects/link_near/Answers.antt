@@ -1,4 +1,4 @@
-use Rattle.std.proofs.Common.{ap}
+use Rattle.std.proofs.Common.{◌∙◌, Some, ap, sym}
 use Rattle.std.specs.Option.{option_map}
 use Rattle.pt_table.proofs.Listed.{slot_there, row_there}
 use Rattle.pt_table.proofs.objects.Objects.link_near.Goals as goal
@@ -12,3 +12,4 @@ returns g c =
     ap (option_map (λ row. row.link))
     (row_there c.self.invariant.0 c.args.self.now c.self.view_is c.args.number
     c.slot_by-slot.result c.index.result.now c.slot_by-slot.ensures.slot c.index.ensures)
+    ∙ ap Some (sym c.get.ensures)

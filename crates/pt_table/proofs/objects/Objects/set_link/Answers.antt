@@ -13,10 +13,10 @@ slot_by-slot-requires-clause-listed g c =
 pub invariant_of-self : goal.invariant_of-self
 invariant_of-self g c = (
   IsNumbered-written c.index_mut.result.now c.slot_by-slot.result
-      (λ r. record r { link = c.args.link }) (λ r. refl) c.self.invariant.0
+      (λ r. record r { link = c.of.result }) (λ r. refl) c.self.invariant.0
       c.index_mut.ensures.value,
   IsNamed-written c.index_mut.result.now c.slot_by-slot.result
-      (λ r. record r { link = c.args.link }) (λ r. refl) refl c.self.invariant.0
+      (λ r. record r { link = c.of.result }) (λ r. refl) refl c.self.invariant.0
       c.self.invariant.1 c.index_mut.ensures.value,
 )
 
@@ -26,9 +26,10 @@ returns g c =
     let slot = c.slot_by-slot.result in
     let here = c.index_mut.ensures.value in
     let change : ObjectRow g.row.T.Denot → ObjectRow g.row.T.Denot =
-    λ r. record r { link = c.args.link } in
+    λ r. record r { link = c.of.result } in
     let number = number_there c.self.invariant.0 c.args.number slot row
     c.slot_by-slot.ensures.slot here in
     rows_listed-written row slot change (λ r. refl) c.self.invariant.0 here
-    ∙ ap (λ rs. with_link rs row.number c.args.link) c.self.view_is
-    ∙ ap (λ n. with_link c.args.self.now n c.args.link) number
+    ∙ ap (λ rs. with_link rs row.number c.of.result) c.self.view_is
+    ∙ ap (λ n. with_link c.args.self.now n c.of.result) number
+    ∙ ap (with_link c.args.self.now c.args.number) c.of.ensures

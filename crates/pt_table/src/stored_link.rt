@@ -1,0 +1,93 @@
+ghost use Rattle.std.specs.Prelude.{◌≡◌, Some, None, if◌then◌else◌};
+
+use crate::link::Link;
+use std::marker::Model;
+
+/// A link as it lies in its row: in 24 bytes.
+#[derive(Debug, Drop)]
+pub struct StoredLink {
+    next: u64,
+    before: u64,
+    next_slot: u16,
+    before_slot: u16,
+    linked: bool,
+    has_next: bool,
+    has_before: bool,
+}
+
+impl Model for StoredLink {
+    ghost use Rattle.std.specs.Prelude.{Some, None, if◌then◌else◌};
+    ghost use Rattle.pt_table.specs.declared.link.Link.{Link};
+
+    ghost Value = { Link };
+
+    ghost view = { λ l. record {
+      linked = l.linked;
+      next_slot = l.next_slot;
+      before_slot = l.before_slot;
+      next = if l.has_next then Some l.next else None;
+      before = if l.has_before then Some l.before else None;
+    } };
+}
+
+// A number, if there is one.
+#[inline(always)]
+fn number_if(there: bool, number: u64) -> Option<u64>
+    ensures { result ≡ if there then Some number else None }
+{
+    if there { Some(number) } else { None }
+}
+
+impl StoredLink {
+    // A link that is stored.
+    #[inline(always)]
+    pub(crate) fn of(link: Link) -> Self
+        ensures { result ≡ link }
+    {
+        StoredLink {
+            next: link.next.unwrap_or(0),
+            before: link.before.unwrap_or(0),
+            next_slot: link.next_slot,
+            before_slot: link.before_slot,
+            linked: link.linked,
+            has_next: link.next.is_some(),
+            has_before: link.before.is_some(),
+        }
+    }
+
+    // The link that is stored.
+    #[inline(always)]
+    pub(crate) fn get(&self) -> Link
+        ensures { result ≡ self.now }
+    {
+        Link {
+            linked: self.linked,
+            next_slot: self.next_slot,
+            before_slot: self.before_slot,
+            next: number_if(self.has_next, self.next),
+            before: number_if(self.has_before, self.before),
+        }
+    }
+
+    // It leads on as another does, and back as it did.
+    #[inline(always)]
+    pub(crate) fn set_next(&mut self, link: Link)
+        ensures { self.new
+            ≡ record self.old { next = link.next; next_slot = link.next_slot } }
+    {
+        self.next = link.next.unwrap_or(0);
+        self.has_next = link.next.is_some();
+        self.next_slot = link.next_slot;
+    }
+
+    // It leads back as another does, and on as it did.
+    #[inline(always)]
+    pub(crate) fn set_before(&mut self, link: Link)
+        ensures { self.new
+            ≡ record self.old { before = link.before; before_slot = link.before_slot } }
+    {
+        self.before = link.before.unwrap_or(0);
+        self.has_before = link.before.is_some();
+        self.before_slot = link.before_slot;
+    }
+}
