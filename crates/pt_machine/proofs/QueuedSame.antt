@@ -33,6 +33,19 @@ members-same at reading calls queue queue' same k =
           subst (λ (xs : List Waiter). In (reading w) xs) (sym (same (at w))) (k.held w i);
     }
 
+-- queues that are right are right in other lists
+pub queued-lists : (h : History) (queue queue' : ℕ → List Waiter)
+    (admitted admitted' made made' : ℕ → Bool)
+    → ((q : ℕ) → queue' q ≡ queue q) → ((c : ℕ) → admitted' c ≡ admitted c)
+    → ((o : ℕ) → made' o ≡ made o)
+    → IsQueued h (queues_of queue admitted made) → IsQueued h (queues_of queue' admitted' made')
+queued-lists h queue queue' admitted admitted' made made' lists a m k =
+    record {
+      members = members-same (at_object h) (waiter h) (open_calls h) queue queue' lists k.members;
+      admits = λ c. a c ∙ k.admits c;
+      makes = λ o. m o ∙ k.makes o;
+    }
+
 -- calls that were moved as they were before stand where they stood, and wait as they did
 pub stands-same : (h g : History) (w : WaitingCall) → moved g w.place ≡ moved h w.place
     → (at_object g w ≡ at_object h w) × (waiter g w ≡ waiter h w)

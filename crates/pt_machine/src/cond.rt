@@ -98,8 +98,7 @@ pub(crate) fn push_broadcast<Q: WaitList, A: Allocator + Copy>(
 {
     let q = object.unwrap();
     state.push_broadcast(c, call, n, Some(q));
-    while let Some(first) = queues.first(q) {
-        queues.remove(first.client);
+    while let Some(first) = queues.take_first(q) {
         take_place(queues, state, first.client);
     }
 }
