@@ -21,7 +21,6 @@ use pt_waitq::WaitList;
 use std::alloc::Allocator;
 
 /// The answer that an event's own call has by now.
-#[inline(always)]
 pub fn told<Q: WaitList, A: Allocator + Copy>(
     body: &Body<Q, A>,
     event: &Event,

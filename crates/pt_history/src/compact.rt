@@ -1,6 +1,7 @@
 //! Entries as they are stored: numbers of 32 bits, and indices of names, deadlines and readings.
 
-ghost use Rattle.std.specs.Prelude.{◌≡◌, ◌+◌, ◌-◌, IfSome};
+ghost use Rattle.std.specs.Prelude.{◌≡◌, ◌+◌, ◌-◌, IfSome, if◌then◌else◌};
+ghost use Rattle.pt_model.specs.Histories.{is_forced};
 ghost use Rattle.pt_history.specs.Compact.{spelled, base_of, answered, with_limit, wait_until};
 ghost use Rattle.pt_history.specs.Compact.{ShowsAlone, forced_entry};
 ghost use Rattle.pt_types.specs.declared.call.Call.TheVariants.{BarrierInit};
@@ -245,6 +246,16 @@ pub(crate) fn wait_call(cond: Name, mutex: Name, limit: TimeLimit) -> Call
     match limit.clock {
         None => Call::Timedwait(cond, mutex, limit.deadline),
         Some(clock) => Call::Clockwait(cond, mutex, clock, limit.deadline),
+    }
+}
+
+/// What an entry adds to the number of outer entries.
+pub(crate) fn outer_in(entry: &Entry) -> u64
+    ensures { result ≡ if is_forced entry.now then 0 else 1 }
+{
+    match entry {
+        Entry::Join(..) | Entry::Call(..) | Entry::Death(_) | Entry::Moment(..) => 1,
+        Entry::Grant(..) | Entry::Trip(_) | Entry::Yield(_) | Entry::Expire(_) => 0,
     }
 }
 

@@ -1,8 +1,7 @@
-ghost use Rattle.std.specs.Prelude.{◌≡◌, ◌+◌, ◌≤◌, if◌then◌else◌, vec_len, vec_capacity, OnOk};
-ghost use Rattle.pt_model.specs.Histories.{is_forced};
+ghost use Rattle.std.specs.Prelude.{◌≡◌, ◌+◌, ◌≤◌, vec_len, vec_capacity, OnOk};
 ghost use Rattle.pt_history.specs.Records.{HasRoom, KeepsParts};
 
-use crate::compact::{Compact, ForcedEntry, base};
+use crate::compact::{Compact, ForcedEntry, base, outer_in};
 use crate::memory::take_memory;
 use crate::records::Records;
 use pt_model::{Entry, Start};
@@ -51,16 +50,6 @@ fn grow<A: Allocator + Copy>(
     records.reserve(many)
 }
 
-// What the entry adds to the number of outer entries.
-fn outer_in(entry: &Entry) -> u64
-    ensures { result ≡ if is_forced entry.now then 0 else 1 }
-{
-    match entry {
-        Entry::Join(..) | Entry::Call(..) | Entry::Death(_) | Entry::Moment(..) => 1,
-        Entry::Grant(..) | Entry::Trip(_) | Entry::Yield(_) | Entry::Expire(_) => 0,
-    }
-}
-
 impl<A: Allocator + Copy> Model for History<A> {
     ghost use Rattle.pt_history.specs.Stored.{Stored, IsWithin, IsCounted, IsRecorded, entries_of};
     ghost use Rattle.std.specs.Prelude.{◌≡◌, ◌+◌, ◌≤◌, vec_len, vec_capacity};
@@ -92,6 +81,7 @@ impl<A: Allocator + Copy> History<A> {
     ghost use Rattle.pt_history.specs.Stored.{Stored, begun, caller_in, past_of, pushed};
     ghost use Rattle.pt_model.specs.Histories.{outer};
     ghost use Rattle.pt_model.specs.declared.entry.Entry.TheVariants.{Call as CallEntry};
+    ghost use Rattle.pt_model.specs.declared.entry.Entry.TheVariants.{Grant as GrantEntry};
     ghost use Rattle.pt_history.specs.Compact.{forced_entry};
 
     /// An empty history of at most so many entries. It takes no memory.
@@ -298,6 +288,19 @@ impl<A: Allocator + Copy> History<A> {
         self.entries.push_reserved(compact);
         self.room -= 1;
         self.memory -= 1;
+    }
+
+    /// Appends a Grant, in room that was made for it. It takes no memory, and isn't inlined.
+    #[inline(never)]
+    pub fn push_grant(&mut self, place: u64, outcome: Outcome)
+        requires { 0 < self.old.room }
+        ensures { self.new
+            ≡ record self.old {
+              entries = self.old.entries ++ GrantEntry place outcome ∷ [];
+              room = self.old.room - 1;
+            } }
+    {
+        self.push_forced(ForcedEntry::Grant(place, outcome));
     }
 
     /// Forgets the entries and begins anew with this Start. The room stays, and so does the memory.

@@ -12,6 +12,8 @@ pub mod PlaceTakes
 pub mod OpenRowCalls
 -- CandidateRows: the candidate of an object, by the rows of objects and of clients
 pub mod CandidateRows
+-- ServiceLemmas: what is served first: a full barrier's calls, or a client's open call
+pub mod ServiceLemmas
 -- GrantsAtOnce: a call for a free lock, ahead of those that wait for it, is granted as it comes
 pub mod GrantsAtOnce
 -- GrantedAtRest: nothing must follow the Grant of a call that is granted as it comes

@@ -18,7 +18,7 @@ use Rattle.pt_records.specs.declared.clients.Open.{Open}
 use Rattle.pt_records.specs.Callers.{AreCallers, call_of, open_in, move_in}
 use Rattle.pt_records.specs.OpenRows.{object_of}
 use Rattle.pt_state.proofs.CallerFinds.{call_of-open}
-use Rattle.pt_machine.specs.Queued.{waiter, waiter_by, CanStand}
+use Rattle.pt_machine.specs.Queued.{standing, waiter, waiter_by, CanStand}
 use Rattle.pt_machine.proofs.OpenPriorities.{open_priority}
 
 -- an object and a waiter are those of the client's open call
@@ -48,7 +48,7 @@ pub takes :
     (h : History) (rows : List (ClientRow Caller)) → Follows h → AreCallers h rows
     → (c object : ℕ) (v : Waiter) (r : Caller) (o : Open)
     → client_value rows c ≡ Some r → r.«open» ≡ Some o → object ≡ object_of o
-    → v ≡ record (waiter_by o.moved o.call) { prio = r.priority }
+    → v ≡ record (waiter_by o.moved o.call) { prio = standing o.call.role r.priority }
     → Takes h c object v
 takes h rows f a c object v r o kept has at is =
     record {
@@ -66,7 +66,7 @@ takes h rows f a c object v r o kept has at is =
     }
   where
     with_priority : ℕ → Option Move → WaitingCall → Waiter
-    with_priority k m w = record (waiter_by m w) { prio = k }
+    with_priority k m w = record (waiter_by m w) { prio = standing w.role k }
 
     row : open_in (client_value rows c) ≡ Some o
     row = ap open_in kept ∙ has

@@ -1,16 +1,18 @@
 -- QueueAhead: the first of a queue has the greatest priority of those that wait there.
-use Rattle.std.proofs.Common.{◌≡◌, ℕ, ◌==◌, ◌<◌, Bool, true, false, List, Option, Some, None, refl}
-use Rattle.std.proofs.Common.{sym, ◌∙◌, arith}
+use Rattle.std.proofs.Common.{◌≡◌, ℕ, ◌==◌, ◌<◌, ◌≤◌, Bool, true, false, cond, List, Option, Some}
+use Rattle.std.proofs.Common.{None, refl, sym, ◌∙◌, arith}
 use Rattle.std.proofs.lemmas.Bool.Decides.{nat_tests}
 use Rattle.std.specs.Prelude.{nat_lt}
 use Rattle.pt_types.specs.declared.key_order.Key.{Key}
 use Rattle.pt_types.specs.KeyOrder.{goes_before}
+use Rattle.pt_types.specs.Limits.{most_priority}
 use Rattle.pt_waitq.specs.declared.waiter.Waiter.{Waiter}
 use Rattle.pt_waitq.specs.Members.{Members}
 use Rattle.pt_waitq.specs.Queues.{head_of, key_of}
 use Rattle.pt_waitq.proofs.MemberLemmas.{head-first, head-none}
 use Rattle.pt_model.specs.Histories.{History}
 use Rattle.pt_model.specs.declared.waiting_call.WaitingCall.{WaitingCall}
+use Rattle.pt_model.specs.WaitingCall.{is_arrival}
 use Rattle.pt_model.specs.Answers.{open_calls}
 use Rattle.pt_model.specs.Moves.{at_object}
 use Rattle.pt_model.specs.Steps.{Follows}
@@ -39,8 +41,14 @@ module _ (h : History) (queue : ℕ → List Waiter)
       (stands h queue m follows q here (λ w i. refl) w i t))
 
   -- or if the first has
-  pub ahead-first : (v : Waiter) → first ≡ Some v → v.prio < p → IsAhead h p q
-  ahead-first v s lt =
-      λ w i t. no_higher (key_of (waiter h w)) (key_of v) p
+  pub ahead-first : (v : Waiter) → first ≡ Some v → v.prio < p → p ≤ most_priority → IsAhead h p q
+  ahead-first v s lt le =
+      λ w i t. own (is_arrival w.role) w.priority
+      (no_higher (key_of (waiter h w)) (key_of v) p
       (head-first (queue q) v (m.in_order q) (sym e ∙ s) (waiter h w)
-      (stands h queue m follows q here (λ w i. refl) w i t)) lt
+      (stands h queue m follows q here (λ w i. refl) w i t)) lt)
+    where
+      -- it waits with its own priority, or with the highest
+      own : (b : Bool) (n : ℕ) → cond b most_priority n < p → n < p
+      own true n k = absurd (omega (arith, k, le))
+      own false n k = k

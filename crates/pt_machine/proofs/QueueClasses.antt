@@ -78,3 +78,31 @@ pub at-barrier : (h : History) → Follows h → (b : ℕ)
     → (at_object h w == b) ≡ (is_arrival w.role && (w.object == b))
 at-barrier h f b e w i =
     at-barrier-by h b e w.role (moved h w.place) w.object (housed h f w i)
+
+-- where an object is no barrier, no arrival stands
+pub no-arrival : (h : History) → Follows h → (q : ℕ) → exists_as h BarrierClass q ≡ false
+    → (w : WaitingCall) → In w (open_calls h) → (at_object h w == q) ≡ true
+    → is_arrival w.role ≡ false
+no-arrival h f q other w i = go w.role (moved h w.place) w.object (housed h f w i)
+  where
+    go : (role : Role) (move : Option Move) (o : ℕ) → HousedBy h role move o
+        → (object_by role move o == q) ≡ true → is_arrival role ≡ false
+    go ForBarrier move o a t =
+        let same : o ≡ q = grind (arith, nat_tests) in
+        absurd (false≢true (sym other ∙ (ap (exists_as h BarrierClass) (sym same) ∙ a.0)))
+    go ForMutex move o a t = refl
+    go ForRead move o a t = refl
+    go ForWrite move o a t = refl
+    go (ForCond m) move o a t = refl
+
+-- a wait at a condition is no arrival
+pub wait-plain : (h : History) (q : ℕ) (w : WaitingCall) → waits_in h q w ≡ true
+    → is_arrival w.role ≡ false
+wait-plain h q w t = go w.role (is_none (moved h w.place) && (w.object == q)) t
+  where
+    go : (role : Role) (b : Bool) → (is_wait role && b) ≡ true → is_arrival role ≡ false
+    go ForBarrier b e = absurd cc
+    go ForMutex b e = refl
+    go ForRead b e = refl
+    go ForWrite b e = refl
+    go (ForCond m) b e = refl

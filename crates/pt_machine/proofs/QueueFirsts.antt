@@ -1,8 +1,9 @@
 -- QueueFirsts: the first of a queue is the first of the calls that wait there.
 use Rattle.std.proofs.Common.{◌≡◌, ℕ, ◌==◌, Bool, true, false, List, Option, Some, None, option_map}
-use Rattle.std.proofs.Common.{IfSome, filter, refl, sym, ap, ◌∙◌, subst, arith, eq-eqb}
+use Rattle.std.proofs.Common.{IfSome, cond, filter, refl, sym, ap, ◌∙◌, subst, arith, eq-eqb}
 use Rattle.std.proofs.lemmas.Bool.Decides.{nat_tests}
 use Rattle.pt_types.specs.KeyOrder.{goes_before}
+use Rattle.pt_types.specs.Limits.{most_priority}
 use Rattle.pt_table.specs.declared.clients.ClientRow.{ClientRow}
 use Rattle.pt_table.specs.ClientRows.{client_value}
 use Rattle.pt_waitq.specs.declared.waiter.Waiter.{Waiter}
@@ -13,6 +14,7 @@ use Rattle.pt_model.specs.Searches.{In, least}
 use Rattle.pt_model.specs.Histories.{History}
 use Rattle.pt_model.specs.declared.waiting_call.WaitingCall.{WaitingCall}
 use Rattle.pt_model.specs.declared.waiting_call.Move.{Move}
+use Rattle.pt_model.specs.WaitingCall.{is_arrival}
 use Rattle.pt_model.specs.Answers.{open_calls}
 use Rattle.pt_model.specs.Moves.{arrival_by, moved, key, precedes, at_object}
 use Rattle.pt_model.specs.Steps.{Follows}
@@ -29,21 +31,23 @@ use Rattle.pt_state.proofs.ServingOrders.{precedes-one}
 use Rattle.pt_machine.specs.Queued.{waiter}
 use Rattle.pt_machine.proofs.Membership.{in-list, in-queue}
 
--- by what a call goes before another is the same of its waiter
-key-waiter : (h : History) (w : WaitingCall) → key_of (waiter h w) ≡ key h w
-key-waiter h w =
-    ap (λ a. record (key h w) { arrival = a }) (arrives (moved h w.place) w.place)
+-- by what a call goes before another is the same of its waiter, but at a barrier
+key-waiter : (h : History) (w : WaitingCall) → is_arrival w.role ≡ false
+    → key_of (waiter h w) ≡ key h w
+key-waiter h w other =
+    ap (λ b. record (key_of (waiter h w)) { priority = cond b most_priority w.priority }) other
+    ∙ ap (λ a. record (key h w) { arrival = a }) (arrives (moved h w.place) w.place)
   where
     arrives : (move : Option Move) (j : ℕ) → ((arrival_by move j).0, j) ≡ arrival_by move j
     arrives None j = refl
     arrives (Some v) j = refl
 
 -- one waits before another where its call precedes the other's
-pub before-waiter : (h : History) (v w : WaitingCall)
-    → comes_before (waiter h v) (waiter h w) ≡ precedes h v w
-before-waiter h v w =
-    ap (λ k. goes_before k (key_of (waiter h w))) (key-waiter h v)
-    ∙ ap (goes_before (key h v)) (key-waiter h w)
+pub before-waiter : (h : History) (v w : WaitingCall) → is_arrival v.role ≡ false
+    → is_arrival w.role ≡ false → comes_before (waiter h v) (waiter h w) ≡ precedes h v w
+before-waiter h v w one other =
+    ap (λ k. goes_before k (key_of (waiter h w))) (key-waiter h v one)
+    ∙ ap (goes_before (key h v)) (key-waiter h w other)
 
 -- an open call that none of these precedes is the least of them
 pub least-open : (h : History) → Follows h → (p : WaitingCall → Bool) (w : WaitingCall)
@@ -78,18 +82,22 @@ module _ (h : History) (queue : ℕ → List Waiter)
       let at : at_object h w ≡ q = grind (arith, nat_tests) in
       subst (λ o. InQueue (waiter h w) (queue o)) at (m.held w (in-queue w (open_calls h) i))
 
+  -- none of the calls there has arrived at a barrier
+  abbrev ArePlain : Type 0
+  ArePlain = (w : WaitingCall) → In w (open_calls h) → here w ≡ true → is_arrival w.role ≡ false
+
   -- the first of the queue is the least of the calls there
-  first-least : (v : Waiter) → head_of (queue q) ≡ Some v
+  first-least : ArePlain → (v : Waiter) → head_of (queue q) ≡ Some v
       → (w : WaitingCall) × (In w (open_calls h) × (v.client ≡ w.client)
       × (least (precedes h) (filter here (open_calls h)) ≡ Some w))
-  first-least v e =
+  first-least plain v e =
       let r = m.known q v (head-in (queue q) v e) in
       let w = r.0 in
       let i = in-list w (open_calls h) r.1 in
       let waits = sym (agrees w i) ∙ eq-eqb (at_object h w) q r.2 in
       let first : (u : WaitingCall) → In u (open_calls h) → here u ≡ true
       → precedes h u w ≡ false = λ u j t.
-      sym (before-waiter h u w)
+      sym (before-waiter h u w (plain u j t) (plain w i waits))
       ∙ (ap (comes_before (waiter h u)) (sym r.3)
       ∙ head-first (queue q) v (m.in_order q) e (waiter h u) (stands u j t)) in (
         w,
@@ -101,14 +109,14 @@ module _ (h : History) (queue : ℕ → List Waiter)
       )
 
   -- the open call of the first waiter's client is the first call there
-  pub first-called : (rows : List (ClientRow Caller)) → AreCallers h rows
+  pub first-called : ArePlain → (rows : List (ClientRow Caller)) → AreCallers h rows
       → (first : Option Waiter) (v : Waiter) (found : Option Open)
       → first ≡ head_of (queue q) → first ≡ Some v
       → found ≡ open_in (client_value rows v.client)
       → option_map called found
       ≡ least (precedes h) (filter here (open_calls h))
-  first-called rows a first v found e s t =
-      let r = first-least v (sym e ∙ s) in
+  first-called plain rows a first v found e s t =
+      let r = first-least plain v (sym e ∙ s) in
       let own : call_of (open_calls h) v.client ≡ Some r.0 =
       ap (call_of (open_calls h)) r.1.1 ∙ call_of-open h follows r.0 r.1.0 in
       ap (option_map called) t ∙ (a.look.calls v.client ∙ (own ∙ sym r.1.2))

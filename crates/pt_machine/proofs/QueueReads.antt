@@ -10,18 +10,36 @@ use Rattle.pt_waitq.specs.Queues.{head_of, first_writer_of, holds_back as writes
 use Rattle.pt_waitq.proofs.MemberLemmas.{members-any}
 use Rattle.pt_model.specs.Histories.{History}
 use Rattle.pt_model.specs.Clients.{client}
+use Rattle.pt_model.specs.declared.waiting_call.WaitingCall.{WaitingCall}
+use Rattle.pt_model.specs.declared.waiting_call.Role.{Role}
+use Rattle.pt_model.specs.declared.waiting_call.Role.TheVariants.{ForMutex, ForRead, ForWrite}
+use Rattle.pt_model.specs.declared.waiting_call.Role.TheVariants.{ForBarrier, ForCond}
+use Rattle.pt_model.specs.WaitingCall.{is_write}
 use Rattle.pt_model.specs.Answers.{open_calls}
 use Rattle.pt_model.specs.Moves.{at_object}
 use Rattle.pt_model.specs.Grants.{holds_back, is_blocked}
 use Rattle.pt_model.specs.Verdicts.{is_awaited}
 use Rattle.pt_model.proofs.Ascending.{any-filter}
-use Rattle.pt_machine.specs.Queued.{waiter}
+use Rattle.pt_machine.specs.Queued.{standing, waiter}
 
 -- tests that agree on each element pass in the same lists
 any-agree : {X : Type 0} (p q : X → Bool) → ((x : X) → p x ≡ q x) → (xs : List X)
     → list_any p xs ≡ list_any q xs
 any-agree p q f [] = refl
 any-agree p q f (x ∷ xs) = rw (f x, any-agree p q f xs) refl
+
+-- whether a call holds a reader back is the same of its waiter: an arrival holds none back
+holds-waiter : (h : History) (p : ℕ) (w : WaitingCall)
+    → writes_before p (waiter h w) ≡ holds_back w p
+holds-waiter h p w = go w.role w.priority
+  where
+    go : (role : Role) (n : ℕ) → (is_write role && nat_le p (standing role n))
+        ≡ (is_write role && nat_le p n)
+    go ForMutex n = refl
+    go ForRead n = refl
+    go ForWrite n = refl
+    go ForBarrier n = refl
+    go (ForCond m) n = refl
 
 -- there is a first one that passes where any passes
 filter-some : (p : Waiter → Bool) (vs : List Waiter) → is_some (head_of (filter p vs))
@@ -57,7 +75,10 @@ module _ (h : History) (queue : ℕ → List Waiter)
   any-before : (r p : ℕ) → list_any (writes_before p) (queue r) ≡ is_blocked h r p
   any-before r p =
       members-any (at_object h) (waiter h) (open_calls h) queue m (writes_before p) r
-      ∙ sym (any-filter (λ v. holds_back v p) (λ w. at_object h w == r) (open_calls h))
+      ∙ (any-agree (λ w. (at_object h w == r) && writes_before p (waiter h w))
+      (λ w. (at_object h w == r) && holds_back w p)
+      (λ w. ap (λ b. (at_object h w == r) && b) (holds-waiter h p w)) (open_calls h)
+      ∙ sym (any-filter (λ v. holds_back v p) (λ w. at_object h w == r) (open_calls h)))
 
   -- whether any writer stands there
   any-writer : (r : ℕ) → is_some (first_writer_of (queue r)) ≡ is_blocked h r 0

@@ -237,7 +237,7 @@ module _ {h g : History} {q : ℕ} {queue : ℕ → List Waiter} {admitted made 
             && pair_before (arrival (waiter g u)) (arrival (waiter g x))) ≡ false
         go true e =
             let stood : at_object h x ≡ q = grind (arith, nat_tests) in
-            later-behind u.priority x.priority (rank (waiter h u).writer)
+            later-behind (waiter h u).prio (waiter h x).prio (rank (waiter h u).writer)
             (rank (waiter h x).writer) (waiter h u).moved (waiter h x).moved u.place x.place
             (waiter g u).moved (waiter g x).moved (came k.by u next.open next.at)
             (came k.by x r.1 stood)

@@ -5,7 +5,8 @@ use Rattle.std.proofs.lemmas.Bool.Decides.{nat_tests}
 use Rattle.std.specs.List.{AllByRecursion as Each}
 use Rattle.pt_types.specs.declared.call.Call.{Call as Asked}
 use Rattle.pt_types.specs.declared.outcome.Outcome.{Outcome}
-use Rattle.pt_types.specs.Operations.{operation, clock_of}
+use Rattle.pt_types.specs.Operations.{Arrives, operation, clock_of}
+use Rattle.pt_types.specs.declared.operations.ObjectClass.TheVariants.{Barrier as BarrierClass}
 use Rattle.pt_waitq.specs.declared.waiter.Waiter.{Waiter}
 use Rattle.pt_waitq.specs.Queues.{queues_of, stands_in, IsLatest, insert_in_order}
 use Rattle.pt_waitq.specs.ListLemmas.{any-out}
@@ -15,6 +16,8 @@ use Rattle.pt_model.specs.declared.entry.Entry.TheVariants.{Call}
 use Rattle.pt_model.specs.Searches.{In}
 use Rattle.pt_model.specs.Histories.{History, ◌▷◌, place}
 use Rattle.pt_model.specs.declared.waiting_call.WaitingCall.{WaitingCall}
+use Rattle.pt_model.specs.declared.waiting_call.Role.TheVariants.{ForBarrier}
+use Rattle.pt_model.specs.WaitingCall.{entered, meant, stood_by_operation}
 use Rattle.pt_model.specs.Answers.{open_calls}
 use Rattle.pt_model.specs.Moves.{at_object}
 use Rattle.pt_model.specs.Steps.{Step, Follows}
@@ -29,8 +32,9 @@ use Rattle.pt_model.proofs.Opens.{open-call}
 use Rattle.pt_model.proofs.OneEach.{none_of_client}
 use Rattle.pt_model.proofs.Stands.{stands-operation}
 use Rattle.pt_state.proofs.StepLemmas.{called}
-use Rattle.pt_machine.specs.Queued.{waiter, IsQueued, CanStand}
+use Rattle.pt_machine.specs.Queued.{arriving, waiter, IsQueued, CanStand}
 use Rattle.pt_machine.proofs.ArrivalBounds.{waiters-below, arrival-new, object-there}
+use Rattle.pt_machine.proofs.PlaceTakes.{Takes}
 
 -- an effect leaves one call waiting at most
 alone : (E : Effect) (w : WaitingCall) → In w (left_by E) → left_by E ≡ w ∷ []
@@ -48,6 +52,7 @@ alone (Wakes n all) w i = absurd i
 -- a call that has just come, and is the only one that the entry leaves
 record Came (h : History) (c : ℕ) (call : Asked) : Type 0 where
   waiting : WaitingCall
+  stood : In waiting (stood_by_operation h c (clock_of call) (operation call))
   at : waiting.place ≡ place h
   by : waiting.client ≡ c
   opens : open_calls (h ▷ Call c call None) ≡ open_calls h ++ waiting ∷ []
@@ -62,6 +67,7 @@ came h f c call s =
     (allowed h c call) in
     record {
       waiting = left.0;
+      stood = left.1.0;
       at = left.1.1.0;
       by = left.1.1.1;
       opens = open-call h c call None (Fresh-follows h f) known.alive may
@@ -172,3 +178,43 @@ module _ (h : History) (f : Follows h) (c : ℕ) (call : Asked) (s : Step h (Cal
         subst
         (λ (x : History). Puts x queue' → IsQueued x (queues_of queue' admitted' made')) (sym e)
         (λ ps. queued queue' admitted' made' ps admits makes) puts
+
+    -- the client's open call is the one that has just come
+    only-came : (w : WaitingCall) → In w (open_calls after) → w.client ≡ c → w ≡ new.waiting
+    only-came w i by =
+        pick (In-append_cases w (open_calls h) (new.waiting ∷ [])
+        (subst (λ (ws : List WaitingCall). In w ws) new.opens i))
+      where
+        pick : In w (open_calls h) ⊎ In w (new.waiting ∷ []) → w ≡ new.waiting
+        pick (inl j) =
+            absurd (none_of_client (open_calls h) c w (called h c call None s).unblocked j by)
+        pick (inr (inl e)) = e
+        pick (inr (inr e)) = absurd e
+
+    -- an arrival waits at its barrier as its client and its place say
+    pub arrival-takes : (n : List ℕ) → operation call ≡ Arrives n → (g : History)
+        → g ≡ h ▷ Call c call None → (b j : ℕ) (v : Waiter) → b ≡ meant h n BarrierClass
+        → j ≡ place h → v ≡ arriving c j → Takes g c b v
+    arrival-takes n arrives g e b j v at is stands =
+        subst (λ (x : History). Takes x c b v) (sym e) (record {
+          seat = λ w i by. at ∙ sym (ap (at_object after) (its w i by));
+          same = λ w i by.
+              stands
+              ∙ (ap (arriving c) is
+              ∙ (ap (λ m. record (arriving c (place h)) { moved = m })
+              (sym (arrival-new h f arrival refl))
+              ∙ sym (ap (waiter after) (its w i by))));
+        })
+      where
+        arrival : WaitingCall
+        arrival = entered h c (meant h n BarrierClass) ForBarrier (clock_of call) None
+
+        one : In new.waiting (arrival ∷ []) → new.waiting ≡ arrival
+        one (inl k) = k
+        one (inr k) = absurd k
+
+        its : (w : WaitingCall) → In w (open_calls after) → w.client ≡ c → w ≡ arrival
+        its w i by =
+            only-came w i by
+            ∙ one (subst (λ d. In new.waiting (stood_by_operation h c (clock_of call) d)) arrives
+            new.stood)

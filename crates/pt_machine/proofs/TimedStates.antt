@@ -233,6 +233,12 @@ module _ {A : Type 0} (old new : State A) (timers later : List (ℕ × (Clock ×
       timed_adds old new timers timers timed (Yield m) a
       (λ p. timed p ∙ sym (set-yield (past old) m read.follows p))
 
+  -- a full barrier tripped
+  pub timed-tripped : (b : ℕ) → Adds old (Trip b) new → AreTimed (past new) timers
+  timed-tripped b a =
+      timed_adds old new timers timers timed (Trip b) a
+      (λ p. timed p ∙ sym (set-trip (past old) b read.follows p))
+
   module _ (o : Open) (known : In o (opens_of old.clients))
       (k : Cancels old new timers later timed o.call.place) where
     open_call : In (called o) (open_calls (past old))

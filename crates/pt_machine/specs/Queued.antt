@@ -1,5 +1,6 @@
 -- Queued: the queues of waiting calls, as they are read off a history.
-use Rattle.std.specs.Prelude.{ℕ, ◌≡◌, true, false, Option, is_some}
+use Rattle.std.specs.Prelude.{ℕ, ◌≡◌, true, false, Option, is_some, if◌then◌else◌}
+use Rattle.pt_types.specs.Limits.{most_priority}
 use Rattle.pt_waitq.specs.declared.waiter.Waiter.{Waiter}
 use Rattle.pt_waitq.specs.Members.{Members}
 use Rattle.pt_waitq.specs.Queues.{QueuesView, stands_in, IsLatest}
@@ -9,9 +10,15 @@ use Rattle.pt_model.specs.Clients.{is_alive}
 use Rattle.pt_model.specs.Objects.{kind_of}
 use Rattle.pt_model.specs.declared.waiting_call.WaitingCall.{WaitingCall}
 use Rattle.pt_model.specs.declared.waiting_call.Move.{Move}
-use Rattle.pt_model.specs.WaitingCall.{is_write}
+use Rattle.pt_model.specs.declared.waiting_call.Role.{Role}
+use Rattle.pt_model.specs.WaitingCall.{is_arrival, is_write}
 use Rattle.pt_model.specs.Answers.{open_calls}
 use Rattle.pt_model.specs.Moves.{moved, arrival_by, at_object}
+
+-- the priority with which a call of this role waits: at a barrier, where all go on at once, each
+-- has the highest, so that they wait in order of their arrival  [XSH pthread_barrier_wait]
+abbrev pub standing : Role → ℕ → ℕ
+standing role priority = if is_arrival role then most_priority else priority
 
 -- a call as it waits, if it was moved so  [XSH 2.8.4]
 abbrev pub waiter_by : Option Move → WaitingCall → Waiter
@@ -19,7 +26,7 @@ waiter_by move w =
     record {
       client = w.client;
       place = w.place;
-      prio = w.priority;
+      prio = standing w.role w.priority;
       writer = is_write w.role;
       moved = (arrival_by move w.place).0;
     }
@@ -27,6 +34,10 @@ waiter_by move w =
 -- an open call as it waits, with what decides its turn  [XSH 2.8.4]
 abbrev pub waiter : History → WaitingCall → Waiter
 waiter h w = waiter_by (moved h w.place) w
+
+-- an arrival as it waits, by its client and its place  [XSH pthread_barrier_wait]
+abbrev pub arriving : ℕ → ℕ → Waiter
+arriving c j = record { client = c; place = j; prio = most_priority; writer = false; moved = j }
 
 -- the queues have the open calls, each where it waits, and no others; there is room for each
 -- living client's call, and a queue for each object  [XSH 2.8.4]

@@ -13,6 +13,8 @@ ghost use Rattle.pt_types.specs.declared.operations.ObjectClass.TheVariants as c
 ghost use Rattle.pt_model.specs.Objects.{kind_of};
 ghost use Rattle.pt_model.specs.Answers.{at_barrier, open_calls};
 ghost use Rattle.pt_state.specs.Reads.{AreTables};
+ghost use Rattle.pt_model.specs.declared.entry.Entry.TheVariants as entry;
+ghost use Rattle.pt_model.specs.declared.waiting_call.WaitingCall.{WaitingCall};
 
 use crate::body::Body;
 use pt_records::Open;
@@ -38,7 +40,22 @@ pub(crate) fn push_tripped<Q: WaitList, A: Allocator + Copy>(
 }
 
 impl<Q: WaitList, A: Allocator + Copy> Body<Q, A> {
+    /// A full barrier lets its calls go on, and they leave its queue.  [XSH pthread_barrier_wait]
+    #[inline(never)]
+    pub(crate) fn push_full(&mut self, b: ObjectId)
+        requires read { AreTables self.old }
+        requires waits { (w : WaitingCall) × (In w (open_calls (past self.old))
+            × ((is_arrival_role w.role ≡ true) × (w.object ≡ b))) }
+        requires ready { IsReadyFor self.old (entry.Trip b) }
+        ensures { Adds self.old (entry.Trip b) self.new }
+    {
+        let used = 3 * self.arrivals(b) as u64;
+        self.state.push_trip(b, &mut self.queues);
+        self.need -= used;
+    }
+
     /// How many calls wait at the barrier.  [XSH pthread_barrier_wait]
+    #[inline(always)]
     pub(crate) fn arrivals(&self, b: ObjectId) -> usize
         requires read { AreTables self.now }
         requires barrier { option_map class_of (kind_of (past self.now) b) ≡ Some class.Barrier }

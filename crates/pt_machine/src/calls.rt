@@ -4,9 +4,9 @@ ghost use Rattle.pt_model.specs.Objects.{find};
 ghost use Rattle.pt_types.specs.Operations.{class_needed};
 ghost use Rattle.pt_state.specs.Requests.{IsRequest};
 ghost use Rattle.pt_types.specs.Shown.{shown_operation};
-ghost use Rattle.std.specs.Prelude.{IfErr, IsOk, None, OnErr, OnOk, Some, ◌≡◌, false};
-ghost use Rattle.pt_types.specs.Operations.{Acquires, Awaits, Broadcasts, Ends, Makes, Restores};
-ghost use Rattle.pt_types.specs.Operations.{Rwunlocks, Signals, Unlocks, operation};
+ghost use Rattle.std.specs.Prelude.{IfErr, IsOk, None, OnErr, OnOk, Some, ◌≡◌, false, unwrap_or};
+ghost use Rattle.pt_types.specs.Operations.{Acquires, Arrives, Awaits, Broadcasts, Ends, Makes};
+ghost use Rattle.pt_types.specs.Operations.{Restores, Rwunlocks, Signals, Unlocks, operation};
 ghost use Rattle.pt_types.specs.declared.operations.LockKind.TheVariants.{ReadLock, WriteLock};
 ghost use Rattle.pt_model.specs.declared.entry.Entry.TheVariants as entry;
 ghost use Rattle.pt_state.specs.Adds.{Adds, IsReadyFor, Stays, past};
@@ -19,7 +19,7 @@ ghost use Rattle.pt_state.specs.Reads.{AreTables};
 use crate::body::Body;
 use crate::cond::{push_broadcast, push_signal};
 use crate::objects::{push_ended, push_made};
-use crate::queues::take_place;
+use crate::queues::{arriving, take_place};
 use pt_state::{Request, State, known_verdict};
 use pt_types::operations::{LockKind, Operation, operation_of};
 use pt_types::{Call, ClientId, How, Name, ObjectId, Outcome, Refusal, Verdict};
@@ -75,6 +75,49 @@ fn leave_any<Q: WaitList, A: Allocator + Copy>(
     leave(state, queues, c, call, request)
 }
 
+// The barrier of an arrival; 0 if its name means none.
+#[inline(always)]
+fn barrier_meant(request: &Request) -> ObjectId
+    ensures { result ≡ unwrap_or request.now.object 0 }
+{
+    match request.object {
+        Some(b) => b,
+        None => ObjectId(0),
+    }
+}
+
+// As `leave`, for an arrival at a barrier. It waits there without regard to its client's priority,
+// so its client's row is not looked at again.
+#[inline(always)]
+fn arrive<Q: WaitList, A: Allocator + Copy>(
+    state: &mut State<A>,
+    queues: &mut Q,
+    c: ClientId,
+    call: &Call,
+    n: &Name,
+    request: &Request,
+) -> Result<(), Refusal>
+    requires ready { IsReadyFor state.old (entry.Call c call.now None) }
+    requires operation { operation call.now ≡ Arrives n.now }
+    requires asks { IsRequest (past state.old) (operation call.now) request.now }
+    requires queued { IsQueued (past state.old) (Q.seen queues.old) }
+    ensures ok { OnOk result (Adds state.old (entry.Call c call.now None) state.new) }
+    ensures err { OnErr result (Stays state.old state.new) }
+    ensures reason { IfErr result (λ refusal. refusal ≡ Refusal.Enomem) }
+    ensures enough { asks_to_read (operation call.now) ≡ false → IsOk result }
+    ensures queued { IsQueued (past state.new) (Q.seen queues.new) }
+{
+    let place = state.stored.len();
+    let b = barrier_meant(request);
+    match state.push_left(c, call, request) {
+        Ok(()) => {
+            queues.insert(b, arriving(c, place));
+            Ok(())
+        }
+        Err(refusal) => Err(refusal),
+    }
+}
+
 // As `leave`, for an arrival at a barrier.
 #[inline(never)]
 fn leave_arrival<Q: WaitList, A: Allocator + Copy>(
@@ -94,7 +137,7 @@ fn leave_arrival<Q: WaitList, A: Allocator + Copy>(
     ensures queued { IsQueued (past state.new) (Q.seen queues.new) }
 {
     match call {
-        Call::Bwait(_) => leave(state, queues, c, call, request),
+        Call::Bwait(n) => arrive(state, queues, c, call, n, request),
         _ => leave_any(state, queues, c, call, request),
     }
 }

@@ -1,6 +1,7 @@
 //! Which call is served at an object, found by one look at the object.
 
-ghost use Rattle.std.specs.Prelude.{IfSome, None, Some, ◌&&◌, ◌==◌, ◌≡◌, is_some, option_map, true};
+ghost use Rattle.std.specs.Prelude.{IfSome, None, Some, ◌&&◌, ◌==◌, ◌≡◌, false, is_some};
+ghost use Rattle.std.specs.Prelude.{option_map, true};
 ghost use Rattle.std.specs.Option.{option_copied};
 ghost use Rattle.pt_types.specs.MutexTable.{is_recursive};
 ghost use Rattle.pt_types.specs.RwlockTable.{may_read as may_read_it};
@@ -12,10 +13,16 @@ ghost use Rattle.pt_touched.specs.Candidates.{first_at as first_at_in, if_passes
 ghost use Rattle.pt_touched.specs.Candidates.{mutex_candidate as mutex_candidate_in, open_call_if};
 ghost use Rattle.pt_touched.specs.Candidates.{reads_again_at};
 ghost use Rattle.pt_touched.specs.Candidates.{rwlock_candidate as rwlock_candidate_in};
+ghost use Rattle.pt_types.specs.declared.operations.ObjectClass.TheVariants.{
+  Barrier as BarrierClass,
+};
+ghost use Rattle.pt_model.specs.Objects.{is_class, kind_of};
 ghost use Rattle.pt_table.specs.ObjectRows.{object_value};
 ghost use Rattle.pt_records.specs.declared.objects.Object.TheVariants as row;
 ghost use Rattle.pt_records.specs.Callers.{opens_of};
 ghost use Rattle.pt_records.specs.OpenRows.{object_of};
+ghost use Rattle.pt_machine.specs.Services.{IsService};
+ghost use Rattle.pt_machine.specs.declared.candidates.Service.TheVariants as service;
 ghost use Rattle.pt_state.specs.Adds.{past};
 ghost use Rattle.pt_state.specs.Reads.{AreTables};
 ghost use Rattle.pt_state.specs.Serving.{called, move_of};
@@ -29,7 +36,7 @@ use pt_records::mutex::may_lock;
 use pt_records::rwlock::may_read;
 use pt_records::{Object, Open};
 use pt_rwlock::Holders;
-use pt_types::{MutexKind, ObjectId};
+use pt_types::{ClientId, MutexKind, ObjectId};
 use pt_waitq::WaitList;
 use std::alloc::Allocator;
 
@@ -69,11 +76,27 @@ fn is_writer(open: &Open) -> bool
     is_write(open.call.role)
 }
 
+/// What is served first: the calls of a full barrier, or a client's open call.
+#[derive(Clone, Copy)]
+pub(crate) enum Service {
+    Trip(ObjectId),
+    Call(ClientId),
+}
+
+// A call that is served as its client's, if one was found.
+#[inline(always)]
+fn call_served(found: Option<&Open>) -> Option<Service>
+    ensures { result ≡ option_map (λ o. service.Call o.call.client) (option_copied found.entry) }
+{
+    Some(Service::Call(found?.call.client))
+}
+
 impl<Q: WaitList, A: Allocator + Copy> Body<Q, A> {
-    // The first call that waits at an object.  [XSH 2.8.4]
+    // The first call that waits at an object that is no barrier.  [XSH 2.8.4]
     #[inline(always)]
     fn first_at(&self, o: ObjectId) -> Option<&Open>
-        requires { AreTables self.now }
+        requires read { AreTables self.now }
+        requires other { is_class (kind_of (past self.now) o) BarrierClass ≡ false }
         ensures value { option_map called (option_copied result) ≡ first_at_in (past self.now) o }
         ensures known { IfSome (option_copied result)
             (λ found. In found (opens_of self.now.clients)) }
@@ -150,33 +173,26 @@ impl<Q: WaitList, A: Allocator + Copy> Body<Q, A> {
         }
     }
 
-    // The call that is served at a barrier: the first, if it is full.  [XSH pthread_barrier_wait]
-    fn barrier_candidate(&self, b: ObjectId, barrier: &BarrierObj) -> Option<&Open>
+    // The Trip of a barrier, if it is full.  [XSH pthread_barrier_wait]
+    fn barrier_service(&self, b: ObjectId, barrier: &BarrierObj) -> Option<Service>
         requires read { AreTables self.now }
         requires stored { object_value self.now.objects b ≡ Some (row.Barrier barrier.now) }
-        ensures value { option_map called (option_copied result) ≡ candidate_in (past self.now) b }
-        ensures known { IfSome (option_copied result)
-            (λ found. In found (opens_of self.now.clients)) }
+        ensures { IsService (past self.now) (candidate_in (past self.now) b) result }
     {
-        if barrier.full(self.arrivals(b)) {
-            self.first_at(b)
-        } else {
-            None
-        }
+        let full = self.arrivals(b) == barrier.count() as usize;
+        if full { Some(Service::Trip(b)) } else { None }
     }
 
-    /// The call that is served at an object.  [XSH, the object's pages]
+    /// What is served at an object.  [XSH, the object's pages]
     #[inline(always)]
-    pub(crate) fn candidate(&self, o: ObjectId) -> Option<&Open>
+    pub(crate) fn service_at(&self, o: ObjectId) -> Option<Service>
         requires { AreTables self.now }
-        ensures value { option_map called (option_copied result) ≡ candidate_in (past self.now) o }
-        ensures known { IfSome (option_copied result)
-            (λ found. In found (opens_of self.now.clients)) }
+        ensures { IsService (past self.now) (candidate_in (past self.now) o) result }
     {
         match self.state.objects.at(o.0)? {
-            Object::Mutex(mutex) => self.mutex_candidate(o, mutex),
-            Object::Rwlock(lock) => self.rwlock_candidate(o, lock),
-            Object::Barrier(barrier) => self.barrier_candidate(o, barrier),
+            Object::Mutex(mutex) => call_served(self.mutex_candidate(o, mutex)),
+            Object::Rwlock(lock) => call_served(self.rwlock_candidate(o, lock)),
+            Object::Barrier(barrier) => self.barrier_service(o, barrier),
             Object::Cond(_) => None,
         }
     }

@@ -19,12 +19,15 @@ ghost use Rattle.pt_state.specs.Adds.{Adds, IsReadyFor, past};
 ghost use Rattle.pt_records.specs.Callers.{opens_of};
 ghost use Rattle.pt_state.specs.Serving.{IsFor, called, entry_of};
 ghost use Rattle.pt_machine.specs.Queued.{IsQueued};
+ghost use Rattle.pt_machine.specs.Services.{IsService, Serves};
+ghost use Rattle.pt_model.specs.Forced.{service as service_of};
 ghost use Rattle.pt_model.specs.declared.entry.Entry.TheVariants as entry;
 ghost use Rattle.pt_state.specs.Reads.{AreTables};
 ghost use Rattle.pt_model.specs.Answers.{open_calls};
 
 use crate::barrier::push_tripped;
 use crate::body::Body;
+use crate::candidates::Service;
 use crate::clock;
 use crate::cond::push_late_wait;
 use pt_model::waiting_call::{is_arrival, is_wait, mutex_of};
@@ -146,18 +149,14 @@ pub(crate) fn push_forced<Q: WaitList, A: Allocator + Copy>(
 }
 
 impl<Q: WaitList, A: Allocator + Copy> Body<Q, A> {
-    /// The call to serve first.  [XSH pthread_mutex_unlock, the lowest first is profile]
+    // What is served first.  [XSH pthread_mutex_unlock, the lowest first is profile]
     #[inline(always)]
-    pub fn first_served(&self) -> Option<&Open>
+    fn first_service(&self) -> Option<Service>
         requires { AreTables self.now }
-        ensures value { option_map called (option_copied result)
-            ≡ least (is_served_before_in (past self.now))
-            (filter (is_served_in (past self.now))
-            (open_calls (past self.now))) }
-        ensures known { IfSome (option_copied result)
-            (λ found. In found (opens_of self.now.clients)) }
+        ensures { let h = past self.now in IsService h
+            (least (is_served_before_in h) (filter (is_served_in h) (open_calls h))) result }
     {
-        self.candidate(self.touched?)
+        self.service_at(self.touched?)
     }
 
     // A call gets its mutex, or is answered that it is lost. What is touched stays so.
@@ -214,6 +213,22 @@ impl<Q: WaitList, A: Allocator + Copy> Body<Q, A> {
         }
     }
 
+    // The call that is served first gets what it waits for, and at a barrier all others that wait
+    // there.  [XSH pthread_barrier_wait]
+    #[inline(always)]
+    fn push_first(&mut self, service: Service)
+        requires read { AreTables self.old }
+        requires ready { (w : WaitingCall) × (In w (open_calls (past self.old))
+            × (Serves service w × IsReadyFor self.old (service_of (past self.old) w))) }
+        ensures { (w : WaitingCall) → In w (open_calls (past self.old)) → Serves service w
+            → Adds self.old (service_of (past self.old) w) self.new }
+    {
+        match service {
+            Service::Trip(b) => self.push_full(b),
+            Service::Call(c) => self.push_service(c),
+        }
+    }
+
     // A robust mutex is taken from its dead owner, and is touched then.
     // [XSH pthread_mutex_lock, EOWNERDEAD]
     #[inline(never)]
@@ -252,9 +267,8 @@ impl<Q: WaitList, A: Allocator + Copy> Body<Q, A> {
         ensures none { result ≡ false → (forced_in (past self.old) ≡ None)
             × (self.new ≡ self.old) }
     {
-        if let Some(served) = self.first_served() {
-            let c = served.call.client;
-            self.push_service(c);
+        if let Some(service) = self.first_service() {
+            self.push_first(service);
             return true;
         }
         if let Some(m) = self.state.first_orphan() {

@@ -1,7 +1,8 @@
 //! Calls for a lock that is free: each is pushed with its Grant, and stands in no queue.
 
 ghost use Rattle.std.specs.Prelude.{IfErr, IfOk, IsOk, None, OnErr, OnOk, Some, ◌&&◌, false, ◌≡◌};
-ghost use Rattle.std.specs.Prelude.{if◌then◌else◌, unwrap_or};
+ghost use Rattle.std.specs.Prelude.{◌<◌, ◌≤◌, if◌then◌else◌, unwrap_or};
+ghost use Rattle.pt_types.specs.Limits.{most_priority};
 ghost use Rattle.pt_types.specs.MutexTable.{is_acquired as is_acquired_it};
 ghost use Rattle.pt_model.specs.Answers.{outcome};
 ghost use Rattle.pt_model.specs.Clients.{client};
@@ -37,7 +38,7 @@ use pt_rwlock::Holders;
 use pt_state::{Had, Request, State};
 use pt_types::operations::{LockKind, Operation};
 use pt_types::views::is_acquired;
-use pt_types::{Call, ClientId, ObjectId, Outcome, Refusal};
+use pt_types::{Call, ClientId, ObjectId, Outcome, Priority, Refusal};
 use pt_waitq::WaitList;
 use std::alloc::Allocator;
 
@@ -178,6 +179,21 @@ fn push_both<A: Allocator + Copy>(
 }
 
 impl<Q: WaitList, A: Allocator + Copy> Body<Q, A> {
+    // Whether a client that lives has a higher priority than this. It is seldom asked, so it is not
+    // inlined.
+    #[cold]
+    #[inline(never)]
+    fn is_above(&self, c: ClientId, prio: Priority) -> bool
+        requires { AreTables self.now }
+        ensures { let own = unwrap_or (client (past self.now) c) 0 in
+            OnTrue result ((prio < own) × (own ≤ most_priority)) }
+    {
+        match self.state.priority(c) {
+            Some(own) => prio.level() < own.level(),
+            None => false,
+        }
+    }
+
     // Whether a call of the client would go before all that wait at the object, by its priority.
     // [XSH 2.8.4]
     #[inline(always)]
@@ -187,7 +203,7 @@ impl<Q: WaitList, A: Allocator + Copy> Body<Q, A> {
             OnTrue result (IsAhead h (unwrap_or (client h c) 0) o) }
     {
         match self.queues.first(o) {
-            Some(first) => (first.prio.level() as u64) < self.state.priority_of(c),
+            Some(first) => self.is_above(c, first.prio),
             None => true,
         }
     }

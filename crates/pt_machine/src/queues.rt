@@ -1,7 +1,8 @@
 //! The queues of waiting calls: who takes a place, and who leaves it.
 
 ghost use Rattle.std.specs.Prelude.{Some, ℕ, ◌==◌, ◌≡◌, if◌then◌else◌};
-ghost use Rattle.pt_machine.specs.Queued.{CanStand, waiter, waiter_by};
+ghost use Rattle.pt_machine.specs.Queued.{CanStand, arriving as arriving_in};
+ghost use Rattle.pt_machine.specs.Queued.{standing as standing_in, waiter, waiter_by};
 ghost use Rattle.pt_model.specs.Searches.{In};
 ghost use Rattle.pt_model.specs.declared.waiting_call.WaitingCall.{WaitingCall};
 ghost use Rattle.pt_model.specs.Answers.{open_calls};
@@ -12,25 +13,52 @@ ghost use Rattle.pt_state.specs.Reads.{AreTables};
 ghost use Rattle.pt_model.specs.Verdicts.{is_awaited as is_awaited_in};
 
 use crate::body::Body;
-use pt_model::waiting_call::is_write;
+use pt_model::waiting_call::{Role, is_arrival, is_write};
 use pt_records::Open;
 use pt_records::calls::at_object;
 use pt_state::State;
-use pt_types::{ClientId, ObjectId, Priority};
+use pt_types::{ClientId, MOST_PRIORITY, ObjectId, Priority};
 use pt_waitq::{WaitList, Waiter};
 use std::alloc::Allocator;
+
+// The priority with which a call waits: at a barrier each has the highest, so that they wait in
+// order of their arrival.  [XSH pthread_barrier_wait]
+#[inline(always)]
+fn standing(role: Role, prio: Priority) -> Priority
+    ensures { result ≡ standing_in role prio }
+{
+    if is_arrival(role) {
+        Priority::new(MOST_PRIORITY as u64).unwrap()
+    } else {
+        prio
+    }
+}
+
+/// A client's arrival as it waits, by its place.  [XSH pthread_barrier_wait]
+#[inline(always)]
+pub(crate) fn arriving(client: ClientId, place: u64) -> Waiter
+    ensures { result ≡ arriving_in client place }
+{
+    Waiter {
+        client,
+        place,
+        prio: Priority::new(MOST_PRIORITY as u64).unwrap(),
+        writer: false,
+        moved: place,
+    }
+}
 
 // An open call as it waits, with its client's priority.  [XSH 2.8.4]
 fn waiter_of(open: &Open, prio: Priority) -> Waiter
     ensures { result
         ≡ record (waiter_by «open».now.moved «open».now.call) {
-          prio = prio;
+          prio = standing_in «open».now.call.role prio;
         } }
 {
     Waiter {
         client: open.call.client,
         place: open.call.place,
-        prio,
+        prio: standing(open.call.role, prio),
         writer: is_write(open.call.role),
         moved: match open.moved {
             Some(moved) => moved.at,

@@ -58,8 +58,7 @@ impl<A: Allocator + Copy> State<A> {
         ensures { Adds self.old (entry.Grant found.now.call.place outcome) self.new }
     {
         self.answer(found, outcome);
-        self.stored
-            .push_forced(ForcedEntry::Grant(found.call.place, outcome));
+        self.stored.push_grant(found.call.place, outcome);
     }
 
     /// A call that waits at no barrier gets what it is for.

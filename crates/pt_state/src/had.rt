@@ -22,7 +22,6 @@ ghost use Rattle.pt_state.specs.Had.{AddsHad, IsHad};
 ghost use Rattle.pt_state.specs.Reads.{AreTables};
 
 use crate::state::State;
-use pt_history::ForcedEntry;
 use pt_model::waiting_call::{Move, is_expired};
 use pt_records::Answered;
 use pt_records::answers::tell;
@@ -125,7 +124,7 @@ impl<A: Allocator + Copy> State<A> {
             outcome,
         };
         tell(&mut self.answers, answered);
-        self.stored.push_forced(ForcedEntry::Grant(place, outcome));
+        self.stored.push_grant(place, outcome);
         had
     }
 }

@@ -102,7 +102,7 @@ fn row_in_shared<'a, T, A: Allocator + Copy>(
 }
 
 // The row of a name that is in the map, if it is there.
-#[inline(always)]
+#[inline(never)]
 fn row_in_map<'a, T, A: Allocator + Copy>(
     rows: &'a Slab<ObjectRow<T>, A>,
     names: &Names<A>,

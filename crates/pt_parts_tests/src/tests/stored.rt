@@ -151,8 +151,8 @@ fn begin<A: Allocator + Copy>(alloc: A, at: u64) -> History<A>
     history
 }
 
-// Pushes a call or an entry that must follow in the way that is for such entries. Reports whether it
-// is one.
+// Pushes a call or an entry that must follow in the way that is for such entries. Reports whether
+// it is one.
 fn push_short(history: &mut History, entry: &Entry) -> bool
     requires { 0 < history.old.room }
     ensures { result ≡ false → history.new ≡ history.old }

@@ -25,7 +25,8 @@ was-set false x d e = e
 pub drop_deadline-requires : goal.drop_deadline-requires
 drop_deadline-requires g c = λ d e.
     let o = c.in-Some.open in
-    c.requires o (nth-in c.args.state.now.clients c.loop-i.i o (sym c.open_nth.ensures ∙ c.in-Some.is))
+    c.requires o (nth-in c.args.state.now.clients c.loop-i.i o
+    (sym c.open_nth.ensures ∙ c.in-Some.is))
     d (was-set _ _ d (sym (c.loop-i.invariant o.call.place) ∙ e))
 
 -- one row more was seen

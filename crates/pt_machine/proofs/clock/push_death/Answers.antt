@@ -41,7 +41,8 @@ returns-clause-timed g c =
           (timed-death s c.push_death.new.state c.args.timers.now w.drop_deadline.new.timers
           c.requires.ready.read c.requires.timed c.args.c w.in-Some.open.now.call.place
           c.push_death.ensures.adds
-          (sym its ∙ ap (λ r. option_map (λ (o : Open). o.call.place) (option_copied r)) w.in-Some.is)
+          (sym its ∙ ap (λ r. option_map (λ (o : Open). o.call.place) (option_copied r))
+          w.in-Some.is)
           w.drop_deadline.ensures)
       | in_default w ↦ rw w.timers-is
           (timed-death-free s c.push_death.new.state c.args.timers.now c.args.timers.now

@@ -8,6 +8,7 @@ drop_deadline-requires g c =
 
 pub returns-clause-timed : goal.returns-clause-timed
 returns-clause-timed g c =
-    timed-served c.args.state.now c.push_served.new.state c.args.timers.now c.drop_deadline.new.timers
+    timed-served c.args.state.now c.push_served.new.state c.args.timers.now
+    c.drop_deadline.new.timers
     c.requires.ready.read c.requires.timed c.args.found.now c.requires.known c.drop_deadline.ensures
     c.push_served.ensures.adds

@@ -1,7 +1,7 @@
 use Rattle.std.specs.Option.{option_copied}
 use Rattle.pt_state.specs.Adds.{past}
 use Rattle.pt_state.specs.Serving.{waits_in}
-use Rattle.pt_machine.proofs.QueueClasses.{at-cond}
+use Rattle.pt_machine.proofs.QueueClasses.{at-cond, wait-plain}
 use Rattle.pt_machine.proofs.QueueFirsts.{first-called, none-called, found-known}
 use Rattle.pt_machine.proofs.cond.first_waiting.Goals as goal
 
@@ -10,7 +10,8 @@ returns-in-Some-clause-value g c =
     let s = c.args.state.now in
     first-called (past s) (g.Q.WaitList.seen c.args.queues.now).queue c.requires.queued.members
     c.requires.read.follows c.args.q (waits_in (past s) c.args.q)
-    (at-cond (past s) c.requires.read.follows c.args.q c.requires.cond) s.clients
+    (at-cond (past s) c.requires.read.follows c.args.q c.requires.cond)
+    (λ w i. wait-plain (past s) c.args.q w) s.clients
     c.requires.read.callers c.first.result c.in-Some.first (option_copied c.open_of.result)
     c.first.ensures
     c.in-Some.is c.open_of.ensures

@@ -57,8 +57,8 @@ pub returns-clause-queued : goal.returns-clause-queued
 returns-clause-queued g c =
     let before = g.Q.WaitList.seen c.loop-first.queues in
     let after = g.Q.WaitList.seen c.take_first.new.self in
-    queued-lists (past c.push_broadcast.new.self) before.queue after.queue before.admitted after.admitted
-    before.made after.made
+    queued-lists (past c.push_broadcast.new.self) before.queue after.queue before.admitted
+    after.admitted before.made after.made
     (left before.queue after.queue _ c.in_default.is c.take_first.ensures.none)
     c.take_first.ensures.admitted c.take_first.ensures.made
     (rousing-ends c.loop-first.invariant c.take_first.ensures.first c.in_default.is)

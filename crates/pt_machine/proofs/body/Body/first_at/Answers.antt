@@ -6,6 +6,7 @@ use Rattle.pt_model.specs.declared.waiting_call.WaitingCall.{WaitingCall}
 use Rattle.pt_model.specs.Moves.{at_object}
 use Rattle.pt_state.specs.Adds.{past}
 use Rattle.pt_machine.specs.Queued.{IsQueued}
+use Rattle.pt_machine.proofs.QueueClasses.{no-arrival}
 use Rattle.pt_machine.proofs.QueueFirsts.{first-called, none-called, found-known}
 use Rattle.pt_machine.proofs.body.Body.first_at.Goals as goal
 
@@ -19,9 +20,10 @@ returns-in-Some-clause-value g c =
     ≡ open_in (client_value s.clients c.in-Some.first.client) =
     rw (← c.self.view_is) c.open_of.ensures in
     first-called (past s)
-    (g.Q.WaitList.seen queues).queue queued.members c.requires.follows c.args.o
-    (λ (w : WaitingCall). at_object (past s) w == c.args.o) (λ w i. refl) s.clients
-    c.requires.callers c.first.result c.in-Some.first (option_copied c.open_of.result)
+    (g.Q.WaitList.seen queues).queue queued.members c.requires.read.follows c.args.o
+    (λ (w : WaitingCall). at_object (past s) w == c.args.o) (λ w i. refl)
+    (no-arrival (past s) c.requires.read.follows c.args.o c.requires.other) s.clients
+    c.requires.read.callers c.first.result c.in-Some.first (option_copied c.open_of.result)
     c.first.ensures
     c.in-Some.is found
 
@@ -39,6 +41,7 @@ returns-in-None-clause-value g c =
     let queues = c.self.inside.queues in
     let queued : IsQueued (past s) (g.Q.WaitList.seen queues) =
     rw (← c.self.view_is) c.self.invariant.0 in
-    none-called (past s) (g.Q.WaitList.seen queues).queue queued.members c.requires.follows c.args.o
+    none-called (past s) (g.Q.WaitList.seen queues).queue queued.members
+    c.requires.read.follows c.args.o
     (λ (w : WaitingCall). at_object (past s) w == c.args.o) (λ w i. refl) c.first.result
     c.first.ensures c.in-None.is

@@ -2,12 +2,21 @@ use Rattle.std.proofs.Common.{◌≡◌, Some, None, option_map, sym, ap, ◌∙
 use Rattle.std.specs.Option.{option_copied}
 use Rattle.pt_table.specs.ClientRows.{client_value}
 use Rattle.pt_records.specs.Callers.{open_in}
+use Rattle.pt_types.specs.declared.operations.ObjectClass.TheVariants.{Barrier as BarrierClass}
+use Rattle.pt_model.specs.Objects.{is_class}
+use Rattle.pt_records.specs.Objects.{kind_in_row}
 use Rattle.pt_state.specs.Adds.{past}
 use Rattle.pt_state.specs.Serving.{called}
 use Rattle.pt_machine.proofs.QueueFirsts.{found-known}
 use Rattle.pt_machine.proofs.CandidateRows.{if_left, if_taken, mutex-served, mutex-idle}
 use Rattle.pt_machine.proofs.CandidateRows.{mutex-plain}
 use Rattle.pt_machine.proofs.body.Body.mutex_candidate.Goals as goal
+
+pub first_at-requires-clause-other : goal.first_at-requires-clause-other
+first_at-requires-clause-other g c =
+    ap (λ k. is_class k BarrierClass)
+    (sym (c.requires.read.object_rows.look.kinds c.args.m)
+    ∙ ap (option_map kind_in_row) c.requires.stored)
 
 pub returns-then-comes_back-clause-value : goal.returns-then-comes_back-clause-value
 returns-then-comes_back-clause-value g c =

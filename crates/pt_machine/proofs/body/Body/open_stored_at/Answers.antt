@@ -21,5 +21,6 @@ returns-clause-value g c =
 
 pub returns-clause-known : goal.returns-clause-known
 returns-clause-known g c =
-    kept-in c.args.self.now.clients c.in_ok-caller_at.field-0 c.args.place (option_copied c.open_if_at.result)
+    kept-in c.args.self.now.clients c.in_ok-caller_at.field-0 c.args.place
+    (option_copied c.open_if_at.result)
     c.open_if_at.ensures

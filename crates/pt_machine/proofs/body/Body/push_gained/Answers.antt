@@ -86,7 +86,8 @@ invariant_of-self g c =
           (g.Q.WaitList.seen c.remove.new.self).made
           read known c.remove.ensures.admitted c.remove.ensures.made c.self.invariant.0 adds
           (no_arrival w.role w.object c.args.m c.requires.mutex) c.remove.ensures.queues,
-      timed-served old new c.self.inside.timers c.drop_deadline.new.timers read c.self.invariant.1 o known
+      timed-served old new c.self.inside.timers c.drop_deadline.new.timers read
+          c.self.invariant.1 o known
           c.drop_deadline.ensures adds,
       touched-forced old new c.self.inside.touched c.self.inside.entering (Serve o) adds
           (c.self.invariant.2.touches ∙ still-touched (past old) w) c.self.invariant.2.enters,

@@ -1,10 +1,19 @@
 use Rattle.std.proofs.Common.{is_some, sym, ap, ◌∙◌}
 use Rattle.std.specs.Option.{option_copied}
 use Rattle.std.specs.Prelude.{option_map}
+use Rattle.pt_types.specs.declared.operations.ObjectClass.TheVariants.{Barrier as BarrierClass}
+use Rattle.pt_model.specs.Objects.{is_class}
+use Rattle.pt_records.specs.Objects.{kind_in_row}
 use Rattle.pt_state.specs.Adds.{past}
 use Rattle.pt_state.specs.Serving.{called}
 use Rattle.pt_machine.proofs.CandidateRows.{empty, lock-again, lock-free}
 use Rattle.pt_machine.proofs.body.Body.rwlock_candidate.Goals as goal
+
+pub first_at-requires-clause-other : goal.first_at-requires-clause-other
+first_at-requires-clause-other g c =
+    ap (λ k. is_class k BarrierClass)
+    (sym (c.requires.read.object_rows.look.kinds c.args.r)
+    ∙ ap (option_map kind_in_row) c.requires.stored)
 
 pub returns-in-Some-clause-value : goal.returns-in-Some-clause-value
 returns-in-Some-clause-value g c =

@@ -37,8 +37,8 @@ tell-requires g c =
       ap (λ (s : State g.row.A.Denot). s.answers.capacity) c.take.ensures.rest,
     )
 
-pub push_forced-requires : goal.push_forced-requires
-push_forced-requires g c =
+pub push_grant-requires : goal.push_grant-requires
+push_grant-requires g c =
     let some = room c.args.self.now c.args.c c.args.call.now c.args.m c.requires.ready
     c.requires.had.0 c.requires.had.1 in
     omega (
@@ -69,7 +69,7 @@ returns-clause-adds g c = λ o had.
     (c.take.ensures.rows c.requires.ready.read.callers.once)
     (c.take.ensures.chained s.orphans c.requires.ready.read.chained)
     c.note_call.new.clients c.len-place.result first c.note_call.ensures _
-    (c.push_forced.ensures ∙ ap (λ (t : Stored). pushed t (Grant c.len-place.result x)) called)
+    (c.push_grant.ensures ∙ ap (λ (t : Stored). pushed t (Grant c.len-place.result x)) called)
     refl refl
     (ap (λ (t : State g.row.A.Denot). t.orphans) rest)
     (ap (λ (t : State g.row.A.Denot). t.clocks) rest)

@@ -1,0 +1,138 @@
+-- What is served first: a full barrier's calls, or a client's open call.
+use Rattle.std.proofs.Common.{◌≡◌, ℕ, ◌+◌, ◌*◌, ◌≤◌, ◌==◌, Bool, true, false}
+use Rattle.std.proofs.Common.{cond, ◌&&◌, List, [], ◌∷◌, inl}
+use Rattle.std.proofs.Common.{Option, Some, None, option_map, IfSome, length, refl, sym, ap}
+use Rattle.std.proofs.Common.{◌∙◌, subst, arith}
+use Rattle.std.proofs.lemmas.Bool.Decides.{nat_tests}
+use Rattle.std.proofs.lemmas.Bool.{and_parts}
+use Rattle.pt_types.specs.declared.call.ObjectKind.TheVariants as kind
+use Rattle.pt_types.specs.Operations.{class_of}
+use Rattle.pt_types.specs.declared.operations.ObjectClass.TheVariants.{Barrier as BarrierClass}
+use Rattle.pt_table.specs.declared.clients.ClientRow.{ClientRow}
+use Rattle.pt_waitq.specs.declared.waiter.Waiter.{Waiter}
+use Rattle.pt_waitq.specs.Queues.{queues_of}
+use Rattle.pt_model.specs.declared.entry.Entry.TheVariants.{Grant, Trip as TripEntry}
+use Rattle.pt_model.specs.Searches.{In}
+use Rattle.pt_model.specs.Histories.{History, ◌▷◌}
+use Rattle.pt_model.specs.Objects.{kind_of}
+use Rattle.pt_model.specs.declared.waiting_call.WaitingCall.{WaitingCall}
+use Rattle.pt_model.specs.WaitingCall.{is_arrival}
+use Rattle.pt_model.specs.Answers.{at_barrier, open_calls}
+use Rattle.pt_model.specs.Moves.{at_object, precedes, waiting_at}
+use Rattle.pt_model.specs.Grants.{grant_outcome}
+use Rattle.pt_model.specs.Forced.{service}
+use Rattle.pt_model.specs.Room.{need}
+use Rattle.pt_model.specs.Steps.{Follows}
+use Rattle.pt_model.proofs.Lists.{In-filter, filter-in}
+use Rattle.pt_model.proofs.Leasts.{least-in, least-none}
+use Rattle.pt_records.specs.declared.clients.Caller.{Caller}
+use Rattle.pt_records.specs.declared.clients.Open.{Open}
+use Rattle.pt_records.specs.Callers.{AreCallers, opens_of}
+use Rattle.pt_state.specs.declared.state.State.{State}
+use Rattle.pt_state.specs.Adds.{Adds, past}
+use Rattle.pt_state.specs.Reads.{AreTables}
+use Rattle.pt_state.specs.Serving.{called}
+use Rattle.pt_state.proofs.ServingFinds.{are-open}
+use Rattle.pt_touched.specs.Candidates.{candidate, candidate_by, first_at}
+use Rattle.pt_machine.specs.LastTouched.{IsTouched}
+use Rattle.pt_machine.specs.Queued.{IsQueued}
+use Rattle.pt_machine.specs.Services.{IsService}
+use Rattle.pt_machine.specs.declared.candidates.Service.TheVariants.{Trip, Call}
+use Rattle.pt_machine.proofs.NeedUses.{uses-trip}
+use Rattle.pt_machine.proofs.QueueClasses.{at-barrier}
+use Rattle.pt_machine.proofs.QueuedOut.{queued-trip}
+use Rattle.pt_machine.proofs.QueuedSame.{past-adds, queued-adds}
+
+-- the entry that serves an arrival is the Trip of its barrier
+pub serves-trip : (h : History) (w : WaitingCall) (b : ℕ) → is_arrival w.role ≡ true
+    → w.object ≡ b → service h w ≡ TripEntry b
+serves-trip h w b arrival at =
+    ap (λ t. cond t (TripEntry w.object) (Grant w.place (grant_outcome h w))) arrival
+    ∙ ap TripEntry at
+
+-- a Trip uses what was reserved for the calls at its barrier
+pub trip-uses : (h : History) → Follows h → (w : WaitingCall) (b n : ℕ) → is_arrival w.role ≡ true
+    → w.object ≡ b → n ≡ length (at_barrier b (open_calls h))
+    → need (h ▷ TripEntry b) + 3 * n ≡ need h
+trip-uses h f w b n arrival at e =
+    subst (λ x. need (h ▷ x) + 3 * n ≡ need h) (serves-trip h w b arrival at)
+    (uses-trip h w f n arrival (e ∙ ap (λ o. length (at_barrier o (open_calls h))) (sym at)))
+
+module _ {A : Type 0} (old new : State A) where
+  -- the queues after a full barrier tripped
+  pub trip-queued : (w : WaitingCall) (b : ℕ) (queue queue' : ℕ → List Waiter)
+      (admitted admitted' made made' : ℕ → Bool) → AreTables old → In w (open_calls (past old))
+      → is_arrival w.role ≡ true → w.object ≡ b → ((c : ℕ) → admitted' c ≡ admitted c)
+      → ((o : ℕ) → made' o ≡ made o) → IsQueued (past old) (queues_of queue admitted made)
+      → ((q : ℕ) → queue' q ≡ cond (b == q) [] (queue q)) → Adds old (TripEntry b) new
+      → IsQueued (past new) (queues_of queue' admitted' made')
+  trip-queued w b queue queue' admitted admitted' made made' read i arrival at room there k =
+      subst (λ o. ((q : ℕ) → queue' q ≡ cond (o == q) [] (queue q)) → Adds old (TripEntry o) new
+      → IsQueued (past new) (queues_of queue' admitted' made')) at
+      (λ gone a.
+      queued-adds old new (TripEntry w.object) queue' admitted' made' a
+      (queued-trip (past old) w queue queue' admitted admitted' made made' read.follows i arrival
+      gone room there k))
+
+  -- a Trip touches nothing else
+  pub trip-touched : (o c : Option ℕ) (b : ℕ) → Adds old (TripEntry b) new
+      → IsTouched (past old) o c → IsTouched (past new) o c
+  trip-touched o c b a k =
+      subst (λ (h : History). IsTouched h o c) (sym (past-adds old new (TripEntry b) a))
+      (record { touches = k.touches; enters = k.enters })
+
+-- a call that was found is served as its client's
+pub call-service : (h : History) (rows : List (ClientRow Caller)) → Follows h → AreCallers h rows
+    → (found : Option Open) (first : Option WaitingCall) → option_map called found ≡ first
+    → IfSome found (λ o. In o (opens_of rows))
+    → IsService h first (option_map (λ o. Call o.call.client) found)
+call-service h rows f a None first e k = sym e
+call-service h rows f a (Some o) first e k =
+    (called o, (sym e, (((are-open h rows f a).known o k).0, refl)))
+
+-- a list that isn't empty has a first element
+some-in : {X : Type 0} (xs : List X) → 1 ≤ length xs → (x : X) × In x xs
+some-in [] e = absurd (omega (arith, e))
+some-in (x ∷ xs) e = (x, inl refl)
+
+module _ (h : History) (f : Follows h) (b n : ℕ) (k : kind_of h b ≡ Some (kind.Barrier n)) where
+  barrier : option_map class_of (kind_of h b) ≡ Some BarrierClass
+  barrier = ap (option_map class_of) k
+
+  -- which call is served there, by whether it is full
+  there : (t : Bool) → (length (at_barrier b (open_calls h)) == n) ≡ t
+      → candidate h b ≡ cond t (first_at h b) None
+  there t e =
+      ap (candidate_by h b) k ∙ ap (λ x. cond x (first_at h b) None) e
+
+  -- a full barrier serves an arrival
+  pub full-service : 1 ≤ length (at_barrier b (open_calls h))
+      → (length (at_barrier b (open_calls h)) == n) ≡ true
+      → IsService h (candidate h b) (Some (Trip b))
+  full-service some full = go (first_at h b) refl
+    where
+      one : (w : WaitingCall) × In w (waiting_at h b)
+      one =
+          let r = some-in (at_barrier b (open_calls h)) some in
+          let part = In-filter (λ w. is_arrival w.role && (w.object == b)) (open_calls h) r.0 r.1
+          in (
+            r.0,
+            filter-in (λ w. at_object h w == b) (open_calls h) r.0 part.0
+                (at-barrier h f b barrier r.0 part.0 ∙ part.1),
+          )
+
+      go : (first : Option WaitingCall) → first_at h b ≡ first
+          → IsService h (candidate h b) (Some (Trip b))
+      go None e = absurd (least-none (precedes h) (waiting_at h b) e one.0 one.1)
+      go (Some u) e =
+          let part = In-filter (λ w. at_object h w == b) (open_calls h) u
+          (least-in (precedes h) (waiting_at h b) u e) in
+          let test = and_parts (is_arrival u.role) (u.object == b)
+          (sym (at-barrier h f b barrier u part.0) ∙ part.1) in
+          let at : u.object ≡ b = grind (arith, nat_tests, test.1) in
+          (u, (there true full ∙ e, (part.0, (test.0, at))))
+
+  -- and another one serves none
+  pub part-service : (length (at_barrier b (open_calls h)) == n) ≡ false
+      → IsService h (candidate h b) None
+  part-service part = there false part

@@ -1,0 +1,25 @@
+use Rattle.std.proofs.Common.{◌≡◌, Some, None, sym, ap, ◌∙◌, subst}
+use Rattle.pt_touched.specs.Candidates.{candidate_if}
+use Rattle.pt_touched.specs.Touched.{touched}
+use Rattle.pt_touched.proofs.Candidates.{served_candidate}
+use Rattle.pt_state.specs.Adds.{past}
+use Rattle.pt_machine.specs.Services.{IsService}
+use Rattle.pt_machine.proofs.body.Body.first_service.Goals as goal
+
+-- nothing is touched, so nothing can be served
+pub returns-in_err-self : goal.returns-in_err-self
+returns-in_err-self g c =
+    let h = past c.args.self.now in
+    let last : None ≡ touched h =
+    rw (← c.self.view_is) (sym c.in_err-self.was ∙ c.self.invariant.2.touches) in
+    subst (IsService h _) (sym c.from_residual.ensures)
+    (served_candidate h c.requires.follows ∙ ap (candidate_if h) (sym last))
+
+-- what can be served is at the object that is touched
+pub returns : goal.returns
+returns g c =
+    let h = past c.args.self.now in
+    let last : Some c.in_ok-self.field-0 ≡ touched h =
+    rw (← c.self.view_is) (sym c.in_ok-self.was ∙ c.self.invariant.2.touches) in
+    subst (λ first. IsService h first c.service_at.result)
+    (ap (candidate_if h) last ∙ sym (served_candidate h c.requires.follows)) c.service_at.ensures

@@ -1,0 +1,41 @@
+use Rattle.std.proofs.Common.{◌≡◌, Some, sym, ◌∙◌, subst, refl}
+use Rattle.pt_model.specs.Answers.{open_calls}
+use Rattle.pt_model.specs.Forced.{service}
+use Rattle.pt_model.specs.declared.waiting_call.WaitingCall.{WaitingCall}
+use Rattle.pt_records.specs.Callers.{call_of}
+use Rattle.pt_state.specs.Adds.{IsReadyFor, past}
+use Rattle.pt_state.proofs.CallerFinds.{call_of-open}
+use Rattle.pt_machine.specs.Services.{Serves}
+use Rattle.pt_machine.proofs.body.Body.push_first.Goals as goal
+
+pub push_service-requires-clause-waits : goal.push_service-requires-clause-waits
+push_service-requires-clause-waits g c =
+    let h = past c.args.self.now in
+    let w = c.requires.ready in
+    let own : w.0.client ≡ c.in-Call.c =
+    subst (λ s. Serves s w.0) c.in-Call.is w.1.1.0 in
+    let its : call_of (open_calls h) c.in-Call.c ≡ Some w.0 =
+    subst (λ d. call_of (open_calls h) d ≡ Some w.0) own
+    (call_of-open h c.requires.read.follows w.0 w.1.0) in
+    rw its refl
+
+pub push_service-requires-clause-ready : goal.push_service-requires-clause-ready
+push_service-requires-clause-ready g c = λ v e.
+    let h = past c.args.self.now in
+    let w = c.requires.ready in
+    let own : w.0.client ≡ c.in-Call.c =
+    subst (λ s. Serves s w.0) c.in-Call.is w.1.1.0 in
+    let its : call_of (open_calls h) c.in-Call.c ≡ Some w.0 =
+    subst (λ d. call_of (open_calls h) d ≡ Some w.0) own
+    (call_of-open h c.requires.read.follows w.0 w.1.0) in
+    let both : ◌≡◌ (Some w.0) (Some v) = sym its ∙ e in
+    let same : w.0 ≡ v = cc in
+    subst (λ (x : WaitingCall). IsReadyFor c.args.self.now (service h x)) same w.1.1.1
+
+pub returns-in-Call : goal.returns-in-Call
+returns-in-Call g c = λ w i serves.
+    let h = past c.args.self.now in
+    let own : w.client ≡ c.in-Call.c = subst (λ s. Serves s w) c.in-Call.is serves in
+    c.push_service.ensures w
+    (subst (λ d. call_of (open_calls h) d ≡ Some w) own
+    (call_of-open h c.requires.read.follows w i))

@@ -1,0 +1,85 @@
+use Rattle.std.proofs.Common.{◌≡◌, Some, option_map, subst, arith}
+use Rattle.pt_types.specs.Operations.{class_of}
+use Rattle.pt_types.specs.declared.operations.ObjectClass.TheVariants.{Barrier as BarrierClass}
+use Rattle.pt_model.specs.declared.entry.Entry.TheVariants.{Trip}
+use Rattle.pt_model.specs.Objects.{kind_of}
+use Rattle.pt_model.proofs.Opens.{stands_at_barrier}
+use Rattle.pt_records.specs.Arrivals.{AreArrivals}
+use Rattle.pt_model.specs.Room.{need}
+use Rattle.pt_state.specs.Adds.{Adds, past}
+use Rattle.pt_machine.specs.LastTouched.{IsTouched}
+use Rattle.pt_machine.specs.Queued.{IsQueued}
+use Rattle.pt_machine.specs.Reserved.{IsReserved}
+use Rattle.pt_machine.specs.Timed.{AreTimed}
+use Rattle.pt_machine.proofs.BarrierArrivals.{arrivals-queued}
+use Rattle.pt_machine.proofs.NeedSteps.{reserved-forced}
+use Rattle.pt_machine.proofs.NeedUses.{arrival-barrier}
+use Rattle.pt_machine.proofs.QueueCounts.{open-most}
+use Rattle.pt_machine.proofs.ServiceLemmas.{trip-queued, trip-touched, trip-uses}
+use Rattle.pt_machine.proofs.TimedStates.{timed-tripped}
+use Rattle.pt_machine.proofs.body.Body.push_full.Goals as goal
+
+pub arrivals-requires-clause-barrier : goal.arrivals-requires-clause-barrier
+arrivals-requires-clause-barrier g c =
+    let h = past c.args.self.now in
+    let w = c.requires.waits in
+    subst (λ o. option_map class_of (kind_of h o) ≡ Some BarrierClass) w.1.1.1
+    (arrival-barrier h w.0 c.requires.read.follows w.1.0 w.1.1.0)
+
+pub overflow_mul-used : goal.overflow_mul-used
+overflow_mul-used g c =
+    let s = c.args.self.now in
+    omega (
+      arith,
+      open-most (past s) s.clients c.requires.read.follows c.requires.read.callers
+          (stands_at_barrier c.args.b) c.arrivals.result c.arrivals.ensures,
+    )
+
+pub push_trip-requires-clause-arrived : goal.push_trip-requires-clause-arrived
+push_trip-requires-clause-arrived g c =
+    let h = past c.args.self.now in
+    let w = c.requires.waits in
+    let seen = g.Q.WaitList.seen c.self.inside.queues in
+    let queued : IsQueued h seen = rw (← c.self.view_is) c.self.invariant.0 in
+    let arrived : AreArrivals h c.args.b (seen.queue c.args.b) =
+    subst (λ o. AreArrivals h o (seen.queue o)) w.1.1.1
+    (arrivals-queued h w.0 seen.queue seen.admitted seen.made c.requires.read.follows w.1.0
+    w.1.1.0 queued) in
+    rw c.self.view_is arrived
+
+pub overflow_sub-self : goal.overflow_sub-self
+overflow_sub-self g c =
+    let h = past c.args.self.now in
+    let w = c.requires.waits in
+    let needs : c.self.inside.need ≡ need h = rw (← c.self.view_is) c.self.invariant.3.needs in
+    omega (
+      arith,
+      needs,
+      trip-uses h c.requires.read.follows w.0 c.args.b c.arrivals.result w.1.1.0 w.1.1.1
+          c.arrivals.ensures,
+    )
+
+pub invariant_of-self : goal.invariant_of-self
+invariant_of-self g c =
+    let s = c.args.self.now in
+    let h = past s in
+    let new = c.push_trip.new.self in
+    let b = c.args.b in
+    let read = c.requires.read in
+    let w = c.requires.waits in
+    let old = g.Q.WaitList.seen c.self.inside.queues in
+    let next = g.Q.WaitList.seen c.push_trip.new.queues in
+    let emptied = c.push_trip.ensures.emptied in
+    let adds : Adds s (Trip b) new = rw (← c.self.view_is) c.push_trip.ensures.adds in
+    let timed : AreTimed h c.self.inside.timers = rw (← c.self.view_is) c.self.invariant.1 in
+    let touched : IsTouched h c.self.inside.touched c.self.inside.entering =
+    rw (← c.self.view_is) c.self.invariant.2 in
+    let reserved : IsReserved h c.self.inside.need = rw (← c.self.view_is) c.self.invariant.3 in
+    let queued : IsQueued h old = rw (← c.self.view_is) c.self.invariant.0 in (
+      trip-queued s new w.0 b old.queue next.queue old.admitted next.admitted old.made next.made
+          read w.1.0 w.1.1.0 w.1.1.1 emptied.admitted emptied.made queued emptied.queues adds,
+      timed-tripped s new c.self.inside.timers c.self.inside.timers read timed b adds,
+      trip-touched s new c.self.inside.touched c.self.inside.entering b adds touched,
+      reserved-forced s new (Trip b) adds c.self.inside.need _ reserved
+          (trip-uses h read.follows w.0 b c.arrivals.result w.1.1.0 w.1.1.1 c.arrivals.ensures),
+    )
