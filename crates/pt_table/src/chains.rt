@@ -61,6 +61,7 @@ impl<T, A: Allocator + Copy> Objects<T, A> {
     }
 
     // Writes the link of a row.
+    #[inline(always)]
     pub(crate) fn set_own(&mut self, slot: usize, number: u64, link: Link)
         requires { has_object self.old number ≡ true }
         ensures next { (n : ℕ)

@@ -237,6 +237,7 @@ impl<T, A: Allocator + Copy> Objects<T, A> {
     }
 
     // Writes the link of an object's row, which is looked for in this slot first.
+    #[inline(always)]
     pub(crate) fn set_link(&mut self, slot: usize, number: u64, link: Link)
         requires { IsSome (object_at self.old number) }
         ensures { self.new ≡ with_link self.old number link }

@@ -170,6 +170,7 @@ pub(crate) fn len_of<A: Allocator + Copy>(queues: &Queues<A>, object: u64) -> us
 
 /// Makes a node the tail of a chain of a queue that there is, and returns the tail before. A queue
 /// with no waiter takes a spare box.
+#[inline(always)]
 pub(crate) fn insert<A: Allocator + Copy>(
     queues: &mut Queues<A>,
     spares: &mut Spares<A>,
