@@ -99,7 +99,7 @@ fn halves_equal(one: &[u8], other: &[u8]) -> bool
     eights_equal(&one[from..], &other[from..]) && eights_equal(&one[..16], &other[..16])
 }
 
-// Whether texts of one length, of 4 to 32 bytes, are the same. It isn't inlined: with all that it
+// Whether texts of one length, of 9 to 32 bytes, are the same. It isn't inlined: with all that it
 // does a caller would grow too large to be inlined itself.
 #[inline(never)]
 fn are_long_equal(one: &[u8], other: &[u8]) -> bool
@@ -108,9 +108,22 @@ fn are_long_equal(one: &[u8], other: &[u8]) -> bool
     ensures { result ≡ true → one.now ≡ other.now }
 {
     match other.len() {
-        0..=8 => fours_equal(one, other),
-        9..=16 => eights_equal(one, other),
+        0..=16 => eights_equal(one, other),
         _ => halves_equal(one, other),
+    }
+}
+
+// Whether texts of fewer than four bytes are the same.
+#[inline(always)]
+fn few_equal(one: &[u8], other: &[u8]) -> bool
+    ensures { result ≡ true → one.now ≡ other.now }
+{
+    match (one, other) {
+        ([], []) => true,
+        ([a], [b]) => a == b,
+        ([a, b], [c, d]) => a == c && b == d,
+        ([a, b, c], [d, e, f]) => a == d && b == e && c == f,
+        _ => false,
     }
 }
 
@@ -122,7 +135,8 @@ fn are_equal(one: &[u8], other: &[u8]) -> bool
     ensures { result ≡ true → one.now ≡ other.now }
 {
     match other.len() {
-        0..=3 => one == other,
+        0..=3 => few_equal(one, other),
+        4..=8 => fours_equal(one, other),
         _ => are_long_equal(one, other),
     }
 }
