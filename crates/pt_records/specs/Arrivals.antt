@@ -1,12 +1,15 @@
 -- Arrivals: the calls that wait at a barrier, as its queue has them, and what a Trip answers them.
 use Rattle.std.specs.Prelude.{ℕ, ◌≡◌, ◌==◌, List, [], ◌∷◌, Some, length, option_map, if◌then◌else◌}
+use Rattle.std.specs.Prelude.{None}
 use Rattle.pt_table.specs.declared.clients.ClientRow.{ClientRow}
 use Rattle.pt_table.specs.ClientRows.{client_value}
 use Rattle.pt_types.specs.declared.outcome.Outcome.TheVariants.{Done, Serial}
+use Rattle.pt_types.specs.declared.time.Clock.{Clock}
 use Rattle.pt_waitq.specs.declared.waiter.Waiter.{Waiter}
 use Rattle.pt_waitq.specs.Queues.{QueuesView}
 use Rattle.pt_model.specs.Searches.{In}
 use Rattle.pt_model.specs.Histories.{History}
+use Rattle.pt_model.specs.declared.waiting_call.Role.TheVariants.{ForBarrier}
 use Rattle.pt_model.specs.declared.waiting_call.WaitingCall.{WaitingCall}
 use Rattle.pt_model.specs.Answers.{at_barrier, open_calls}
 use Rattle.pt_records.specs.declared.answers.Answered.{Answered}
@@ -61,3 +64,24 @@ pub record ClosesBy (old new : List (ClientRow Caller)) (answers : List Answered
       ≡ option_map (closed_by_all d answers) (client_value old d)
   pub many : length new ≡ length old
   pub once : Once old → Once new
+
+-- a row whose client's latest call came at place j, and waits at barrier b
+-- [XSH pthread_barrier_wait]
+abbrev pub arrived : ℕ → ℕ → ℕ → Clock → Caller → Caller
+arrived j c b k v =
+    record v {
+      «open» = Some (record {
+        call = record {
+          place = j;
+          client = c;
+          priority = v.priority;
+          object = b;
+          role = ForBarrier;
+          clock = k;
+          deadline = None;
+        };
+        moved = None;
+      });
+      latest = Some j;
+      answer = None;
+    }

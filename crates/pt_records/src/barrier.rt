@@ -7,6 +7,7 @@ ghost use Rattle.pt_records.specs.Writes.{ChangesCaller, RewritesCallers, closed
 ghost use Rattle.pt_model.specs.Histories.{place};
 ghost use Rattle.pt_records.specs.Arrivals.{AreArrivals, ClosesBy, Empties, closed_by, passed_to};
 ghost use Rattle.pt_records.specs.Arrivals.{with_serial};
+ghost use Rattle.pt_records.specs.AnswerLogs.{AreReadable, lengthened_all};
 ghost use Rattle.pt_records.specs.Logs.{logged, told_at};
 ghost use Rattle.pt_model.specs.declared.entry.Entry.{Entry as AnyEntry};
 ghost use Rattle.pt_model.specs.Answers.{at_barrier, open_calls, told};
@@ -16,7 +17,7 @@ ghost use Rattle.pt_history.specs.Stored.{past_of};
 use crate::answer_log::AnswerLog;
 use crate::answers::Answered;
 use crate::clients::Caller;
-use crate::short::{base_with, shorten_all};
+use crate::short::{Short, base_with, shortened};
 use pt_history::History;
 use pt_table::Clients;
 use pt_types::{ObjectId, Outcome};
@@ -80,12 +81,31 @@ fn close_by<A: Allocator + Copy>(clients: &mut Clients<Caller, A>, answer: Answe
     }
 }
 
-// The open calls that these answers are to are open no more, and each has its answer.
-fn close_all<A: Allocator + Copy>(clients: &mut Clients<Caller, A>, answers: &[Answered])
-    ensures { ClosesBy clients.old clients.new answers.now }
+// Appends answers in short, in room that was made for them. The open calls that they are to are
+// open no more, and each has its answer.
+fn close_all<A: Allocator + Copy>(
+    clients: &mut Clients<Caller, A>,
+    base: u64,
+    shorts: &mut Vec<Short, A>,
+    wholes: &mut Vec<Answered, A>,
+    answers: &[Answered],
+)
+    requires readable { AreReadable base wholes.old.items shorts.old.items }
+    requires room { vec_len shorts.old + length answers.now ≤ vec_capacity shorts.old }
+    requires wholes { vec_len wholes.old + length answers.now ≤ vec_capacity wholes.old }
+    ensures closed { ClosesBy clients.old clients.new answers.now }
+    ensures readable { AreReadable base wholes.new.items shorts.new.items }
+    ensures same { lengthened_all base wholes.new.items shorts.new.items
+        ≡ lengthened_all base wholes.old.items shorts.old.items ++ answers.now }
+    ensures len { vec_len shorts.new ≡ vec_len shorts.old + length answers.now }
+    ensures wholes { vec_len wholes.new ≤ vec_len wholes.old + length answers.now }
+    ensures capacity { vec_capacity shorts.new ≡ vec_capacity shorts.old }
+    ensures wholes_capacity { vec_capacity wholes.new ≡ vec_capacity wholes.old }
 {
-    for i in 0..answers.len() {
-        close_by(clients, answers[i]);
+    for answer in answers {
+        close_by(clients, *answer);
+        let short = shortened(base, wholes, answer);
+        shorts.push_reserved(short);
     }
 }
 
@@ -139,9 +159,9 @@ pub fn trip<Q: WaitList, A: Allocator + Copy>(
     ensures emptied { Empties b (Q.seen queues.old) (Q.seen queues.new) }
 {
     tell_trip(history, queues, &mut answers.trip, b);
-    close_all(clients, &answers.trip);
     answers.base = base_with(answers.base, answers.shorts.as_slice(), history.len());
-    shorten_all(
+    close_all(
+        clients,
         answers.base,
         &mut answers.shorts,
         &mut answers.wholes,

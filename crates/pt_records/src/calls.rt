@@ -3,14 +3,15 @@
 ghost use Rattle.std.specs.Prelude.{None, Some, ◌<◌, ◌≡◌, ◌≤◌, is_some, true};
 ghost use Rattle.pt_table.specs.ClientRows.{client_value, has_client, nth_value};
 ghost use Rattle.pt_records.specs.Writes.{WritesCaller};
+ghost use Rattle.pt_records.specs.Arrivals.{arrived};
 ghost use Rattle.pt_records.specs.Callers.{closed, open_in};
 ghost use Rattle.pt_records.specs.Counts.{counted, reserved_open};
 ghost use Rattle.pt_records.specs.OpenRows.{object_of};
 
 use crate::clients::{Caller, Open};
-use pt_model::waiting_call::Role;
+use pt_model::waiting_call::{Role, WaitingCall};
 use pt_table::Clients;
-use pt_types::{ClientId, ObjectId, Outcome};
+use pt_types::{ClientId, Clock, ObjectId, Outcome};
 use std::alloc::Allocator;
 
 /// The client's latest call came at this place, and is open.
@@ -28,6 +29,38 @@ pub fn stand<A: Allocator + Copy>(
 {
     if let Some(row) = clients.at_mut(c.0) {
         row.open = Some(open);
+        row.latest = Some(place);
+        row.answer = None;
+    }
+}
+
+/// The client's latest call came at this place, and waits at this barrier.
+/// [XSH pthread_barrier_wait]
+#[inline(always)]
+pub fn arrive<A: Allocator + Copy>(
+    clients: &mut Clients<Caller, A>,
+    c: ClientId,
+    place: u64,
+    b: ObjectId,
+    clock: Clock,
+)
+    requires { has_client clients.old c ≡ true }
+    ensures { (v : Caller) → client_value clients.old c ≡ Some v
+        → WritesCaller clients.old clients.new c (arrived place c b clock v) }
+{
+    if let Some(row) = clients.at_mut(c.0) {
+        row.open = Some(Open {
+            call: WaitingCall {
+                place,
+                client: c,
+                priority: row.priority.level() as u64,
+                object: b,
+                role: Role::ForBarrier,
+                clock,
+                deadline: None,
+            },
+            moved: None,
+        });
         row.latest = Some(place);
         row.answer = None;
     }

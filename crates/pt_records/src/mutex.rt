@@ -50,24 +50,28 @@ pub fn is_last<A: Allocator + Copy>(object: &Object<A>, c: ClientId) -> bool
     }
 }
 
-/// What becomes of a client's call for this mutex.  [XSH pthread_mutex_lock]
-#[inline(always)]
-pub fn lock_verdict(m: &MutexObj, c: ClientId, how: &How) -> Verdict
-    ensures { result ≡ lock_table m.now.seen c how.now }
-{
-    match how {
-        How::Plain => m.verdict_lock(c),
-        How::Try => m.verdict_try(c),
-        How::Timed(deadline) => m.verdict_timed(c, *deadline),
-    }
-}
-
 /// Whether nothing but the order of calls keeps a call from a mutex.  [XSH pthread_mutex_unlock]
 #[inline(always)]
 pub fn may_lock(mutex: &MutexObj) -> bool
     ensures { result ≡ may_lock_it mutex.now.seen true }
 {
     mutex.consistency() == Consistency::NotRecoverable || mutex.owner().is_none()
+}
+
+/// What becomes of a client's call for this mutex. If nobody's lock keeps it from the mutex, it
+/// waits until its Grant.  [XSH pthread_mutex_lock]
+#[inline(always)]
+pub fn lock_verdict(m: &MutexObj, c: ClientId, how: &How) -> Verdict
+    ensures { result ≡ lock_table m.now.seen c how.now }
+{
+    if may_lock(m) {
+        return Verdict::Stands;
+    }
+    match how {
+        How::Plain => m.verdict_lock(c),
+        How::Try => m.verdict_try(c),
+        How::Timed(deadline) => m.verdict_timed(c, *deadline),
+    }
 }
 
 // The mutex counts one lock more of the client.  [XSH pthread_mutex_lock]

@@ -74,6 +74,7 @@ pub fn add<A: Allocator + Copy>(
 }
 
 /// The object's row is taken out, and its name is free.
+#[inline(always)]
 pub fn remove<A: Allocator + Copy>(objects: &mut Objects<Object<A>, A>, o: ObjectId)
     requires { has_object objects.old o ≡ true }
     ensures { RemovesObject objects.old objects.new o }

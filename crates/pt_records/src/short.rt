@@ -1,10 +1,10 @@
 //! Answers in short: their numbers count from a base, in 32 bits.
 
-ghost use Rattle.std.specs.Prelude.{◌≡◌, ◌+◌, ◌<◌, ◌≤◌, ◌++◌, IfSome, List, length};
+ghost use Rattle.std.specs.Prelude.{◌≡◌, ◌+◌, ◌<◌, ◌≤◌, IfSome, List};
 ghost use Rattle.std.specs.Prelude.{vec_capacity, vec_len};
 ghost use Rattle.pt_records.specs.declared.answers.Answered.{Answered as AnyAnswer};
 ghost use Rattle.pt_types.specs.Limits.{most_places};
-ghost use Rattle.pt_records.specs.AnswerLogs.{AreReadable, IsThere, Shortens, ShortensAlone};
+ghost use Rattle.pt_records.specs.AnswerLogs.{IsThere, Shortens, ShortensAlone};
 ghost use Rattle.pt_records.specs.AnswerLogs.{lengthened, lengthened_all};
 
 use crate::answers::Answered;
@@ -49,18 +49,17 @@ pub(crate) fn base_with(base: u64, shorts: &[Short], at: u64) -> u64
     }
 }
 
-// A number counted from the base; None if it is before the base, or takes more than 32 bits.
+// The greatest number of 32 bits.
+const MOST: u64 = 4_294_967_295;
+
+// A number counted from the base. One before the base wraps around to a large one, so that one test
+// of the count is enough.
 #[inline(always)]
-fn from_base(base: u64, number: u64) -> Option<u32>
+fn count_from(base: u64, number: u64) -> u64
     requires { base ≤ most_places }
-    ensures { IfSome result (λ n. base + n ≡ number) }
+    ensures { result ≤ 4294967295 → base + result ≡ number }
 {
-    // A number before the base wraps around to a large one, so that one test is enough.
-    let count = number.wrapping_sub(base);
-    if count > 4_294_967_295 {
-        return None;
-    }
-    Some(count as u32)
+    number.wrapping_sub(base)
 }
 
 /// An answer in short, if its numbers fit.
@@ -69,10 +68,13 @@ pub(crate) fn near_answer(base: u64, answer: &Answered) -> Option<Short>
     requires { base ≤ most_places }
     ensures { IfSome result (λ s. ShortensAlone base answer.now s) }
 {
-    let at = from_base(base, answer.at)?;
-    let client = from_base(base, answer.client.0)?;
-    let place = from_base(base, answer.place)?;
-    Some(Short::Near(answer.outcome, at, client, place))
+    let at = count_from(base, answer.at);
+    let client = count_from(base, answer.client.0);
+    let place = count_from(base, answer.place);
+    if (at > MOST) | (client > MOST) | (place > MOST) {
+        return None;
+    }
+    Some(Short::Near(answer.outcome, at as u32, client as u32, place as u32))
 }
 
 /// An answer in short. It is stored whole, in room that was made for it, if its numbers don't fit.
@@ -93,30 +95,6 @@ pub(crate) fn shortened<A: Allocator + Copy>(
             wholes.push_reserved(*answer);
             Short::Whole(index)
         }
-    }
-}
-
-/// Appends answers in short, in room that was made for them.
-pub(crate) fn shorten_all<A: Allocator + Copy>(
-    base: u64,
-    shorts: &mut Vec<Short, A>,
-    wholes: &mut Vec<Answered, A>,
-    answers: &[Answered],
-)
-    requires readable { AreReadable base wholes.old.items shorts.old.items }
-    requires room { vec_len shorts.old + length answers.now ≤ vec_capacity shorts.old }
-    requires wholes { vec_len wholes.old + length answers.now ≤ vec_capacity wholes.old }
-    ensures readable { AreReadable base wholes.new.items shorts.new.items }
-    ensures same { lengthened_all base wholes.new.items shorts.new.items
-        ≡ lengthened_all base wholes.old.items shorts.old.items ++ answers.now }
-    ensures len { vec_len shorts.new ≡ vec_len shorts.old + length answers.now }
-    ensures wholes { vec_len wholes.new ≤ vec_len wholes.old + length answers.now }
-    ensures capacity { vec_capacity shorts.new ≡ vec_capacity shorts.old }
-    ensures wholes_capacity { vec_capacity wholes.new ≡ vec_capacity wholes.old }
-{
-    for answer in answers {
-        let short = shortened(base, wholes, answer);
-        shorts.push_reserved(short);
     }
 }
 

@@ -174,6 +174,13 @@ pub found-within : (rows : List (ℕ × ℕ)) (c : ℕ) → IsInOrder rows
 found-within rows c ordered some =
     (own-is rows c (place_in rows c) (sym (ap is_some (found rows c ordered)) ∙ some)).0
 
+-- and the row there is its own
+pub found-own : (rows : List (ℕ × ℕ)) (c : ℕ) → IsInOrder rows
+    → IsSome (lookup (is_at (nat_cmp c)) rows) → (d : ℕ × ℕ)
+    → (get_or rows (place_in rows c) d).0 ≡ c
+found-own rows c ordered some =
+    (own-is rows c (place_in rows c) (sym (ap is_some (found rows c ordered)) ∙ some)).1
+
 -- the row in the place is changed
 pub set-there : (rows : List (ℕ × ℕ)) (c n : ℕ) → IsInOrder rows
     → IsSome (lookup (is_at (nat_cmp c)) rows)

@@ -238,7 +238,7 @@ impl<A: Allocator + Copy> Rows<A> {
             → lookup (is_at (nat_cmp other)) self.new
             ≡ (if client == other then Some reads else lookup (is_at (nat_cmp other)) self.old) }
     {
-        self.rows[place] = (client, reads);
+        self.rows[place].1 = reads;
     }
 
     /// Adds one to a row, and returns what it was.

@@ -48,9 +48,9 @@ impl<A: Allocator + Copy> Model for Names<A> {
     } };
 }
 
-// The index of a name's cell.
+/// The index of a name's cell.
 #[inline(always)]
-fn place_of(name: &Name) -> usize
+pub(crate) fn place_of(name: &Name) -> usize
     ensures { result ≡ place_of name.now }
 {
     key_of(name.as_bytes()) as usize % COUNT
@@ -104,14 +104,20 @@ impl<A: Allocator + Copy> Names<A> {
         self.others.reserve(1)
     }
 
-    /// Makes room for a name whose row will lie in a slot.
+    /// Makes room for a name, given the index of its cell, whose row will lie in a slot.
     #[inline(always)]
-    pub(crate) fn reserve_for(&mut self, name: &Name, slot: usize) -> Result<(), AllocError>
+    pub(crate) fn reserve_for(
+        &mut self,
+        name: &Name,
+        place: usize,
+        slot: usize,
+    ) -> Result<(), AllocError>
+        requires { place ≡ place_of name.now }
         ensures cells { self.new.cells ≡ self.old.cells }
         ensures others { self.new.others ≡ self.old.others }
         ensures room { OnOk result (CanFile self.new name.now slot) }
     {
-        if self.firsts[place_of(name)].is_none() && slot < MOST_SLOTS {
+        if self.firsts[place].is_none() && slot < MOST_SLOTS {
             return Ok(());
         }
         self.reserve_other()
@@ -131,16 +137,16 @@ impl<A: Allocator + Copy> Names<A> {
         self.others.insert(name.copied(), slot).unwrap();
     }
 
-    /// Adds a name with its slot, if there is room.
+    /// Adds a name, given the index of its cell, with its slot, if there is room.
     #[inline(always)]
-    pub(crate) fn insert(&mut self, name: &Name, slot: usize)
-        requires { CanFile self.old name.now slot }
+    pub(crate) fn insert(&mut self, name: &Name, place: usize, slot: usize)
+        requires place { place ≡ place_of name.now }
+        requires room { CanFile self.old name.now slot }
         ensures filed { IsFiled self.new.cells self.new.others name.now slot }
         ensures kept { (t : List ℕ) (s : ℕ) → same_name name.now t ≡ false
             → IsFiled self.old.cells self.old.others t s
             → IsFiled self.new.cells self.new.others t s }
     {
-        let place = place_of(name);
         if self.firsts[place].is_none() && slot < MOST_SLOTS {
             self.firsts[place] = Some(slot as u16);
         } else {

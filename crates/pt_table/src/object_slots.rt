@@ -10,6 +10,7 @@ ghost use Rattle.pt_types.specs.Names.{same_name};
 ghost use Rattle.pt_table.specs.Slots.{row_in_any, row_in_slot, without_number, HasRow};
 ghost use Rattle.pt_table.specs.Slots.{HasRowIfListed, IsNumbered, Leaves, SameBut};
 ghost use Rattle.pt_table.specs.NameSlots.{CanFile, IsFiled, IsNamed, IsRowIn, IsRowInMap};
+ghost use Rattle.pt_table.specs.NameSlots.{place_of};
 ghost use Rattle.pt_table.specs.NameSlots.{IsRowNamed};
 
 use crate::names::Names;
@@ -181,14 +182,16 @@ pub(crate) fn take_named<T, A: Allocator + Copy>(
     rows.try_remove(slot)
 }
 
-// Makes room for one more row with its name.
+// Makes room for one more row with its name, given the index of the name's cell.
 #[inline(always)]
 pub(crate) fn make_room_named<T, A: Allocator + Copy>(
     rows: &mut Slab<ObjectRow<T>, A>,
     numbers: &mut Numbers<A>,
     names: &mut Names<A>,
     name: &Name,
+    place: usize,
 ) -> Result<(), AllocError>
+    requires { place ≡ place_of name.now }
     ensures rows { rows.new.slots ≡ rows.old.slots }
     ensures numbers { numbers.new.entries ≡ numbers.old.entries }
     ensures cells { names.new.cells ≡ names.old.cells }
@@ -198,10 +201,11 @@ pub(crate) fn make_room_named<T, A: Allocator + Copy>(
     ensures name_room { OnOk result (CanFile names.new name.now rows.new.vacant_key) }
 {
     make_room(rows, numbers)?;
-    names.reserve_for(name, rows.vacant_key())
+    names.reserve_for(name, place, rows.vacant_key())
 }
 
-// Puts a row with a new number and a new name in, if there is room, and returns its slot.
+// Puts a row with a new number and a new name in, given the index of the name's cell, if there is
+// room, and returns its slot.
 #[inline(always)]
 pub(crate) fn put_named<T, A: Allocator + Copy>(
     rows: &mut Slab<ObjectRow<T>, A>,
@@ -209,7 +213,9 @@ pub(crate) fn put_named<T, A: Allocator + Copy>(
     names: &mut Names<A>,
     row: ObjectRow<T>,
     name: &Name,
+    place: usize,
 ) -> usize
+    requires place { place ≡ place_of name.now }
     requires row_room { HasRoomFor rows.old 1 }
     requires number_room { 0 < numbers.old.room }
     requires name_room { CanFile names.old name.now rows.old.vacant_key }
@@ -224,6 +230,6 @@ pub(crate) fn put_named<T, A: Allocator + Copy>(
         → IsFiled names.new.cells names.new.others t s }
 {
     let slot = put(rows, numbers, row.number, row);
-    names.insert(name, slot);
+    names.insert(name, place, slot);
     slot
 }

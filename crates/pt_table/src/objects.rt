@@ -13,7 +13,7 @@ ghost use Rattle.pt_table.specs.declared.link.Link.{Link};
 
 use crate::fault::TableFault;
 use crate::link::Link;
-use crate::names::Names;
+use crate::names::{Names, place_of};
 use crate::numbers::Numbers;
 use crate::object_slots::{
     make_room_named, put_named, row_named, row_of, slot_by, slot_by_hint, take_named,
@@ -269,6 +269,7 @@ impl<T, A: Allocator + Copy> Objects<T, A> {
     }
 
     /// Takes the object with this number out. Its name is free from then on.
+    #[inline(always)]
     pub fn remove(&mut self, number: u64) -> Option<T>
         ensures value { result ≡ object_value self.old number }
         ensures rows { self.new ≡ without_object self.old number }
@@ -305,7 +306,14 @@ impl<T, A: Allocator + Copy> Objects<T, A> {
         ensures ok { OnOk result (self.new ≡ and_object self.old number name.now value) }
         ensures err { OnErr result (self.new ≡ self.old) }
     {
-        make_room_named(&mut self.rows, &mut self.numbers, &mut self.names, name)?;
+        let place = place_of(name);
+        make_room_named(
+            &mut self.rows,
+            &mut self.numbers,
+            &mut self.names,
+            name,
+            place,
+        )?;
         let row = ObjectRow {
             number,
             name: name.copied(),
@@ -318,6 +326,7 @@ impl<T, A: Allocator + Copy> Objects<T, A> {
             &mut self.names,
             row,
             name,
+            place,
         );
         Ok(())
     }
@@ -343,7 +352,16 @@ impl<T, A: Allocator + Copy> Objects<T, A> {
         if self.len() >= MOST_OBJECTS {
             return Err((value, TableFault::AtLimit));
         }
-        if make_room_named(&mut self.rows, &mut self.numbers, &mut self.names, &name).is_err() {
+        let place = place_of(&name);
+        if make_room_named(
+            &mut self.rows,
+            &mut self.numbers,
+            &mut self.names,
+            &name,
+            place,
+        )
+        .is_err()
+        {
             return Err((value, TableFault::Memory));
         }
         let row = ObjectRow {
@@ -358,6 +376,7 @@ impl<T, A: Allocator + Copy> Objects<T, A> {
             &mut self.names,
             row,
             &name,
+            place,
         );
         Ok(())
     }

@@ -100,6 +100,7 @@ impl<A: Allocator + Copy> WaitList for Chains<A> {
         nodes::dismiss(&mut self.homes, &mut self.nodes, client.0);
     }
 
+    #[inline(always)]
     fn make(&mut self, object: ObjectId) -> Result<(), Refusal> {
         let wanted = self.homes.map.len().min(self.queues.len() + 1);
         let Ok(boxes) = spares::grow(&mut self.spares, self.boxes, wanted) else {
@@ -156,7 +157,7 @@ impl<A: Allocator + Copy> WaitList for Chains<A> {
 
     #[inline(always)]
     fn take_first(&mut self, object: ObjectId) -> Option<Waiter> {
-        let node = queues::first_of(&self.queues, object.0)?;
+        let node = queues::first_in_row(&self.queues, object.0)?;
         let place = nodes::place_at(&self.nodes, node);
         let waiter = place.waiter;
         let p = waiter.prio.level() as usize - 1;

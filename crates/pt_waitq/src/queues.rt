@@ -157,8 +157,10 @@ fn reserve<A: Allocator + Copy>(rows: &mut Rows<BoxedQueue<A>, A>, queues: usize
     rows.map.reserve(more).is_ok()
 }
 
-/// How many wait in a queue.
-pub(crate) fn len_of<A: Allocator + Copy>(queues: &Queues<A>, object: u64) -> usize
+// How many wait in a queue whose row is not where it is looked for first.
+#[cold]
+#[inline(never)]
+fn len_far<A: Allocator + Copy>(queues: &Queues<A>, object: u64) -> usize
     ensures { result
         ≡ unwrap_or (option_map (λ q. q.len) (lookup (nat_eq object) queues.now)) 0 }
 {
@@ -166,6 +168,18 @@ pub(crate) fn len_of<A: Allocator + Copy>(queues: &Queues<A>, object: u64) -> us
         return 0;
     }
     sides::len_of(&queues.rows, object)
+}
+
+/// How many wait in a queue.
+#[inline(always)]
+pub(crate) fn len_of<A: Allocator + Copy>(queues: &Queues<A>, object: u64) -> usize
+    ensures { result
+        ≡ unwrap_or (option_map (λ q. q.len) (lookup (nat_eq object) queues.now)) 0 }
+{
+    match sides::len_by_hint(&queues.rows, object) {
+        Some(len) => len,
+        None => len_far(queues, object),
+    }
 }
 
 /// Makes a node the tail of a chain of a queue that there is, and returns the tail before. A queue
@@ -327,6 +341,20 @@ pub(crate) fn first_of<A: Allocator + Copy>(queues: &Queues<A>, object: u64) -> 
     if !is_open(&queues.opened, object) {
         return None;
     }
+    sides::first_of(&queues.rows, object)
+}
+
+/// As `first_of`, for a queue that has a row, most likely.
+#[inline(always)]
+pub(crate) fn first_in_row<A: Allocator + Copy>(
+    queues: &Queues<A>,
+    object: u64,
+) -> Option<NodeIndex>
+    ensures none { lookup (nat_eq object) queues.now ≡ None → result ≡ None }
+    ensures queue { (queue : Queue)
+        → lookup (nat_eq object) queues.now ≡ Some queue
+        → IsFirst queue result }
+{
     sides::first_of(&queues.rows, object)
 }
 

@@ -66,9 +66,9 @@ impl<T, A: Allocator + Copy> Rows<T, A> {
     }
 }
 
-// The row where a number's hint is, if it is the number's.
+/// The row where a number's hint is, if it is the number's.
 #[inline(always)]
-fn row_by_hint<T, A: Allocator + Copy>(rows: &Rows<T, A>, number: u64) -> Option<&T>
+pub(crate) fn row_by_hint<T, A: Allocator + Copy>(rows: &Rows<T, A>, number: u64) -> Option<&T>
     ensures { IfSome result (λ row. lookup (nat_eq number) rows.now.map.entries ≡ Some row.now) }
 {
     match rows.map.get_index(rows.hint(number)) {

@@ -16,7 +16,7 @@ ghost use Rattle.pt_waitq.specs.Chains.{IsFirst, IsFirstWriter, HasWriterFrom};
 use crate::boxed::BoxedQueue;
 use crate::link::{Link, NodeIndex};
 use crate::marked::MarkedQueue;
-use crate::rows::{Rows, index_of, row_of};
+use crate::rows::{Rows, index_of, row_by_hint, row_of};
 use pt_types::MOST_PRIORITY;
 use std::alloc::Allocator;
 
@@ -186,6 +186,21 @@ pub(crate) fn len_of<A: Allocator + Copy>(queues: &Rows<BoxedQueue<A>, A>, objec
     match row_of(queues, object) {
         Some(boxed) => boxed.len(),
         None => 0,
+    }
+}
+
+/// How many wait in a queue, if its row is where it is looked for first.
+#[inline(always)]
+pub(crate) fn len_by_hint<A: Allocator + Copy>(
+    queues: &Rows<BoxedQueue<A>, A>,
+    object: u64,
+) -> Option<usize>
+    ensures { IfSome result (λ len. len
+        ≡ unwrap_or (option_map (λ q. q.len) (lookup (nat_eq object) queues.now.map.entries)) 0) }
+{
+    match row_by_hint(queues, object) {
+        Some(boxed) => Some(boxed.len()),
+        None => None,
     }
 }
 

@@ -27,7 +27,7 @@ few-told g c =
 pub invariant_of-answers : goal.invariant_of-answers
 invariant_of-answers g c =
     let room = c.answers.invariant.1 in
-    let all = c.shorten_all.ensures in
+    let all = c.close_all.ensures in
     let new : length c.as_slice-2.result.now ≡ c.len-2.result =
     ap length c.as_slice-2.ensures.value
     ∙ (sym c.tell_trip.new.answers.ok.0 ∙ sym c.len-2.ensures) in
@@ -50,7 +50,7 @@ returns g c =
     let ws = i.wholes.items in
     let old = c.args.answers.now.items in
     let new = c.tell_trip.new.answers.items in
-    let all = lengthened_all b c.shorten_all.new.wholes.items c.shorten_all.new.shorts.items in
+    let all = lengthened_all b c.close_all.new.wholes.items c.close_all.new.shorts.items in
     let log = trip_log h rows c.args.b c.requires.follows c.requires.callers (map logged old) in
     let none : length i.trip.items ≡ 0 = omega (arith, c.answers.invariant.1.none, i.trip.ok.0) in
     let tail : map logged new ≡ log =
@@ -60,7 +60,7 @@ returns g c =
     subst (λ ss. lengthened_all b ws ss ≡ lengthened_all i.base ws ss) c.as_slice.ensures.value
     (c.base_with-answers-inside.ensures.same ws) ∙ ap (λ s. s.items) c.answers.view_is in
     let whole : all ≡ old ++ new =
-    c.shorten_all.ensures.same
+    c.close_all.ensures.same
     ∙ (ap (λ xs. xs ++ c.as_slice-2.result.now) same
     ∙ ap (λ xs. old ++ xs) c.as_slice-2.ensures.value) in
     let told : map logged all ≡ map logged old ++ log = told-after old new all log whole tail in
@@ -72,11 +72,11 @@ returns g c =
         ap length c.as_slice-2.ensures.value,
         c.tell_trip.new.answers.ok.0,
         c.len-2.ensures,
-        c.shorten_all.ensures.len,
+        c.close_all.ensures.len,
         ap (λ s. s.capacity) c.answers.view_is,
       );
       emptied = c.tell_trip.ensures.emptied;
       closed = closes-rewrites h rows c.args.b c.requires.follows c.requires.callers
-          (map logged old) c.close_all.new.clients c.deref.result.now (map logged all)
-          (ap (map logged) c.deref.ensures.value ∙ tail) told c.close_all.ensures;
+          (map logged old) c.close_all.new.clients c.as_slice-2.result.now (map logged all)
+          (ap (map logged) c.as_slice-2.ensures.value ∙ tail) told c.close_all.ensures.closed;
     }

@@ -9,7 +9,7 @@ returns-then-slot-lt-MOST_SLOTS-clause-kept g c =
     let cells : Cells = record { firsts = inside.firsts; shared = inside.shared } in
     let others = inside.others.entries in
     λ t s other filed.
-    filed_first cells c.place_of-place.result _
-    (omega (arith, c.self.told, c.place_of-place.ensures)) others t s
+    filed_first cells c.args.place _
+    (omega (arith, c.self.told, c.requires.place)) others t s
     (c.is_none.ensures ∙ ap not c.if-is_none.true)
     (subst (λ v. IsFiled v.cells v.others t s) (sym c.self.view_is) filed)

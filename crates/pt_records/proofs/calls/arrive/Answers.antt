@@ -1,0 +1,9 @@
+use Rattle.pt_records.specs.Arrivals.{arrived}
+use Rattle.pt_records.proofs.CallerWrites.{writes-by}
+use Rattle.pt_records.proofs.calls.arrive.Goals as goal
+
+pub returns-in-Some : goal.returns-in-Some
+returns-in-Some g c =
+    rw (c.level.ensures.value, ← c.c.view_is)
+    (writes-by (arrived c.args.place c.c.inside.0 c.args.b c.args.clock) c.args.clients.now
+    c.c.inside.0 c.in-Some.row.now c.in-Some.ensures.value)
