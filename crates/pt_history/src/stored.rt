@@ -1,11 +1,11 @@
 ghost use Rattle.std.specs.Prelude.{◌≡◌, ◌+◌, ◌≤◌, vec_len, vec_capacity, OnOk};
 ghost use Rattle.pt_history.specs.Records.{HasRoom, KeepsParts};
 
-use crate::compact::{Compact, ForcedEntry, base, outer_in};
+use crate::compact::{Compact, base, outer_in};
 use crate::memory::take_memory;
 use crate::records::Records;
 use pt_model::{Entry, Start};
-use pt_types::{Call, ClientId, Outcome, Refusal};
+use pt_types::{ClientId, Refusal};
 use std::alloc::{AllocError, Allocator, Global};
 use std::marker::Model;
 
@@ -15,14 +15,14 @@ use std::marker::Model;
 pub struct History<A: Allocator + Copy = Global> {
     start: Start<A>,
     /// The number from which the numbers of the entries count.
-    base: u64,
-    entries: Vec<Compact, A>,
+    pub(crate) base: u64,
+    pub(crate) entries: Vec<Compact, A>,
     /// For how many more entries there is memory, whatever they are.
-    memory: u64,
-    records: Records<A>,
-    outer: u64,
+    pub(crate) memory: u64,
+    pub(crate) records: Records<A>,
+    pub(crate) outer: u64,
     limit: u32,
-    room: u64,
+    pub(crate) room: u64,
 }
 
 /// For how many more entries than there has to be room for memory is asked, so that it is asked for
@@ -75,14 +75,10 @@ impl<A: Allocator + Copy> Model for History<A> {
 impl<A: Allocator + Copy> History<A> {
     ghost use Rattle.std.specs.Prelude.{◌≡◌, ◌↔◌, ◌+◌, ◌-◌, ◌<◌, ◌≤◌, [], ◌∷◌, ◌++◌, length};
     ghost use Rattle.std.specs.Prelude.{slice_get, None, IsOk, OnOk, OnErr, IfErr, ◌≢◌};
-    ghost use Rattle.std.specs.Prelude.{if◌then◌else◌};
     ghost use Rattle.pt_types.specs.Limits.{most_places};
-    ghost use Rattle.pt_model.specs.StartRows.{no_rows, rows_of};
+    ghost use Rattle.pt_model.specs.StartRows.{rows_of};
     ghost use Rattle.pt_history.specs.Stored.{Stored, begun, caller_in, past_of, pushed};
     ghost use Rattle.pt_model.specs.Histories.{outer};
-    ghost use Rattle.pt_model.specs.declared.entry.Entry.TheVariants.{Call as CallEntry};
-    ghost use Rattle.pt_model.specs.declared.entry.Entry.TheVariants.{Grant as GrantEntry};
-    ghost use Rattle.pt_history.specs.Compact.{forced_entry};
 
     /// An empty history of at most so many entries. It takes no memory.
     pub fn with_limit(alloc: A, limit: u32) -> History<A>
@@ -165,142 +161,6 @@ impl<A: Allocator + Copy> History<A> {
         self.entries.push_reserved(compact);
         self.room -= 1;
         self.memory -= 1;
-    }
-
-    // Appends the entry of a call of one name, if its hint finds that name, and reports whether it
-    // does.
-    #[inline(always)]
-    fn push_named_again(&mut self, client: ClientId, call: &Call, outcome: Option<Outcome>) -> bool
-        requires { 0 < self.old.room }
-        ensures { self.new
-            ≡ if result then pushed (CallEntry client call.now outcome) self.old else self.old }
-    {
-        let again = self.records.named_again(self.base, client, call, outcome);
-        let Some(compact) = again else {
-            return false;
-        };
-        self.outer += 1;
-        self.entries.push_reserved(compact);
-        self.room -= 1;
-        self.memory -= 1;
-        true
-    }
-
-    // Appends the entry of the making of a mutex or of a barrier, if its hint finds that name, and
-    // reports whether it does.
-    #[inline(always)]
-    fn push_made_again(&mut self, client: ClientId, call: &Call, outcome: Option<Outcome>) -> bool
-        requires { 0 < self.old.room }
-        ensures { self.new
-            ≡ if result then pushed (CallEntry client call.now outcome) self.old else self.old }
-    {
-        let again = self.records.made_again(self.base, client, call, outcome);
-        let Some(compact) = again else {
-            return false;
-        };
-        self.outer += 1;
-        self.entries.push_reserved(compact);
-        self.room -= 1;
-        self.memory -= 1;
-        true
-    }
-
-    // Appends the entry of a wait, if its hint finds both names, and reports whether it does.
-    #[inline(always)]
-    fn push_wait_again(&mut self, client: ClientId, call: &Call, outcome: Option<Outcome>) -> bool
-        requires { 0 < self.old.room }
-        ensures { self.new
-            ≡ if result then pushed (CallEntry client call.now outcome) self.old else self.old }
-    {
-        let again = self.records.wait_again(self.base, client, call, outcome);
-        let Some(compact) = again else {
-            return false;
-        };
-        self.outer += 1;
-        self.entries.push_reserved(compact);
-        self.room -= 1;
-        self.memory -= 1;
-        true
-    }
-
-    // Appends the entry of any call. It is seldom needed, so it is not inlined.
-    #[cold]
-    #[inline(never)]
-    fn push_any_call(&mut self, client: ClientId, call: &Call, outcome: Option<Outcome>)
-        requires { 0 < self.old.room }
-        ensures { self.new ≡ pushed (CallEntry client call.now outcome) self.old }
-    {
-        self.outer += 1;
-        let compact = self
-            .records
-            .store_borrowed(self.base, client, call, outcome);
-        self.entries.push_reserved(compact);
-        self.room -= 1;
-        self.memory -= 1;
-    }
-
-    /// Appends the entry of a call, in room that was made for it. It takes no memory.
-    #[inline(always)]
-    pub fn push_call(&mut self, client: ClientId, call: &Call, outcome: Option<Outcome>)
-        requires { 0 < self.old.room }
-        ensures { self.new
-            ≡ record self.old {
-              entries = self.old.entries ++ CallEntry client call.now outcome ∷ [];
-              room = self.old.room - 1;
-            } }
-    {
-        let pushed = match call {
-            Call::Wait(..) => self.push_wait_again(client, call, outcome),
-            Call::MutexInit(..) | Call::BarrierInit(..) => self.push_made_again(
-                client, call, outcome,
-            ),
-            _ => self.push_named_again(client, call, outcome),
-        };
-        if !pushed {
-            self.push_any_call(client, call, outcome);
-        }
-    }
-
-    /// As `push_call`, for a caller that is large already: it isn't inlined.
-    #[inline(never)]
-    pub fn push_call_apart(&mut self, client: ClientId, call: &Call, outcome: Option<Outcome>)
-        requires { 0 < self.old.room }
-        ensures { self.new
-            ≡ record self.old {
-              entries = self.old.entries ++ CallEntry client call.now outcome ∷ [];
-              room = self.old.room - 1;
-            } }
-    {
-        self.push_call(client, call, outcome);
-    }
-
-    /// Appends an entry that must follow, in room that was made for it. It takes no memory.
-    #[inline(always)]
-    pub fn push_forced(&mut self, forced: ForcedEntry)
-        requires { 0 < self.old.room }
-        ensures { self.new
-            ≡ record self.old {
-              entries = self.old.entries ++ forced_entry forced ∷ [];
-              room = self.old.room - 1;
-            } }
-    {
-        let compact = self.records.store_forced(self.base, &forced);
-        self.entries.push_reserved(compact);
-        self.room -= 1;
-        self.memory -= 1;
-    }
-
-    /// Appends a Grant, in room that was made for it. It takes no memory, and isn't inlined.
-    #[inline(never)]
-    pub fn push_grant(&mut self, place: u64, outcome: Outcome)
-        requires { 0 < self.old.room }
-        ensures { self.new
-            ≡ record self.old {
-              entries = self.old.entries ++ GrantEntry place outcome ∷ [];
-              room = self.old.room - 1;
-            } }
-    {
-        self.push_forced(ForcedEntry::Grant(place, outcome));
     }
 
     /// Forgets the entries and begins anew with this Start. The room stays, and so does the memory.

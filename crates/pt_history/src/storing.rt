@@ -296,15 +296,16 @@ impl<A: Allocator + Copy> Records<A> {
         self.store_whole(base, Entry::Call(client, call.copied(), outcome))
     }
 
-    // An entry that must follow, as it is. It is seldom needed, so it is not inlined.
+    // An entry that must follow, as it is. It is seldom needed, so it is not inlined, and takes a
+    // copy, so that the entry may stay in registers where it isn't needed.
     #[cold]
     #[inline(never)]
-    fn store_whole_forced(&mut self, base: u64, forced: &ForcedEntry) -> Compact
+    fn store_whole_forced(&mut self, base: u64, forced: ForcedEntry) -> Compact
         requires room { HasRoom self.old 1 }
         requires few { vec_len self.old.wholes ≤ 4294967295 }
-        ensures { Shows base (forced_entry forced.now) self.old self.new result }
+        ensures { Shows base (forced_entry forced) self.old self.new result }
     {
-        self.store_whole(base, entry_of(forced))
+        self.store_whole(base, entry_of(&forced))
     }
 
     // An entry that must follow and whose number fits.
@@ -325,7 +326,7 @@ impl<A: Allocator + Copy> Records<A> {
     {
         match self.store_short_forced(base, forced) {
             Some(compact) => compact,
-            None => self.store_whole_forced(base, forced),
+            None => self.store_whole_forced(base, *forced),
         }
     }
 

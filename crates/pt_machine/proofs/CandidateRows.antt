@@ -1,10 +1,17 @@
 -- CandidateRows: the candidate of an object, by the rows of objects and of clients.
 use Rattle.std.proofs.Common.{◌≡◌, ℕ, Bool, true, false, cond, not, ◌&&◌, ◌||◌, ◌==◌, nat_lt, List}
+use Rattle.std.proofs.Common.{nat_le, subst}
 use Rattle.std.proofs.Common.{Option, Some, None, is_some, is_none, refl, sym, ap, ◌∙◌, arith}
 use Rattle.std.proofs.lemmas.Bool.Decides.{nat_tests}
 use Rattle.pt_types.specs.MutexTable.{is_lost, is_recursive, may_lock}
 use Rattle.pt_types.specs.declared.views.MutexView.{MutexView}
-use Rattle.pt_types.specs.RwlockTable.{may_read}
+use Rattle.pt_types.specs.declared.call.How.{How}
+use Rattle.pt_types.specs.declared.call.How.TheVariants.{Plain}
+use Rattle.pt_types.specs.declared.outcome.Outcome.TheVariants.{Eagain}
+use Rattle.pt_types.specs.declared.outcome.Verdict.TheVariants.{Reply, Stands}
+use Rattle.pt_types.specs.declared.views.RwlockView.{RwlockView}
+use Rattle.pt_types.specs.Limits.{most_reads}
+use Rattle.pt_types.specs.RwlockTable.{may_read, read_verdict, relock_outcome}
 use Rattle.pt_mutex.specs.MutexState.{MutexState}
 use Rattle.pt_rwlock.specs.RwlockState.{RwlockState, is_read as is_read_by, nobody_holds, reads_of}
 use Rattle.pt_rwlock.specs.RwlockState.{seen_by}
@@ -54,6 +61,32 @@ if_taken b w x e t = ap (λ (y : Bool). cond y (Some w) None) (sym e) ∙ t
 pub if_left : (b : Bool) (w : WaitingCall) (x : Option WaitingCall) → b ≡ false
     → cond b (Some w) None ≡ x → None ≡ x
 if_left b w x e t = ap (λ (y : Bool). cond y (Some w) None) (sym e) ∙ t
+
+-- a writer may go on where nobody holds a lock
+pub may-go : (writes free : Bool) → free ≡ true → (writes && not free) ≡ false
+may-go true free e = ap not e
+may-go false free e = refl
+
+-- a call to read that waits as long as it must stands, whoever waits before it
+pub plain-stands : (v : RwlockView) (how : How) (blocked : Bool) → how ≡ Plain
+    → read_verdict v false how ≡ read_verdict v blocked how
+plain-stands v how blocked is =
+    subst (λ (h : How). read_verdict v false h ≡ read_verdict v blocked h) (sym is)
+    (either v.writes (nat_le most_reads v.reads) (nat_lt 0 v.reads) (not v.is_written && true)
+    (not v.is_written && not blocked))
+  where
+    either : (a b c d e : Bool)
+        → cond a (Reply (relock_outcome false)) (cond b (Reply Eagain)
+        (cond c Stands (cond d Stands Stands)))
+        ≡ cond a (Reply (relock_outcome false)) (cond b (Reply Eagain)
+        (cond c Stands (cond e Stands Stands)))
+    either true b c d e = refl
+    either false true c d e = refl
+    either false false true d e = refl
+    either false false false true true = refl
+    either false false false true false = refl
+    either false false false false true = refl
+    either false false false false false = refl
 
 -- what is not there
 pub empty : (x : Option ℕ) → is_some x ≡ false → x ≡ None
@@ -226,13 +259,41 @@ module _ {A : Type 0} (h : History) (clients : List (ClientRow Caller))
         ∙ ap (λ b. cond b (if_passes (reads_again_at h r) (open_call_if h (entering h)))
         (first_at h r)) (ap is_write_if (sym e) ∙ writes)))
 
-    -- a lock that nobody holds serves the first
-    pub lock-free : nobody_holds x ≡ true → first_at h r ≡ rwlock_candidate h r
-    lock-free n =
+    -- otherwise the first is served
+    pub lock-first : (w : WaitingCall) → Some w ≡ first_at h r
+        → (is_write w.role && not (nobody_holds x)) ≡ false → Some w ≡ rwlock_candidate h r
+    lock-first w e may =
+        e
+        ∙ sym
+        (ap (λ b. cond b None (cond (is_some (reader h r) && is_write_if (first_at h r))
+        (if_passes (reads_again_at h r) (open_call_if h (entering h))) (first_at h r)))
+        nobody_writes
+        ∙ (ap (λ b. cond (b && is_write_if (first_at h r))
+        (if_passes (reads_again_at h r) (open_call_if h (entering h))) (first_at h r))
+        (read (nobody_holds x) refl)
+        ∙ (ap (λ (v : Option WaitingCall). cond (not (nobody_holds x) && is_write_if v)
+        (if_passes (reads_again_at h r) (open_call_if h (entering h))) (first_at h r)) (sym e)
+        ∙ ap (λ b. cond b (if_passes (reads_again_at h r) (open_call_if h (entering h)))
+        (first_at h r)) (turned_round (is_write w.role) (not (nobody_holds x)) may))))
+      where
+        turned_round : (a b : Bool) → (a && b) ≡ false → (b && a) ≡ false
+        turned_round true true e = e
+        turned_round true false e = refl
+        turned_round false true e = refl
+        turned_round false false e = refl
+
+    -- and none, if none waits
+    pub lock-unasked : None ≡ first_at h r → None ≡ rwlock_candidate h r
+    lock-unasked e =
         sym
         (ap (λ b. cond b None (cond (is_some (reader h r) && is_write_if (first_at h r))
         (if_passes (reads_again_at h r) (open_call_if h (entering h))) (first_at h r)))
         nobody_writes
-        ∙ ap (λ b. cond (b && is_write_if (first_at h r))
-        (if_passes (reads_again_at h r) (open_call_if h (entering h))) (first_at h r))
-        (read true n))
+        ∙ (ap (λ (v : Option WaitingCall). cond (is_some (reader h r) && is_write_if v)
+        (if_passes (reads_again_at h r) (open_call_if h (entering h))) v) (sym e)
+        ∙ none (is_some (reader h r))))
+      where
+        none : (b : Bool) → cond (b && false)
+            (if_passes (reads_again_at h r) (open_call_if h (entering h))) None ≡ None
+        none true = refl
+        none false = refl

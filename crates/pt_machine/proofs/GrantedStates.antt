@@ -1,5 +1,5 @@
 -- GrantedStates: the tables after a call that is granted as it comes, and after its Grant.
-use Rattle.std.proofs.Common.{◌≡◌, ℕ, ◌+◌, ◌&&◌, Bool, true, false, cond, not, List, Option, Some}
+use Rattle.std.proofs.Common.{◌≡◌, ℕ, ◌+◌, Bool, true, false, cond, not, List, Option, Some}
 use Rattle.std.proofs.Common.{None, is_none, refl, sym, ap, ◌∙◌, subst, eq-eqb, [], ◌∷◌, ◌++◌}
 use Rattle.std.specs.Option.{option_or}
 use Rattle.pt_model.specs.Answers.{outcome}
@@ -8,24 +8,18 @@ use Rattle.std.specs.Prelude.{IsSome, option_map, unwrap_or}
 use Rattle.pt_types.specs.declared.call.Call.{Call as Asked}
 use Rattle.pt_types.specs.declared.time.Clock.{Clock}
 use Rattle.pt_types.specs.declared.outcome.Outcome.{Outcome}
-use Rattle.pt_types.specs.MutexTable.{is_acquired}
-use Rattle.pt_types.specs.Operations.{Acquires, class_needed, operation}
-use Rattle.pt_types.specs.declared.operations.ObjectClass.TheVariants.{Mutex as MutexClass}
 use Rattle.pt_types.specs.declared.operations.LockKind.{LockKind}
 use Rattle.pt_types.specs.declared.operations.LockKind.TheVariants.{MutexLock, ReadLock, WriteLock}
 use Rattle.pt_rwlock.specs.RwlockState.{RwlockState, is_read as is_read_by}
 use Rattle.pt_table.specs.ClientRows.{client_value}
 use Rattle.pt_waitq.specs.Queues.{QueuesView}
-use Rattle.pt_model.specs.declared.entry.Entry.TheVariants.{Call, Grant, Trip}
+use Rattle.pt_model.specs.declared.entry.Entry.TheVariants.{Call, Grant}
 use Rattle.pt_model.specs.declared.entry.Event.TheVariants as event
 use Rattle.pt_model.specs.declared.waiting_call.WaitingCall.{WaitingCall}
-use Rattle.pt_model.specs.declared.waiting_call.Role.TheVariants.{ForMutex}
-use Rattle.pt_model.specs.Mutexes.{owner}
-use Rattle.pt_model.specs.Objects.{find, is_robust, kind_of}
 use Rattle.pt_model.specs.Histories.{History, ◌▷◌, place}
 use Rattle.pt_model.specs.declared.entry.Entry.{Entry}
 use Rattle.pt_model.specs.Searches.{In}
-use Rattle.pt_model.specs.WaitingCall.{at_place, is_arrival, mutex_of, role_needed, stood}
+use Rattle.pt_model.specs.WaitingCall.{at_place, is_arrival, mutex_of, stood}
 use Rattle.pt_model.specs.Answers.{client_if, is_open_by, open_calls, told as told_in}
 use Rattle.pt_model.specs.Forced.{forced, service}
 use Rattle.pt_model.specs.Grants.{grant_outcome}
@@ -40,17 +34,13 @@ use Rattle.pt_state.specs.Adds.{Adds, IsReadyFor, past}
 use Rattle.pt_model.proofs.Found.{found as in_stood}
 use Rattle.pt_model.specs.Records.{Told}
 use Rattle.pt_model.proofs.Lists.{In-filter}
-use Rattle.pt_state.specs.Had.{AddsHad, IsHad}
-use Rattle.pt_state.specs.Requests.{IsRequest, object_meant}
-use Rattle.pt_state.specs.declared.request.Request.{Request}
 use Rattle.pt_state.specs.Serving.{called}
 use Rattle.pt_state.proofs.CallerFinds.{call_of-open}
 use Rattle.pt_state.proofs.GrantLemmas.{read-same}
 use Rattle.pt_touched.specs.Touched.{touched_by}
 use Rattle.pt_machine.specs.declared.planning.Plan.{Plan}
-use Rattle.pt_machine.specs.GrantedAtOnce.{AddsGranted, AnswersOne, IsForMutex, IsFree}
-use Rattle.pt_machine.specs.GrantedAtOnce.{IsFreeLock}
-use Rattle.pt_machine.specs.GrantedAtOnce.{IsGrantedAtOnce, IsReadyAfter, asks_for_mutex}
+use Rattle.pt_machine.specs.GrantedAtOnce.{AnswersOne, IsFree, IsFreeLock}
+use Rattle.pt_machine.specs.GrantedAtOnce.{IsGrantedAtOnce}
 use Rattle.pt_machine.specs.LastTouched.{IsTouched}
 use Rattle.pt_machine.specs.Planned.{IsPlanned}
 use Rattle.pt_machine.specs.Queued.{IsQueued}
@@ -59,10 +49,9 @@ use Rattle.pt_machine.specs.Timed.{AreTimed}
 use Rattle.pt_machine.proofs.AnswersAdded.{answers-two}
 use Rattle.pt_machine.proofs.GrantedAtRest.{rests}
 use Rattle.pt_machine.proofs.GrantsAtOnce.{after, comes, comes-open, comes-stays, granted, grants}
-use Rattle.pt_machine.proofs.GrantsAtOnce.{owner_kept, queued, serves, stands, timed}
+use Rattle.pt_machine.proofs.GrantsAtOnce.{queued, serves, timed}
 use Rattle.pt_machine.proofs.NeedSteps.{reserved-outer}
-use Rattle.pt_machine.proofs.NeedUses.{row-reserved, uses-grant}
-use Rattle.pt_machine.proofs.QueueFirsts.{found-known}
+use Rattle.pt_machine.proofs.NeedUses.{uses-grant}
 use Rattle.pt_machine.proofs.QueuedSame.{past-adds}
 
 -- a lock is free if its row says so
@@ -81,22 +70,6 @@ free-lock h WriteLock r x f kept e =
     no : {b : Bool} → not b ≡ true → b ≡ false
     no {b = false} e = refl
     no {b = true} e = absurd cc
-
--- a call for a lock that asks for a mutex is one for the object that its name means
-pub for-mutex : (h : History) (c : ℕ) (call : Asked) (r : Request) (m : ℕ)
-    → IsGrantedAtOnce h c call → IsRequest h (operation call) r → r.object ≡ Some m
-    → asks_for_mutex (operation call) ≡ true → IsForMutex h call m
-for-mutex h c call r m had asks is e =
-    go had.kind (had.asks) (sym is ∙ (asks.object ∙ ap (object_meant h) had.asks))
-    (sym (ap asks_for_mutex had.asks) ∙ e)
-  where
-    go : (k : LockKind) → operation call ≡ Acquires had.name k had.how
-        → Some m ≡ find h had.name (class_needed k)
-        → asks_for_mutex (Acquires had.name k had.how) ≡ true → IsForMutex h call m
-    go MutexLock does found t =
-        record { name = had.name; how = had.how; asks = does; found = sym found }
-    go ReadLock does found t = absurd (let never : false ≡ true = t in cc)
-    go WriteLock does found t = absurd (let never : false ≡ true = t in cc)
 
 -- what is found of something is there
 there : {X Y : Type 0} (f : X → Y) (x : Option X) (y : Y) → option_map f x ≡ Some y → IsSome x
@@ -255,126 +228,3 @@ module _ {A : Type 0} (old mid : State A) (c : ℕ) (call : Asked)
               touches = planned.touches ∙ ap (touched_by h) had.waits;
               enters = refl;
             })
-
--- a call for a free mutex
-module _ {A : Type 0} (old : State A) (c : ℕ) (call : Asked) (m : ℕ)
-    (ready : IsReadyFor old (Call c call None)) (had : IsGrantedAtOnce (past old) c call)
-    (mutex : IsForMutex (past old) call m) (after_it : IsReadyAfter old (Call c call None)) where
-  abbrev f : Follows (past old)
-  f = ready.read.follows
-
-  -- the call as it would wait
-  abbrev pub waits : Open
-  waits = record { call = comes (past old) f c call had ready.step; moved = None }
-
-  is_mutex : had.kind ≡ MutexLock
-  is_mutex =
-      let same : Acquires had.name had.kind had.how ≡ Acquires mutex.name MutexLock mutex.how =
-      sym had.asks ∙ mutex.asks in cc
-
-  is_named : had.name ≡ mutex.name
-  is_named =
-      let same : Acquires had.name had.kind had.how ≡ Acquires mutex.name MutexLock mutex.how =
-      sym had.asks ∙ mutex.asks in cc
-
-  pub is_object : had.object ≡ m
-  is_object =
-      let same : Some had.object ≡ Some m =
-      sym had.found
-      ∙ (ap (λ k. find (past old) had.name (class_needed k)) is_mutex
-      ∙ (ap (λ n. find (past old) n MutexClass) is_named ∙ mutex.found)) in cc
-
-  is_for_mutex : waits.call.role ≡ ForMutex
-  is_for_mutex = ap role_needed is_mutex
-
-  module _ (mid : State A) (a : Adds old (Call c call None) mid) where
-    abbrev then : History
-    then = after (past old) f c call had ready.step
-
-    same_past : past mid ≡ then
-    same_past = past-adds old mid (Call c call None) a
-
-    -- it must be granted
-    its_grant : service (past mid) waits.call
-        ≡ Grant waits.call.place (grant_outcome (past mid) waits.call)
-    its_grant =
-        ap (λ b. cond b (Trip waits.call.object) (Grant waits.call.place
-        (grant_outcome (past mid) waits.call))) (comes-stays (past old) f c call had ready.step)
-
-    must : forced (past mid) ≡ Some (Grant waits.call.place (grant_outcome (past mid) waits.call))
-    must =
-        ap forced same_past
-        ∙ (serves (past old) f c call had ready.step
-        ∙ (ap (λ h. Some (service h waits.call)) (sym same_past) ∙ ap Some its_grant))
-
-    pub grant_ready : IsReadyFor mid (Grant waits.call.place
-        (grant_outcome (past mid) waits.call))
-    grant_ready =
-        after_it mid a (Grant waits.call.place (grant_outcome (past mid) waits.call)) must
-
-  pub is_had : IsHad old c call m waits
-  is_had =
-      record {
-        left = record { stands = stands (past old) f c call had ready.step; unmoved = refl };
-        client = refl;
-        place = refl;
-        role = is_for_mutex;
-        object = is_object;
-        next = λ mid a. grant_ready mid a;
-      }
-
-  module _ (x : Outcome) (new : State A) (adds : AddsHad old c call waits x new) (robust : Bool)
-      (free : robust ≡ (is_robust (kind_of (past old) m) && is_none (owner (past old) m)))
-      (used : ℕ) (uses_it : used ≡ cond {A = ℕ} (robust && is_acquired x) 2 3) where
-    abbrev between : State A
-    between = adds.mid
-
-    same_robust : robust
-        ≡ (is_robust (kind_of (past between) m) && is_none (owner (past between) m))
-    same_robust =
-        free
-        ∙ (ap (λ o. is_robust (kind_of (past old) m) && is_none o) same_owner
-        ∙ ap (λ h. is_robust (kind_of h m) && is_none (owner h m))
-        (sym (same_past between adds.first)))
-      where
-        same_owner : owner (past old) m ≡ owner (then between adds.first) m
-        same_owner =
-            subst (λ n. owner (past old) n ≡ owner (then between adds.first) n) is_object
-            (sym (owner_kept (past old) f c call had ready.step))
-
-    gives : gives_owner (past between) waits.call (mutex_of waits.call.role waits.call.object)
-        ≡ (robust && is_acquired x)
-    gives =
-        ap (λ r. gives_owner (past between) waits.call (mutex_of r waits.call.object)) is_for_mutex
-        ∙ (ap (λ n. (is_robust (kind_of (past between) n) && is_none (owner (past between) n))
-        && is_acquired (grant_outcome (past between) waits.call)) is_object
-        ∙ (ap (λ b. b && is_acquired (grant_outcome (past between) waits.call)) (sym same_robust)
-        ∙ ap (λ y. robust && is_acquired y) (sym adds.told)))
-
-    reserved_three : reserved_for (past between) waits.call ≡ 3
-    reserved_three =
-        sym (row-reserved (past between) between.clients adds.first.read.follows
-        adds.first.read.callers waits
-        (found-known between.clients c (Some waits) (sym adds.found)))
-
-    pub adds-granted : AddsGranted old c call used x new
-    adds-granted =
-        record {
-          mid = between;
-          first = adds.first;
-          its = waits;
-          found = sym adds.found;
-          second = subst (λ e. Adds between e new)
-              (ap (λ y. Grant waits.call.place y) adds.told
-              ∙ sym (its_grant between adds.first))
-              adds.second;
-          told = adds.told;
-          uses = ap (λ n. n + one_if (gives_owner (past between) waits.call
-              (mutex_of waits.call.role waits.call.object))) uses_it
-              ∙ (ap (λ b. cond {A = ℕ} (robust && is_acquired x) 2 3 + one_if b) gives
-              ∙ (three (robust && is_acquired x) ∙ sym reserved_three));
-        }
-      where
-        three : (b : Bool) → cond {A = ℕ} b 2 3 + one_if b ≡ 3
-        three true = refl
-        three false = refl

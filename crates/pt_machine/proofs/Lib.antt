@@ -22,6 +22,8 @@ pub mod GrantedAtRest
 pub mod AnswersAdded
 -- GrantedStates: the tables after a call that is granted as it comes, and after its Grant
 pub mod GrantedStates
+-- GrantedLocks: a call for a lock of each kind that is granted as it comes, as the tables have it
+pub mod GrantedLocks
 -- LastTouches: what is touched, and whose call came last, as entries are pushed
 pub mod LastTouches
 -- TableViews: what the tables answer, of the body that has them

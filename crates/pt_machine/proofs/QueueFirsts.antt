@@ -87,8 +87,8 @@ module _ (h : History) (queue : ℕ → List Waiter)
   ArePlain = (w : WaitingCall) → In w (open_calls h) → here w ≡ true → is_arrival w.role ≡ false
 
   -- the first of the queue is the least of the calls there
-  first-least : ArePlain → (v : Waiter) → head_of (queue q) ≡ Some v
-      → (w : WaitingCall) × (In w (open_calls h) × (v.client ≡ w.client)
+  pub first-least : ArePlain → (v : Waiter) → head_of (queue q) ≡ Some v
+      → (w : WaitingCall) × (In w (open_calls h) × (v ≡ waiter h w)
       × (least (precedes h) (filter here (open_calls h)) ≡ Some w))
   first-least plain v e =
       let r = m.known q v (head-in (queue q) v e) in
@@ -99,14 +99,8 @@ module _ (h : History) (queue : ℕ → List Waiter)
       → precedes h u w ≡ false = λ u j t.
       sym (before-waiter h u w (plain u j t) (plain w i waits))
       ∙ (ap (comes_before (waiter h u)) (sym r.3)
-      ∙ head-first (queue q) v (m.in_order q) e (waiter h u) (stands u j t)) in (
-        w,
-        (
-          i,
-          ap (λ (x : Waiter). x.client) r.3,
-          least-open h follows here w i waits first,
-        ),
-      )
+      ∙ head-first (queue q) v (m.in_order q) e (waiter h u) (stands u j t)) in
+      (w, (i, r.3, least-open h follows here w i waits first))
 
   -- the open call of the first waiter's client is the first call there
   pub first-called : ArePlain → (rows : List (ClientRow Caller)) → AreCallers h rows
@@ -118,7 +112,8 @@ module _ (h : History) (queue : ℕ → List Waiter)
   first-called plain rows a first v found e s t =
       let r = first-least plain v (sym e ∙ s) in
       let own : call_of (open_calls h) v.client ≡ Some r.0 =
-      ap (call_of (open_calls h)) r.1.1 ∙ call_of-open h follows r.0 r.1.0 in
+      ap (λ (x : Waiter). call_of (open_calls h) x.client) r.1.1
+      ∙ call_of-open h follows r.0 r.1.0 in
       ap (option_map called) t ∙ (a.look.calls v.client ∙ (own ∙ sym r.1.2))
 
   -- where the queue is empty, no call waits there

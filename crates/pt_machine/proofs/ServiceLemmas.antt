@@ -1,45 +1,41 @@
 -- What is served first: a full barrier's calls, or a client's open call.
 use Rattle.std.proofs.Common.{◌≡◌, ℕ, ◌+◌, ◌*◌, ◌≤◌, ◌==◌, Bool, true, false}
-use Rattle.std.proofs.Common.{cond, ◌&&◌, List, [], ◌∷◌, inl}
-use Rattle.std.proofs.Common.{Option, Some, None, option_map, IfSome, length, refl, sym, ap}
+use Rattle.std.proofs.Common.{cond, filter, ◌&&◌, List, [], ◌∷◌, inl}
+use Rattle.std.proofs.Common.{Option, Some, None, option_map, length, refl, sym, ap}
 use Rattle.std.proofs.Common.{◌∙◌, subst, arith}
 use Rattle.std.proofs.lemmas.Bool.Decides.{nat_tests}
 use Rattle.std.proofs.lemmas.Bool.{and_parts}
 use Rattle.pt_types.specs.declared.call.ObjectKind.TheVariants as kind
 use Rattle.pt_types.specs.Operations.{class_of}
 use Rattle.pt_types.specs.declared.operations.ObjectClass.TheVariants.{Barrier as BarrierClass}
-use Rattle.pt_table.specs.declared.clients.ClientRow.{ClientRow}
 use Rattle.pt_waitq.specs.declared.waiter.Waiter.{Waiter}
 use Rattle.pt_waitq.specs.Queues.{queues_of}
 use Rattle.pt_model.specs.declared.entry.Entry.TheVariants.{Grant, Trip as TripEntry}
 use Rattle.pt_model.specs.Searches.{In}
 use Rattle.pt_model.specs.Histories.{History, ◌▷◌}
-use Rattle.pt_model.specs.Objects.{kind_of}
+use Rattle.pt_model.specs.Objects.{is_class, kind_of}
 use Rattle.pt_model.specs.declared.waiting_call.WaitingCall.{WaitingCall}
 use Rattle.pt_model.specs.WaitingCall.{is_arrival}
 use Rattle.pt_model.specs.Answers.{at_barrier, open_calls}
 use Rattle.pt_model.specs.Moves.{at_object, precedes, waiting_at}
 use Rattle.pt_model.specs.Grants.{grant_outcome}
-use Rattle.pt_model.specs.Forced.{service}
+use Rattle.pt_model.specs.Forced.{is_served, service}
+use Rattle.pt_model.specs.Queries.{client_at}
 use Rattle.pt_model.specs.Room.{need}
 use Rattle.pt_model.specs.Steps.{Follows}
 use Rattle.pt_model.proofs.Lists.{In-filter, filter-in}
 use Rattle.pt_model.proofs.Leasts.{least-in, least-none}
-use Rattle.pt_records.specs.declared.clients.Caller.{Caller}
-use Rattle.pt_records.specs.declared.clients.Open.{Open}
-use Rattle.pt_records.specs.Callers.{AreCallers, opens_of}
 use Rattle.pt_state.specs.declared.state.State.{State}
 use Rattle.pt_state.specs.Adds.{Adds, past}
 use Rattle.pt_state.specs.Reads.{AreTables}
-use Rattle.pt_state.specs.Serving.{called}
-use Rattle.pt_state.proofs.ServingFinds.{are-open}
 use Rattle.pt_touched.specs.Candidates.{candidate, candidate_by, first_at}
+use Rattle.pt_touched.proofs.Candidates.{candidates}
 use Rattle.pt_machine.specs.LastTouched.{IsTouched}
 use Rattle.pt_machine.specs.Queued.{IsQueued}
 use Rattle.pt_machine.specs.Services.{IsService}
 use Rattle.pt_machine.specs.declared.candidates.Service.TheVariants.{Trip, Call}
 use Rattle.pt_machine.proofs.NeedUses.{uses-trip}
-use Rattle.pt_machine.proofs.QueueClasses.{at-barrier}
+use Rattle.pt_machine.proofs.QueueClasses.{at-barrier, no-arrival}
 use Rattle.pt_machine.proofs.QueuedOut.{queued-trip}
 use Rattle.pt_machine.proofs.QueuedSame.{past-adds, queued-adds}
 
@@ -81,14 +77,30 @@ module _ {A : Type 0} (old new : State A) where
       subst (λ (h : History). IsTouched h o c) (sym (past-adds old new (TripEntry b) a))
       (record { touches = k.touches; enters = k.enters })
 
--- a call that was found is served as its client's
-pub call-service : (h : History) (rows : List (ClientRow Caller)) → Follows h → AreCallers h rows
-    → (found : Option Open) (first : Option WaitingCall) → option_map called found ≡ first
-    → IfSome found (λ o. In o (opens_of rows))
-    → IsService h first (option_map (λ o. Call o.call.client) found)
-call-service h rows f a None first e k = sym e
-call-service h rows f a (Some o) first e k =
-    (called o, (sym e, (((are-open h rows f a).known o k).0, refl)))
+-- the call that is served at an object is open, and waits there
+candidate-open : (h : History) → Follows h → (o : ℕ) (w : WaitingCall) → candidate h o ≡ Some w
+    → In w (open_calls h) × ((at_object h w == o) ≡ true)
+candidate-open h f o w e =
+    let served : In w (filter (is_served h) (waiting_at h o)) =
+    least-in (precedes h) (filter (is_served h) (waiting_at h o)) w (candidates h f o ∙ e) in
+    In-filter (λ v. at_object h v == o) (open_calls h) w
+    (In-filter (is_served h) (waiting_at h o) w served).0
+
+-- a call at an object that is no barrier is served as its client's
+pub call-service : (h : History) → Follows h → (o : ℕ)
+    → is_class (kind_of h o) BarrierClass ≡ false → (found : Option ℕ)
+    → found ≡ client_at (candidate h o) → IsService h (candidate h o) (option_map Call found)
+call-service h f o other found e = go found (candidate h o) refl e
+  where
+    go : (found : Option ℕ) (first : Option WaitingCall) → candidate h o ≡ first
+        → found ≡ client_at first → IsService h (candidate h o) (option_map Call found)
+    go None None is e = is
+    go None (Some w) is e = absurd cc
+    go (Some c) None is e = absurd cc
+    go (Some c) (Some w) is e =
+        let same : c ≡ w.client = cc in
+        let waits = candidate-open h f o w is in
+        (w, (is, (waits.0, (no-arrival h f o other w waits.0 waits.1, sym same))))
 
 -- a list that isn't empty has a first element
 some-in : {X : Type 0} (xs : List X) → 1 ≤ length xs → (x : X) × In x xs

@@ -28,7 +28,6 @@ use Rattle.pt_model.specs.Grants.{grant_outcome}
 use Rattle.pt_model.specs.Queries.{answers_behind}
 use Rattle.pt_model.specs.StartRows.{reads_of}
 use Rattle.pt_model.specs.WaitingCall.{mutex_of}
-use Rattle.pt_types.specs.declared.operations.ObjectClass.TheVariants.{Mutex as MutexClass}
 use Rattle.pt_history.specs.Stored.{Stored}
 use Rattle.pt_table.specs.ClientRows.{client_value}
 use Rattle.pt_records.specs.declared.clients.Open.{Open}
@@ -75,13 +74,6 @@ pub record IsGrantedAtOnce (h : History) (c : ℕ) (call : Asked) : Type 0 where
 abbrev pub asks_for_mutex : Operation → Bool
 asks_for_mutex (Acquires n MutexLock how) = true
 asks_for_mutex _ = false
-
--- a call for this mutex  [XSH pthread_mutex_lock]
-pub record IsForMutex (h : History) (call : Asked) (m : ℕ) : Type 0 where
-  pub name : List ℕ
-  pub how : How
-  pub asks : operation call ≡ Acquires name MutexLock how
-  pub found : find h name MutexClass ≡ Some m
 
 -- the entries from a place on answer this client's call that came there, and no other
 abbrev pub AnswersOne : Stored → ℕ → ℕ → Outcome → Type 0

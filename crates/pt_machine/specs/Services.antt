@@ -1,5 +1,5 @@
 -- Services: what is served first, a barrier's calls or one client's call.
-use Rattle.std.specs.Prelude.{◌≡◌, true, Option, Some, None}
+use Rattle.std.specs.Prelude.{◌≡◌, true, false, Option, Some, None}
 use Rattle.pt_model.specs.Searches.{In}
 use Rattle.pt_model.specs.Histories.{History}
 use Rattle.pt_model.specs.declared.waiting_call.WaitingCall.{WaitingCall}
@@ -8,11 +8,11 @@ use Rattle.pt_model.specs.Answers.{open_calls}
 use Rattle.pt_machine.specs.declared.candidates.Service.{Service}
 use Rattle.pt_machine.specs.declared.candidates.Service.TheVariants.{Trip, Call}
 
--- a call is served by the Trip of its barrier, or as the open call of its client
+-- an arrival is served by the Trip of its barrier, any other call as the open one of its client
 -- [XSH pthread_barrier_wait]
 abbrev pub Serves : Service → WaitingCall → Type 0
 Serves (Trip b) w = (is_arrival w.role ≡ true) × (w.object ≡ b)
-Serves (Call c) w = w.client ≡ c
+Serves (Call c) w = (is_arrival w.role ≡ false) × (w.client ≡ c)
 
 -- how the call that is served first is served, if there is one
 abbrev pub IsService : History → Option WaitingCall → Option Service → Type 0

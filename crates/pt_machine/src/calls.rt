@@ -1,7 +1,5 @@
 //! Calls: the verdict of each, and the push of its entry, answered or waiting.
 
-ghost use Rattle.pt_model.specs.Objects.{find};
-ghost use Rattle.pt_types.specs.Operations.{class_needed};
 ghost use Rattle.pt_state.specs.Requests.{IsRequest};
 ghost use Rattle.pt_types.specs.Shown.{shown_operation};
 ghost use Rattle.std.specs.Prelude.{IfErr, IsOk, None, OnErr, OnOk, Some, ◌≡◌, false, unwrap_or};
@@ -18,11 +16,11 @@ ghost use Rattle.pt_state.specs.Reads.{AreTables};
 
 use crate::body::Body;
 use crate::cond::{push_broadcast, push_signal};
-use crate::objects::{push_ended, push_made};
+use crate::objects::{push_ended, push_ended_object, push_made, push_new_object};
 use crate::queues::{arriving, take_place};
 use pt_state::{Request, State, known_verdict};
 use pt_types::operations::{LockKind, Operation, operation_of};
-use pt_types::{Call, ClientId, How, Name, ObjectId, Outcome, Refusal, Verdict};
+use pt_types::{Call, ClientId, Name, ObjectId, Outcome, Refusal, Verdict};
 use pt_waitq::WaitList;
 use std::alloc::Allocator;
 
@@ -109,13 +107,9 @@ fn arrive<Q: WaitList, A: Allocator + Copy>(
 {
     let place = state.stored.len();
     let b = barrier_meant(request);
-    match state.push_left(c, call, request) {
-        Ok(()) => {
-            queues.insert(b, arriving(c, place));
-            Ok(())
-        }
-        Err(refusal) => Err(refusal),
-    }
+    state.push_arrival(c, call, n, request.object);
+    queues.insert(b, arriving(c, place));
+    Ok(())
 }
 
 // As `leave`, for an arrival at a barrier.
@@ -161,7 +155,11 @@ fn leave_wait<Q: WaitList, A: Allocator + Copy>(
     ensures queued { IsQueued (past state.new) (Q.seen queues.new) }
 {
     match call {
-        Call::Wait(..) => leave(state, queues, c, call, request),
+        Call::Wait(n, m) => {
+            state.push_await(c, call, n, m, None, request);
+            take_place(queues, state, c);
+            Ok(())
+        }
         _ => leave_any(state, queues, c, call, request),
     }
 }
@@ -225,9 +223,9 @@ fn push_changed<Q: WaitList, A: Allocator + Copy>(
     }
 }
 
-// As `push_done`, for any call. It isn't inlined.  [XSH, the call's page]
+/// As `push_done`, for any call. It isn't inlined.  [XSH, the call's page]
 #[inline(never)]
-fn push_any_done<Q: WaitList, A: Allocator + Copy>(
+pub(crate) fn push_any_done<Q: WaitList, A: Allocator + Copy>(
     state: &mut State<A>,
     queues: &mut Q,
     c: ClientId,
@@ -284,6 +282,17 @@ fn push_done<Q: WaitList, A: Allocator + Copy>(
             push_signal(state, queues, c, call, n, request.object);
             Ok(())
         }
+        Call::Consistent(n) => {
+            state.push_restored(c, call, n, request.object);
+            Ok(())
+        }
+        Call::MutexInit(..) | Call::RwlockInit(_) | Call::CondInit(_) | Call::BarrierInit(..) => {
+            push_new_object(state, queues, c, call, request)
+        }
+        Call::MutexDestroy(_)
+        | Call::RwlockDestroy(_)
+        | Call::CondDestroy(_)
+        | Call::BarrierDestroy(_) => push_ended_object(state, queues, c, call, request),
         _ => push_any_done(state, queues, c, call, request),
     }
 }

@@ -1,13 +1,13 @@
 //! Which call is served at an object, found by one look at the object.
 
-ghost use Rattle.std.specs.Prelude.{IfSome, None, Some, ◌&&◌, ◌==◌, ◌≡◌, false, is_some};
+ghost use Rattle.std.specs.Prelude.{None, Some, ◌&&◌, ◌==◌, ◌≡◌, ◌≤◌, false, is_some, length};
 ghost use Rattle.std.specs.Prelude.{option_map, true};
-ghost use Rattle.std.specs.Option.{option_copied};
 ghost use Rattle.pt_types.specs.MutexTable.{is_recursive};
 ghost use Rattle.pt_types.specs.RwlockTable.{may_read as may_read_it};
 ghost use Rattle.pt_rwlock.specs.RwlockState.{seen_by};
-ghost use Rattle.pt_model.specs.Searches.{In};
-ghost use Rattle.pt_model.specs.WaitingCall.{is_wait as is_wait_role, is_write as is_write_role};
+ghost use Rattle.pt_model.specs.Answers.{at_barrier, open_calls};
+ghost use Rattle.pt_model.specs.Queries.{client_at};
+ghost use Rattle.pt_model.specs.WaitingCall.{is_wait as is_wait_role};
 ghost use Rattle.pt_touched.specs.Candidates.{candidate as candidate_in, entering};
 ghost use Rattle.pt_touched.specs.Candidates.{first_at as first_at_in, if_passes, is_read};
 ghost use Rattle.pt_touched.specs.Candidates.{mutex_candidate as mutex_candidate_in, open_call_if};
@@ -19,7 +19,6 @@ ghost use Rattle.pt_types.specs.declared.operations.ObjectClass.TheVariants.{
 ghost use Rattle.pt_model.specs.Objects.{is_class, kind_of};
 ghost use Rattle.pt_table.specs.ObjectRows.{object_value};
 ghost use Rattle.pt_records.specs.declared.objects.Object.TheVariants as row;
-ghost use Rattle.pt_records.specs.Callers.{opens_of};
 ghost use Rattle.pt_records.specs.OpenRows.{object_of};
 ghost use Rattle.pt_machine.specs.Services.{IsService};
 ghost use Rattle.pt_machine.specs.declared.candidates.Service.TheVariants as service;
@@ -29,7 +28,7 @@ ghost use Rattle.pt_state.specs.Serving.{called, move_of};
 
 use crate::body::Body;
 use pt_barrier::BarrierObj;
-use pt_model::waiting_call::{Role, is_wait, is_write};
+use pt_model::waiting_call::{Role, is_wait};
 use pt_mutex::MutexObj;
 use pt_records::calls::{at_object, is_moved};
 use pt_records::mutex::may_lock;
@@ -69,13 +68,6 @@ fn reads_more<A: Allocator + Copy>(r: ObjectId, lock: &Holders<A>, open: &Open) 
     at_object(open) == r && reads && may_read(lock, open.call.client, true)
 }
 
-// Whether an open call is for a write lock.  [XSH pthread_rwlock_wrlock]
-fn is_writer(open: &Open) -> bool
-    ensures { result ≡ is_write_role (called «open».now).role }
-{
-    is_write(open.call.role)
-}
-
 /// What is served first: the calls of a full barrier, or a client's open call.
 #[derive(Clone, Copy)]
 pub(crate) enum Service {
@@ -85,39 +77,34 @@ pub(crate) enum Service {
 
 // A call that is served as its client's, if one was found.
 #[inline(always)]
-fn call_served(found: Option<&Open>) -> Option<Service>
-    ensures { result ≡ option_map (λ o. service.Call o.call.client) (option_copied found.entry) }
+fn call_served(found: Option<ClientId>) -> Option<Service>
+    ensures { result ≡ option_map service.Call found }
 {
-    Some(Service::Call(found?.call.client))
+    Some(Service::Call(found?))
 }
 
 impl<Q: WaitList, A: Allocator + Copy> Body<Q, A> {
-    // The first call that waits at an object that is no barrier.  [XSH 2.8.4]
+    // The client of the first call that waits at an object that is no barrier.  [XSH 2.8.4]
     #[inline(always)]
-    fn first_at(&self, o: ObjectId) -> Option<&Open>
+    fn first_at(&self, o: ObjectId) -> Option<ClientId>
         requires read { AreTables self.now }
         requires other { is_class (kind_of (past self.now) o) BarrierClass ≡ false }
-        ensures value { option_map called (option_copied result) ≡ first_at_in (past self.now) o }
-        ensures known { IfSome (option_copied result)
-            (λ found. In found (opens_of self.now.clients)) }
+        ensures { result ≡ client_at (first_at_in (past self.now) o) }
     {
         match self.queues.first(o) {
-            Some(first) => self.state.open_of(first.client),
+            Some(first) => Some(first.client),
             None => None,
         }
     }
 
-    // The call that is served at a mutex: the first, if nobody owns it or it is lost, and
-    // otherwise a wait of its owner that has come back, if a relock counts there.
+    // The client of the call that is served at a mutex: the first, if nobody owns it or it is lost,
+    // and otherwise a wait of its owner that has come back, if a relock counts there.
     // [XSH pthread_mutex_unlock, pthread_cond_wait]
     #[inline(always)]
-    fn mutex_candidate(&self, m: ObjectId, mutex: &MutexObj) -> Option<&Open>
+    fn mutex_candidate(&self, m: ObjectId, mutex: &MutexObj) -> Option<ClientId>
         requires read { AreTables self.now }
         requires stored { object_value self.now.objects m ≡ Some (row.Mutex mutex.now) }
-        ensures value { option_map called (option_copied result)
-            ≡ mutex_candidate_in (past self.now) m }
-        ensures known { IfSome (option_copied result)
-            (λ found. In found (opens_of self.now.clients)) }
+        ensures { result ≡ client_at (mutex_candidate_in (past self.now) m) }
     {
         if may_lock(mutex) {
             return self.first_at(m);
@@ -127,59 +114,68 @@ impl<Q: WaitList, A: Allocator + Copy> Body<Q, A> {
         }
         let wait = self.state.open_of(mutex.owner()?)?;
         if comes_back(m, wait) {
-            Some(wait)
+            Some(wait.call.client)
         } else {
             None
         }
     }
 
-    // The call that came last, if it waits at the lock to read and its client reads there already.
-    // [XSH pthread_rwlock_rdlock]
-    fn reader_again(&self, r: ObjectId, lock: &Holders<A>) -> Option<&Open>
+    // The client whose call came last, if that waits at the lock to read and the client reads there
+    // already.  [XSH pthread_rwlock_rdlock]
+    fn reader_again(&self, r: ObjectId, lock: &Holders<A>) -> Option<ClientId>
         requires read { AreTables self.now }
         requires stored { object_value self.now.objects r ≡ Some (row.Rwlock lock.now) }
         requires unwritten { lock.now.writer ≡ None }
-        ensures value { let h = past self.now in
-            option_map called (option_copied result)
-            ≡ if_passes (reads_again_at h r) (open_call_if h (entering h)) }
-        ensures known { IfSome (option_copied result)
-            (λ found. In found (opens_of self.now.clients)) }
+        ensures { let h = past self.now in
+            result ≡ client_at (if_passes (reads_again_at h r) (open_call_if h (entering h))) }
     {
         let open = self.state.open_of(self.entering?)?;
         if reads_more(r, lock, open) {
-            Some(open)
+            Some(open.call.client)
         } else {
             None
         }
     }
 
-    // The call that is served at a read-write lock: none if it is written; the first, unless that
-    // is a writer and others read; then the call that came last, if its client reads already.
-    // [XSH pthread_rwlock_unlock, pthread_rwlock_rdlock]
-    fn rwlock_candidate(&self, r: ObjectId, lock: &Holders<A>) -> Option<&Open>
+    // The client of the call that is served at a read-write lock: none if it is written; the first,
+    // unless that is a writer and others read; then the call that came last, if its client reads
+    // already.  [XSH pthread_rwlock_unlock, pthread_rwlock_rdlock]
+    fn rwlock_candidate(&self, r: ObjectId, lock: &Holders<A>) -> Option<ClientId>
         requires read { AreTables self.now }
         requires stored { object_value self.now.objects r ≡ Some (row.Rwlock lock.now) }
-        ensures value { option_map called (option_copied result)
-            ≡ rwlock_candidate_in (past self.now) r }
-        ensures known { IfSome (option_copied result)
-            (λ found. In found (opens_of self.now.clients)) }
+        ensures { result ≡ client_at (rwlock_candidate_in (past self.now) r) }
     {
         if lock.writer().is_some() {
             return None;
         }
-        match self.first_at(r) {
-            Some(first) if is_writer(first) && !lock.is_free() => { self.reader_again(r, lock) }
-            first => first,
+        let first = self.queues.first(r)?;
+        if first.writer && !lock.is_free() {
+            self.reader_again(r, lock)
+        } else {
+            Some(first.client)
         }
     }
 
+    // Whether as many calls as are needed wait at a barrier.  [XSH pthread_barrier_wait]
+    #[inline(never)]
+    fn is_full(&self, b: ObjectId, barrier: &BarrierObj) -> bool
+        requires read { AreTables self.now }
+        requires stored { object_value self.now.objects b ≡ Some (row.Barrier barrier.now) }
+        ensures full { result
+            ≡ (length (at_barrier b (open_calls (past self.now))) == barrier.now) }
+        ensures needs { 1 ≤ barrier.now }
+    {
+        self.arrivals(b) == barrier.count() as usize
+    }
+
     // The Trip of a barrier, if it is full.  [XSH pthread_barrier_wait]
+    #[inline(always)]
     fn barrier_service(&self, b: ObjectId, barrier: &BarrierObj) -> Option<Service>
         requires read { AreTables self.now }
         requires stored { object_value self.now.objects b ≡ Some (row.Barrier barrier.now) }
         ensures { IsService (past self.now) (candidate_in (past self.now) b) result }
     {
-        let full = self.arrivals(b) == barrier.count() as usize;
+        let full = self.is_full(b, barrier);
         if full { Some(Service::Trip(b)) } else { None }
     }
 

@@ -20,6 +20,7 @@ ghost use Rattle.pt_machine.specs.Planned.{HasRequest, entry_with};
 ghost use Rattle.pt_state.specs.Serving.{IsFor, called, entry_of};
 ghost use Rattle.pt_model.specs.Searches.{In};
 ghost use Rattle.pt_model.specs.Forced.{service};
+ghost use Rattle.pt_model.specs.WaitingCall.{is_arrival};
 
 use crate::{calls, clients, forced};
 use pt_model::Event;
@@ -332,10 +333,10 @@ pub(crate) fn push_outer<Q: WaitList, A: Allocator + Copy>(
     }
 }
 
-/// A call is served, and its deadline dropped.
-/// [XSH pthread_barrier_wait, pthread_mutex_unlock, pthread_rwlock_unlock]
+/// A call that is no arrival gets what it is for, and its deadline is dropped.
+/// [XSH pthread_mutex_unlock, pthread_rwlock_unlock]
 #[inline(always)]
-pub(crate) fn push_served<Q: WaitList, A: Allocator + Copy>(
+pub(crate) fn push_granted<Q: WaitList, A: Allocator + Copy>(
     state: &mut State<A>,
     queues: &mut Q,
     timers: &mut Timers<A>,
@@ -345,11 +346,12 @@ pub(crate) fn push_served<Q: WaitList, A: Allocator + Copy>(
     requires queued { IsQueued (past state.old) (Q.seen queues.old) }
     requires timed { AreTimed (past state.old) timers.old }
     requires known { In found.now (opens_of state.old.clients) }
+    requires other { is_arrival (called found.now).role ≡ false }
     ensures adds { Adds state.old (service (past state.old) (called found.now)) state.new }
     ensures queued { IsQueued (past state.new) (Q.seen queues.new) }
     ensures timed { AreTimed (past state.new) timers.new }
 {
-    forced::push_served(state, queues, found);
+    forced::push_granted(state, queues, found);
     drop_deadline(timers, &found.call);
 }
 

@@ -1,8 +1,7 @@
 //! Forced entries: which comes next, and how it comes in.
 
-ghost use Rattle.std.specs.Option.{option_copied};
-ghost use Rattle.std.specs.Prelude.{IfSome, IsSome, None, Some, ◌-◌, ◌&&◌, ◌≡◌, false, filter};
-ghost use Rattle.std.specs.Prelude.{if◌then◌else◌, option_map};
+ghost use Rattle.std.specs.Prelude.{IsSome, None, Some, ◌-◌, ◌&&◌, ◌≡◌, false, filter};
+ghost use Rattle.std.specs.Prelude.{if◌then◌else◌};
 ghost use Rattle.std.specs.Prelude.{true};
 ghost use Rattle.pt_model.specs.declared.entry.Entry.{Entry};
 ghost use Rattle.pt_model.specs.declared.waiting_call.WaitingCall.{WaitingCall};
@@ -30,6 +29,7 @@ use crate::body::Body;
 use crate::candidates::Service;
 use crate::clock;
 use crate::cond::push_late_wait;
+use crate::room::used_by_grant;
 use pt_model::waiting_call::{is_arrival, is_wait, mutex_of};
 use pt_records::Open;
 use pt_records::calls::reserved_by;
@@ -56,7 +56,7 @@ fn used_by_gain(open: &Open, had: Had) -> u64
 // A call gets what it is for, and leaves its queue.
 // [XSH pthread_mutex_unlock, pthread_rwlock_unlock]
 #[inline(always)]
-fn push_granted<Q: WaitList, A: Allocator + Copy>(
+pub(crate) fn push_granted<Q: WaitList, A: Allocator + Copy>(
     state: &mut State<A>,
     queues: &mut Q,
     found: &Open,
@@ -175,26 +175,29 @@ impl<Q: WaitList, A: Allocator + Copy> Body<Q, A> {
         self.need -= used_by_gain(found, had);
     }
 
-    // A call goes on, whatever it waits for. What is touched stays so.
-    // [XSH pthread_rwlock_unlock, pthread_barrier_wait]
+    // A call that is no arrival gets what it waits for. What is touched stays so.
+    // [XSH pthread_rwlock_unlock]
     #[inline(always)]
     fn push_passed(&mut self, found: &Open)
         requires read { AreTables self.old }
         requires ready { IsReadyFor self.old (service (past self.old) (called found.now)) }
         requires known { In found.now (opens_of self.old.clients) }
+        requires other { is_arrival_role (called found.now).role ≡ false }
         ensures { Adds self.old (service (past self.old) (called found.now)) self.new }
     {
-        let used = self.used_by_service(found);
-        clock::push_served(&mut self.state, &mut self.queues, &mut self.timers, found);
+        let used = used_by_grant(&self.state, found);
+        clock::push_granted(&mut self.state, &mut self.queues, &mut self.timers, found);
         self.need -= used;
     }
 
-    // The open call of a client is served, which must be.
-    // [XSH pthread_mutex_unlock, pthread_rwlock_unlock, pthread_barrier_wait]
+    // The open call of a client is served, which must be and is no arrival.
+    // [XSH pthread_mutex_unlock, pthread_rwlock_unlock]
     #[inline(never)]
     fn push_service(&mut self, c: ClientId)
         requires read { AreTables self.old }
         requires waits { IsSome (call_of (open_calls (past self.old)) c) }
+        requires other { (w : WaitingCall) → call_of (open_calls (past self.old)) c ≡ Some w
+            → is_arrival_role w.role ≡ false }
         requires ready { (w : WaitingCall) → call_of (open_calls (past self.old)) c ≡ Some w
             → IsReadyFor self.old (service (past self.old) w) }
         ensures { (w : WaitingCall) → call_of (open_calls (past self.old)) c ≡ Some w

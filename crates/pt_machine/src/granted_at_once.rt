@@ -1,9 +1,10 @@
 //! Calls for a lock that is free: each is pushed with its Grant, and stands in no queue.
 
 ghost use Rattle.std.specs.Prelude.{IfErr, IfOk, IsOk, None, OnErr, OnOk, Some, ◌&&◌, false, ◌≡◌};
-ghost use Rattle.std.specs.Prelude.{◌<◌, ◌≤◌, if◌then◌else◌, unwrap_or};
+ghost use Rattle.std.specs.Prelude.{◌<◌, ◌≤◌, if◌then◌else◌, true, unwrap_or};
 ghost use Rattle.pt_types.specs.Limits.{most_priority};
 ghost use Rattle.pt_types.specs.MutexTable.{is_acquired as is_acquired_it};
+ghost use Rattle.pt_types.specs.declared.outcome.Outcome.TheVariants as told;
 ghost use Rattle.pt_model.specs.Answers.{outcome};
 ghost use Rattle.pt_model.specs.Clients.{client};
 ghost use Rattle.pt_model.specs.Forced.{forced};
@@ -15,11 +16,10 @@ ghost use Rattle.pt_state.specs.Adds.{IsReadyFor, Stays, past};
 ghost use Rattle.pt_state.specs.Reads.{AreTables};
 ghost use Rattle.pt_types.specs.Operations.{operation, operation as operation_meant};
 ghost use Rattle.pt_types.specs.Shown.{shown_operation};
-ghost use Rattle.pt_state.specs.Outer.{asks_to_read};
-ghost use Rattle.pt_state.specs.Requests.{IsRequest};
+ghost use Rattle.pt_state.specs.Outer.{asks_to_read as asks_to_read_of};
+ghost use Rattle.pt_state.specs.Requests.{IsRequest, object_meant};
 ghost use Rattle.pt_machine.specs.GrantedAtOnce.{AddsBoth, AddsGranted, AnswersOne};
-ghost use Rattle.pt_machine.specs.GrantedAtOnce.{IsAhead, IsForMutex};
-ghost use Rattle.pt_machine.specs.GrantedAtOnce.{IsFree, IsFreeLock, IsGrantedAtOnce};
+ghost use Rattle.pt_machine.specs.GrantedAtOnce.{IsAhead, IsFree, IsFreeLock, IsGrantedAtOnce};
 ghost use Rattle.pt_machine.specs.GrantedAtOnce.{IsReadyAfter};
 ghost use Rattle.pt_machine.specs.GrantedAtOnce.{asks_for_mutex as asks_for_mutex_of};
 ghost use Rattle.pt_machine.specs.Memory.{needs_memory};
@@ -30,7 +30,6 @@ ghost use Rattle.pt_model.specs.Room.{entry_for};
 use crate::body::Body;
 use crate::clock::good_deadline;
 use crate::planning::Plan;
-use crate::room::used_by_grant;
 use pt_model::Event;
 use pt_records::Object;
 use pt_records::mutex::may_lock;
@@ -101,7 +100,8 @@ fn push_had<A: Allocator + Copy>(
     requires ready { IsReadyFor state.old (entry_is.Call c call.now None) }
     requires next { IsReadyAfter state.old (entry_is.Call c call.now None) }
     requires granted { IsGrantedAtOnce (past state.old) c call.now }
-    requires mutex { IsForMutex (past state.old) call.now m }
+    requires mutex { asks_for_mutex_of (operation call.now) ≡ true }
+    requires object { object_meant (past state.old) (operation call.now) ≡ Some m }
     ensures { AddsGranted state.old c call.now result.used result.outcome state.new }
 {
     let had = state.push_had(c, call, m);
@@ -111,32 +111,43 @@ fn push_had<A: Allocator + Copy>(
     }
 }
 
-// Pushes a call that waits, and then its Grant. ENOMEM if there is no memory for its row in a
-// read-write lock: then nothing is pushed.
+// Whether a call is for a read lock.  [XSH pthread_rwlock_rdlock]
+#[inline(always)]
+fn asks_to_read(call: &Call) -> bool
+    ensures { result ≡ asks_to_read_of (operation call.now) }
+{
+    matches!(
+        call,
+        Call::Rdlock(_) | Call::Tryrdlock(_) | Call::Timedrdlock(..) | Call::Clockrdlock(..)
+    )
+}
+
+// Pushes a call for a read-write lock that is granted as it comes, with its Grant. ENOMEM if there
+// is no memory for its row in the lock: then nothing is pushed.
 // [XSH pthread_rwlock_rdlock, pthread_rwlock_wrlock]
-fn push_left_and_granted<A: Allocator + Copy>(
+#[inline(never)]
+fn push_lock_had<A: Allocator + Copy>(
     state: &mut State<A>,
     c: ClientId,
     call: &Call,
-    request: &Request,
-) -> Result<Granted, Refusal>
+    r: ObjectId,
+) -> Result<(), Refusal>
     requires ready { IsReadyFor state.old (entry_is.Call c call.now None) }
     requires next { IsReadyAfter state.old (entry_is.Call c call.now None) }
     requires granted { IsGrantedAtOnce (past state.old) c call.now }
-    requires asks { IsRequest (past state.old) (operation call.now) request.now }
-    ensures ok { IfOk result (λ granted.
-        AddsGranted state.old c call.now granted.used granted.outcome state.new) }
+    requires lock { asks_for_mutex_of (operation call.now) ≡ false }
+    requires object { object_meant (past state.old) (operation call.now) ≡ Some r }
+    ensures ok { OnOk result (AddsGranted state.old c call.now 3 told.Done state.new) }
     ensures err { OnErr result (Stays state.old state.new) }
     ensures reason { IfErr result (λ refusal. refusal ≡ Refusal.Enomem) }
-    ensures enough { asks_to_read (operation call.now) ≡ false → IsOk result }
+    ensures enough { asks_to_read_of (operation call.now) ≡ false → IsOk result }
 {
-    state.push_left(c, call, request)?;
-    let found = state.open_of(c).unwrap();
-    let open = *found;
-    let used = used_by_grant(state, &open);
-    let outcome = state.grant_outcome(&open);
-    state.push_granted(&open);
-    Ok(Granted { used, outcome })
+    if asks_to_read(call) {
+        state.push_had_read(c, call, r)?;
+        return Ok(());
+    }
+    state.push_had_write(c, call, r);
+    Ok(())
 }
 
 // Whether a call is for a mutex.  [XSH pthread_mutex_lock]
@@ -167,15 +178,17 @@ fn push_both<A: Allocator + Copy>(
         AddsGranted state.old c call.now granted.used granted.outcome state.new) }
     ensures err { OnErr result (Stays state.old state.new) }
     ensures reason { IfErr result (λ refusal. refusal ≡ Refusal.Enomem) }
-    ensures enough { asks_to_read (operation call.now) ≡ false → IsOk result }
+    ensures enough { asks_to_read_of (operation call.now) ≡ false → IsOk result }
 {
-    match request.object {
-        Some(m) if asks_for_mutex(call) => Ok(push_had(state, c, call, m)),
-        _ => {
-            let request = *request;
-            push_left_and_granted(state, c, call, &request)
-        }
+    let o = request.object.unwrap();
+    if asks_for_mutex(call) {
+        return Ok(push_had(state, c, call, o));
     }
+    push_lock_had(state, c, call, o)?;
+    Ok(Granted {
+        used: 3,
+        outcome: Outcome::Done,
+    })
 }
 
 impl<Q: WaitList, A: Allocator + Copy> Body<Q, A> {

@@ -1,10 +1,12 @@
 //! Objects: calls that make and destroy them, with their queues.
 
-ghost use Rattle.std.specs.Prelude.{IfErr, OnErr, OnOk, Some, ◌≡◌, option_map};
+ghost use Rattle.std.specs.Prelude.{IfErr, IsOk, OnErr, OnOk, Some, ◌≡◌, false, option_map};
 ghost use Rattle.pt_types.specs.declared.outcome.Outcome.TheVariants as told;
 ghost use Rattle.pt_types.specs.Operations.{Ends, Makes, class_of, operation};
 ghost use Rattle.pt_model.specs.declared.entry.Entry.TheVariants as entry;
 ghost use Rattle.pt_state.specs.Adds.{Adds, IsReadyFor, Stays, past};
+ghost use Rattle.pt_state.specs.Outer.{makes_object};
+ghost use Rattle.pt_state.specs.Requests.{IsRequest};
 ghost use Rattle.pt_machine.specs.Queued.{IsQueued};
 ghost use Rattle.pt_types.specs.ObjectTable.{destroy_verdict as destroy_table};
 ghost use Rattle.pt_model.specs.Objects.{find as find_in, kind_of};
@@ -12,8 +14,9 @@ ghost use Rattle.pt_model.specs.Verdicts.{is_busy as is_busy_in, on};
 ghost use Rattle.pt_state.specs.Reads.{AreTables};
 
 use crate::body::Body;
-use pt_state::State;
-use pt_types::operations::ObjectClass;
+use crate::calls::push_any_done;
+use pt_state::{Request, State};
+use pt_types::operations::{ObjectClass, Operation, operation_of};
 use pt_types::tables::destroy_verdict;
 use pt_types::{Call, ClientId, Name, ObjectId, ObjectKind, Outcome, Refusal, Verdict};
 use pt_waitq::WaitList;
@@ -21,6 +24,7 @@ use std::alloc::Allocator;
 
 // An object is made, with its queue. ENOMEM if there is no memory for one of them.
 // [XSH pthread_mutex_init]
+#[inline(always)]
 pub(crate) fn push_made<Q: WaitList, A: Allocator + Copy>(
     state: &mut State<A>,
     queues: &mut Q,
@@ -51,6 +55,7 @@ pub(crate) fn push_made<Q: WaitList, A: Allocator + Copy>(
 }
 
 // An object is ended, and its queue with it.  [XSH pthread_mutex_destroy]
+#[inline(always)]
 pub(crate) fn push_ended<Q: WaitList, A: Allocator + Copy>(
     state: &mut State<A>,
     queues: &mut Q,
@@ -70,6 +75,57 @@ pub(crate) fn push_ended<Q: WaitList, A: Allocator + Copy>(
     let o = object.unwrap();
     queues.discard(o);
     state.push_ended(c, call, n, class, Some(o));
+}
+
+/// As `push_any_done`, for a call that makes an object.  [XSH pthread_mutex_init]
+#[inline(never)]
+pub(crate) fn push_new_object<Q: WaitList, A: Allocator + Copy>(
+    state: &mut State<A>,
+    queues: &mut Q,
+    c: ClientId,
+    call: &Call,
+    request: &Request,
+) -> Result<(), Refusal>
+    requires ready { IsReadyFor state.old (entry.Call c call.now (Some told.Done)) }
+    requires asks { IsRequest (past state.old) (operation call.now) request.now }
+    requires queued { IsQueued (past state.old) (Q.seen queues.old) }
+    ensures ok { OnOk result (Adds state.old (entry.Call c call.now (Some told.Done)) state.new) }
+    ensures err { OnErr result (Stays state.old state.new) }
+    ensures reason { IfErr result (λ refusal. refusal ≡ Refusal.Enomem) }
+    ensures enough { makes_object (operation call.now) ≡ false → IsOk result }
+    ensures queued { IsQueued (past state.new) (Q.seen queues.new) }
+{
+    match &operation_of(call) {
+        Operation::Makes(n, kind) => push_made(state, queues, c, call, n, *kind),
+        _ => push_any_done(state, queues, c, call, request),
+    }
+}
+
+/// As `push_any_done`, for a call that ends an object.  [XSH pthread_mutex_destroy]
+#[inline(never)]
+pub(crate) fn push_ended_object<Q: WaitList, A: Allocator + Copy>(
+    state: &mut State<A>,
+    queues: &mut Q,
+    c: ClientId,
+    call: &Call,
+    request: &Request,
+) -> Result<(), Refusal>
+    requires ready { IsReadyFor state.old (entry.Call c call.now (Some told.Done)) }
+    requires asks { IsRequest (past state.old) (operation call.now) request.now }
+    requires queued { IsQueued (past state.old) (Q.seen queues.old) }
+    ensures ok { OnOk result (Adds state.old (entry.Call c call.now (Some told.Done)) state.new) }
+    ensures err { OnErr result (Stays state.old state.new) }
+    ensures reason { IfErr result (λ refusal. refusal ≡ Refusal.Enomem) }
+    ensures enough { makes_object (operation call.now) ≡ false → IsOk result }
+    ensures queued { IsQueued (past state.new) (Q.seen queues.new) }
+{
+    match &operation_of(call) {
+        Operation::Ends(n, class) => {
+            push_ended(state, queues, c, call, n, *class, request.object);
+            Ok(())
+        }
+        _ => push_any_done(state, queues, c, call, request),
+    }
 }
 
 impl<Q: WaitList, A: Allocator + Copy> Body<Q, A> {

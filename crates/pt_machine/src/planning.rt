@@ -91,6 +91,7 @@ impl<Q: WaitList, A: Allocator + Copy> Body<Q, A> {
     }
 
     // What a wait changes: its client gives one lock on the mutex back.  [XSH pthread_cond_wait]
+    #[inline(always)]
     fn change_by_wait(
         &self,
         c: ClientId,

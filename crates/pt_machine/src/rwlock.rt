@@ -8,6 +8,8 @@ ghost use Rattle.pt_model.specs.Grants.{is_blocked as is_blocked_in};
 ghost use Rattle.pt_state.specs.Adds.{past};
 ghost use Rattle.pt_state.specs.Reads.{AreTables};
 ghost use Rattle.pt_types.specs.Operations.{Acquires};
+ghost use Rattle.pt_types.specs.RwlockTable.{read_verdict as read_table};
+ghost use Rattle.pt_types.specs.declared.views.RwlockView.{RwlockView};
 ghost use Rattle.pt_types.specs.declared.operations.LockKind.TheVariants.{ReadLock};
 ghost use Rattle.pt_model.specs.Verdicts.{operation_verdict as said_of};
 
@@ -30,6 +32,21 @@ impl<Q: WaitList, A: Allocator + Copy> Body<Q, A> {
         }
     }
 
+    // Whether such a writer keeps a call to read from the lock. It isn't looked for where that is
+    // the same: a call that waits as long as it must is never answered at once for it.
+    #[inline(always)]
+    fn is_held_back(&self, r: ObjectId, c: ClientId, how: &How) -> bool
+        requires { AreTables self.now }
+        ensures { let blocked = is_blocked_in (past self.now) r
+            (unwrap_or (client (past self.now) c) 0) in
+            (v : RwlockView) → read_table v result how.now ≡ read_table v blocked how.now }
+    {
+        match how {
+            How::Plain => false,
+            _ => self.is_blocked(r, c),
+        }
+    }
+
     /// A client's call to read.  [XSH pthread_rwlock_rdlock]
     pub(crate) fn read_verdict(
         &self,
@@ -44,7 +61,7 @@ impl<Q: WaitList, A: Allocator + Copy> Body<Q, A> {
     {
         match object {
             Some(r) => {
-                let blocked = self.is_blocked(r, c);
+                let blocked = self.is_held_back(r, c, how);
                 self.state.read_verdict(c, r, blocked, how)
             }
             None => Verdict::Reply(Outcome::Einval),

@@ -1,35 +1,28 @@
--- A call for a mutex that is granted as it comes: the tables between its entry and its Grant.
+-- A call for a lock that is granted as it comes: the tables between its entry and its Grant.
 use Rattle.std.proofs.Common.{◌≡◌, ℕ, ◌-◌, ◌<◌, ◌==◌, Bool, true, false, cond, List, []}
-use Rattle.std.proofs.Common.{◌∷◌, ◌++◌, Option, Some, None, IsSome, map, length, refl, sym, ap}
+use Rattle.std.proofs.Common.{◌∷◌, ◌++◌, Option, Some, None, map, length, refl, sym, ap}
 use Rattle.std.proofs.Common.{◌∙◌, subst, arith, append-nil, eq-eqb}
 use Rattle.std.specs.Prelude.{option_map}
 use Rattle.pt_types.specs.declared.call.Call.{Call as Asked}
 use Rattle.pt_types.specs.declared.outcome.Outcome.{Outcome}
-use Rattle.pt_types.specs.MutexTable.{is_acquired}
-use Rattle.pt_mutex.specs.MutexState.{MutexState, acquired, can_acquire}
 use Rattle.pt_table.specs.declared.clients.ClientRow.{ClientRow}
 use Rattle.pt_table.specs.declared.objects.ObjectRow.{ObjectRow}
 use Rattle.pt_table.specs.ClientRows.{client_value, has_client, with_client}
-use Rattle.pt_table.specs.ObjectRows.{object_value}
 use Rattle.pt_model.specs.declared.entry.Entry.{Entry}
 use Rattle.pt_model.specs.declared.entry.Entry.TheVariants.{Call, Grant}
 use Rattle.pt_model.specs.Searches.{In}
 use Rattle.pt_model.specs.Histories.{◌▷◌, place}
 use Rattle.pt_model.specs.Answers.{open_calls, told}
 use Rattle.pt_model.specs.Grants.{grant_outcome}
-use Rattle.pt_model.specs.WaitingCall.{mutex_of}
 use Rattle.pt_model.specs.declared.waiting_call.Role.{Role}
-use Rattle.pt_model.specs.declared.waiting_call.Role.TheVariants.{ForMutex}
 use Rattle.pt_records.specs.declared.clients.Caller.{Caller}
 use Rattle.pt_records.specs.declared.clients.Open.{Open}
 use Rattle.pt_records.specs.declared.objects.Object.{Object}
-use Rattle.pt_records.specs.declared.objects.Object.TheVariants.{Mutex}
 use Rattle.pt_records.specs.Callers.{AreCallers, called_at, closed, open_in, opens_of}
 use Rattle.pt_records.specs.Chained.{AreChained, unowned}
 use Rattle.pt_records.specs.Logs.{logged, log, told_at}
-use Rattle.pt_records.specs.LocksInRows.{mutex_in}
 use Rattle.pt_records.specs.Objects.{AreObjects}
-use Rattle.pt_records.specs.Writes.{WritesCaller, WritesObject}
+use Rattle.pt_records.specs.Writes.{WritesCaller}
 use Rattle.pt_records.proofs.CallerWrites.{client-there, writes-caller}
 use Rattle.pt_records.proofs.Chaining.{chained-caller}
 use Rattle.pt_records.proofs.OpenRows.{look-row, row-open}
@@ -37,21 +30,14 @@ use Rattle.pt_state.specs.declared.state.State.{State}
 use Rattle.pt_state.specs.Adds.{Adds, IsReadyFor, past, pushed}
 use Rattle.pt_state.specs.Clocks.{reading}
 use Rattle.pt_state.specs.Forcing.{told_of}
-use Rattle.pt_state.specs.Granting.{outcome_as, told_at as told_by_row}
-use Rattle.pt_state.specs.Had.{AddsHad, IsHad}
-use Rattle.pt_state.specs.Left.{only_stands}
+use Rattle.pt_state.specs.Had.{AddsHad, IsHad, NotesHad}
 use Rattle.pt_state.proofs.AddLemmas.{adds}
 use Rattle.pt_state.proofs.Asked.{open_place-kept}
 use Rattle.pt_state.proofs.ForceCallers.{callers-grant, known-open}
-use Rattle.pt_state.proofs.ForceGrants.{mutex-there, mutex-can}
 use Rattle.pt_state.proofs.ForceLemmas.{forced-adds}
-use Rattle.pt_state.proofs.ForceObjects.{object_rows-behind-mutex, object_rows-behind-lost}
-use Rattle.pt_state.proofs.GrantLemmas.{outcome-by_role}
 use Rattle.pt_state.proofs.OwnedRows.{FindsSame, bare, callers-bare, there-unowned}
 use Rattle.pt_state.proofs.OwnedRows.{written-unowned}
-use Rattle.pt_state.proofs.ServingFinds.{are-open}
 use Rattle.pt_state.proofs.StandLemmas.{nearly-left, waits_there}
-use Rattle.pt_state.proofs.StandObjects.{object_rows-waiting}
 use Rattle.pt_state.proofs.StepLemmas.{called as known_call}
 use Rattle.pt_state.proofs.ToldLemmas.{told-grant}
 
@@ -60,16 +46,13 @@ unopened : (o : Option Open) → option_map (λ (v : Open). v.call.place) o ≡ 
 unopened None e = refl
 unopened (Some v) e = absurd cc
 
--- a role that waits for a mutex only stands
-plain_role : (r : Role) → r ≡ ForMutex → only_stands r ≡ true
-plain_role r e = ap only_stands e
-
 -- the row of a client whose call is left waiting
 abbrev pub standing : ℕ → Open → Caller → Caller
 standing k o v = record (called_at k None v) { «open» = Some o }
 
-module _ {A : Type 0} (s : State A) (c : ℕ) (call : Asked) (m : ℕ)
-    (ready : IsReadyFor s (Call c call None)) (o : Open) (had : IsHad s c call m o) where
+module _ {A : Type 0} (s : State A) (c : ℕ) (call : Asked)
+    (ready : IsReadyFor s (Call c call None)) (role : Role) (m : ℕ) (o : Open)
+    (had : IsHad s c call role m o) where
   abbrev pub e : Entry
   e = Call c call None
 
@@ -103,21 +86,6 @@ module _ {A : Type 0} (s : State A) (c : ℕ) (call : Asked) (m : ℕ)
   wrote : WritesCaller s.clients rows c waits
   wrote = writes-caller s.clients c waits row-there
 
-  -- the tables with the call's entry
-  abbrev pub mid : State A
-  mid = record s { clients = rows; stored = pushed s.stored e }
-
-  pub first : Adds s e mid
-  first =
-      let near = nearly-left s c call ready o had.left s.clients refl s.objects
-      (object_rows-waiting s c call ready o had.left (plain_role o.call.role had.role))
-      ready.read.chained in
-      adds s e (ready.read.follows, ready.step) mid refl
-      (near.callers rows row.0 row.1 wrote) near.objects
-      (chained-caller s.clients rows s.objects s.orphans ready.read.chained c row.0 waits row.1
-      wrote refl)
-      near.clocks (near.answers ∙ sym (append-nil (log (past s)))) refl (omega arith)
-
   -- have it in its client's row
   here : (c == c) ≡ true
   here = eq-eqb c c refl
@@ -125,81 +93,52 @@ module _ {A : Type 0} (s : State A) (c : ℕ) (call : Asked) (m : ℕ)
   its_row : client_value rows c ≡ Some waits
   its_row = wrote.look c ∙ ap (λ b. cond b (Some waits) (client_value s.clients c)) here
 
-  pub found : open_in (client_value mid.clients c) ≡ Some o
+  pub found : open_in (client_value rows c) ≡ Some o
   found = ap open_in its_row
 
-  known : In o (opens_of mid.clients)
+  pub known : In o (opens_of rows)
   known = let r = look-row rows c waits its_row in
       row-open rows r.0 o r.1.0 (ap (λ (x : Caller). x.open) r.1.2)
 
-  -- so its Grant may follow
-  abbrev answer : Outcome
-  answer = grant_outcome (past mid) o.call
+  -- with the objects as they are while it waits
+  module _ (objects : List (ObjectRow (Object A))) (look : AreObjects (past s ▷ e) objects)
+      (linked : AreChained s.clients objects s.orphans) where
+    -- the tables with the call's entry
+    abbrev pub mid : State A
+    mid = record s { clients = rows; objects = objects; stored = pushed s.stored e }
 
-  next : IsReadyFor mid (Grant o.call.place answer)
-  next = had.next mid first
+    pub first : Adds s e mid
+    first =
+        let near = nearly-left s c call ready o had.left s.clients refl objects look linked in
+        adds s e (ready.read.follows, ready.step) mid refl
+        (near.callers rows row.0 row.1 wrote) near.objects
+        (chained-caller s.clients rows objects s.orphans linked c row.0 waits row.1 wrote refl)
+        near.clocks (near.answers ∙ sym (append-nil (log (past s)))) refl (omega arith)
 
-  its_mutex : mutex_of o.call.role o.call.object ≡ Some m
-  its_mutex = ap (λ r. mutex_of r o.call.object) had.role ∙ ap Some had.object
+    -- so its Grant may follow
+    abbrev pub answer : Outcome
+    answer = grant_outcome (past mid) o.call
 
-  pub there : IsSome (mutex_in (object_value s.objects m))
-  there = mutex-there mid o next known m m refl its_mutex
+    pub next : IsReadyFor mid (Grant o.call.place answer)
+    next = had.next mid first
 
-  open_now : In o.call (open_calls (past mid))
-  open_now = known-open (past mid) mid.clients next.read.follows next.read.callers o known
+    pub open_now : In o.call (open_calls (past mid))
+    open_now = known-open (past mid) mid.clients next.read.follows next.read.callers o known
 
-  one : told (past mid) (Grant o.call.place answer) ≡ told_of o answer ∷ []
-  one = told-grant (past mid) o.call answer next.read.follows open_now
+    one : told (past mid) (Grant o.call.place answer) ≡ told_of o answer ∷ []
+    one = told-grant (past mid) o.call answer next.read.follows open_now
 
-  -- there is room for both
-  pub spare : length s.answers.items < s.answers.capacity
-  spare = omega (arith, next.spare, ap length one)
+    -- there is room for both
+    pub spare : length s.answers.items < s.answers.capacity
+    spare = omega (arith, next.spare, ap length one)
 
-  pub room : 0 < s.stored.room - 1
-  room = next.room
+    pub room : 0 < s.stored.room - 1
+    room = next.room
 
-  module _ (x : Outcome) (says : x ≡ told_by_row s.objects m None) where
-    -- it is answered what its mutex says
-    pub answers_it : x ≡ answer
-    answers_it =
-        outcome-by_role (past mid) mid.objects next.read.object_rows.look next.read.follows
-        (opens_of mid.clients) (are-open (past mid) mid.clients next.read.follows next.read.callers)
-        o known x
-        (says
-        ∙ (ap (λ n. told_by_row s.objects n None) (sym had.object)
-        ∙ (ap (λ v. told_by_row s.objects o.call.object v) (sym had.left.unmoved)
-        ∙ ap (outcome_as s.objects o) (sym had.role))))
-
-    pub may : is_acquired x ≡ true → (v : MutexState) → object_value s.objects m ≡ Some (Mutex v)
-        → can_acquire v.seen c ≡ true
-    may told v at =
-        subst (λ n. can_acquire v.seen n ≡ true) had.client
-        (mutex-can mid o next known m m refl its_mutex x answers_it told v at)
-
-    -- the objects once it is granted
-    module _ (new : List (ObjectRow (Object A)))
-        (taken : is_acquired x ≡ true → (v : MutexState) → object_value s.objects m ≡ Some (Mutex v)
-        → WritesObject s.objects new m (Mutex (record v { seen = acquired v.seen c })))
-        (lost : is_acquired x ≡ false → new ≡ s.objects) where
-      objects_then : AreObjects (past mid ▷ Grant o.call.place answer) new
-      objects_then = go (is_acquired x) refl
-        where
-          go : (b : Bool) → is_acquired x ≡ b
-              → AreObjects (past mid ▷ Grant o.call.place answer) new
-          go true is =
-              object_rows-behind-mutex (past mid) next.read.follows mid.objects
-              next.read.object_rows o.call open_now next.step new m its_mutex
-              (ap is_acquired (sym answers_it) ∙ is)
-              (subst (λ n. (v : MutexState) → object_value s.objects m ≡ Some (Mutex v)
-              → WritesObject s.objects new m (Mutex (record v { seen = acquired v.seen n })))
-              (sym had.client) (taken is))
-          go false is =
-              subst (AreObjects (past mid ▷ Grant o.call.place answer)) (sym (lost is))
-              (object_rows-behind-lost (past mid) next.read.follows mid.objects
-              next.read.object_rows o.call open_now next.step m its_mutex
-              (ap is_acquired (sym answers_it) ∙ is))
-
-      -- the clients once it is granted, where none is called before
+    -- once it is granted, with this outcome and these objects
+    module _ (x : Outcome) (answers_it : x ≡ answer) (new : List (ObjectRow (Object A)))
+        (then : AreObjects (past mid ▷ Grant o.call.place answer) new) where
+      -- the clients, where none is called before
       abbrev closes : List (ClientRow Caller)
       closes = with_client rows c (closed (Some answer) waits)
 
@@ -254,37 +193,40 @@ module _ {A : Type 0} (s : State A) (c : ℕ) (call : Asked) (m : ℕ)
 
       -- all tables, with the Grant
       module _ (clients : List (ClientRow Caller)) (owned : unowned clients ≡ unowned s.clients)
-          (chained : AreChained clients new s.orphans) (ones : List (ClientRow Caller)) (k : ℕ)
-          (at_place : k ≡ place (past s))
-          (noted : (v : Caller) → client_value clients c ≡ Some v
-          → WritesCaller clients ones c (called_at k (Some x) v)) where
+          (chained : AreChained clients new s.orphans) (end : State A)
+          (notes : NotesHad (record s { clients = clients; objects = new }) c call x end) where
         its_clients : (v : Caller) × (client_value clients c ≡ Some v)
         its_clients = there-unowned s.clients clients owned c row
 
-        noted_it : WritesCaller clients ones c
+        noted_it : WritesCaller clients end.clients c
             (called_at (place (past s)) (Some answer) its_clients.0)
         noted_it =
-            subst (λ n. WritesCaller clients ones c (called_at n (Some answer) its_clients.0))
-            at_place
-            (subst (λ (y : Outcome). WritesCaller clients ones c
-            (called_at k (Some y) its_clients.0)) answers_it
-            (noted its_clients.0 its_clients.1))
+            subst (λ (y : Outcome). WritesCaller clients end.clients c
+            (called_at (place (past s)) (Some y) its_clients.0)) answers_it
+            (notes.noted its_clients.0 its_clients.1)
 
-        callers_then : AreCallers (past mid ▷ Grant o.call.place answer) ones
+        callers_then : AreCallers (past mid ▷ Grant o.call.place answer) end.clients
         callers_then =
             written-unowned s.clients clients owned (past s)
             (past mid ▷ Grant o.call.place answer) c (called_at (place (past s)) (Some answer))
             (λ u v alike. ap (called_at (place (past s)) (Some answer)) alike)
-            ready.read.callers direct ones its_clients.0 its_clients.1 noted_it
+            ready.read.callers direct end.clients its_clients.0 its_clients.1 noted_it
 
-        pub second : (end : State A)
-            → end.stored ≡ pushed mid.stored (Grant k x)
-            → end.clients ≡ ones → end.objects ≡ new → end.orphans ≡ s.orphans
-            → end.clocks ≡ s.clocks
-            → map logged end.answers.items ≡ map logged s.answers.items
-            ++ (place (past mid), told_of o x) ∷ []
-            → end.answers.capacity ≡ s.answers.capacity → AddsHad s c call o x end
-        second end es cs ts os ck an held =
+        objects_then : end.objects ≡ new
+        objects_then = ap (λ (t : State A). t.objects) notes.rest
+
+        chained_then : AreChained end.clients end.objects end.orphans
+        chained_then =
+            let kept = chained-caller clients end.clients new s.orphans chained c its_clients.0
+            (called_at (place (past s)) (Some answer) its_clients.0) its_clients.1 noted_it
+            refl in
+            subst (λ n. AreChained end.clients end.objects n)
+            (sym (ap (λ (t : State A). t.orphans) notes.rest))
+            (subst (λ (ns : List (ObjectRow (Object A))). AreChained end.clients ns s.orphans)
+            (sym objects_then) kept)
+
+        pub second : AddsHad s c call o x end
+        second =
             record {
               mid = mid;
               first = first;
@@ -293,28 +235,26 @@ module _ {A : Type 0} (s : State A) (c : ℕ) (call : Asked) (m : ℕ)
               second = subst (λ y. Adds mid (Grant o.call.place y) end) (sym answers_it)
                   (forced-adds mid (Grant o.call.place answer) (next.read.follows, next.step)
                   next.read.answers end
-                  (es
-                  ∙ ap (λ n. pushed mid.stored (Grant n x)) (at_place ∙ sym had.place)
-                  ∙ ap (λ y. pushed mid.stored (Grant o.call.place y)) answers_it)
-                  (subst (AreCallers (past mid ▷ Grant o.call.place answer)) (sym cs) callers_then)
-                  (subst (AreObjects (past mid ▷ Grant o.call.place answer)) (sym ts) objects_then)
+                  (notes.stored
+                  ∙ (ap (λ n. pushed mid.stored (Grant n x)) (sym had.place)
+                  ∙ ap (λ y. pushed mid.stored (Grant o.call.place y)) answers_it))
+                  callers_then
+                  (subst (AreObjects (past mid ▷ Grant o.call.place answer))
+                  (sym objects_then) then)
                   chained_then
-                  (λ z. ap (λ clocks. reading clocks z) ck ∙ next.read.clocks z)
-                  (an
-                  ∙ ap (λ y. map logged s.answers.items ++ (place (past mid), told_of o y) ∷ [])
+                  (λ z. ap (λ (t : State A). reading t.clocks z) notes.rest ∙ next.read.clocks z)
+                  (notes.answers
+                  ∙ (ap (λ n. map logged s.answers.items ++ (
+                    place (past mid),
+                    record { client = n; place = place (past s); outcome = x },
+                  ) ∷ []) (sym had.client)
+                  ∙ (ap (λ n. map logged s.answers.items ++ (
+                    place (past mid),
+                    record { client = o.call.client; place = n; outcome = x },
+                  ) ∷ []) (sym had.place)
+                  ∙ (ap (λ y. map logged s.answers.items ++ (place (past mid), told_of o y) ∷ [])
                   answers_it
                   ∙ ap (λ us. map logged s.answers.items ++ told_at (place (past mid)) us)
-                  (sym one))
-                  held);
+                  (sym one)))))
+                  notes.held);
             }
-          where
-            chained_then : AreChained end.clients end.objects end.orphans
-            chained_then =
-                let kept = chained-caller clients ones new s.orphans chained c its_clients.0
-                (called_at (place (past s)) (Some answer) its_clients.0) its_clients.1 noted_it
-                refl in
-                subst (λ n. AreChained end.clients end.objects n) (sym os)
-                (subst (λ (ns : List (ObjectRow (Object A))). AreChained end.clients ns s.orphans)
-                (sym ts)
-                (subst (λ (ns : List (ClientRow Caller)). AreChained ns new s.orphans) (sym cs)
-                kept))

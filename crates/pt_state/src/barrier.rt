@@ -11,8 +11,8 @@ ghost use Rattle.pt_types.specs.Operations.{Arrives, operation};
 use crate::request::or_zero;
 use crate::state::State;
 use pt_history::ForcedEntry;
-use pt_model::waiting_call::Role;
 use pt_records::barrier::trip;
+use pt_records::calls::arrive;
 use pt_types::operations::clock_of;
 use pt_types::{Call, ClientId, Name, ObjectId};
 use pt_waitq::WaitList;
@@ -37,22 +37,17 @@ impl<A: Allocator + Copy> State<A> {
         self.stored.push_forced(ForcedEntry::Trip(b));
     }
 
-    // An arrival at a barrier.  [XSH pthread_barrier_wait]
+    /// An arrival at a barrier.  [XSH pthread_barrier_wait]
     #[inline(always)]
-    pub(crate) fn push_arrival(
-        &mut self,
-        c: ClientId,
-        call: &Call,
-        n: &Name,
-        object: Option<ObjectId>,
-    )
+    pub fn push_arrival(&mut self, c: ClientId, call: &Call, n: &Name, object: Option<ObjectId>)
         requires ready { IsReadyFor self.old (entry.Call c call.now None) }
         requires operation { operation call.now ≡ Arrives n.now }
         requires found { object ≡ find (past self.old) n.now class.Barrier }
         ensures { Adds self.old (entry.Call c call.now None) self.new }
     {
-        let role = Role::ForBarrier;
-        let open = self.entered(c, or_zero(object), role, clock_of(call), None);
-        self.push_waiting(c, call, open);
+        // The call is pushed first, while the compiler knows which word it is.
+        let place = self.stored.len();
+        self.stored.push_named(c, call, None);
+        arrive(&mut self.clients, c, place, or_zero(object), clock_of(call));
     }
 }

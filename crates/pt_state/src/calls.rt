@@ -2,6 +2,7 @@
 
 ghost use Rattle.pt_model.specs.Objects.{find};
 ghost use Rattle.pt_types.specs.Operations.{class_needed as class_meant};
+ghost use Rattle.pt_types.specs.declared.operations.LockKind.TheVariants.{ReadLock};
 ghost use Rattle.pt_state.specs.Requests.{IsRequest};
 ghost use Rattle.std.specs.Prelude.{IfErr, IsOk, None, OnErr, OnOk, Some, ◌≡◌, false, true};
 ghost use Rattle.pt_model.specs.declared.entry.Entry.TheVariants as entry;
@@ -11,9 +12,9 @@ ghost use Rattle.pt_types.specs.declared.outcome.Outcome.TheVariants as told;
 ghost use Rattle.pt_types.specs.Operations.{Acquires, Arrives, Awaits, operation};
 ghost use Rattle.pt_table.specs.ClientRows.{nth_value};
 ghost use Rattle.pt_records.specs.Callers.{open_in};
-ghost use Rattle.pt_model.specs.WaitingCall.{entered as entered_in};
+ghost use Rattle.pt_model.specs.WaitingCall.{entered as entered_in, role_needed as role_meant};
 ghost use Rattle.pt_state.specs.Reads.{AreTables};
-ghost use Rattle.pt_state.specs.Left.{IsLeft, IsNearlyLeft, only_stands};
+ghost use Rattle.pt_state.specs.Left.{IsLeft, IsNearlyLeft};
 ghost use Rattle.pt_state.specs.Outer.{asks_to_read};
 
 use crate::request::{Request, or_zero};
@@ -83,7 +84,23 @@ impl<A: Allocator + Copy> State<A> {
             place,
             outcome,
         });
-        self.stored.push_call_apart(c, call, Some(outcome));
+        self.stored.push_named(c, call, Some(outcome));
+    }
+    /// As `finish`, for a call that may say more than a name.
+    #[inline(always)]
+    pub fn finish_long(&mut self, c: ClientId, call: &Call, outcome: Outcome)
+        requires { IsNearly self.old c call.now (Some outcome) }
+        ensures { Adds self.old (entry.Call c call.now (Some outcome)) self.new }
+    {
+        let place = self.stored.len();
+        note_call(&mut self.clients, c, place, outcome);
+        self.answers.push(Answered {
+            at: place,
+            client: c,
+            place,
+            outcome,
+        });
+        self.stored.push_call(c, call, Some(outcome));
     }
 
     /// As `finish`, for calls that are seldom answered so. It isn't inlined.
@@ -93,7 +110,7 @@ impl<A: Allocator + Copy> State<A> {
         requires { IsNearly self.old c call.now (Some outcome) }
         ensures { Adds self.old (entry.Call c call.now (Some outcome)) self.new }
     {
-        self.finish(c, call, outcome);
+        self.finish_long(c, call, outcome);
     }
 
     /// A client's call that is entered now.
@@ -134,19 +151,45 @@ impl<A: Allocator + Copy> State<A> {
     {
         let place = self.stored.len();
         stand(&mut self.clients, c, open, place);
-        self.stored.push_call(c, call, None);
+        self.stored.push_named(c, call, None);
     }
 
-    /// A call that changes no object as it begins to wait.
-    /// [XSH pthread_mutex_lock, pthread_rwlock_wrlock, pthread_barrier_wait]
+    /// As `leave`, for a wait.
     #[inline(always)]
-    pub fn push_waiting(&mut self, c: ClientId, call: &Call, open: Open)
-        requires ready { IsReadyFor self.old (entry.Call c call.now None) }
-        requires left { IsLeft (past self.old) c call.now «open» }
-        requires plain { only_stands «open».call.role ≡ true }
+    pub(crate) fn leave_wait(&mut self, c: ClientId, call: &Call, open: Open)
+        requires { IsNearlyLeft self.old c call.now «open» }
         ensures { Adds self.old (entry.Call c call.now None) self.new }
     {
-        self.leave(c, call, open);
+        let place = self.stored.len();
+        stand(&mut self.clients, c, open, place);
+        self.stored.push_wait(c, call, None);
+    }
+
+    // What changes as a call for a lock begins to wait, but for its client's row: a reader gets a
+    // row in its lock. ENOMEM if there is no memory for it.
+    // [XSH pthread_mutex_lock, pthread_rwlock_rdlock, pthread_rwlock_wrlock]
+    #[inline(always)]
+    fn begin(
+        &mut self,
+        c: ClientId,
+        call: &Call,
+        lock_kind: LockKind,
+        open: &Open,
+    ) -> Result<(), Refusal>
+        requires ready { IsReadyFor self.old (entry.Call c call.now None) }
+        requires left { IsLeft (past self.old) c call.now «open».now }
+        requires role { «open».now.call.role ≡ role_meant lock_kind }
+        ensures ok { OnOk result (IsNearlyLeft self.new c call.now «open».now) }
+        ensures err { OnErr result (Stays self.old self.new) }
+        ensures rest { self.new ≡ record self.old { objects = self.new.objects } }
+        ensures refusal { IfErr result (λ r. r ≡ Refusal.Enomem) }
+        ensures enough { (lock_kind ≡ ReadLock → ⊥) → IsOk result }
+    {
+        match lock_kind {
+            LockKind::ReadLock => self.begin_reading(c, call, open),
+            LockKind::MutexLock => Ok(()),
+            LockKind::WriteLock => Ok(()),
+        }
     }
 
     // A call for a lock.  [XSH pthread_mutex_lock, pthread_rwlock_rdlock, pthread_rwlock_wrlock]
@@ -170,18 +213,15 @@ impl<A: Allocator + Copy> State<A> {
     {
         let role = role_needed(lock_kind);
         let open = self.entered(c, or_zero(object), role, clock_of(call), deadline_of(how));
-        match lock_kind {
-            LockKind::ReadLock => self.push_reading(c, call, &open),
-            LockKind::MutexLock | LockKind::WriteLock => {
-                self.push_waiting(c, call, open);
-                Ok(())
-            }
-        }
+        self.begin(c, call, lock_kind, &open)?;
+        self.leave(c, call, open);
+        Ok(())
     }
 
     /// A call that is left waiting. ENOMEM if there is no memory for its row in a read-write
-    /// lock. No other operation than these three is left so.  [XSH, the call's page]
-    #[inline(always)]
+    /// lock. No other operation than these three is left so. It isn't inlined.
+    /// [XSH, the call's page]
+    #[inline(never)]
     pub fn push_left(&mut self, c: ClientId, call: &Call, request: &Request) -> Result<(), Refusal>
         requires ready { IsReadyFor self.old (entry.Call c call.now None) }
         requires asks { IsRequest (past self.old) (operation call.now) request.now }

@@ -67,12 +67,12 @@ impl<A: Allocator + Copy> State<A> {
         ensures { Adds self.old (entry.Call c call.now None) self.new }
     {
         release(&mut self.clients, &mut self.objects, m, c);
-        self.leave(c, call, open);
+        self.leave_wait(c, call, open);
     }
 
-    // A wait at a condition.  [XSH pthread_cond_wait]
+    /// A wait at a condition.  [XSH pthread_cond_wait]
     #[inline(always)]
-    pub(crate) fn push_await(
+    pub fn push_await(
         &mut self,
         c: ClientId,
         call: &Call,

@@ -1,24 +1,30 @@
-//! What a call for a mutex gets that is granted: as it comes, with its entry, or once it waited.
+//! What a call for a lock gets that is granted: as it comes, with its entry, or once it waited.
 
-ghost use Rattle.std.specs.Prelude.{IsSome, IsTrue, None, Option, Some, ℕ, ◌&&◌, ◌≡◌, false};
-ghost use Rattle.std.specs.Prelude.{is_none, true};
+ghost use Rattle.std.specs.Prelude.{IfErr, IsSome, IsTrue, None, OnErr, OnOk, Option, Some, ℕ};
+ghost use Rattle.std.specs.Prelude.{◌&&◌, ◌-◌, ◌<◌, ◌≡◌, false, is_none, length, true};
 ghost use Rattle.pt_model.specs.Found.{passes};
 ghost use Rattle.pt_model.specs.Mutexes.{owner};
 ghost use Rattle.pt_model.specs.Objects.{is_robust, kind_of};
 ghost use Rattle.pt_types.specs.MutexTable.{is_acquired as is_acquired_it};
+ghost use Rattle.pt_types.specs.declared.outcome.Outcome.TheVariants as told;
 ghost use Rattle.pt_mutex.specs.MutexState.{MutexState, acquired, can_acquire};
 ghost use Rattle.pt_table.specs.ClientRows.{has_client};
 ghost use Rattle.pt_table.specs.ObjectRows.{object_value};
 ghost use Rattle.pt_model.specs.declared.entry.Entry.TheVariants as entry;
+ghost use Rattle.pt_model.specs.declared.waiting_call.Role.TheVariants.{
+  ForMutex,
+  ForRead,
+  ForWrite,
+};
 ghost use Rattle.pt_records.specs.Callers.{Once};
 ghost use Rattle.pt_records.specs.Chained.{AreChained, is_robust_free, unowned};
 ghost use Rattle.pt_records.specs.LocksInRows.{mutex_in};
 ghost use Rattle.pt_records.specs.Writes.{WritesObject};
 ghost use Rattle.pt_records.specs.declared.clients.Open.{Open};
 ghost use Rattle.pt_records.specs.declared.objects.Object.TheVariants.{Mutex};
-ghost use Rattle.pt_state.specs.Adds.{IsReadyFor, past};
+ghost use Rattle.pt_state.specs.Adds.{IsReadyFor, Stays, past};
 ghost use Rattle.pt_state.specs.Granting.{told_at};
-ghost use Rattle.pt_state.specs.Had.{AddsHad, IsHad};
+ghost use Rattle.pt_state.specs.Had.{AddsHad, IsHad, NotesHad};
 ghost use Rattle.pt_state.specs.Reads.{AreTables};
 
 use crate::state::State;
@@ -27,9 +33,10 @@ use pt_records::Answered;
 use pt_records::answers::tell;
 use pt_records::clients::note_call;
 use pt_records::mutex::{acquire, acquire_plain};
+use pt_records::rwlock::{acquire_read, acquire_write, make_row};
 use pt_types::tables::lock_outcome;
 use pt_types::views::is_acquired;
-use pt_types::{Call, ClientId, Consistency, ObjectId, Outcome};
+use pt_types::{Call, ClientId, Consistency, ObjectId, Outcome, Refusal};
 use std::alloc::Allocator;
 
 /// What a call for a mutex gets that is granted.
@@ -99,24 +106,18 @@ impl<A: Allocator + Copy> State<A> {
         }
     }
 
-    /// The entry of a call for a mutex that is granted as it comes, and its Grant. What it gets is
-    /// returned. The call is never open, so the row of its client is written once.
-    /// [XSH pthread_mutex_lock]
+    // Pushes the entry of a call that is granted as it comes, and its Grant. The call is never
+    // open, so the row of its client is written once.
     #[inline(always)]
-    pub fn push_had(&mut self, c: ClientId, call: &Call, m: ObjectId) -> Had
-        requires ready { IsReadyFor self.old (entry.Call c call.now None) }
-        requires had { (o : Open) × IsHad self.old c call.now m o }
-        ensures adds { (o : Open) → IsHad self.old c call.now m o
-            → AddsHad self.old c call.now o result.outcome self.new }
-        ensures robust { let h = past self.old in
-            result.robust ≡ is_robust (kind_of h m) && is_none (owner h m) }
+    fn note_had(&mut self, c: ClientId, call: &Call, outcome: Outcome)
+        requires there { has_client self.old.clients c ≡ true }
+        requires spare { length self.old.answers.items < self.old.answers.capacity }
+        requires room { 0 < self.old.stored.room - 1 }
+        ensures { NotesHad self.old c call.now outcome self.new }
     {
-        let had = self.had_at(m, None);
-        let outcome = had.outcome;
-        self.take(m, c, had);
         let place = self.stored.len();
         note_call(&mut self.clients, c, place, outcome);
-        self.stored.push_call_apart(c, call, None);
+        self.stored.push_named(c, call, None);
         let answered = Answered {
             at: self.stored.len(),
             client: c,
@@ -125,6 +126,53 @@ impl<A: Allocator + Copy> State<A> {
         };
         tell(&mut self.answers, answered);
         self.stored.push_grant(place, outcome);
+    }
+
+    /// The entry of a call for a mutex that is granted as it comes, and its Grant. What it gets is
+    /// returned.  [XSH pthread_mutex_lock]
+    #[inline(always)]
+    pub fn push_had(&mut self, c: ClientId, call: &Call, m: ObjectId) -> Had
+        requires ready { IsReadyFor self.old (entry.Call c call.now None) }
+        requires had { (o : Open) × IsHad self.old c call.now ForMutex m o }
+        ensures adds { (o : Open) → IsHad self.old c call.now ForMutex m o
+            → AddsHad self.old c call.now o result.outcome self.new }
+        ensures robust { let h = past self.old in
+            result.robust ≡ is_robust (kind_of h m) && is_none (owner h m) }
+    {
+        let had = self.had_at(m, None);
+        self.take(m, c, had);
+        self.note_had(c, call, had.outcome);
         had
+    }
+
+    /// The entry of a call for a read lock that is granted as it comes, and its Grant. ENOMEM if
+    /// there is no memory for the row of its client in the lock: then nothing is pushed.
+    /// [XSH pthread_rwlock_rdlock]
+    #[inline(always)]
+    pub fn push_had_read(&mut self, c: ClientId, call: &Call, r: ObjectId) -> Result<(), Refusal>
+        requires ready { IsReadyFor self.old (entry.Call c call.now None) }
+        requires had { (o : Open) × IsHad self.old c call.now ForRead r o }
+        ensures ok { OnOk result ((o : Open) → IsHad self.old c call.now ForRead r o
+            → AddsHad self.old c call.now o told.Done self.new) }
+        ensures err { OnErr result (Stays self.old self.new) }
+        ensures reason { IfErr result (λ refusal. refusal ≡ Refusal.Enomem) }
+    {
+        make_row(&mut self.objects, r, c)?;
+        acquire_read(&mut self.objects, r, c);
+        self.note_had(c, call, Outcome::Done);
+        Ok(())
+    }
+
+    /// The entry of a call for a write lock that is granted as it comes, and its Grant.
+    /// [XSH pthread_rwlock_wrlock]
+    #[inline(always)]
+    pub fn push_had_write(&mut self, c: ClientId, call: &Call, r: ObjectId)
+        requires ready { IsReadyFor self.old (entry.Call c call.now None) }
+        requires had { (o : Open) × IsHad self.old c call.now ForWrite r o }
+        ensures { (o : Open) → IsHad self.old c call.now ForWrite r o
+            → AddsHad self.old c call.now o told.Done self.new }
+    {
+        acquire_write(&mut self.objects, r, c);
+        self.note_had(c, call, Outcome::Done);
     }
 }

@@ -45,6 +45,7 @@ fn kind_verdict(kind: ObjectKind) -> Verdict
 
 impl<A: Allocator + Copy> State<A> {
     /// An object is made. ENOMEM if there is no memory for its row.
+    #[inline(always)]
     pub fn push_made(
         &mut self,
         c: ClientId,
@@ -66,7 +67,7 @@ impl<A: Allocator + Copy> State<A> {
             make(kind, self.alloc),
         ) {
             Ok(()) => {
-                self.finish(c, call, Outcome::Done);
+                self.finish_long(c, call, Outcome::Done);
                 Ok(())
             }
             Err(refusal) => Err(refusal),
@@ -74,6 +75,7 @@ impl<A: Allocator + Copy> State<A> {
     }
 
     /// An object is ended.
+    #[inline(always)]
     pub fn push_ended(
         &mut self,
         c: ClientId,
@@ -108,6 +110,15 @@ impl<A: Allocator + Copy> State<A> {
             }
             None => None,
         }
+    }
+
+    // As `find`, for a caller that is large already: it isn't inlined.
+    #[inline(never)]
+    pub(crate) fn find_apart(&self, n: &Name, class: ObjectClass) -> Option<ObjectId>
+        requires { AreTables self.now }
+        ensures { result ≡ find_in (past self.now) n.now class }
+    {
+        self.find(n, class)
     }
 
     /// A call that makes an object.  [XSH pthread_mutex_init]

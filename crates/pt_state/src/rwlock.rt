@@ -22,7 +22,7 @@ ghost use Rattle.pt_records.specs.LocksInRows.{rwlock_in};
 ghost use Rattle.pt_records.specs.Objects.{IsRwlock};
 ghost use Rattle.pt_types.specs.RwlockTable.{read_verdict as read_table};
 ghost use Rattle.pt_model.specs.Verdicts.{operation_verdict as said_of};
-ghost use Rattle.pt_state.specs.Left.{IsLeft};
+ghost use Rattle.pt_state.specs.Left.{IsLeft, IsNearlyLeft};
 
 use crate::state::State;
 use pt_records::rwlock::{acquire_read, acquire_write, any_holds, make_row, release_lock};
@@ -57,6 +57,7 @@ impl<A: Allocator + Copy> State<A> {
     }
 
     /// A call gets its read lock.  [XSH pthread_rwlock_rdlock]
+    #[inline(always)]
     pub(crate) fn push_grant_read(&mut self, found: &Open)
         requires ready { IsReadyFor self.old (entry.Grant found.now.call.place
             (grant_outcome_in (past self.old) (called found.now))) }
@@ -158,19 +159,23 @@ impl<A: Allocator + Copy> State<A> {
         }
     }
 
-    /// A call for a read lock: its client gets a row in the lock. ENOMEM if there is no memory
-    /// for it.  [XSH pthread_rwlock_rdlock]
+    // A call for a read lock begins to wait: its client gets a row in the lock. ENOMEM if there is
+    // no memory for it.  [XSH pthread_rwlock_rdlock]
     #[inline(always)]
-    pub fn push_reading(&mut self, c: ClientId, call: &Call, open: &Open) -> Result<(), Refusal>
+    pub(crate) fn begin_reading(
+        &mut self,
+        c: ClientId,
+        call: &Call,
+        open: &Open,
+    ) -> Result<(), Refusal>
         requires ready { IsReadyFor self.old (entry.Call c call.now None) }
         requires left { IsLeft (past self.old) c call.now «open».now }
         requires role { «open».now.call.role ≡ ForRead }
-        ensures ok { OnOk result (Adds self.old (entry.Call c call.now None) self.new) }
+        ensures ok { OnOk result (IsNearlyLeft self.new c call.now «open».now) }
         ensures err { OnErr result (Stays self.old self.new) }
+        ensures rest { self.new ≡ record self.old { objects = self.new.objects } }
         ensures refusal { IfErr result (λ r. r ≡ Refusal.Enomem) }
     {
-        make_row(&mut self.objects, open.call.object, c)?;
-        self.leave(c, call, *open);
-        Ok(())
+        make_row(&mut self.objects, open.call.object, c)
     }
 }

@@ -158,7 +158,7 @@ fn push_short(history: &mut History, entry: &Entry) -> bool
     ensures { result ≡ false → history.new ≡ history.old }
 {
     match entry {
-        Entry::Call(client, call, answer) => history.push_call_apart(*client, call, *answer),
+        Entry::Call(client, call, answer) => history.push_call(*client, call, *answer),
         Entry::Grant(place, outcome) => history.push_forced(ForcedEntry::Grant(*place, *outcome)),
         Entry::Trip(barrier) => history.push_forced(ForcedEntry::Trip(*barrier)),
         Entry::Yield(mutex) => history.push_forced(ForcedEntry::Yield(*mutex)),

@@ -9,14 +9,18 @@ use Rattle.pt_machine.proofs.QueuedSame.{past-adds}
 use Rattle.pt_machine.proofs.QueuedLeft.{arrival-takes, can-stand-left, queued-left}
 use Rattle.pt_machine.proofs.calls.arrive.Goals as goal
 
+pub push_arrival-requires-clause-found : goal.push_arrival-requires-clause-found
+push_arrival-requires-clause-found g c =
+    c.requires.asks.object ∙ ap (object_meant (past c.args.state.now)) c.requires.operation
+
 pub insert-requires-clause-admitted : goal.insert-requires-clause-admitted
 insert-requires-clause-admitted g c =
     let old = c.args.state.now in
     let h = past old in
-    let new = past c.push_left.new.self in
+    let new = past c.push_arrival.new.self in
     let seen = g.Q.WaitList.seen c.args.queues.now in
-    let came = past-adds old c.push_left.new.self (entry.Call c.args.c c.args.call.now None)
-    c.in-Ok.ensures.ok in
+    let came = past-adds old c.push_arrival.new.self (entry.Call c.args.c c.args.call.now None)
+    c.push_arrival.ensures in
     let takes = arrival-takes h c.requires.ready.read.follows c.args.c c.args.call.now
     c.requires.ready.step seen.queue seen.admitted seen.made c.requires.queued c.args.n.now
     c.requires.operation new came c.barrier_meant-b.result c.len-place.result c.arriving.result
@@ -31,10 +35,10 @@ pub insert-requires-clause-nowhere : goal.insert-requires-clause-nowhere
 insert-requires-clause-nowhere g c =
     let old = c.args.state.now in
     let h = past old in
-    let new = past c.push_left.new.self in
+    let new = past c.push_arrival.new.self in
     let seen = g.Q.WaitList.seen c.args.queues.now in
-    let came = past-adds old c.push_left.new.self (entry.Call c.args.c c.args.call.now None)
-    c.in-Ok.ensures.ok in
+    let came = past-adds old c.push_arrival.new.self (entry.Call c.args.c c.args.call.now None)
+    c.push_arrival.ensures in
     let takes = arrival-takes h c.requires.ready.read.follows c.args.c c.args.call.now
     c.requires.ready.step seen.queue seen.admitted seen.made c.requires.queued c.args.n.now
     c.requires.operation new came c.barrier_meant-b.result c.len-place.result c.arriving.result
@@ -49,10 +53,10 @@ pub insert-requires-clause-made : goal.insert-requires-clause-made
 insert-requires-clause-made g c =
     let old = c.args.state.now in
     let h = past old in
-    let new = past c.push_left.new.self in
+    let new = past c.push_arrival.new.self in
     let seen = g.Q.WaitList.seen c.args.queues.now in
-    let came = past-adds old c.push_left.new.self (entry.Call c.args.c c.args.call.now None)
-    c.in-Ok.ensures.ok in
+    let came = past-adds old c.push_arrival.new.self (entry.Call c.args.c c.args.call.now None)
+    c.push_arrival.ensures in
     let takes = arrival-takes h c.requires.ready.read.follows c.args.c c.args.call.now
     c.requires.ready.step seen.queue seen.admitted seen.made c.requires.queued c.args.n.now
     c.requires.operation new came c.barrier_meant-b.result c.len-place.result c.arriving.result
@@ -67,10 +71,10 @@ pub insert-requires-clause-latest : goal.insert-requires-clause-latest
 insert-requires-clause-latest g c =
     let old = c.args.state.now in
     let h = past old in
-    let new = past c.push_left.new.self in
+    let new = past c.push_arrival.new.self in
     let seen = g.Q.WaitList.seen c.args.queues.now in
-    let came = past-adds old c.push_left.new.self (entry.Call c.args.c c.args.call.now None)
-    c.in-Ok.ensures.ok in
+    let came = past-adds old c.push_arrival.new.self (entry.Call c.args.c c.args.call.now None)
+    c.push_arrival.ensures in
     let takes = arrival-takes h c.requires.ready.read.follows c.args.c c.args.call.now
     c.requires.ready.step seen.queue seen.admitted seen.made c.requires.queued c.args.n.now
     c.requires.operation new came c.barrier_meant-b.result c.len-place.result c.arriving.result
@@ -81,14 +85,14 @@ insert-requires-clause-latest g c =
     c.requires.ready.step seen.queue seen.admitted seen.made c.requires.queued new came in
     take-latest can takes
 
-pub returns-in-Ok-clause-queued : goal.returns-in-Ok-clause-queued
-returns-in-Ok-clause-queued g c =
+pub returns-clause-queued : goal.returns-clause-queued
+returns-clause-queued g c =
     let old = c.args.state.now in
     let h = past old in
-    let new = past c.push_left.new.self in
+    let new = past c.push_arrival.new.self in
     let seen = g.Q.WaitList.seen c.args.queues.now in
-    let came = past-adds old c.push_left.new.self (entry.Call c.args.c c.args.call.now None)
-    c.in-Ok.ensures.ok in
+    let came = past-adds old c.push_arrival.new.self (entry.Call c.args.c c.args.call.now None)
+    c.push_arrival.ensures in
     let takes = arrival-takes h c.requires.ready.read.follows c.args.c c.args.call.now
     c.requires.ready.step seen.queue seen.admitted seen.made c.requires.queued c.args.n.now
     c.requires.operation new came c.barrier_meant-b.result c.len-place.result c.arriving.result

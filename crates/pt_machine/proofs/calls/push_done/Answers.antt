@@ -17,3 +17,11 @@ returns-in-Rwunlock-clause-queued g c =
     (g.Q.WaitList.seen c.args.queues.now).queue (g.Q.WaitList.seen c.args.queues.now).admitted
     (g.Q.WaitList.seen c.args.queues.now).made c.requires.queued c.push_rwunlock.new.self
     c.requires.ready (ap (λ d. is_plain (operation d)) c.in-Rwunlock.is) c.push_rwunlock.ensures
+
+pub returns-in-Consistent-clause-queued : goal.returns-in-Consistent-clause-queued
+returns-in-Consistent-clause-queued g c =
+    plain-queued c.args.state.now c.args.c c.args.call.now
+    (g.Q.WaitList.seen c.args.queues.now).queue (g.Q.WaitList.seen c.args.queues.now).admitted
+    (g.Q.WaitList.seen c.args.queues.now).made c.requires.queued c.push_restored.new.self
+    c.requires.ready (ap (λ d. is_plain (operation d)) c.in-Consistent.is)
+    c.push_restored.ensures

@@ -17,13 +17,9 @@ returns-then-full g c =
     let kind : kind_of (past s) b ≡ Some (kind.Barrier n) =
     sym (read.object_rows.look.kinds b) ∙ ap (option_map kind_in_row) c.requires.stored in
     let all : length (at_barrier b (open_calls (past s))) ≡ n =
-    grind (arith, nat_tests, c.if-full.true, c.arrivals.ensures, c.count.ensures.value) in
-    full-service (past s) read.follows b n kind (omega (
-      arith,
-      all,
-      c.count.ensures.least,
-      c.count.ensures.value,
-    )) (grind (arith, nat_tests, all))
+    grind (arith, nat_tests, c.if-full.true, c.is_full-full.ensures.full) in
+    full-service (past s) read.follows b n kind (omega (arith, all, c.is_full-full.ensures.needs))
+    (grind (arith, nat_tests, all))
 
 pub returns-else-full : goal.returns-else-full
 returns-else-full g c =
@@ -34,5 +30,5 @@ returns-else-full g c =
     let kind : kind_of (past s) b ≡ Some (kind.Barrier n) =
     sym (read.object_rows.look.kinds b) ∙ ap (option_map kind_in_row) c.requires.stored in
     let part : (length (at_barrier b (open_calls (past s))) == n) ≡ false =
-    grind (arith, nat_tests, c.if-full.false, c.arrivals.ensures, c.count.ensures.value) in
+    grind (arith, nat_tests, c.if-full.false, c.is_full-full.ensures.full) in
     part-service (past s) read.follows b n kind part

@@ -4,10 +4,10 @@ use Rattle.pt_table.specs.ClientRows.{client_value}
 use Rattle.pt_records.specs.Callers.{open_in}
 use Rattle.pt_types.specs.declared.operations.ObjectClass.TheVariants.{Barrier as BarrierClass}
 use Rattle.pt_model.specs.Objects.{is_class}
+use Rattle.pt_model.specs.Queries.{client_at}
 use Rattle.pt_records.specs.Objects.{kind_in_row}
 use Rattle.pt_state.specs.Adds.{past}
 use Rattle.pt_state.specs.Serving.{called}
-use Rattle.pt_machine.proofs.QueueFirsts.{found-known}
 use Rattle.pt_machine.proofs.CandidateRows.{if_left, if_taken, mutex-served, mutex-idle}
 use Rattle.pt_machine.proofs.CandidateRows.{mutex-plain}
 use Rattle.pt_machine.proofs.body.Body.mutex_candidate.Goals as goal
@@ -18,58 +18,54 @@ first_at-requires-clause-other g c =
     (sym (c.requires.read.object_rows.look.kinds c.args.m)
     ∙ ap (option_map kind_in_row) c.requires.stored)
 
-pub returns-then-comes_back-clause-value : goal.returns-then-comes_back-clause-value
-returns-then-comes_back-clause-value g c =
+pub returns-then-comes_back : goal.returns-then-comes_back
+returns-then-comes_back g c =
     let s = c.args.self.now in
     let read = c.requires.read in
     let wait = c.in_ok-wait.wait.now in
     let found : Some wait ≡ open_in (client_value s.clients c.in_ok-owner.field-0) =
     rw (← c.self.view_is) (ap option_copied (sym c.in_ok-wait.was) ∙ c.open_of.ensures) in
-    if_taken c.comes_back.result (called wait) _ c.if-comes_back.true
+    ap client_at
+    (if_taken c.comes_back.result (called wait) _ c.if-comes_back.true
     (mutex-served (past s) s.clients s.objects read.follows read.callers read.object_rows.look
     c.args.m c.args.mutex.now c.requires.stored c.in_ok-owner.field-0
     (sym c.may_lock.ensures ∙ c.if-may_lock.false)
     (sym c.is_recursive.ensures ∙ c.if-not-is_recursive.false)
-    (sym c.owner.ensures ∙ c.in_ok-owner.was) wait found c.comes_back.result c.comes_back.ensures)
+    (sym c.owner.ensures ∙ c.in_ok-owner.was) wait found c.comes_back.result c.comes_back.ensures))
 
-pub returns-then-comes_back-clause-known : goal.returns-then-comes_back-clause-known
-returns-then-comes_back-clause-known g c =
-    let s = c.args.self.now in
-    let found : Some c.in_ok-wait.wait.now
-    ≡ open_in (client_value s.clients c.in_ok-owner.field-0) =
-    rw (← c.self.view_is) (ap option_copied (sym c.in_ok-wait.was) ∙ c.open_of.ensures) in
-    found-known s.clients c.in_ok-owner.field-0 (Some c.in_ok-wait.wait.now) found
-
-pub returns-else-comes_back-clause-value : goal.returns-else-comes_back-clause-value
-returns-else-comes_back-clause-value g c =
+pub returns-else-comes_back : goal.returns-else-comes_back
+returns-else-comes_back g c =
     let s = c.args.self.now in
     let read = c.requires.read in
     let wait = c.in_ok-wait.wait.now in
     let found : Some wait ≡ open_in (client_value s.clients c.in_ok-owner.field-0) =
     rw (← c.self.view_is) (ap option_copied (sym c.in_ok-wait.was) ∙ c.open_of.ensures) in
-    if_left c.comes_back.result (called wait) _ c.if-comes_back.false
+    ap client_at
+    (if_left c.comes_back.result (called wait) _ c.if-comes_back.false
     (mutex-served (past s) s.clients s.objects read.follows read.callers read.object_rows.look
     c.args.m c.args.mutex.now c.requires.stored c.in_ok-owner.field-0
     (sym c.may_lock.ensures ∙ c.if-may_lock.false)
     (sym c.is_recursive.ensures ∙ c.if-not-is_recursive.false)
-    (sym c.owner.ensures ∙ c.in_ok-owner.was) wait found c.comes_back.result c.comes_back.ensures)
+    (sym c.owner.ensures ∙ c.in_ok-owner.was) wait found c.comes_back.result c.comes_back.ensures))
 
-pub returns-in_err-wait-clause-value : goal.returns-in_err-wait-clause-value
-returns-in_err-wait-clause-value g c =
+pub returns-in_err-wait : goal.returns-in_err-wait
+returns-in_err-wait g c =
     let s = c.args.self.now in
     let read = c.requires.read in
     let found : None ≡ open_in (client_value s.clients c.in_ok-owner.field-0) =
     rw (← c.self.view_is) (ap option_copied (sym c.in_err-wait.was) ∙ c.open_of.ensures) in
-    ap (λ r. option_map called (option_copied r)) c.from_residual-in_err-wait.ensures
-    ∙ mutex-idle (past s) s.clients s.objects read.follows read.callers read.object_rows.look
+    c.from_residual-in_err-wait.ensures
+    ∙ ap client_at
+    (mutex-idle (past s) s.clients s.objects read.follows read.callers read.object_rows.look
     c.args.m c.args.mutex.now c.requires.stored c.in_ok-owner.field-0
-    (sym c.may_lock.ensures ∙ c.if-may_lock.false) (sym c.owner.ensures ∙ c.in_ok-owner.was) found
+    (sym c.may_lock.ensures ∙ c.if-may_lock.false) (sym c.owner.ensures ∙ c.in_ok-owner.was) found)
 
-pub returns-then-not-is_recursive-clause-value : goal.returns-then-not-is_recursive-clause-value
-returns-then-not-is_recursive-clause-value g c =
+pub returns-then-not-is_recursive : goal.returns-then-not-is_recursive
+returns-then-not-is_recursive g c =
     let s = c.args.self.now in
     let read = c.requires.read in
-    mutex-plain (past s) s.clients s.objects read.follows read.callers read.object_rows.look
+    ap client_at
+    (mutex-plain (past s) s.clients s.objects read.follows read.callers read.object_rows.look
     c.args.m c.args.mutex.now c.requires.stored
     (sym c.may_lock.ensures ∙ c.if-may_lock.false)
-    (sym c.is_recursive.ensures ∙ c.if-not-is_recursive.true)
+    (sym c.is_recursive.ensures ∙ c.if-not-is_recursive.true))

@@ -1,7 +1,8 @@
-use Rattle.std.proofs.Common.{◌≡◌, Some, sym, ◌∙◌, subst, refl}
+use Rattle.std.proofs.Common.{◌≡◌, Some, false, sym, ◌∙◌, subst, refl}
 use Rattle.pt_model.specs.Answers.{open_calls}
 use Rattle.pt_model.specs.Forced.{service}
 use Rattle.pt_model.specs.declared.waiting_call.WaitingCall.{WaitingCall}
+use Rattle.pt_model.specs.WaitingCall.{is_arrival}
 use Rattle.pt_records.specs.Callers.{call_of}
 use Rattle.pt_state.specs.Adds.{IsReadyFor, past}
 use Rattle.pt_state.proofs.CallerFinds.{call_of-open}
@@ -13,7 +14,7 @@ push_service-requires-clause-waits g c =
     let h = past c.args.self.now in
     let w = c.requires.ready in
     let own : w.0.client ≡ c.in-Call.c =
-    subst (λ s. Serves s w.0) c.in-Call.is w.1.1.0 in
+    (subst (λ s. Serves s w.0) c.in-Call.is w.1.1.0).1 in
     let its : call_of (open_calls h) c.in-Call.c ≡ Some w.0 =
     subst (λ d. call_of (open_calls h) d ≡ Some w.0) own
     (call_of-open h c.requires.read.follows w.0 w.1.0) in
@@ -24,7 +25,7 @@ push_service-requires-clause-ready g c = λ v e.
     let h = past c.args.self.now in
     let w = c.requires.ready in
     let own : w.0.client ≡ c.in-Call.c =
-    subst (λ s. Serves s w.0) c.in-Call.is w.1.1.0 in
+    (subst (λ s. Serves s w.0) c.in-Call.is w.1.1.0).1 in
     let its : call_of (open_calls h) c.in-Call.c ≡ Some w.0 =
     subst (λ d. call_of (open_calls h) d ≡ Some w.0) own
     (call_of-open h c.requires.read.follows w.0 w.1.0) in
@@ -32,10 +33,22 @@ push_service-requires-clause-ready g c = λ v e.
     let same : w.0 ≡ v = cc in
     subst (λ (x : WaitingCall). IsReadyFor c.args.self.now (service h x)) same w.1.1.1
 
+pub push_service-requires-clause-other : goal.push_service-requires-clause-other
+push_service-requires-clause-other g c = λ v e.
+    let h = past c.args.self.now in
+    let w = c.requires.ready in
+    let serves = subst (λ s. Serves s w.0) c.in-Call.is w.1.1.0 in
+    let its : call_of (open_calls h) c.in-Call.c ≡ Some w.0 =
+    subst (λ d. call_of (open_calls h) d ≡ Some w.0) serves.1
+    (call_of-open h c.requires.read.follows w.0 w.1.0) in
+    let both : ◌≡◌ (Some w.0) (Some v) = sym its ∙ e in
+    let same : w.0 ≡ v = cc in
+    subst (λ (x : WaitingCall). is_arrival x.role ≡ false) same serves.0
+
 pub returns-in-Call : goal.returns-in-Call
 returns-in-Call g c = λ w i serves.
     let h = past c.args.self.now in
-    let own : w.client ≡ c.in-Call.c = subst (λ s. Serves s w) c.in-Call.is serves in
+    let own : w.client ≡ c.in-Call.c = (subst (λ s. Serves s w) c.in-Call.is serves).1 in
     c.push_service.ensures w
     (subst (λ d. call_of (open_calls h) d ≡ Some w) own
     (call_of-open h c.requires.read.follows w i))

@@ -1,25 +1,50 @@
-use Rattle.std.proofs.Common.{◌≡◌, ◌+◌, ◌∙◌}
+use Rattle.std.proofs.Common.{◌≡◌, ◌+◌, ◌∙◌, arith}
 use Rattle.pt_model.specs.Forced.{service}
 use Rattle.pt_model.specs.Histories.{◌▷◌}
 use Rattle.pt_model.specs.Room.{need}
+use Rattle.pt_model.specs.Searches.{In}
+use Rattle.pt_records.specs.Callers.{opens_of}
 use Rattle.pt_state.specs.declared.forced.Forced.TheVariants.{Serve}
-use Rattle.pt_state.specs.Adds.{past}
+use Rattle.pt_state.specs.Adds.{IsReadyFor, past}
+use Rattle.pt_state.specs.Reads.{AreTables}
 use Rattle.pt_state.specs.Serving.{called}
+use Rattle.pt_state.proofs.ForceCallers.{known-open}
 use Rattle.pt_machine.proofs.LastTouches.{still-touched, touched-forced}
 use Rattle.pt_machine.proofs.NeedSteps.{reserved-forced}
+use Rattle.pt_machine.proofs.NeedUses.{uses-grant}
 use Rattle.pt_machine.proofs.body.Body.push_passed.Goals as goal
+
+pub overflow_sub-self : goal.overflow_sub-self
+overflow_sub-self g c =
+    let old = c.self.inside.state in
+    let o = c.args.found.now in
+    let known : In o (opens_of old.clients) = rw c.self.view_is c.requires.known in
+    let read : AreTables old = rw c.self.view_is c.requires.read in
+    let ready : IsReadyFor old (service (past old) (called o)) =
+    rw c.self.view_is c.requires.ready in
+    let used = uses-grant (past old) (called o) read.follows
+    (known-open (past old) old.clients read.follows read.callers o known) c.requires.other
+    ready.step c.used_by_grant-used.result c.used_by_grant-used.ensures in
+    omega (arith, c.self.invariant.3.needs, used)
 
 pub invariant_of-self : goal.invariant_of-self
 invariant_of-self g c =
     let old = c.self.inside.state in
-    let w = called c.args.found.now in
-    let used : need (past old ▷ service (past old) w) + c.used_by_service-used.result
-    ≡ need (past old) = rw c.self.view_is c.used_by_service-used.ensures in (
-      c.push_served.ensures.queued,
-      c.push_served.ensures.timed,
-      touched-forced old c.push_served.new.state c.self.inside.touched c.self.inside.entering
-          (Serve c.args.found.now) c.push_served.ensures.adds
+    let o = c.args.found.now in
+    let w = called o in
+    let known : In o (opens_of old.clients) = rw c.self.view_is c.requires.known in
+    let read : AreTables old = rw c.self.view_is c.requires.read in
+    let ready : IsReadyFor old (service (past old) w) = rw c.self.view_is c.requires.ready in
+    let used : need (past old ▷ service (past old) w) + c.used_by_grant-used.result
+    ≡ need (past old) = uses-grant (past old) w read.follows
+    (known-open (past old) old.clients read.follows read.callers o known) c.requires.other
+    ready.step c.used_by_grant-used.result c.used_by_grant-used.ensures in (
+      c.push_granted.ensures.queued,
+      c.push_granted.ensures.timed,
+      touched-forced old c.push_granted.new.state c.self.inside.touched c.self.inside.entering
+          (Serve o) c.push_granted.ensures.adds
           (c.self.invariant.2.touches ∙ still-touched (past old) w) c.self.invariant.2.enters,
-      reserved-forced old c.push_served.new.state (service (past old) w) c.push_served.ensures.adds
-          c.self.inside.need c.used_by_service-used.result c.self.invariant.3 used,
+      reserved-forced old c.push_granted.new.state (service (past old) w)
+          c.push_granted.ensures.adds c.self.inside.need c.used_by_grant-used.result
+          c.self.invariant.3 used,
     )

@@ -1,4 +1,9 @@
-use Rattle.std.proofs.Common.{sym, ◌∙◌}
+use Rattle.std.proofs.Common.{◌≡◌, Some, ap, sym, ◌∙◌}
+use Rattle.pt_types.specs.declared.operations.ObjectClass.TheVariants.{Rwlock as RwlockClass}
+use Rattle.pt_types.specs.declared.operations.LockKind.TheVariants.{ReadLock}
+use Rattle.pt_model.specs.Objects.{find}
+use Rattle.pt_model.specs.Rwlocks.{rwlock_view}
+use Rattle.pt_model.specs.Verdicts.{lock_kind_verdict, on}
 use Rattle.pt_state.specs.Adds.{past}
 use Rattle.pt_records.proofs.LockViews.{lock-found}
 use Rattle.pt_machine.proofs.body.Body.read_verdict.Goals as goal
@@ -8,3 +13,12 @@ read_verdict-requires-clause-lock g c =
     rw c.self.view_is
     (lock-found (past c.args.self.now) c.requires.read.follows c.args.n.now c.in-Some.r
     (sym c.requires.found ∙ c.in-Some.is))
+
+pub returns-in-Some : goal.returns-in-Some
+returns-in-Some g c =
+    let h = past c.args.self.now in
+    let found : Some c.in-Some.r ≡ find h c.args.n.now RwlockClass =
+    sym c.in-Some.is ∙ c.requires.found in
+    rw (← c.self.view_is) c.read_verdict.ensures
+    ∙ (c.is_held_back-blocked.ensures (rwlock_view h c.in-Some.r c.args.c)
+    ∙ ap (λ r. on r (λ q. lock_kind_verdict h c.args.c q ReadLock c.args.how.now)) found)

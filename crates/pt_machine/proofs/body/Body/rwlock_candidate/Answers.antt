@@ -1,39 +1,87 @@
-use Rattle.std.proofs.Common.{is_some, sym, ap, ◌∙◌}
-use Rattle.std.specs.Option.{option_copied}
-use Rattle.std.specs.Prelude.{option_map}
+use Rattle.std.proofs.Common.{◌≡◌, ◌==◌, ◌&&◌, Some, false, not, is_some, option_map, refl, sym, ap}
+use Rattle.std.proofs.Common.{◌∙◌}
 use Rattle.pt_types.specs.declared.operations.ObjectClass.TheVariants.{Barrier as BarrierClass}
-use Rattle.pt_model.specs.Objects.{is_class}
+use Rattle.pt_waitq.specs.declared.waiter.Waiter.{Waiter}
+use Rattle.pt_rwlock.specs.RwlockState.{nobody_holds}
+use Rattle.pt_model.specs.declared.waiting_call.WaitingCall.{WaitingCall}
+use Rattle.pt_model.specs.Moves.{at_object}
+use Rattle.pt_model.specs.Objects.{is_class, kind_of}
+use Rattle.pt_model.specs.Queries.{client_at}
 use Rattle.pt_records.specs.Objects.{kind_in_row}
 use Rattle.pt_state.specs.Adds.{past}
-use Rattle.pt_state.specs.Serving.{called}
-use Rattle.pt_machine.proofs.CandidateRows.{empty, lock-again, lock-free}
+use Rattle.pt_machine.specs.Queued.{IsQueued}
+use Rattle.pt_machine.proofs.CandidateRows.{empty, lock-again, lock-first, lock-unasked, may-go}
+use Rattle.pt_machine.proofs.QueueClasses.{no-arrival}
+use Rattle.pt_machine.proofs.QueueFirsts.{first-least, none-called}
 use Rattle.pt_machine.proofs.body.Body.rwlock_candidate.Goals as goal
+use Rattle.pt_machine.proofs.body.Body.rwlock_candidate.Goals.{
+  else-first-via-else-first,
+  else-first-via-then-first+else-not-is_free,
+}
 
-pub first_at-requires-clause-other : goal.first_at-requires-clause-other
-first_at-requires-clause-other g c =
+pub returns-in_err-first : goal.returns-in_err-first
+returns-in_err-first g c =
+    let s = c.args.self.now in
+    let read = c.requires.read in
+    let queues = c.self.inside.queues in
+    let queued : IsQueued (past s) (g.Q.WaitList.seen queues) =
+    rw (← c.self.view_is) c.self.invariant.0 in
+    c.from_residual.ensures
+    ∙ ap client_at
+    (lock-unasked (past s) s.clients s.objects read.follows read.callers read.object_rows.look
+    c.args.r c.args.lock.now c.requires.stored (empty c.args.lock.now.writer
+    (ap is_some (sym c.writer.ensures) ∙ (sym c.is_some.ensures ∙ c.if-is_some.false)))
+    (none-called (past s) (g.Q.WaitList.seen queues).queue queued.members read.follows c.args.r
+    (λ (w : WaitingCall). at_object (past s) w == c.args.r) (λ w i. refl) c.first.result
+    c.first.ensures c.in_err-first.was))
+
+pub returns-then-not-is_free : goal.returns-then-not-is_free
+returns-then-not-is_free g c =
+    let s = c.args.self.now in
+    let read = c.requires.read in
+    let queues = c.self.inside.queues in
+    let queued : IsQueued (past s) (g.Q.WaitList.seen queues) =
+    rw (← c.self.view_is) c.self.invariant.0 in
+    let other : is_class (kind_of (past s) c.args.r) BarrierClass ≡ false =
     ap (λ k. is_class k BarrierClass)
-    (sym (c.requires.read.object_rows.look.kinds c.args.r)
-    ∙ ap (option_map kind_in_row) c.requires.stored)
-
-pub returns-in-Some-clause-value : goal.returns-in-Some-clause-value
-returns-in-Some-clause-value g c =
-    let s = c.args.self.now in
-    let read = c.requires.read in
-    c.reader_again.ensures.value
-    ∙ lock-again (past s) s.clients s.objects read.follows read.callers read.object_rows.look
+    (sym (read.object_rows.look.kinds c.args.r) ∙ ap (option_map kind_in_row) c.requires.stored) in
+    let first = first-least (past s) (g.Q.WaitList.seen queues).queue queued.members
+    read.follows c.args.r (λ (w : WaitingCall). at_object (past s) w == c.args.r) (λ w i. refl)
+    (no-arrival (past s) read.follows c.args.r other) c.in_ok-first.first
+    (sym c.first.ensures ∙ c.in_ok-first.was) in
+    c.reader_again.ensures
+    ∙ ap client_at
+    (lock-again (past s) s.clients s.objects read.follows read.callers read.object_rows.look
     c.args.r c.args.lock.now c.requires.stored (empty c.args.lock.now.writer
     (ap is_some (sym c.writer.ensures) ∙ (sym c.is_some.ensures ∙ c.if-is_some.false)))
-    (sym c.is_free.ensures ∙ c.if-not-is_free.true) (called c.in-Some.first.now)
-    (ap (λ r. option_map called (option_copied r)) (sym c.in-Some.is) ∙ c.first_at.ensures.value)
-    (sym c.is_writer.ensures ∙ c.if-is_writer.true)
+    (sym c.is_free.ensures ∙ c.if-not-is_free.true) first.0 (sym first.1.2)
+    (sym (ap (λ (v : Waiter). v.writer) first.1.1) ∙ c.if-first.true))
 
-pub returns-in_default-clause-value : goal.returns-in_default-clause-value
-returns-in_default-clause-value g c =
+pub returns-else-first : goal.returns-else-first
+returns-else-first g c =
     let s = c.args.self.now in
     let read = c.requires.read in
-    ap (λ r. option_map called (option_copied r)) (sym c.in-Some.is)
-    ∙ (c.first_at.ensures.value
-    ∙ lock-free (past s) s.clients s.objects read.follows read.callers read.object_rows.look
+    let queues = c.self.inside.queues in
+    let queued : IsQueued (past s) (g.Q.WaitList.seen queues) =
+    rw (← c.self.view_is) c.self.invariant.0 in
+    let other : is_class (kind_of (past s) c.args.r) BarrierClass ≡ false =
+    ap (λ k. is_class k BarrierClass)
+    (sym (read.object_rows.look.kinds c.args.r) ∙ ap (option_map kind_in_row) c.requires.stored) in
+    let first = first-least (past s) (g.Q.WaitList.seen queues).queue queued.members
+    read.follows c.args.r (λ (w : WaitingCall). at_object (past s) w == c.args.r) (λ w i. refl)
+    (no-arrival (past s) read.follows c.args.r other) c.in_ok-first.first
+    (sym c.first.ensures ∙ c.in_ok-first.was) in
+    let may : (c.in_ok-first.first.writer && not (nobody_holds c.args.lock.now)) ≡ false =
+    elim c.else-first.branch [
+      | else-first-via-then-first+else-not-is_free w ↦ may-go c.in_ok-first.first.writer
+          (nobody_holds c.args.lock.now) (sym w.is_free.ensures ∙ w.if-not-is_free.false)
+      | else-first-via-else-first w ↦ ap (λ b. b && not (nobody_holds c.args.lock.now))
+          w.if-first.false
+    ] in
+    ap (λ (v : Waiter). Some v.client) first.1.1
+    ∙ ap client_at
+    (lock-first (past s) s.clients s.objects read.follows read.callers read.object_rows.look
     c.args.r c.args.lock.now c.requires.stored (empty c.args.lock.now.writer
     (ap is_some (sym c.writer.ensures) ∙ (sym c.is_some.ensures ∙ c.if-is_some.false)))
-    (sym c.is_free.ensures ∙ c.if-not-is_free.false))
+    first.0 (sym first.1.2)
+    (sym (ap (λ (v : Waiter). v.writer && not (nobody_holds c.args.lock.now)) first.1.1) ∙ may))

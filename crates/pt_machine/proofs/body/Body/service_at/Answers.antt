@@ -1,5 +1,7 @@
-use Rattle.std.proofs.Common.{◌≡◌, Some, option_map, rules, sym, ap, ◌∙◌, subst}
-use Rattle.std.specs.Option.{option_copied}
+use Rattle.std.proofs.Common.{◌≡◌, Some, false, option_map, rules, sym, ap, ◌∙◌, subst}
+use Rattle.pt_types.specs.declared.operations.ObjectClass.TheVariants.{Barrier as BarrierClass}
+use Rattle.pt_model.specs.Objects.{is_class, kind_of}
+use Rattle.pt_model.specs.Queries.{client_at}
 use Rattle.pt_table.specs.ObjectRows.{object_value}
 use Rattle.pt_records.specs.Objects.{kind_in_row}
 use Rattle.pt_records.specs.declared.objects.Object.TheVariants as row
@@ -15,13 +17,15 @@ returns-in-Mutex g c =
     let h = past s in
     let o = c.args.o in
     let stored : object_value s.objects o ≡ Some (row.Mutex c.in-Mutex.mutex) = search rules in
+    let other : is_class (kind_of h o) BarrierClass ≡ false =
+    ap (λ k. is_class k BarrierClass)
+    (sym (c.requires.object_rows.look.kinds o) ∙ ap (option_map kind_in_row) stored) in
     let same : candidate h o ≡ mutex_candidate h o =
     ap (candidate_by h o)
     (sym (c.requires.object_rows.look.kinds o) ∙ ap (option_map kind_in_row) stored) in
     subst (IsService h (candidate h o)) (sym c.call_served.ensures)
-    (call-service h s.clients c.requires.follows c.requires.callers
-    (option_copied c.mutex_candidate.result) (candidate h o)
-    (c.mutex_candidate.ensures.value ∙ sym same) c.mutex_candidate.ensures.known)
+    (call-service h c.requires.follows o other c.mutex_candidate.result
+    (c.mutex_candidate.ensures ∙ ap client_at (sym same)))
 
 pub returns-in-Rwlock : goal.returns-in-Rwlock
 returns-in-Rwlock g c =
@@ -29,10 +33,12 @@ returns-in-Rwlock g c =
     let h = past s in
     let o = c.args.o in
     let stored : object_value s.objects o ≡ Some (row.Rwlock c.in-Rwlock.lock) = search rules in
+    let other : is_class (kind_of h o) BarrierClass ≡ false =
+    ap (λ k. is_class k BarrierClass)
+    (sym (c.requires.object_rows.look.kinds o) ∙ ap (option_map kind_in_row) stored) in
     let same : candidate h o ≡ rwlock_candidate h o =
     ap (candidate_by h o)
     (sym (c.requires.object_rows.look.kinds o) ∙ ap (option_map kind_in_row) stored) in
     subst (IsService h (candidate h o)) (sym c.call_served-in-Rwlock.ensures)
-    (call-service h s.clients c.requires.follows c.requires.callers
-    (option_copied c.rwlock_candidate.result) (candidate h o)
-    (c.rwlock_candidate.ensures.value ∙ sym same) c.rwlock_candidate.ensures.known)
+    (call-service h c.requires.follows o other c.rwlock_candidate.result
+    (c.rwlock_candidate.ensures ∙ ap client_at (sym same)))

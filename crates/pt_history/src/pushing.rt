@@ -1,0 +1,184 @@
+//! Calls, and entries that must follow, as they are appended in room that was made for them.
+
+use crate::compact::{ForcedEntry, stored_forced};
+use crate::stored::History;
+use pt_types::{Call, ClientId, Outcome};
+use std::alloc::Allocator;
+
+impl<A: Allocator + Copy> History<A> {
+    ghost use Rattle.std.specs.Prelude.{◌≡◌, ◌-◌, ◌<◌, [], ◌∷◌, ◌++◌, if◌then◌else◌};
+    ghost use Rattle.pt_history.specs.Stored.{pushed};
+    ghost use Rattle.pt_model.specs.declared.entry.Entry.TheVariants.{Call as CallEntry};
+    ghost use Rattle.pt_model.specs.declared.entry.Entry.TheVariants.{Grant as GrantEntry};
+    ghost use Rattle.pt_history.specs.Compact.{forced_entry};
+
+    // Appends the entry of a call of one name, if its hint finds that name, and reports whether it
+    // does.
+    #[inline(always)]
+    fn push_named_again(&mut self, client: ClientId, call: &Call, outcome: Option<Outcome>) -> bool
+        requires { 0 < self.old.room }
+        ensures { self.new
+            ≡ if result then pushed (CallEntry client call.now outcome) self.old else self.old }
+    {
+        let again = self.records.named_again(self.base, client, call, outcome);
+        let Some(compact) = again else {
+            return false;
+        };
+        self.outer += 1;
+        self.entries.push_reserved(compact);
+        self.room -= 1;
+        self.memory -= 1;
+        true
+    }
+
+    // Appends the entry of the making of a mutex or of a barrier, if its hint finds that name, and
+    // reports whether it does.
+    #[inline(always)]
+    fn push_made_again(&mut self, client: ClientId, call: &Call, outcome: Option<Outcome>) -> bool
+        requires { 0 < self.old.room }
+        ensures { self.new
+            ≡ if result then pushed (CallEntry client call.now outcome) self.old else self.old }
+    {
+        let again = self.records.made_again(self.base, client, call, outcome);
+        let Some(compact) = again else {
+            return false;
+        };
+        self.outer += 1;
+        self.entries.push_reserved(compact);
+        self.room -= 1;
+        self.memory -= 1;
+        true
+    }
+
+    // Appends the entry of a wait, if its hint finds both names, and reports whether it does.
+    #[inline(always)]
+    fn push_wait_again(&mut self, client: ClientId, call: &Call, outcome: Option<Outcome>) -> bool
+        requires { 0 < self.old.room }
+        ensures { self.new
+            ≡ if result then pushed (CallEntry client call.now outcome) self.old else self.old }
+    {
+        let again = self.records.wait_again(self.base, client, call, outcome);
+        let Some(compact) = again else {
+            return false;
+        };
+        self.outer += 1;
+        self.entries.push_reserved(compact);
+        self.room -= 1;
+        self.memory -= 1;
+        true
+    }
+
+    // Appends the entry of any call. It is seldom needed, so it is not inlined.
+    #[cold]
+    #[inline(never)]
+    fn push_any_call(&mut self, client: ClientId, call: &Call, outcome: Option<Outcome>)
+        requires { 0 < self.old.room }
+        ensures { self.new ≡ pushed (CallEntry client call.now outcome) self.old }
+    {
+        self.outer += 1;
+        let compact = self
+            .records
+            .store_borrowed(self.base, client, call, outcome);
+        self.entries.push_reserved(compact);
+        self.room -= 1;
+        self.memory -= 1;
+    }
+
+    /// Appends the entry of a call, in room that was made for it. It takes no memory. It is short
+    /// for a call that gives one name and nothing else.
+    #[inline(always)]
+    pub fn push_named(&mut self, client: ClientId, call: &Call, outcome: Option<Outcome>)
+        requires { 0 < self.old.room }
+        ensures { self.new
+            ≡ record self.old {
+              entries = self.old.entries ++ CallEntry client call.now outcome ∷ [];
+              room = self.old.room - 1;
+            } }
+    {
+        if !self.push_named_again(client, call, outcome) {
+            self.push_any_call(client, call, outcome);
+        }
+    }
+
+    /// As `push_named`. It is short for a wait without a deadline.
+    #[inline(always)]
+    pub fn push_wait(&mut self, client: ClientId, call: &Call, outcome: Option<Outcome>)
+        requires { 0 < self.old.room }
+        ensures { self.new
+            ≡ record self.old {
+              entries = self.old.entries ++ CallEntry client call.now outcome ∷ [];
+              room = self.old.room - 1;
+            } }
+    {
+        if !self.push_wait_again(client, call, outcome) {
+            self.push_any_call(client, call, outcome);
+        }
+    }
+
+    // As `push_named`. It is short for the making of a mutex or of a barrier.
+    #[inline(always)]
+    fn push_made(&mut self, client: ClientId, call: &Call, outcome: Option<Outcome>)
+        requires { 0 < self.old.room }
+        ensures { self.new
+            ≡ record self.old {
+              entries = self.old.entries ++ CallEntry client call.now outcome ∷ [];
+              room = self.old.room - 1;
+            } }
+    {
+        if !self.push_made_again(client, call, outcome) {
+            self.push_any_call(client, call, outcome);
+        }
+    }
+
+    /// As `push_named`. It is short for each call that comes often, and isn't inlined.
+    #[inline(never)]
+    pub fn push_call(&mut self, client: ClientId, call: &Call, outcome: Option<Outcome>)
+        requires { 0 < self.old.room }
+        ensures { self.new
+            ≡ record self.old {
+              entries = self.old.entries ++ CallEntry client call.now outcome ∷ [];
+              room = self.old.room - 1;
+            } }
+    {
+        match call {
+            Call::Wait(..) => self.push_wait(client, call, outcome),
+            Call::MutexInit(..) | Call::BarrierInit(..) => self.push_made(client, call, outcome),
+            _ => self.push_named(client, call, outcome),
+        }
+    }
+
+    /// Appends an entry that must follow, in room that was made for it. It takes no memory.
+    #[inline(always)]
+    pub fn push_forced(&mut self, forced: ForcedEntry)
+        requires { 0 < self.old.room }
+        ensures { self.new
+            ≡ record self.old {
+              entries = self.old.entries ++ forced_entry forced ∷ [];
+              room = self.old.room - 1;
+            } }
+    {
+        let compact = self.records.store_forced(self.base, &forced);
+        self.entries.push_reserved(compact);
+        self.room -= 1;
+        self.memory -= 1;
+    }
+
+    /// Appends a Grant, in room that was made for it. It takes no memory, and isn't inlined.
+    #[inline(never)]
+    pub fn push_grant(&mut self, place: u64, outcome: Outcome)
+        requires { 0 < self.old.room }
+        ensures { self.new
+            ≡ record self.old {
+              entries = self.old.entries ++ GrantEntry place outcome ∷ [];
+              room = self.old.room - 1;
+            } }
+    {
+        let grant = ForcedEntry::Grant(place, outcome);
+        let Some(compact) = stored_forced(self.base, &grant) else {
+            return self.push_forced(grant);
+        };
+        self.entries.push_reserved(compact);
+        self.room -= 1;
+        self.memory -= 1;
+    }
+}
