@@ -12,6 +12,7 @@ ghost use Rattle.pt_core.specs.Wholes.{IsWhole};
 
 use crate::applied::Applied;
 use crate::applying::{apply, plan};
+use crate::settling::{AtOnce, InTurn};
 use crate::writing::write;
 use pt_machine::Body;
 use pt_model::Event;
@@ -264,7 +265,10 @@ fn try_frequent<F: Frequent, Q: WaitList, A: Allocator + Copy>(
     if F::is(event) {
         let plan = plan(body, event);
         if body.has_room(1 + plan.need) && !body.needs_seal(plan.need) && F::is(event) {
-            return without_places(write(body, event, &plan));
+            if plan.at_once {
+                return without_places(write::<AtOnce, Q, A>(body, event, &plan));
+            }
+            return without_places(write::<InTurn, Q, A>(body, event, &plan));
         }
     }
     Tried::Left

@@ -13,7 +13,7 @@ ghost use Rattle.pt_core.specs.Applying.{IsWritten, IsNotWritten, is_death as is
 ghost use Rattle.pt_core.specs.Applying.{told_at_once, IsToldStill};
 
 use crate::applied::Applied;
-use crate::settling::{enter, make_room};
+use crate::settling::{Way, enter, make_room};
 use pt_machine::{Body, Plan};
 use pt_model::Event;
 use pt_types::{Outcome, Refusal};
@@ -60,7 +60,7 @@ fn outcome_by_answer<Q: WaitList, A: Allocator + Copy>(
 /// An accepted event with its plan, and all that must follow it, without a seal. A refusal changes
 /// nothing.  [profile]
 #[inline(always)]
-pub fn write<Q: WaitList, A: Allocator + Copy>(
+pub fn write<W: Way, Q: WaitList, A: Allocator + Copy>(
     body: &mut Body<Q, A>,
     event: &Event,
     plan: &Plan,
@@ -84,7 +84,7 @@ pub fn write<Q: WaitList, A: Allocator + Copy>(
         return Err(refusal);
     }
     let first = body.len();
-    let pushed = match enter(body, event, plan) {
+    let pushed = match enter::<W, Q, A>(body, event, plan) {
         Ok(pushed) => pushed,
         Err(refusal) => return Err(refusal),
     };

@@ -6,8 +6,8 @@ use Rattle.pt_core.proofs.ApplyingLemmas.{tried-written}
 use Rattle.pt_core.proofs.SealNeeds.{planned-seal}
 use Rattle.pt_core.proofs.frequent.try_frequent.Goals as goal
 
-pub returns-then-is-2 : goal.returns-then-is-2
-returns-then-is-2 g c =
+pub returns-then-plan : goal.returns-then-plan
+returns-then-plan g c =
     let s = c.args.body.now in
     let v = c.args.event.now in
     let none = sym (planned-seal s.stored.limit (past s) v c.plan-plan.result.need
@@ -16,3 +16,16 @@ returns-then-is-2 g c =
     subst (λ (t : Tried). IsTried s v c.write.new.body t) (sym c.without_places.ensures)
     (tried-written s c.write.new.body v none c.write.ensures.whole c.write.result
     c.write.ensures.ok c.write.ensures.err c.write.ensures.unchanged c.write.ensures.death)
+
+pub returns-then-is-2 : goal.returns-then-is-2
+returns-then-is-2 g c =
+    let s = c.args.body.now in
+    let v = c.args.event.now in
+    let new = c.write-then-is-2.new.body in
+    let says = c.write-then-is-2.ensures in
+    let none = sym (planned-seal s.stored.limit (past s) v c.plan-plan.result.need
+    c.needs_seal.result c.plan-plan.ensures.planned.needs c.needs_seal.ensures)
+    ∙ c.if-not-needs_seal.true in
+    subst (λ (t : Tried). IsTried s v new t) (sym c.without_places-then-is-2.ensures)
+    (tried-written s new v none says.whole c.write-then-is-2.result says.ok says.err says.unchanged
+    says.death)

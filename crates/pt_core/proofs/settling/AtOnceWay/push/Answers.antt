@@ -1,0 +1,92 @@
+use Rattle.std.proofs.Common.{◌≡◌, ℕ, Bool, true, Some, None, sym, ap, ◌∙◌, subst}
+use Rattle.std.specs.Bool.{OnTrue}
+use Rattle.pt_types.specs.declared.call.Call.{Call as Asked}
+use Rattle.pt_history.specs.Stored.{past_of}
+use Rattle.pt_model.specs.Histories.{History, place}
+use Rattle.pt_model.specs.declared.entry.Event.{Event}
+use Rattle.pt_model.specs.declared.entry.Event.TheVariants as event
+use Rattle.pt_core.specs.Applying.{AnswersOwn, IsToldStill}
+use Rattle.pt_core.specs.Settling.{IsAlone}
+use Rattle.pt_model.specs.StartRows.{reads_of}
+use Rattle.pt_core.proofs.AnswersStay.{told-settled}
+use Rattle.pt_model.specs.declared.entry.Entry.{Entry}
+use Rattle.pt_model.specs.declared.entry.Entry.TheVariants.{Call}
+use Rattle.pt_model.specs.Room.{entry_for}
+use Rattle.pt_state.specs.Adds.{IsReadyFor, past}
+use Rattle.pt_machine.specs.GrantedAtOnce.{AddsBoth, IsGrantedAtOnce, IsReadyAfter}
+use Rattle.pt_machine.specs.Planned.{IsAtOnce}
+use Rattle.pt_core.proofs.WholeLemmas.{ready-outer, ready-after, begins-both}
+use Rattle.pt_core.proofs.settling.AtOnceWay.push.Goals as goal
+
+-- a call that is said to be granted as it comes is
+granted : (h : History) (v : Event) (b : Bool) → IsAtOnce h v b → (c : ℕ) (call : Asked)
+    → v ≡ event.Call c call → b ≡ true → IsGrantedAtOnce h c call
+granted h v b k c call is e =
+    subst (λ (x : Bool). OnTrue x (IsGrantedAtOnce h c call)) e
+    (subst (λ (x : Event). IsAtOnce h x b) is k)
+
+pub push_granted_at_once-requires-clause-granted : goal.push_granted_at_once-requires-clause-granted
+push_granted_at_once-requires-clause-granted g c =
+    granted (past c.args.body.now) c.args.event.now c.args.plan.now.at_once
+    c.requires.planned.at_once c.in-Call.c c.in-Call.call c.in-Call.is c.if-plan.true
+
+pub push_granted_at_once-requires-clause-ready : goal.push_granted_at_once-requires-clause-ready
+push_granted_at_once-requires-clause-ready g c =
+    let s = c.args.body.now in
+    let known : entry_for (past s) c.args.event.now ≡ Call c.in-Call.c c.in-Call.call None =
+    ap (entry_for (past s)) c.in-Call.is
+    ∙ (granted (past s) c.args.event.now c.args.plan.now.at_once c.requires.planned.at_once
+    c.in-Call.c c.in-Call.call c.in-Call.is c.if-plan.true).waits in
+    subst (λ (e : Entry). IsReadyFor s e) known
+    (ready-outer s c.args.event.now c.requires.open c.requires.accepted)
+
+pub push_granted_at_once-requires-clause-next : goal.push_granted_at_once-requires-clause-next
+push_granted_at_once-requires-clause-next g c =
+    let s = c.args.body.now in
+    let known : entry_for (past s) c.args.event.now ≡ Call c.in-Call.c c.in-Call.call None =
+    ap (entry_for (past s)) c.in-Call.is
+    ∙ (granted (past s) c.args.event.now c.args.plan.now.at_once c.requires.planned.at_once
+    c.in-Call.c c.in-Call.call c.in-Call.is c.if-plan.true).waits in
+    subst (λ (e : Entry). IsReadyAfter s e) known
+    (ready-after s c.args.event.now c.requires.open c.requires.accepted)
+
+pub returns-in_ok-outcome-in-Call-clause-ok :
+    goal.returns-in_ok-outcome-in-Call-clause-ok
+returns-in_ok-outcome-in-Call-clause-ok g c =
+    let s = c.args.body.now in
+    let new = c.push_granted_at_once.new.self in
+    let known : entry_for (past s) c.args.event.now ≡ Call c.in-Call.c c.in-Call.call None =
+    ap (entry_for (past s)) c.in-Call.is
+    ∙ (granted (past s) c.args.event.now c.args.plan.now.at_once c.requires.planned.at_once
+    c.in-Call.c c.in-Call.call c.in-Call.is c.if-plan.true).waits in
+    begins-both s c.args.event.now c.requires.open c.requires.accepted new
+    (subst (λ (e : Entry). AddsBoth s e new) (sym known)
+    c.in_ok-outcome-in-Call.ensures.ok)
+
+pub returns-in_ok-outcome-in-Call-clause-told :
+    goal.returns-in_ok-outcome-in-Call-clause-told
+returns-in_ok-outcome-in-Call-clause-told g c = λ u st.
+    let s = c.args.body.now in
+    let new = c.push_granted_at_once.new.self in
+    let known : entry_for (past s) c.args.event.now ≡ Call c.in-Call.c c.in-Call.call None =
+    ap (entry_for (past s)) c.in-Call.is
+    ∙ (granted (past s) c.args.event.now c.args.plan.now.at_once c.requires.planned.at_once
+    c.in-Call.c c.in-Call.call c.in-Call.is c.if-plan.true).waits in
+    let begins = begins-both s c.args.event.now c.requires.open c.requires.accepted new
+    (subst (λ (e : Entry). AddsBoth s e new) (sym known)
+    c.in_ok-outcome-in-Call.ensures.ok) in
+    let x = c.in_ok-outcome-in-Call.outcome in
+    subst (λ (v : Event). IsToldStill v (Some x) (past_of u) (place (past s)))
+    (sym c.in-Call.is)
+    (told-settled new.stored u (place (past s)) x
+    begins.roomy.read.follows st.settling c.in_ok-outcome-in-Call.ensures.told)
+
+pub returns-in_ok-outcome-in-Call-clause-alone :
+    goal.returns-in_ok-outcome-in-Call-clause-alone
+returns-in_ok-outcome-in-Call-clause-alone g c = λ rests.
+    let s = c.args.body.now in
+    let new = c.push_granted_at_once.new.self in
+    subst (λ (v : Event). IsAlone new.stored v (place (past s))) (sym c.in-Call.is)
+    (subst (AnswersOwn (reads_of new.stored.start) new.stored.entries
+    (event.Call c.in-Call.c c.in-Call.call) (place (past s)))
+    (sym c.in_ok-outcome-in-Call.ensures.told) c.in_ok-outcome-in-Call.ensures.alone)
