@@ -157,7 +157,7 @@ impl<Q: WaitList, A: Allocator + Copy> Body<Q, A> {
     }
 
     // Whether as many calls as are needed wait at a barrier.  [XSH pthread_barrier_wait]
-    #[inline(never)]
+    #[inline(always)]
     fn is_full(&self, b: ObjectId, barrier: &BarrierObj) -> bool
         requires read { AreTables self.now }
         requires stored { object_value self.now.objects b ≡ Some (row.Barrier barrier.now) }
