@@ -84,8 +84,8 @@ impl<A: Allocator + Copy> History<A> {
         self.memory -= 1;
     }
 
-    /// Appends the entry of a call, in room that was made for it. It takes no memory. It is short
-    /// for a call that gives one name and nothing else.
+    /// Appends the entry of a call, in room that was made for it. It takes no memory. A call that
+    /// gives one name and nothing else takes the fewest steps.
     #[inline(always)]
     pub fn push_named(&mut self, client: ClientId, call: &Call, outcome: Option<Outcome>)
         requires { 0 < self.old.room }
@@ -100,7 +100,7 @@ impl<A: Allocator + Copy> History<A> {
         }
     }
 
-    /// As `push_named`. It is short for a wait without a deadline.
+    /// As `push_named`. A wait without a deadline takes the fewest steps.
     #[inline(always)]
     pub fn push_wait(&mut self, client: ClientId, call: &Call, outcome: Option<Outcome>)
         requires { 0 < self.old.room }
@@ -115,7 +115,7 @@ impl<A: Allocator + Copy> History<A> {
         }
     }
 
-    // As `push_named`. It is short for the making of a mutex or of a barrier.
+    // As `push_named`. The making of a mutex or of a barrier takes the fewest steps.
     #[inline(always)]
     fn push_made(&mut self, client: ClientId, call: &Call, outcome: Option<Outcome>)
         requires { 0 < self.old.room }
@@ -130,7 +130,7 @@ impl<A: Allocator + Copy> History<A> {
         }
     }
 
-    /// As `push_named`. It is short for each call that comes often, and isn't inlined.
+    /// As `push_named`. Each call that comes often takes few steps, and it isn't inlined.
     #[inline(never)]
     pub fn push_call(&mut self, client: ClientId, call: &Call, outcome: Option<Outcome>)
         requires { 0 < self.old.room }
@@ -163,7 +163,8 @@ impl<A: Allocator + Copy> History<A> {
         self.memory -= 1;
     }
 
-    /// Appends a Grant, in room that was made for it. It takes no memory, and isn't inlined.
+    /// Appends a Grant, in room that was made for it. It takes no memory, and isn't inlined. One
+    /// whose number fits is stored here, since `push_forced` would have it in memory first.
     #[inline(never)]
     pub fn push_grant(&mut self, place: u64, outcome: Outcome)
         requires { 0 < self.old.room }

@@ -86,6 +86,7 @@ impl<A: Allocator + Copy> State<A> {
         });
         self.stored.push_named(c, call, Some(outcome));
     }
+
     /// As `finish`, for a call that may say more than a name.
     #[inline(always)]
     pub fn finish_long(&mut self, c: ClientId, call: &Call, outcome: Outcome)
@@ -218,8 +219,8 @@ impl<A: Allocator + Copy> State<A> {
         Ok(())
     }
 
-    /// A call that is left waiting. ENOMEM if there is no memory for its row in a read-write
-    /// lock. No other operation than these three is left so. It isn't inlined.
+    /// A call that is left waiting: for a lock, at a condition or at a barrier, as no other call
+    /// is. ENOMEM if there is no memory for its row in a read-write lock. It isn't inlined.
     /// [XSH, the call's page]
     #[inline(never)]
     pub fn push_left(&mut self, c: ClientId, call: &Call, request: &Request) -> Result<(), Refusal>

@@ -157,7 +157,7 @@ fn reserve<A: Allocator + Copy>(rows: &mut Rows<BoxedQueue<A>, A>, queues: usize
     rows.map.reserve(more).is_ok()
 }
 
-// How many wait in a queue whose row is not where it is looked for first.
+// How many wait in a queue whose row is not at the place that its hint gives.
 #[cold]
 #[inline(never)]
 fn len_far<A: Allocator + Copy>(queues: &Queues<A>, object: u64) -> usize

@@ -189,7 +189,7 @@ pub(crate) fn len_of<A: Allocator + Copy>(queues: &Rows<BoxedQueue<A>, A>, objec
     }
 }
 
-/// How many wait in a queue, if its row is where it is looked for first.
+/// How many wait in a queue, if its row is at the place that its hint gives.
 #[inline(always)]
 pub(crate) fn len_by_hint<A: Allocator + Copy>(
     queues: &Rows<BoxedQueue<A>, A>,
