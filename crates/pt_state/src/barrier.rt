@@ -45,9 +45,10 @@ impl<A: Allocator + Copy> State<A> {
         requires found { object ≡ find (past self.old) n.now class.Barrier }
         ensures { Adds self.old (entry.Call c call.now None) self.new }
     {
-        // The call is pushed first, while the compiler knows which word it is.
+        // What is read off the call is read first, while the compiler knows which word it is.
         let place = self.stored.len();
+        let clock = clock_of(call);
         self.stored.push_named(c, call, None);
-        arrive(&mut self.clients, c, place, or_zero(object), clock_of(call));
+        arrive(&mut self.clients, c, place, or_zero(object), clock);
     }
 }
