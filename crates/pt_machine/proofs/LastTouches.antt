@@ -70,14 +70,15 @@ service-forced h w = go (is_arrival w.role)
     go true = refl
     go false = refl
 
--- service touches nothing else
-pub still-touched : (h : History) (w : WaitingCall) → touched h ≡ touched (h ▷ service h w)
-still-touched h w = go (is_arrival w.role)
+-- a Grant touches nothing else
+pub still-touched : (h : History) (w : WaitingCall) → is_arrival w.role ≡ false
+    → touched h ≡ touched (h ▷ service h w)
+still-touched h w e = go (is_arrival w.role) e
   where
-    go : (b : Bool) → touched h
+    go : (b : Bool) → b ≡ false → touched h
         ≡ touched (h ▷ cond b (Trip w.object) (Grant w.place (grant_outcome h w)))
-    go true = refl
-    go false = refl
+    go true n = absurd cc
+    go false n = refl
 
 entry-forced : (h : History) (x : Forced) → is_forced (entry_of h x) ≡ true
 entry-forced h (Serve o) = service-forced h (called o)

@@ -70,12 +70,12 @@ module _ {A : Type 0} (old new : State A) where
       (queued-trip (past old) w queue queue' admitted admitted' made made' read.follows i arrival
       gone room there k))
 
-  -- a Trip touches nothing else
+  -- a Trip touches nothing
   pub trip-touched : (o c : Option ℕ) (b : ℕ) → Adds old (TripEntry b) new
-      → IsTouched (past old) o c → IsTouched (past new) o c
+      → IsTouched (past old) o c → IsTouched (past new) None c
   trip-touched o c b a k =
-      subst (λ (h : History). IsTouched h o c) (sym (past-adds old new (TripEntry b) a))
-      (record { touches = k.touches; enters = k.enters })
+      subst (λ (h : History). IsTouched h None c) (sym (past-adds old new (TripEntry b) a))
+      (record { touches = refl; enters = k.enters })
 
 -- the call that is served at an object is open, and waits there
 candidate-open : (h : History) → Follows h → (o : ℕ) (w : WaitingCall) → candidate h o ≡ Some w

@@ -51,6 +51,7 @@ impl<Q: WaitList, A: Allocator + Copy> Body<Q, A> {
     {
         let used = 3 * self.arrivals(b) as u64;
         self.state.push_trip(b, &mut self.queues);
+        self.touched = None;
         self.need -= used;
     }
 

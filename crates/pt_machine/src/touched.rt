@@ -3,6 +3,7 @@
 //! It is read off the tables as they are before the entry.
 
 ghost use Rattle.std.specs.Prelude.{None, Option, ℕ, ◌≡◌};
+ghost use Rattle.pt_model.specs.Forced.{service};
 ghost use Rattle.pt_model.specs.Histories.{History, ◌▷◌};
 ghost use Rattle.pt_model.specs.Room.{entry_for};
 ghost use Rattle.pt_touched.specs.Candidates.{entering_by};
@@ -14,7 +15,7 @@ ghost use Rattle.pt_state.specs.Serving.{IsFor, called, entry_of};
 
 use crate::body::Body;
 use pt_model::Event;
-use pt_model::waiting_call::Role;
+use pt_model::waiting_call::{Role, is_arrival};
 use pt_records::Open;
 use pt_records::calls::at_object;
 use pt_state::Forced;
@@ -56,16 +57,30 @@ impl<Q: WaitList, A: Allocator + Copy> Body<Q, A> {
         }
     }
 
-    /// What is touched after a forced entry: what was before it, unless a mutex is taken from its
-    /// dead owner or a deadline ends a call.
-    /// [XSH pthread_mutex_lock EOWNERDEAD, pthread_mutex_timedlock]
+    // What is touched after a call is served: what was before, or nothing if a barrier's calls go
+    // on.  [XSH pthread_barrier_wait]
+    fn touched_by_service(&self, found: &Open) -> Option<ObjectId>
+        requires { AreTables self.now }
+        ensures { let h = past self.now in
+            result ≡ touched (h ▷ service h (called found.now)) }
+    {
+        if is_arrival(found.call.role) {
+            None
+        } else {
+            self.touched
+        }
+    }
+
+    /// What is touched after a forced entry: what was before it, unless a barrier's calls go on, a
+    /// mutex is taken from its dead owner or a deadline ends a call.
+    /// [XSH pthread_barrier_wait, pthread_mutex_lock EOWNERDEAD, pthread_mutex_timedlock]
     pub(crate) fn touched_by_forced(&self, forced: &Forced) -> Option<ObjectId>
         requires read { AreTables self.now }
         requires known { IsFor (opens_of self.now.clients) forced.now }
         ensures { let h = past self.now in result ≡ touched (h ▷ entry_of h forced.now) }
     {
         match forced {
-            Forced::Serve(_) => self.touched,
+            Forced::Serve(found) => self.touched_by_service(found),
             Forced::Yield(m) => Some(*m),
             Forced::Expire(late) => Some(goal_of(late)),
         }

@@ -138,6 +138,16 @@ trip_aside h b f s w i t =
     other old away u j at true e =
         absurd (false≢true (sym (ap not (at_full h f u w b j old e at)) ∙ away))
 
+-- and no call is left there
+pub trip_leaves : (h : History) (b : ℕ) → Follows h → (v w : WaitingCall) → In v (open_calls h)
+    → stands_at_barrier b v ≡ true → In w (open_calls (h ▷ Trip b))
+    → at_object h v ≡ at_object h w → ⊥
+trip_leaves h b f v w j e i at =
+    let p =
+    In-filter (λ u. not (stands_at_barrier b u)) (open_calls h) w
+    (subst (λ (ws : List WaitingCall). In w ws) (open-trip h b f) i) in
+    false≢true (sym (ap not (at_full h f v w b j p.0 e at)) ∙ p.1)
+
 yield_aside : (h : History) (m : ℕ) → Follows h → (w : WaitingCall)
     → In w (open_calls (h ▷ Yield m)) → is_served (h ▷ Yield m) w ≡ true
     → (m == at_object h w) ≡ false → WasServed h (h ▷ Yield m) w

@@ -3,7 +3,7 @@ use Rattle.std.proofs.Common.{◌≡◌, ℕ, Bool, true, false, cond, ◌&&◌,
 use Rattle.std.proofs.Common.{inr, List, [], ◌∷◌, Option, Some, None, refl, sym, ap, ◌∙◌, subst}
 use Rattle.std.proofs.Common.{arith, filter}
 use Rattle.std.proofs.lemmas.Bool.Decides.{nat_tests}
-use Rattle.std.proofs.lemmas.Bool.{false≢true}
+use Rattle.std.proofs.lemmas.Bool.{and_parts, eq-eqb, false≢true}
 use Rattle.std.specs.Option.{option_or}
 use Rattle.pt_model.specs.declared.entry.Entry.{Entry}
 use Rattle.pt_model.specs.declared.entry.Entry.TheVariants.{Join, Death, Moment, Grant, Trip, Yield}
@@ -26,11 +26,12 @@ use Rattle.pt_model.proofs.Agreeing.{seal_agrees, grantable-alike, complete-alik
 use Rattle.pt_model.proofs.Lists.{In-filter, filter-in, filter-filter, filter-agree_on}
 use Rattle.pt_model.proofs.Lists.{Each-from_in}
 use Rattle.pt_model.proofs.Leasts.{least-in, least-none, none-least}
+use Rattle.pt_model.proofs.Opens.{stands_at_barrier}
 use Rattle.pt_model.proofs.Services.{none-served, or_left_true}
 use Rattle.pt_touched.specs.Candidates.{served_at}
 use Rattle.pt_touched.specs.TouchLaws.{AreTouched, WasServed}
 use Rattle.pt_touched.specs.Touched.{next_served, object_if, touched, touched_by}
-use Rattle.pt_touched.proofs.TouchedEntries.{touches}
+use Rattle.pt_touched.proofs.TouchedEntries.{touches, trip_leaves}
 use Rattle.pt_touched.proofs.TouchedGrants.{grant_touched}
 
 -- all that may be served wait at the object that is touched
@@ -87,7 +88,7 @@ next_none h n =
     none-least (is_served_before h) (filter (is_served h) (open_calls h))
     (λ w i. let p = In-filter (is_served h) (open_calls h) w i in quiet_rest h n w p.0 p.1)
 
--- after a Grant or a Trip
+-- after a Grant
 still_touched : (h : History) (e : Entry) (t : Option ℕ) → ((v : WaitingCall) → In v (open_calls h)
     → is_served h v ≡ true → t ≡ Some (at_object h v)) → (w : WaitingCall)
     → ((o : ℕ) → touched_by h e ≡ Some o → t ≡ Some o)
@@ -95,6 +96,20 @@ still_touched : (h : History) (e : Entry) (t : Option ℕ) → ((v : WaitingCall
     → t ≡ Some (at_object (h ▷ e) w)
 still_touched h e t all w from (inl k) = from (at_object (h ▷ e) w) k
 still_touched h e t all w from (inr k) = all w k.0 k.1.0 ∙ ap Some k.1.1
+
+-- a call at a full barrier is served
+served-complete : (h : History) (v : WaitingCall) → is_complete h v ≡ true → is_served h v ≡ true
+served-complete h v g = go (is_grantable h v) (is_complete h v) g
+  where
+    go : (a b : Bool) → b ≡ true → (a || b) ≡ true
+    go true b e = refl
+    go false b e = e
+
+-- and stands there
+stands-complete : (h : History) (v : WaitingCall) → is_complete h v ≡ true
+    → stands_at_barrier v.object v ≡ true
+stands-complete h v g =
+    rw ((and_parts (is_arrival v.role) _ g).0, eq-eqb v.object v.object refl) refl
 
 touched-step : (h : History) (e : Entry) → Follows h → Step h e → AllTouched h
     → (w : WaitingCall) → In w (open_calls (h ▷ e)) → is_served (h ▷ e) w ≡ true
@@ -113,8 +128,12 @@ touched-step h _ f (grants v s j g) ih w i t k =
     still_touched h (Grant v.place (grant_outcome h v)) (touched h) ih w
     (λ o e. ih v j (or_left_true (is_grantable h v) (is_complete h v) g)
     ∙ (sym (grant_touched h v f (grants v s j g) j g) ∙ e)) k
-touched-step h _ f (trips v s j g) ih w i t k =
-    still_touched h (Trip v.object) (touched h) ih w (λ o e. absurd cc) k
+touched-step h _ f (trips v s j g) ih w i t (inl k) = absurd cc
+touched-step h _ f (trips v s j g) ih w i t (inr k) =
+    let both : Some (at_object h v) ≡ Some (at_object h w) =
+    sym (ih v j (served-complete h v g)) ∙ ih w k.0 k.1.0 in
+    let same : at_object h v ≡ at_object h w = cc in
+    absurd (trip_leaves h v.object f v w j (stands-complete h v g) i same)
 
 module _ (h g : History) (a : Agree h g) (f : Follows h) where
   served-alike : (w : WaitingCall) → In w (open_calls h) → is_served h w ≡ is_served g w

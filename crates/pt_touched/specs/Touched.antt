@@ -9,7 +9,7 @@ use Rattle.pt_types.specs.declared.operations.ObjectClass.TheVariants.{Rwlock as
 use Rattle.pt_types.specs.declared.operations.ObjectClass.TheVariants.{Cond as CondClass}
 use Rattle.pt_types.specs.declared.operations.ObjectClass.TheVariants.{Barrier as BarrierClass}
 use Rattle.pt_model.specs.declared.entry.Entry.{Entry}
-use Rattle.pt_model.specs.declared.entry.Entry.TheVariants.{Call, Death, Grant, Trip, Yield, Expire}
+use Rattle.pt_model.specs.declared.entry.Entry.TheVariants.{Call, Death, Grant, Yield, Expire}
 use Rattle.pt_model.specs.Searches.{least}
 use Rattle.pt_model.specs.Histories.{History, Begin, ◌▷◌}
 use Rattle.pt_model.specs.Objects.{find}
@@ -79,11 +79,10 @@ touched_by h (Yield m) = Some m
 touched_by h (Expire j) = goal_if (at_place j (stood h))
 touched_by h _ = None
 
--- what is touched after an entry: a Grant and a Trip change nothing, for the next call to serve
--- waits at the same object
+-- what is touched after an entry: a Grant changes nothing, for the next call to serve waits at the
+-- same object
 abbrev pub touched_after : History → Entry → Option ℕ → Option ℕ
 touched_after h (Grant j x) before = before
-touched_after h (Trip b) before = before
 touched_after h e before = touched_by h e
 
 -- the call that is served next, if one is  [XSH pthread_mutex_unlock, the lowest first is profile]

@@ -90,7 +90,8 @@ invariant_of-self g c =
           c.self.invariant.1 o known
           c.drop_deadline.ensures adds,
       touched-forced old new c.self.inside.touched c.self.inside.entering (Serve o) adds
-          (c.self.invariant.2.touches ∙ still-touched (past old) w) c.self.invariant.2.enters,
+          (c.self.invariant.2.touches ∙ still-touched (past old) w
+          (no_arrival w.role w.object c.args.m c.requires.mutex)) c.self.invariant.2.enters,
       reserved-forced old new (service (past old) w) adds c.self.inside.need
           c.used_by_gain.result c.self.invariant.3 used,
     )
