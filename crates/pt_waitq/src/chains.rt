@@ -2,7 +2,7 @@
 ghost use Rattle.std.specs.Prelude.{◌≡◌};
 ghost use Rattle.pt_waitq.specs.Waits.{no_waits};
 
-use crate::link::NodeIndex;
+use crate::link::{Link, NodeIndex};
 use crate::nodes::{self, Node};
 use crate::queues::{self, Queues};
 use crate::rows::Rows;
@@ -161,15 +161,17 @@ impl<A: Allocator + Copy> WaitList for Chains<A> {
         let place = nodes::place_at(&self.nodes, node);
         let waiter = place.waiter;
         let p = waiter.prio.level() as usize - 1;
+        // No one is ahead of it in its chain.
+        let before = Link::none();
         let freed = queues::remove(
             &mut self.queues,
             object.0,
             waiter.writer,
             p,
-            place.before,
+            before,
             place.next,
         );
-        nodes::remove(&mut self.nodes, node, place.before, place.next);
+        nodes::remove(&mut self.nodes, node, before, place.next);
         spares::put_back(&mut self.spares, freed);
         self.log = self.log.and(&None, &waiter);
         Some(waiter)

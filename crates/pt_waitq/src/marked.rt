@@ -115,8 +115,10 @@ impl MarkedQueue {
             return true;
         }
         if writer {
-            self.writer = lowered(&self.queue.writers.counts, self.writer);
-        } else {
+            if self.queue.writers.counts[p] == 0 {
+                self.writer = lowered(&self.queue.writers.counts, self.writer);
+            }
+        } else if self.queue.readers.counts[p] == 0 {
             self.reader = lowered(&self.queue.readers.counts, self.reader);
         }
         false

@@ -50,7 +50,8 @@ remove-freed-requires-clause-stands g c =
     let w = place.waiter in
     let is_first = c.in_ok-node.ensures in
     let h = head-out homes nodes queues es c.self.invariant.0 o place.object n w place.next
-    place.before is_first.none is_first.queue c.place_at-place.ensures.node in
+    place.before c.none-before.result is_first.none is_first.queue c.place_at-place.ensures.node
+    c.none-before.ensures in
     let prio = c.level.ensures.value in
     let least = c.level.ensures.least in
     let most = c.level.ensures.greatest in
@@ -59,7 +60,7 @@ remove-freed-requires-clause-stands g c =
     let made = Each-in (λ (e : ℕ × Waiter). is_listed e.0 (numbers queues) ≡ true) es
     (o, w) c.self.invariant.0.stand.made h.there in
     stands-there homes nodes nodes queues queues es o (c.level.result - 1) n w
-    place.next place.before c.self.invariant.0 h.there h.home h.node level within made
+    place.next c.none-before.result c.self.invariant.0 h.there h.home h.node level within made
 
 pub remove-freed-requires-clause-len : goal.remove-freed-requires-clause-len
 remove-freed-requires-clause-len g c =
@@ -73,7 +74,8 @@ remove-freed-requires-clause-len g c =
     let w = place.waiter in
     let is_first = c.in_ok-node.ensures in
     let h = head-out homes nodes queues es c.self.invariant.0 o place.object n w place.next
-    place.before is_first.none is_first.queue c.place_at-place.ensures.node in
+    place.before c.none-before.result is_first.none is_first.queue c.place_at-place.ensures.node
+    c.none-before.ensures in
     let prio = c.level.ensures.value in
     let least = c.level.ensures.least in
     let most = c.level.ensures.greatest in
@@ -82,7 +84,7 @@ remove-freed-requires-clause-len g c =
     let made = Each-in (λ (e : ℕ × Waiter). is_listed e.0 (numbers queues) ≡ true) es
     (o, w) c.self.invariant.0.stand.made h.there in
     len-stands homes nodes nodes queues queues es o (c.level.result - 1) n w
-    place.next place.before c.self.invariant.0 h.there h.home h.node level within made
+    place.next c.none-before.result c.self.invariant.0 h.there h.home h.node level within made
 
 pub remove-requires-clause-before : goal.remove-requires-clause-before
 remove-requires-clause-before g c =
@@ -96,7 +98,8 @@ remove-requires-clause-before g c =
     let w = place.waiter in
     let is_first = c.in_ok-node.ensures in
     let h = head-out homes nodes queues es c.self.invariant.0 o place.object n w place.next
-    place.before is_first.none is_first.queue c.place_at-place.ensures.node in
+    place.before c.none-before.result is_first.none is_first.queue c.place_at-place.ensures.node
+    c.none-before.ensures in
     let prio = c.level.ensures.value in
     let least = c.level.ensures.least in
     let most = c.level.ensures.greatest in
@@ -105,7 +108,7 @@ remove-requires-clause-before g c =
     let made = Each-in (λ (e : ℕ × Waiter). is_listed e.0 (numbers queues) ≡ true) es
     (o, w) c.self.invariant.0.stand.made h.there in
     (beside-there homes nodes nodes queues queues es o (c.level.result - 1) n w
-    place.next place.before c.self.invariant.0 h.there h.home h.node level within made).0
+    place.next c.none-before.result c.self.invariant.0 h.there h.home h.node level within made).0
 
 pub remove-requires-clause-next : goal.remove-requires-clause-next
 remove-requires-clause-next g c =
@@ -119,7 +122,8 @@ remove-requires-clause-next g c =
     let w = place.waiter in
     let is_first = c.in_ok-node.ensures in
     let h = head-out homes nodes queues es c.self.invariant.0 o place.object n w place.next
-    place.before is_first.none is_first.queue c.place_at-place.ensures.node in
+    place.before c.none-before.result is_first.none is_first.queue c.place_at-place.ensures.node
+    c.none-before.ensures in
     let prio = c.level.ensures.value in
     let least = c.level.ensures.least in
     let most = c.level.ensures.greatest in
@@ -128,7 +132,7 @@ remove-requires-clause-next g c =
     let made = Each-in (λ (e : ℕ × Waiter). is_listed e.0 (numbers queues) ≡ true) es
     (o, w) c.self.invariant.0.stand.made h.there in
     (beside-there homes nodes nodes queues queues es o (c.level.result - 1) n w
-    place.next place.before c.self.invariant.0 h.there h.home h.node level within made).1
+    place.next c.none-before.result c.self.invariant.0 h.there h.home h.node level within made).1
 
 pub put_back-requires-clause-emptied : goal.put_back-requires-clause-emptied
 put_back-requires-clause-emptied g c =
@@ -142,7 +146,8 @@ put_back-requires-clause-emptied g c =
     let w = place.waiter in
     let is_first = c.in_ok-node.ensures in
     let h = head-out homes nodes queues es c.self.invariant.0 o place.object n w place.next
-    place.before is_first.none is_first.queue c.place_at-place.ensures.node in
+    place.before c.none-before.result is_first.none is_first.queue c.place_at-place.ensures.node
+    c.none-before.ensures in
     let prio = c.level.ensures.value in
     let least = c.level.ensures.least in
     let most = c.level.ensures.greatest in
@@ -154,7 +159,7 @@ put_back-requires-clause-emptied g c =
     let out = c.remove-freed.ensures in
     let emptied = step-emptied homes nodes c.remove.new.nodes.slots queues
     c.remove-freed.new.queues es o (c.level.result - 1) n w
-    place.next place.before c.self.invariant.0 h.there h.home h.node level within
+    place.next c.none-before.result c.self.invariant.0 h.there h.home h.node level within
     made out.numbers out.others done.there done.next done.before done.entry done.client
     (option_map (λ b. b.value) c.remove-freed.result) out.queue in
     if-boxed HasNone (λ b. b.value) c.remove-freed.result emptied.none
@@ -171,7 +176,8 @@ put_back-requires-clause-room g c =
     let w = place.waiter in
     let is_first = c.in_ok-node.ensures in
     let h = head-out homes nodes queues es c.self.invariant.0 o place.object n w place.next
-    place.before is_first.none is_first.queue c.place_at-place.ensures.node in
+    place.before c.none-before.result is_first.none is_first.queue c.place_at-place.ensures.node
+    c.none-before.ensures in
     let prio = c.level.ensures.value in
     let least = c.level.ensures.least in
     let most = c.level.ensures.greatest in
@@ -183,7 +189,7 @@ put_back-requires-clause-room g c =
     let out = c.remove-freed.ensures in
     let emptied = step-emptied homes nodes c.remove.new.nodes.slots queues
     c.remove-freed.new.queues es o (c.level.result - 1) n w
-    place.next place.before c.self.invariant.0 h.there h.home h.node level within
+    place.next c.none-before.result c.self.invariant.0 h.there h.home h.node level within
     made out.numbers out.others done.there done.next done.before done.entry done.client
     (option_map (λ b. b.value) c.remove-freed.result) out.queue in
     λ some.
@@ -203,7 +209,8 @@ invariant_of-self g c =
     let w = place.waiter in
     let is_first = c.in_ok-node.ensures in
     let h = head-out homes nodes queues es c.self.invariant.0 o place.object n w place.next
-    place.before is_first.none is_first.queue c.place_at-place.ensures.node in
+    place.before c.none-before.result is_first.none is_first.queue c.place_at-place.ensures.node
+    c.none-before.ensures in
     let prio = c.level.ensures.value in
     let least = c.level.ensures.least in
     let most = c.level.ensures.greatest in
@@ -215,7 +222,7 @@ invariant_of-self g c =
     let out = c.remove-freed.ensures in
     let emptied = step-emptied homes nodes c.remove.new.nodes.slots queues
     c.remove-freed.new.queues es o (c.level.result - 1) n w
-    place.next place.before c.self.invariant.0 h.there h.home h.node level within
+    place.next c.none-before.result c.self.invariant.0 h.there h.home h.node level within
     made out.numbers out.others done.there done.next done.before done.entry done.client
     (option_map (λ b. b.value) c.remove-freed.result) out.queue in
     let logged = ap waiting_by c.and-self-inside.ensures
@@ -247,7 +254,8 @@ returns-clause-first g c =
     let w = place.waiter in
     let is_first = c.in_ok-node.ensures in
     let h = head-out homes nodes queues es c.self.invariant.0 o place.object n w place.next
-    place.before is_first.none is_first.queue c.place_at-place.ensures.node in
+    place.before c.none-before.result is_first.none is_first.queue c.place_at-place.ensures.node
+    c.none-before.ensures in
     h.first
     ∙ (ap (λ o. head_of (queue_of o es)) c.object.view_is
     ∙ ap head_of (read-as _ _ es es _ c.self.view_is c.self.invariant.0.stand refl c.args.object))
@@ -264,7 +272,8 @@ returns-clause-taken g c = λ q.
     let w = place.waiter in
     let is_first = c.in_ok-node.ensures in
     let h = head-out homes nodes queues es c.self.invariant.0 o place.object n w place.next
-    place.before is_first.none is_first.queue c.place_at-place.ensures.node in
+    place.before c.none-before.result is_first.none is_first.queue c.place_at-place.ensures.node
+    c.none-before.ensures in
     let prio = c.level.ensures.value in
     let least = c.level.ensures.least in
     let most = c.level.ensures.greatest in
@@ -276,7 +285,7 @@ returns-clause-taken g c = λ q.
     let out = c.remove-freed.ensures in
     let emptied = step-emptied homes nodes c.remove.new.nodes.slots queues
     c.remove-freed.new.queues es o (c.level.result - 1) n w
-    place.next place.before c.self.invariant.0 h.there h.home h.node level within
+    place.next c.none-before.result c.self.invariant.0 h.there h.home h.node level within
     made out.numbers out.others done.there done.next done.before done.entry done.client
     (option_map (λ b. b.value) c.remove-freed.result) out.queue in
     let logged = ap waiting_by c.and-self-inside.ensures
@@ -299,7 +308,8 @@ returns-clause-admitted g c = λ d.
     let w = place.waiter in
     let is_first = c.in_ok-node.ensures in
     let h = head-out homes nodes queues es c.self.invariant.0 o place.object n w place.next
-    place.before is_first.none is_first.queue c.place_at-place.ensures.node in
+    place.before c.none-before.result is_first.none is_first.queue c.place_at-place.ensures.node
+    c.none-before.ensures in
     let logged = ap waiting_by c.and-self-inside.ensures
     ∙ waiting-more c.self.inside.log.items (None, w) in
     ap (λ ds. is_listed d (numbers homes) || has_waiter d ds) logged
