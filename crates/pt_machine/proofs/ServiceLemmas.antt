@@ -1,5 +1,5 @@
 -- What is served first: a full barrier's calls, or a client's open call.
-use Rattle.std.proofs.Common.{◌≡◌, ℕ, ◌+◌, ◌*◌, ◌≤◌, ◌==◌, Bool, true, false}
+use Rattle.std.proofs.Common.{◌≡◌, ℕ, suc, ◌+◌, ◌*◌, ◌≤◌, ◌==◌, Bool, true, false}
 use Rattle.std.proofs.Common.{cond, filter, ◌&&◌, List, [], ◌∷◌, inl}
 use Rattle.std.proofs.Common.{Option, Some, None, option_map, length, refl, sym, ap}
 use Rattle.std.proofs.Common.{◌∙◌, subst, arith}
@@ -16,7 +16,7 @@ use Rattle.pt_model.specs.Histories.{History, ◌▷◌}
 use Rattle.pt_model.specs.Objects.{is_class, kind_of}
 use Rattle.pt_model.specs.declared.waiting_call.WaitingCall.{WaitingCall}
 use Rattle.pt_model.specs.WaitingCall.{is_arrival}
-use Rattle.pt_model.specs.Answers.{at_barrier, open_calls}
+use Rattle.pt_model.specs.Answers.{at_barrier, open_calls, told_by_trip}
 use Rattle.pt_model.specs.Moves.{at_object, precedes, waiting_at}
 use Rattle.pt_model.specs.Grants.{grant_outcome}
 use Rattle.pt_model.specs.Forced.{is_served, service}
@@ -54,7 +54,19 @@ trip-uses h f w b n arrival at e =
     subst (λ x. need (h ▷ x) + 3 * n ≡ need h) (serves-trip h w b arrival at)
     (uses-trip h w f n arrival (e ∙ ap (λ o. length (at_barrier o (open_calls h))) (sym at)))
 
+-- a Trip answers each call at its barrier
+trip-told : (ws : List WaitingCall) → length (told_by_trip ws) ≡ length ws
+trip-told [] = refl
+trip-told (w ∷ ws) = ap suc (trip-told ws)
+
 module _ {A : Type 0} (old new : State A) where
+  -- so there are as many answers more
+  pub trip-gone : (b before after : ℕ) → Adds old (TripEntry b) new
+      → before ≡ length old.answers.items → after ≡ length new.answers.items
+      → after ≡ before + length (at_barrier b (open_calls (past old)))
+  trip-gone b before after a e k =
+      omega (arith, a.told, e, k, trip-told (at_barrier b (open_calls (past old))))
+
   -- the queues after a full barrier tripped
   pub trip-queued : (w : WaitingCall) (b : ℕ) (queue queue' : ℕ → List Waiter)
       (admitted admitted' made made' : ℕ → Bool) → AreTables old → In w (open_calls (past old))

@@ -49,10 +49,11 @@ impl<Q: WaitList, A: Allocator + Copy> Body<Q, A> {
         requires ready { IsReadyFor self.old (entry.Trip b) }
         ensures { Adds self.old (entry.Trip b) self.new }
     {
-        let used = 3 * self.arrivals(b) as u64;
+        let before = self.state.answers.len();
         self.state.push_trip(b, &mut self.queues);
+        let gone = self.state.answers.len() - before;
         self.touched = None;
-        self.need -= used;
+        self.need -= 3 * gone as u64;
     }
 
     /// How many calls wait at the barrier.  [XSH pthread_barrier_wait]

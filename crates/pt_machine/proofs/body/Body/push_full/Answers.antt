@@ -1,8 +1,6 @@
-use Rattle.std.proofs.Common.{◌≡◌, Some, option_map, subst, arith}
-use Rattle.pt_types.specs.Operations.{class_of}
-use Rattle.pt_types.specs.declared.operations.ObjectClass.TheVariants.{Barrier as BarrierClass}
+use Rattle.std.proofs.Common.{◌≡◌, ◌-◌, length, subst, arith}
 use Rattle.pt_model.specs.declared.entry.Entry.TheVariants.{Trip}
-use Rattle.pt_model.specs.Objects.{kind_of}
+use Rattle.pt_model.specs.Answers.{at_barrier, open_calls}
 use Rattle.pt_model.proofs.Opens.{stands_at_barrier}
 use Rattle.pt_records.specs.Arrivals.{AreArrivals}
 use Rattle.pt_model.specs.Room.{need}
@@ -13,26 +11,42 @@ use Rattle.pt_machine.specs.Reserved.{IsReserved}
 use Rattle.pt_machine.specs.Timed.{AreTimed}
 use Rattle.pt_machine.proofs.BarrierArrivals.{arrivals-queued}
 use Rattle.pt_machine.proofs.NeedSteps.{reserved-forced}
-use Rattle.pt_machine.proofs.NeedUses.{arrival-barrier}
 use Rattle.pt_machine.proofs.QueueCounts.{open-most}
-use Rattle.pt_machine.proofs.ServiceLemmas.{trip-queued, trip-touched, trip-uses}
+use Rattle.pt_machine.proofs.ServiceLemmas.{trip-gone, trip-queued, trip-touched, trip-uses}
 use Rattle.pt_machine.proofs.TimedStates.{timed-tripped}
 use Rattle.pt_machine.proofs.body.Body.push_full.Goals as goal
 
-pub arrivals-requires-clause-barrier : goal.arrivals-requires-clause-barrier
-arrivals-requires-clause-barrier g c =
-    let h = past c.args.self.now in
-    let w = c.requires.waits in
-    subst (λ o. option_map class_of (kind_of h o) ≡ Some BarrierClass) w.1.1.1
-    (arrival-barrier h w.0 c.requires.read.follows w.1.0 w.1.1.0)
-
-pub overflow_mul-used : goal.overflow_mul-used
-overflow_mul-used g c =
+pub overflow_sub-gone : goal.overflow_sub-gone
+overflow_sub-gone g c =
     let s = c.args.self.now in
+    let adds : Adds s (Trip c.args.b) c.push_trip.new.self =
+    rw (← c.self.view_is) c.push_trip.ensures.adds in
+    let before : c.len-before.result ≡ length s.answers.items =
+    rw (← c.self.view_is) c.len-before.ensures in
     omega (
       arith,
+      trip-gone s c.push_trip.new.self c.args.b c.len-before.result c.len.result adds before
+          c.len.ensures,
+    )
+
+pub overflow_mul-self : goal.overflow_mul-self
+overflow_mul-self g c =
+    let s = c.args.self.now in
+    let adds : Adds s (Trip c.args.b) c.push_trip.new.self =
+    rw (← c.self.view_is) c.push_trip.ensures.adds in
+    let before : c.len-before.result ≡ length s.answers.items =
+    rw (← c.self.view_is) c.len-before.ensures in
+    let gone : c.len.result - c.len-before.result ≡ length (at_barrier c.args.b (open_calls (past s))) =
+    omega (
+      arith,
+      trip-gone s c.push_trip.new.self c.args.b c.len-before.result c.len.result adds before
+          c.len.ensures,
+    ) in
+    omega (
+      arith,
+      gone,
       open-most (past s) s.clients c.requires.read.follows c.requires.read.callers
-          (stands_at_barrier c.args.b) c.arrivals.result c.arrivals.ensures,
+          (stands_at_barrier c.args.b) (c.len.result - c.len-before.result) gone,
     )
 
 pub push_trip-requires-clause-arrived : goal.push_trip-requires-clause-arrived
@@ -52,11 +66,20 @@ overflow_sub-self g c =
     let h = past c.args.self.now in
     let w = c.requires.waits in
     let needs : c.self.inside.need ≡ need h = rw (← c.self.view_is) c.self.invariant.3.needs in
+    let adds : Adds c.args.self.now (Trip c.args.b) c.push_trip.new.self =
+    rw (← c.self.view_is) c.push_trip.ensures.adds in
+    let before : c.len-before.result ≡ length c.args.self.now.answers.items =
+    rw (← c.self.view_is) c.len-before.ensures in
+    let gone : c.len.result - c.len-before.result ≡ length (at_barrier c.args.b (open_calls h)) =
+    omega (
+      arith,
+      trip-gone c.args.self.now c.push_trip.new.self c.args.b c.len-before.result c.len.result
+          adds before c.len.ensures,
+    ) in
     omega (
       arith,
       needs,
-      trip-uses h c.requires.read.follows w.0 c.args.b c.arrivals.result w.1.1.0 w.1.1.1
-          c.arrivals.ensures,
+      trip-uses h c.requires.read.follows w.0 c.args.b (c.len.result - c.len-before.result) w.1.1.0 w.1.1.1 gone,
     )
 
 pub invariant_of-self : goal.invariant_of-self
@@ -71,6 +94,13 @@ invariant_of-self g c =
     let next = g.Q.WaitList.seen c.push_trip.new.queues in
     let emptied = c.push_trip.ensures.emptied in
     let adds : Adds s (Trip b) new = rw (← c.self.view_is) c.push_trip.ensures.adds in
+    let before : c.len-before.result ≡ length s.answers.items =
+    rw (← c.self.view_is) c.len-before.ensures in
+    let gone : c.len.result - c.len-before.result ≡ length (at_barrier b (open_calls h)) =
+    omega (
+      arith,
+      trip-gone s new b c.len-before.result c.len.result adds before c.len.ensures,
+    ) in
     let timed : AreTimed h c.self.inside.timers = rw (← c.self.view_is) c.self.invariant.1 in
     let touched : IsTouched h c.self.inside.touched c.self.inside.entering =
     rw (← c.self.view_is) c.self.invariant.2 in
@@ -81,5 +111,5 @@ invariant_of-self g c =
       timed-tripped s new c.self.inside.timers c.self.inside.timers read timed b adds,
       trip-touched s new c.self.inside.touched c.self.inside.entering b adds touched,
       reserved-forced s new (Trip b) adds c.self.inside.need _ reserved
-          (trip-uses h read.follows w.0 b c.arrivals.result w.1.1.0 w.1.1.1 c.arrivals.ensures),
+          (trip-uses h read.follows w.0 b (c.len.result - c.len-before.result) w.1.1.0 w.1.1.1 gone),
     )
