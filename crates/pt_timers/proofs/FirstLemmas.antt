@@ -3,19 +3,19 @@ use Rattle.std.proofs.Common.{rules, ◌≡◌, ℕ, ◌<◌, ◌≤◌, Bool, t
 use Rattle.std.proofs.Common.{Some, None, length, refl, sym, ap, ◌∙◌, arith}
 use Rattle.std.proofs.lemmas.Bool.{false≢true}
 use Rattle.std.proofs.lemmas.Bool.Decides.{nat_tests}
-use Rattle.std.specs.Ordering.{is_gt}
+use Rattle.std.specs.Ordering.{is_lt}
 use Rattle.std.specs.List.{list_any}
 use Rattle.std.specs.BTreeMap.{is_at}
-use Rattle.std.specs.BTreeSet.{BTreeSet, btree_set_len, IsLowerBound}
+use Rattle.std.specs.BTreeSet.{BTreeSet, btree_set_len, IsUpperBound}
 use Rattle.pt_types.specs.declared.time.Clock.{Clock}
 use Rattle.pt_types.specs.Times.{Timespec, deadline_nanos, is_bad_deadline, pair_before}
 use Rattle.pt_timers.specs.declared.key.TimerKey.{TimerKey}
 use Rattle.pt_timers.specs.Deadlines.{deadline_at, pair_of, key_cmp, key_of, is_in, most_nanos}
 use Rattle.pt_timers.specs.Deadlines.{AreTimers}
-use Rattle.pt_timers.specs.Deadlines.{IsFirstDue, IsLeast}
+use Rattle.pt_timers.specs.Deadlines.{IsFirst, IsFirstDue, IsLeast}
 
--- what isn't above a key isn't before it
-not-before : (a b : TimerKey) → is_gt (key_cmp a b) ≡ false
+-- what isn't below a key isn't before it
+not-before : (a b : TimerKey) → is_lt (key_cmp a b) ≡ false
     → pair_before (pair_of b) (pair_of a) ≡ false
 not-before a b h = search rules
 
@@ -28,6 +28,15 @@ none-in : (ks : List TimerKey) → (0 < length ks → false ≡ true)
 none-in [] none q = refl
 none-in (k ∷ ks) none q = absurd (false≢true (none (omega arith)))
 
+-- the last of the keys of an order is due first
+pub last-is-first : (order : BTreeSet TimerKey) (key : TimerKey) → is_in order key ≡ true
+    → IsUpperBound key_cmp order key → IsFirst order (Some key)
+last-is-first order key there last = (there, λ q h. not-before key q (last q h))
+
+pub none-is-first : (order : BTreeSet TimerKey) → (0 < btree_set_len order → false ≡ true)
+    → IsFirst order None
+none-is-first order none q = none-in order.keys none q
+
 module _ (places w : List (ℕ × (Clock × ℕ))) (view : places ≡ w)
     (is_due : Clock → TimerKey → Bool) (kept : AreTimers places is_due) (k : Clock)
     (order : BTreeSet TimerKey) (own : (q : TimerKey) → is_in order q ≡ is_due k q)
@@ -39,12 +48,11 @@ module _ (places w : List (ℕ × (Clock × ℕ))) (view : places ≡ w)
         own (key_of m q)
         ∙ kept.ordered q k m (ap (λ ts. deadline_at ts q) view ∙ e)
 
-    module _ (none : 0 < btree_set_len order → false ≡ true) where
+    module _ (none : (q : TimerKey) → is_in order q ≡ false) where
       -- where the order is empty, nothing is set
       not-set : (q m : ℕ) → deadline_at w q ≡ Some (k, m) → ⊥
       not-set q m e =
-          let key : TimerKey = key_of m q in
-          false≢true (sym (none-in order.keys none key) ∙ listed q m e)
+          false≢true (sym (none (key_of m q)) ∙ listed q m e)
 
       pub no-first : (now : Option ℕ) → IsFirstDue w k now None
       no-first now q m e = absurd (not-set q m e)
@@ -53,7 +61,8 @@ module _ (places w : List (ℕ × (Clock × ℕ))) (view : places ≡ w)
       no-least q m e = not-set q m e
 
     module _ (key : TimerKey) (there : is_in order key ≡ true)
-        (least : IsLowerBound key_cmp order key) where
+        (least : (q : TimerKey) → is_in order q ≡ true
+        → pair_before (pair_of q) (pair_of key) ≡ false) where
       -- the first is set, and no other is before it
       here : deadline_at w key.place ≡ Some (k, key.nanos)
       here =
@@ -66,8 +75,7 @@ module _ (places w : List (ℕ × (Clock × ℕ))) (view : places ≡ w)
       not-sooner : (q m : ℕ) → deadline_at w q ≡ Some (k, m)
           → pair_before (m, q) (pair_of key) ≡ false
       not-sooner q m e =
-          not-before key (key_of m q)
-          (least (key_of m q) (listed q m e))
+          least (key_of m q) (listed q m e)
 
       pub first-due : (now : ℕ) → key.nanos ≤ now → IsFirstDue w k (Some now) (Some key)
       first-due now le = (here, grind (arith, nat_tests, le), not-sooner)

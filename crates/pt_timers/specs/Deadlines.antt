@@ -75,13 +75,26 @@ key_of n p = record { nanos = n; place = p; client = 0 }
 abbrev pub same_key : TimerKey → TimerKey → Bool
 same_key a b = (a.nanos == b.nanos) && (a.place == b.place)
 
--- the order of the keys: by nanoseconds, then by place
+-- whether what is found has this key
+abbrev pub is_found : Option TimerKey → TimerKey → Bool
+is_found None key = false
+is_found (Some f) key = same_key f key
+
+-- the order of the keys: by nanoseconds, then by place, and the later is the less
 abbrev pub key_cmp : TimerKey → TimerKey → Ordering
-key_cmp a b = ordering_then (nat_cmp a.nanos b.nanos) (nat_cmp a.place b.place)
+key_cmp a b = ordering_then (nat_cmp b.nanos a.nanos) (nat_cmp b.place a.place)
 
 -- whether a deadline has this key
 abbrev pub is_in : BTreeSet TimerKey → TimerKey → Bool
 is_in order key = contains key_cmp order key
+
+-- a key that is in an order, and none of the order is due before it; or none if none is in it
+abbrev pub IsFirst : BTreeSet TimerKey → Option TimerKey → Type 0
+IsFirst order found =
+    MatchOption found
+    ((q : TimerKey) → is_in order q ≡ false)
+    (λ k. (is_in order k ≡ true)
+    × ((q : TimerKey) → is_in order q ≡ true → pair_before (pair_of q) (pair_of k) ≡ false))
 
 -- the nanoseconds of a deadline that is a time are below these  [profile]
 abbrev pub most_nanos : ℕ

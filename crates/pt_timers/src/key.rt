@@ -1,12 +1,17 @@
 ghost use Rattle.std.specs.Prelude.{◌≡◌};
+ghost use Rattle.std.proofs.Common.{rules};
+ghost use Rattle.std.specs.Cmp.{partial_order_from_own_ties};
+ghost use Rattle.std.specs.Cmp.Rules.{comparing};
 ghost use Rattle.pt_timers.specs.Deadlines.{sooner_of};
+ghost use Rattle.std.specs.Ordering.{nat_cmp, on, flip_args, then_cmp, as_partial_cmp};
 
 use pt_types::ClientId;
+use std::cmp::Ordering;
 
 /// What says which deadline is due first: its nanoseconds, then the place of its call. The client
 /// of the call comes along.
 #[derive(Clone, Copy)]
-#[derive_where(PartialEq, Eq, PartialOrd, Ord)]
+#[derive_where(PartialEq, Eq)]
 pub(crate) struct TimerKey {
     pub(crate) nanos: u64,
     pub(crate) place: u64,
@@ -14,12 +19,47 @@ pub(crate) struct TimerKey {
     pub(crate) client: ClientId,
 }
 
+// The later is the less, so that the one that is due first is the last of its order.
+impl Ord for TimerKey {
+    ghost cmp = { then_cmp (flip_args (on (λ k. k.nanos) nat_cmp))
+        (flip_args (on (λ k. k.place) nat_cmp)) };
+
+    ghost total = { Prim.search (comparing, rules) };
+
+    ghost matches_partial_cmp = { Prim.search (comparing, rules) };
+
+    ghost matches_eq = { Prim.search (comparing, rules) };
+
+    #[inline(always)]
+    fn cmp(&self, other: &TimerKey) -> Ordering {
+        if self.nanos < other.nanos {
+            Ordering::Greater
+        } else if other.nanos < self.nanos {
+            Ordering::Less
+        } else {
+            other.place.cmp(&self.place)
+        }
+    }
+}
+
+impl PartialOrd for TimerKey {
+    ghost partial_cmp = { as_partial_cmp (then_cmp (flip_args (on (λ k. k.nanos) nat_cmp))
+        (flip_args (on (λ k. k.place) nat_cmp))) };
+
+    ghost laws = { partial_order_from_own_ties (Prim.search (comparing, rules))
+        (Prim.search (comparing, rules)) };
+
+    fn partial_cmp(&self, other: &TimerKey) -> Option<Ordering> {
+        Some(self.cmp(other))
+    }
+}
+
 /// The sooner of the two.
 pub(crate) fn sooner(best: Option<TimerKey>, key: TimerKey) -> TimerKey
     ensures { result ≡ sooner_of best key }
 {
     match best {
-        Some(other) => other.min(key),
+        Some(other) => key.max(other),
         None => key,
     }
 }

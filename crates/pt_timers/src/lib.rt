@@ -5,6 +5,7 @@
 #![tactic(auto)]
 
 mod key;
+mod order;
 mod orders;
 mod timers;
 

@@ -4,15 +4,15 @@ ghost use Rattle.pt_timers.specs.declared.key.TimerKey.{TimerKey};
 ghost use Rattle.pt_timers.specs.Deadlines.{is_in, same_key};
 
 use crate::key::TimerKey;
+use crate::order::Order;
 use pt_types::{Clock, Refusal};
 use std::alloc::Allocator;
-use std::collections::BTreeSet;
 
 /// The deadlines of each clock, in the order in which they are due.
 #[derive(Drop)]
 pub(crate) struct Orders<A: Allocator + Copy> {
-    real: BTreeSet<TimerKey, A>,
-    mono: BTreeSet<TimerKey, A>,
+    real: Order<A>,
+    mono: Order<A>,
 }
 
 impl<A: Allocator + Copy> Orders<A> {
@@ -24,13 +24,13 @@ impl<A: Allocator + Copy> Orders<A> {
         ensures { (k : Clock) (q : TimerKey) → is_due_at result k q ≡ false }
     {
         Orders {
-            real: BTreeSet::new(alloc),
-            mono: BTreeSet::new(alloc),
+            real: Order::new(alloc),
+            mono: Order::new(alloc),
         }
     }
 
     /// The deadlines of a clock.
-    pub(crate) fn of(&self, clock: Clock) -> &BTreeSet<TimerKey, A>
+    pub(crate) fn of(&self, clock: Clock) -> &Order<A>
         ensures { result.now ≡ order_of self.now clock }
     {
         match clock {
@@ -49,8 +49,8 @@ impl<A: Allocator + Copy> Orders<A> {
         ensures refusal { IfErr result (λ refusal. refusal ≡ Refusal.Enomem) }
     {
         match clock {
-            Clock::Real => insert(&mut self.real, key),
-            Clock::Mono => insert(&mut self.mono, key),
+            Clock::Real => self.real.insert(key),
+            Clock::Mono => self.mono.insert(key),
         }
     }
 
@@ -61,29 +61,8 @@ impl<A: Allocator + Copy> Orders<A> {
             ≡ (not (same_clock clock k && same_key key q) && is_due_at self.old k q) }
     {
         match clock {
-            Clock::Real => remove(&mut self.real, key),
-            Clock::Mono => remove(&mut self.mono, key),
+            Clock::Real => self.real.remove(key),
+            Clock::Mono => self.mono.remove(key),
         }
     }
-}
-
-fn insert<A: Allocator + Copy>(
-    order: &mut BTreeSet<TimerKey, A>,
-    key: TimerKey,
-) -> Result<(), Refusal>
-    ensures ok { OnOk result ((q : TimerKey)
-        → is_in order.new q ≡ (same_key key q || is_in order.old q)) }
-    ensures err { OnErr result (order.new.keys ≡ order.old.keys) }
-    ensures refusal { IfErr result (λ refusal. refusal ≡ Refusal.Enomem) }
-{
-    match order.insert(key) {
-        Ok(_) => Ok(()),
-        Err(_) => Err(Refusal::Enomem),
-    }
-}
-
-fn remove<A: Allocator + Copy>(order: &mut BTreeSet<TimerKey, A>, key: TimerKey)
-    ensures { (q : TimerKey) → is_in order.new q ≡ (not (same_key key q) && is_in order.old q) }
-{
-    order.remove(&key);
 }

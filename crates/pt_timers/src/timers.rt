@@ -116,7 +116,7 @@ impl<A: Allocator + Copy> Timers<A> {
     {
         let key = self.orders.of(clock).first()?;
         if key.nanos <= now?.nanos() {
-            Some(*key)
+            Some(key)
         } else {
             None
         }

@@ -12,7 +12,7 @@ returns-in_err-key g c =
     (sym c.from_residual.ensures)
     (no-first (listed t.orders) c.args.self.now c.self.view_is (is_due_at t.orders) c.self.invariant
     c.args.clock c.of.result.now (λ q. ap (λ order. is_in order q) c.of.ensures)
-    c.in_err-key.ensures.variant.1 c.args.now)
+    c.in_err-key.ensures c.args.now)
 
 pub returns-then-nanos : goal.returns-then-nanos
 returns-then-nanos g c =
@@ -21,7 +21,7 @@ returns-then-nanos g c =
     rw c.in_ok-now.was
     (first-due (listed t.orders) c.args.self.now c.self.view_is (is_due_at t.orders)
     c.self.invariant c.args.clock c.of.result.now (λ q. ap (λ order. is_in order q) c.of.ensures)
-    c.in_ok-key.key.now first.member first.least c.in_ok-now.field-0
+    c.in_ok-key.key first.0 first.1 c.in_ok-now.field-0
     (omega (arith, c.nanos.ensures, c.if-nanos.true)))
 
 pub returns-else-nanos : goal.returns-else-nanos
@@ -31,5 +31,5 @@ returns-else-nanos g c =
     rw c.in_ok-now.was
     (not-due (listed t.orders) c.args.self.now c.self.view_is (is_due_at t.orders) c.self.invariant
     c.args.clock c.of.result.now (λ q. ap (λ order. is_in order q) c.of.ensures)
-    c.in_ok-key.key.now first.member first.least c.in_ok-now.field-0
+    c.in_ok-key.key first.0 first.1 c.in_ok-now.field-0
     (omega (arith, c.nanos.ensures, c.if-nanos.false)))

@@ -12,7 +12,7 @@ returns-in_err-key g c =
     (sym c.from_residual.ensures)
     (no-least (listed t.orders) c.args.self.now c.self.view_is (is_due_at t.orders)
     c.self.invariant c.args.clock c.of.result.now (λ q. ap (λ order. is_in order q) c.of.ensures)
-    c.in_err-key.ensures.variant.1)
+    c.in_err-key.ensures)
 
 pub deadline_of-requires : goal.deadline_of-requires
 deadline_of-requires g c =
@@ -20,7 +20,7 @@ deadline_of-requires g c =
     let first = c.in_ok-key.ensures in
     first-nanos (listed t.orders) c.args.self.now c.self.view_is (is_due_at t.orders)
     c.self.invariant c.args.clock c.of.result.now (λ q. ap (λ order. is_in order q) c.of.ensures)
-    c.in_ok-key.key.now first.member first.least
+    c.in_ok-key.key first.0 first.1
 
 pub returns : goal.returns
 returns g c =
@@ -28,5 +28,5 @@ returns g c =
     let first = c.in_ok-key.ensures in
     first-is-least (listed t.orders) c.args.self.now c.self.view_is (is_due_at t.orders)
     c.self.invariant c.args.clock c.of.result.now (λ q. ap (λ order. is_in order q) c.of.ensures)
-    c.in_ok-key.key.now first.member first.least c.deadline_of.result c.deadline_of.ensures.nanos
+    c.in_ok-key.key first.0 first.1 c.deadline_of.result c.deadline_of.ensures.nanos
     c.deadline_of.ensures.time
