@@ -175,6 +175,7 @@ fn limit(deadline: Deadline, clock: Option<Clock>) -> TimeLimit
 }
 
 /// The lock, the name and the limit of a timed call for a lock; None for another call.
+#[inline(always)]
 pub(crate) fn timed(call: &Call) -> Option<(LockKind, &Name, TimeLimit)>
     ensures { IfSome result (λ p. with_limit p.0 p.1.now p.2.deadline p.2.clock ≡ call.now) }
 {

@@ -68,10 +68,31 @@ impl<A: Allocator + Copy> History<A> {
         true
     }
 
+    // Appends the entry of a call for a lock with a deadline, if its numbers fit, and reports
+    // whether it does.
+    #[inline(always)]
+    fn push_timed(&mut self, client: ClientId, call: &Call, outcome: Option<Outcome>) -> bool
+        requires { 0 < self.old.room }
+        ensures { self.new
+            ≡ if result then pushed (CallEntry client call.now outcome) self.old else self.old }
+    {
+        let stored = self
+            .records
+            .store_short_timed(self.base, client, call, outcome);
+        let Some(compact) = stored else {
+            return false;
+        };
+        self.outer += 1;
+        self.entries.push_reserved(compact);
+        self.room -= 1;
+        self.memory -= 1;
+        true
+    }
+
     // Appends the entry of any call. It is seldom needed, so it is not inlined.
     #[cold]
     #[inline(never)]
-    fn push_any_call(&mut self, client: ClientId, call: &Call, outcome: Option<Outcome>)
+    fn push_other_call(&mut self, client: ClientId, call: &Call, outcome: Option<Outcome>)
         requires { 0 < self.old.room }
         ensures { self.new ≡ pushed (CallEntry client call.now outcome) self.old }
     {
@@ -82,6 +103,17 @@ impl<A: Allocator + Copy> History<A> {
         self.entries.push_reserved(compact);
         self.room -= 1;
         self.memory -= 1;
+    }
+
+    // Appends the entry of any call. A call for a lock with a deadline takes the fewest steps.
+    #[inline(never)]
+    fn push_any_call(&mut self, client: ClientId, call: &Call, outcome: Option<Outcome>)
+        requires { 0 < self.old.room }
+        ensures { self.new ≡ pushed (CallEntry client call.now outcome) self.old }
+    {
+        if !self.push_timed(client, call, outcome) {
+            self.push_other_call(client, call, outcome);
+        }
     }
 
     /// Appends the entry of a call, in room that was made for it. It takes no memory. A call that

@@ -53,6 +53,7 @@ impl<A: Allocator + Copy> Records<A> {
     }
 
     // A call for a lock with a deadline.
+    #[inline(always)]
     fn store_timed(
         &mut self,
         base: u64,
@@ -143,6 +144,23 @@ impl<A: Allocator + Copy> Records<A> {
     {
         let client = near(base, client.0)?;
         self.store_call(base, client, call, answer_of(outcome))
+    }
+
+    /// Stores what the entry of a call for a lock with a deadline refers to, if its numbers fit,
+    /// and returns its stored form. It takes no memory.
+    #[inline(always)]
+    pub(crate) fn store_short_timed(
+        &mut self,
+        base: u64,
+        client: ClientId,
+        call: &Call,
+        outcome: Option<Outcome>,
+    ) -> Option<Compact>
+        requires { HasRoom self.old 1 }
+        ensures { ShowsIfSome base (CallEntry client call.now outcome) self.old self.new result }
+    {
+        let client = near(base, client.0)?;
+        self.store_timed(base, client, call, answer_of(outcome))
     }
 
     /// The stored form of a call of one name, if its hint finds that name.

@@ -5,7 +5,7 @@ use Rattle.pt_model.specs.StartRows.{rows_of}
 use Rattle.pt_history.proofs.Counts.{one_most, outer-most}
 use Rattle.pt_history.proofs.Kept.{length-entries, entries-more, seen-more, counted-more}
 use Rattle.pt_history.proofs.Kept.{recorded-more}
-use Rattle.pt_history.proofs.stored.History.push_any_call.Goals as goal
+use Rattle.pt_history.proofs.stored.History.push_other_call.Goals as goal
 
 pub overflow_add-self : goal.overflow_add-self
 overflow_add-self g c =

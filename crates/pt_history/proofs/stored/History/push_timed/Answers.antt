@@ -1,0 +1,55 @@
+use Rattle.std.proofs.Common.{◌≡◌, ◌<◌, ap, refl, arith}
+use Rattle.pt_model.specs.declared.entry.Entry.TheVariants.{Call as CallEntry}
+use Rattle.pt_history.specs.Stored.{Stored, entries_of}
+use Rattle.pt_model.specs.StartRows.{rows_of}
+use Rattle.pt_history.proofs.Counts.{one_most, outer-most}
+use Rattle.pt_history.proofs.Kept.{length-entries, entries-more, seen-more, counted-more}
+use Rattle.pt_history.proofs.Kept.{recorded-more}
+use Rattle.pt_history.proofs.stored.History.push_timed.Goals as goal
+
+pub overflow_add-self : goal.overflow_add-self
+overflow_add-self g c =
+    let i = c.self.inside in
+    let e = CallEntry c.args.client c.args.call.now c.args.outcome in
+    let count = c.self.invariant.1 in
+    let least = outer-most (rows_of i.start) (entries_of i.start.at i.records i.entries.items)
+    count.before in
+    let many = length-entries i.start.at i.records i.entries.items in
+    omega (arith, one_most, i.entries.ok.0, c.self.invariant.0.fits, c.self.invariant.0.places)
+
+pub invariant_of-self-2 : goal.invariant_of-self-2
+invariant_of-self-2 g c =
+    let i = c.self.inside in
+    let e = CallEntry c.args.client c.args.call.now c.args.outcome in
+    let room : i.room ≡ c.args.self.now.room = ap (λ (s : Stored). s.room) c.self.view_is in
+    let some : 0 < i.memory = omega (arith, room, c.requires, c.self.invariant.0.enough) in
+    let more = c.push_reserved.ensures.items in
+    let all = entries-more i.start.at _ i.records c.store_short_timed-stored.new.self
+    i.entries.items c.push_reserved.new.self.items _ e i.memory c.self.invariant.3 more
+    c.in-Some.ensures c.self.invariant.2 in (
+      record {
+        fits = omega (arith, c.self.invariant.0.fits, c.push_reserved.ensures.len);
+        enough = omega (arith, c.self.invariant.0.enough);
+        held = omega (arith, some, c.self.invariant.0.held, c.push_reserved.ensures.len);
+        places = c.self.invariant.0.places;
+      },
+      counted-more (rows_of i.start) i.start.at i.records c.store_short_timed-stored.new.self
+          i.entries.items c.push_reserved.new.self.items e i.outer _ all refl
+          c.self.invariant.1,
+      recorded-more _ i.records c.store_short_timed-stored.new.self i.entries.items
+          c.push_reserved.new.self.items _ e i.memory more some
+          c.in-Some.ensures c.self.invariant.2,
+      c.self.invariant.3,
+    )
+
+pub returns : goal.returns
+returns g c =
+    let i = c.self.inside in
+    let e = CallEntry c.args.client c.args.call.now c.args.outcome in
+    let all = entries-more i.start.at _ i.records c.store_short_timed-stored.new.self
+    i.entries.items c.push_reserved.new.self.items _ e i.memory c.self.invariant.3
+    c.push_reserved.ensures.items
+    c.in-Some.ensures c.self.invariant.2 in
+    seen-more c.args.self.now (rows_of i.start) (entries_of i.start.at i.records i.entries.items)
+    (entries_of i.start.at c.store_short_timed-stored.new.self c.push_reserved.new.self.items)
+    i.limit i.room e all c.self.view_is
