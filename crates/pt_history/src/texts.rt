@@ -6,7 +6,7 @@ ghost use Rattle.std.specs.Prelude.{vec_len, vec_capacity};
 ghost use Rattle.pt_history.specs.Compact.{text_at};
 ghost use Rattle.pt_history.specs.Records.{HasText, HasTexts, LiesAt, LieAt};
 
-use pt_hints::{Hints, are_same, key_of};
+use pt_hints::{Hints, are_same};
 use pt_types::Name;
 use std::alloc::Allocator;
 
@@ -46,7 +46,7 @@ pub(crate) fn lies_at(texts: &[u8], from: usize, name: &Name) -> bool
 // The key with which a name is looked for.
 #[inline(always)]
 fn key_for(name: &Name) -> u64 {
-    key_of(name.as_bytes())
+    name.key()
 }
 
 // The index at which the name with a key is looked for.

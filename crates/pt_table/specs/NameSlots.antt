@@ -4,7 +4,7 @@ use Rattle.std.specs.Prelude.{None, if◌then◌else◌, slice_index_or}
 use Rattle.std.specs.Option.{option_map}
 use Rattle.std.specs.Map.{lookup}
 use Rattle.pt_types.specs.Names.{same_name}
-use Rattle.pt_hints.specs.Keys.{key}
+use Rattle.pt_types.specs.Keys.{key}
 use Rattle.pt_table.specs.declared.objects.ObjectRow.{ObjectRow}
 use Rattle.pt_table.specs.Slots.{row_in_slot}
 

@@ -6,7 +6,6 @@ ghost use Rattle.pt_table.specs.NameSlots.{place_of, is_shared, CanFile, IsFiled
 ghost use Rattle.pt_table.specs.NameSlots.{IsForgotten};
 
 use indexmap::IndexMap;
-use pt_hints::key_of;
 use pt_types::Name;
 use std::alloc::{AllocError, Allocator};
 use std::hash::{BuildHasherDefault, FoldHasher};
@@ -53,7 +52,7 @@ impl<A: Allocator + Copy> Model for Names<A> {
 pub(crate) fn place_of(name: &Name) -> usize
     ensures { result ≡ place_of name.now }
 {
-    key_of(name.as_bytes()) as usize % COUNT
+    name.key() as usize % COUNT
 }
 
 impl<A: Allocator + Copy> Names<A> {

@@ -11,19 +11,19 @@ use lib.Lanes.{mask_l, top}
 
 -- where no lane of a load is set, each of its bytes passes, if each whose lane is not set does
 pub all_pass :
-    (q : ℕ → Bool) (bytes z : List ℕ) → 16 ≤ length bytes
+    (q : ℕ → Bool) (n : ℕ) (bytes z : List ℕ) → n ≤ length bytes → n ≤ 64
     → ((k : ℕ) → Fits w8 (get_or bytes k 0)) → (mask_l (map (top 7) z) % 2 ^ 64 == 0) ≡ true
-    → (f : ℕ → ℕ) → z ≡ map f (take 16 bytes)
+    → (f : ℕ → ℕ) → z ≡ map f (take n bytes)
     → agree_below (λ x. top 7 (f x) || q x) (λ _. true) 256 ≡ true
-    → list_all q (take 16 bytes) ≡ true
-all_pass q bytes z room fits none f lanes all =
+    → list_all q (take n bytes) ≡ true
+all_pass q n bytes z room few fits none f lanes all =
     list_all-from_AllPass q xs (All-from_get_or (λ x. q x ≡ true) xs 0 each)
   where
     xs : List ℕ
-    xs = take 16 bytes
+    xs = take n bytes
 
-    long : length xs ≡ 16
-    long = length-take-le 16 bytes room
+    long : length xs ≡ n
+    long = length-take-le n bytes room
 
     stops : ℕ → Bool
     stops x = top 7 (f x)
@@ -31,7 +31,7 @@ all_pass q bytes z room fits none f lanes all =
     mask : mask_l (map (top 7) z) % 2 ^ 64 ≡ mask_l (map stops xs)
     mask =
         ap (λ l. mask_l l % 2 ^ 64) (ap (map (top 7)) lanes ∙ map-map (top 7) f xs)
-        ∙ mask_l-mod (map stops xs) 64 (omega (arith, length-map xs stops, long))
+        ∙ mask_l-mod (map stops xs) 64 (omega (arith, length-map xs stops, long, few))
 
     clear : (k : ℕ) → k < length xs → stops (get_or xs k 0) ≡ false
     clear k lt =
@@ -40,7 +40,7 @@ all_pass q bytes z room fits none f lanes all =
 
     each : (k : ℕ) → k < length xs → q (get_or xs k 0) ≡ true
     each k lt =
-        let at = get_or-take 16 bytes k 0 (omega (arith, long)) in
+        let at = get_or-take n bytes k 0 (omega (arith, long)) in
         let small = subst (λ x. x < 2 ^ 8) (sym at) (fits k).fits in
         sym (ap (λ b. b || q (get_or xs k 0)) (clear k lt))
         ∙ agree_below_at (λ x. stops x || q x) (λ _. true) 256 (get_or xs k 0) all small

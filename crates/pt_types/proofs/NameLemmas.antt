@@ -1,10 +1,12 @@
 -- NameLemmas: which bytes a name may have, by the table, and names that grow byte by byte
-use Rattle.std.proofs.Common.{◌≡◌, ◌<◌, ◌≤◌, ◌-◌, ◌^◌, ◌&&◌, ◌⊎◌, ◌∙◌, ℕ, zero, suc, Bool}
+use Rattle.std.proofs.Common.{◌≡◌, ◌<◌, ◌≤◌, ◌+◌, ◌-◌, ◌^◌, ◌&&◌, ◌⊎◌, ◌∙◌, ℕ, zero, suc, Bool}
 use Rattle.std.proofs.Common.{true, false, not, List, [], ◌∷◌, ◌++◌, length, take, drop, get_or}
-use Rattle.std.proofs.Common.{append_assoc, ap, refl, sym, subst, arith, inl, inr}
+use Rattle.std.proofs.Common.{ap, refl, sym, subst, arith, inl, inr}
 use Rattle.std.specs.List.{list_all}
 use Rattle.std.proofs.lemmas.Bool.{cases_lt}
-use Rattle.std.proofs.lemmas.List.{take_all}
+use Rattle.std.proofs.lemmas.List.{length-take-le, length-drop}
+use Rattle.std.proofs.lemmas.List.{take-append-le, take-append-drop, take_all}
+use Rattle.std.proofs.lemmas.List.{take-take, take_rest}
 use Rattle.pt_types.specs.Names.{is_name_byte}
 use Rattle.pt_types.specs.declared.name.TheConstants.{MAY_STAND}
 
@@ -51,43 +53,123 @@ right_at (suc n) byte h lt =
 pub may_stand_at : (byte : ℕ) → byte < 2 ^ 8 → get_or MAY_STAND byte false ≡ is_name_byte byte
 may_stand_at byte fits = right_at 256 byte refl fits
 
-stand_one :
-    (text : List ℕ) (byte : ℕ) → list_all is_name_byte text ≡ true → is_name_byte byte ≡ true
-    → list_all is_name_byte (text ++ byte ∷ []) ≡ true
-stand_one [] byte all one = and_true (is_name_byte byte) true one refl
-stand_one (x ∷ text) byte all one =
-    let parts = and_parts (is_name_byte x) (list_all is_name_byte text) all in
-    and_true (is_name_byte x) (list_all is_name_byte (text ++ byte ∷ [])) parts.0
-    (stand_one text byte parts.1 one)
+-- eight bytes, one by one
+pub eight_bytes :
+    (xs : List ℕ) → length xs ≡ 8
+    → get_or xs 0 0 ∷ get_or xs 1 0 ∷ get_or xs 2 0 ∷ get_or xs 3 0 ∷ get_or xs 4 0
+    ∷ get_or xs 5 0 ∷ get_or xs 6 0 ∷ get_or xs 7 0 ∷ [] ≡ xs
+eight_bytes [] e = absurd (omega (arith, e))
+eight_bytes (a ∷ []) e = absurd (omega (arith, e))
+eight_bytes (a ∷ b ∷ []) e = absurd (omega (arith, e))
+eight_bytes (a ∷ b ∷ c ∷ []) e = absurd (omega (arith, e))
+eight_bytes (a ∷ b ∷ c ∷ d ∷ []) e = absurd (omega (arith, e))
+eight_bytes (a ∷ b ∷ c ∷ d ∷ f ∷ []) e = absurd (omega (arith, e))
+eight_bytes (a ∷ b ∷ c ∷ d ∷ f ∷ g ∷ []) e = absurd (omega (arith, e))
+eight_bytes (a ∷ b ∷ c ∷ d ∷ f ∷ g ∷ h ∷ []) e = absurd (omega (arith, e))
+eight_bytes (a ∷ b ∷ c ∷ d ∷ f ∷ g ∷ h ∷ i ∷ []) e = refl
+eight_bytes (a ∷ b ∷ c ∷ d ∷ f ∷ g ∷ h ∷ i ∷ j ∷ xs) e = absurd (omega (arith, e))
 
--- four bytes more
-pub four_more :
-    (bytes text rest t1 t2 t3 t4 : List ℕ) (n : ℕ) → bytes ≡ text ++ rest → 4 ≤ length rest
-    → n ≡ length rest
-    → t1 ≡ text ++ get_or rest 0 0 ∷ [] → t2 ≡ t1 ++ get_or rest 1 0 ∷ []
-    → t3 ≡ t2 ++ get_or rest 2 0 ∷ [] → t4 ≡ t3 ++ get_or rest 3 0 ∷ []
-    → bytes ≡ t4 ++ take (n - 4) (drop 4 rest)
-four_more bytes text [] t1 t2 t3 t4 n parts long len e1 e2 e3 e4 = absurd (omega arith)
-four_more bytes text (a ∷ []) t1 t2 t3 t4 n parts long len e1 e2 e3 e4 = absurd (omega arith)
-four_more bytes text (a ∷ b ∷ []) t1 t2 t3 t4 n parts long len e1 e2 e3 e4 = absurd (omega arith)
-four_more bytes text (a ∷ b ∷ c ∷ []) t1 t2 t3 t4 n parts long len e1 e2 e3 e4 =
-    absurd (omega arith)
-four_more bytes text (a ∷ b ∷ c ∷ d ∷ more) t1 t2 t3 t4 n parts long len e1 e2 e3 e4 =
-    let all : take (n - 4) more ≡ more = take_all (n - 4) more (omega arith) in
-    rw (all, e4, e3, e2, e1, append_assoc, append_assoc, append_assoc, append_assoc) parts
+-- bytes by their first sixteen and a word that begins with the others
+pub longer_front :
+    (bytes word zeros : List ℕ) → 16 ≤ length bytes → length bytes - 16 ≤ length word
+    → take (length bytes - 16) word ≡ drop 16 bytes
+    → take (length bytes) (take 16 bytes ++ (word ++ zeros)) ≡ bytes
+longer_front bytes word zeros long fits rest =
+    let sixteen = length-take-le 16 bytes long in
+    take-append-more (take 16 bytes) (word ++ zeros) (length bytes) (length bytes - 16)
+    (omega (arith, long, sixteen))
+    ∙ ap (λ ys. take 16 bytes ++ ys) (take-append-le (length bytes - 16) word zeros fits ∙ rest)
+    ∙ take-append-drop 16 bytes
+  where
+    take-append-more :
+        (xs ys : List ℕ) (m n : ℕ) → m ≡ length xs + n → take m (xs ++ ys) ≡ xs ++ take n ys
+    take-append-more [] ys m n e = ap (λ k. take k ys) (omega (arith, e))
+    take-append-more (x ∷ xs) ys zero n e = absurd (omega (arith, e))
+    take-append-more (x ∷ xs) ys (suc m) n e =
+        ap (λ zs. x ∷ zs) (take-append-more xs ys m n (omega (arith, e)))
 
--- and they may stand
-pub four_stand :
-    (text t1 t2 t3 t4 : List ℕ) (a b c d : ℕ) → list_all is_name_byte text ≡ true
-    → (((is_name_byte a && is_name_byte b) && is_name_byte c) && is_name_byte d) ≡ true
-    → t1 ≡ text ++ a ∷ [] → t2 ≡ t1 ++ b ∷ [] → t3 ≡ t2 ++ c ∷ [] → t4 ≡ t3 ++ d ∷ []
-    → list_all is_name_byte t4 ≡ true
-four_stand text t1 t2 t3 t4 a b c d all four e1 e2 e3 e4 =
-    let three =
-    and_parts ((is_name_byte a && is_name_byte b) && is_name_byte c) (is_name_byte d) four in
-    let two = and_parts (is_name_byte a && is_name_byte b) (is_name_byte c) three.0 in
-    let one = and_parts (is_name_byte a) (is_name_byte b) two.0 in
-    let s1 = ap (list_all is_name_byte) e1 ∙ stand_one text a all one.0 in
-    let s2 = ap (list_all is_name_byte) e2 ∙ stand_one t1 b s1 one.1 in
-    let s3 = ap (list_all is_name_byte) e3 ∙ stand_one t2 c s2 two.1 in
-    ap (list_all is_name_byte) e4 ∙ stand_one t3 d s3 three.1
+-- whether all of some bytes and some more may stand
+pub stand_both :
+    (xs ys : List ℕ) → list_all is_name_byte xs ≡ true → list_all is_name_byte ys ≡ true
+    → list_all is_name_byte (xs ++ ys) ≡ true
+stand_both [] ys one two = two
+stand_both (x ∷ xs) ys one two =
+    let parts = and_parts (is_name_byte x) (list_all is_name_byte xs) one in
+    and_true (is_name_byte x) (list_all is_name_byte (xs ++ ys)) parts.0
+    (stand_both xs ys parts.1 two)
+
+-- whether all bytes of a word may stand
+pub word_all :
+    (word bytes : List ℕ) → length word ≡ 8
+    → list_all is_name_byte word ≡ list_all is_name_byte bytes
+    → list_all is_name_byte (take 8 word) ≡ true → list_all is_name_byte bytes ≡ true
+word_all word bytes long same all =
+    sym same ∙ (ap (list_all is_name_byte) (sym (take_all 8 word (omega (arith, long)))) ∙ all)
+
+-- a block by its halves
+pub halves :
+    (block one two : List ℕ) (n : ℕ) → length block ≡ 32 → one ≡ take 16 block
+    → two ≡ take 16 (take n (drop 16 block)) → 16 ≤ n → one ++ two ≡ block
+halves block one two n long first second enough =
+    let short : length (drop 16 block) ≤ 16 = omega (arith, length-drop 16 block, long) in
+    ap (λ xs. xs ++ two) first
+    ∙ ap (λ xs. take 16 block ++ xs)
+    (second ∙ (take-take 16 n (drop 16 block) enough ∙ take_all 16 (drop 16 block) short))
+    ∙ take-append-drop 16 block
+
+-- whether all bytes of a name may stand, by its first sixteen and a word that begins with the
+-- others
+pub long_all :
+    (bytes word : List ℕ) → list_all is_name_byte (take 16 bytes) ≡ true → length word ≡ 8
+    → list_all is_name_byte word
+    ≡ list_all is_name_byte (take (length bytes - 16) (drop 16 bytes))
+    → list_all is_name_byte (take 8 word) ≡ true → list_all is_name_byte bytes ≡ true
+long_all bytes word first long same all =
+    ap (list_all is_name_byte) (sym (take-append-drop 16 bytes))
+    ∙ stand_both (take 16 bytes) (drop 16 bytes) first
+    (word_all word (drop 16 bytes) long
+    (same ∙ ap (list_all is_name_byte) (take_rest bytes 16)) all)
+
+-- the bytes of a name, in its block
+pub long_front :
+    (bytes block half pair word zeros : List ℕ) → block ≡ half ++ pair → half ≡ take 16 bytes
+    → pair ≡ word ++ zeros → 16 ≤ length bytes → length word ≡ 8 → length bytes - 16 ≤ 8
+    → take (length (take (length bytes - 16) (drop 16 bytes))) word
+    ≡ take (length bytes - 16) (drop 16 bytes)
+    → take (length bytes) block ≡ bytes
+long_front bytes block half pair word zeros e first second enough long few rest =
+    let count : length (take (length bytes - 16) (drop 16 bytes)) ≡ length bytes - 16 =
+    ap length (take_rest bytes 16) ∙ length-drop 16 bytes in
+    ap (take (length bytes)) (e ∙ (ap (λ xs. xs ++ pair) first
+    ∙ ap (λ xs. take 16 bytes ++ xs) second))
+    ∙ longer_front bytes word zeros enough (omega (arith, long, few))
+    (ap (λ k. take k word) (sym count) ∙ (rest ∙ take_rest bytes 16))
+
+stand_front :
+    (m : ℕ) (xs : List ℕ) → list_all is_name_byte xs ≡ true → list_all is_name_byte (take m xs) ≡ true
+stand_front zero xs all = refl
+stand_front (suc m) [] all = refl
+stand_front (suc m) (x ∷ xs) all =
+    let parts = and_parts (is_name_byte x) (list_all is_name_byte xs) all in
+    and_true (is_name_byte x) (list_all is_name_byte (take m xs)) parts.0
+    (stand_front m xs parts.1)
+
+-- whether all of some bytes may stand, by so many at both ends
+pub both_ends :
+    (bytes : List ℕ) (n k : ℕ) → length bytes ≤ n + n → n ≤ length bytes → n ≤ k
+    → list_all is_name_byte (take n bytes) ≡ true
+    → list_all is_name_byte (take n (take k (drop (length bytes - n) bytes))) ≡ true
+    → list_all is_name_byte bytes ≡ true
+both_ends bytes n k few enough more first last =
+    let at = length bytes - n in
+    let short : at ≤ n = omega (arith, few) in
+    let rest : length (drop at bytes) ≤ n = omega (arith, length-drop at bytes, enough) in
+    let front =
+    ap (list_all is_name_byte) (sym (take-take at n bytes short))
+    ∙ stand_front at (take n bytes) first in
+    let back =
+    ap (list_all is_name_byte) (sym (take-take n k (drop at bytes) more
+    ∙ take_all n (drop at bytes) rest))
+    ∙ last in
+    ap (list_all is_name_byte) (sym (take-append-drop at bytes))
+    ∙ stand_both (take at bytes) (drop at bytes) front back

@@ -7,6 +7,7 @@
 
 mod call;
 pub mod key_order;
+mod keys;
 mod limits;
 mod name;
 mod named_verb;
@@ -18,6 +19,7 @@ mod time;
 pub mod views;
 
 pub use call::{Call, How, MutexKind, ObjectKind};
+pub use keys::key_of;
 pub use limits::{
     MOST_AT_BARRIER, MOST_CLIENTS, MOST_ENTRIES, MOST_IN_LINE, MOST_LOCKS, MOST_OBJECTS,
     MOST_PRIORITY, MOST_READS,

@@ -11,7 +11,8 @@ use Rattle.pt_waitq.specs.Queues.{In, head_of}
 use Rattle.pt_waitq.specs.Waits.{queue_of}
 use Rattle.pt_waitq.specs.ListLemmas.{any-in}
 use Rattle.pt_waitq.specs.WaitingLemmas.{one_entry, stands-entry}
-use Rattle.pt_waitq.specs.Chains.{node_in, before_in, next_in, entry_at, home_of, index_of, nodes_of}
+use Rattle.pt_waitq.specs.Chains.{node_in, before_in, next_in, entry_at, home_of, index_of}
+use Rattle.pt_waitq.specs.Chains.{nodes_of}
 use Rattle.pt_waitq.specs.Chains.{chain_of, first_in, AreChains, IsFirst, Links}
 use Rattle.pt_waitq.proofs.ChainLemmas.{entry-there}
 use Rattle.pt_waitq.proofs.StepLemmas.{place-entry}

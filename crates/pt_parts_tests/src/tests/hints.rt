@@ -1,5 +1,6 @@
 use pt_failing_alloc::{Refusing, refuse_each};
-use pt_hints::{Hints, key_of};
+use pt_hints::Hints;
+use pt_types::key_of;
 use std::alloc::{AllocError, Global};
 use std::test::Fail;
 

@@ -1,4 +1,4 @@
-use Rattle.std.proofs.Common.{ℕ, ltb, cond, bit_or, bit_and, take, refl}
+use Rattle.std.proofs.Common.{ℕ, arith, ltb, cond, bit_or, bit_and, take, refl}
 use Rattle.std.proofs.lemmas.Simd.{zip2_splat, zip2_splat_left, zip2_of_maps}
 use Rattle.std.proofs.lemmas.List.{length-take-le}
 use Rattle.pt_types.specs.Names.{is_name_byte}
@@ -22,4 +22,5 @@ returns c none =
     let stops =
     zip2_of_maps bit_or _ _ xs (zip2_of_maps bit_or _ _ xs outside other)
     (zip2_splat {Y = ℕ} _ xs 16 47 long) in
-    all_pass is_name_byte c.args.text.now _ c.requires c.type_inv.text none _ stops refl
+    all_pass is_name_byte 16 c.args.text.now _ c.requires (omega arith) c.type_inv.text none _
+    stops refl

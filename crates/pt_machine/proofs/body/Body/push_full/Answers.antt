@@ -36,7 +36,8 @@ overflow_mul-self g c =
     rw (← c.self.view_is) c.push_trip.ensures.adds in
     let before : c.len-before.result ≡ length s.answers.items =
     rw (← c.self.view_is) c.len-before.ensures in
-    let gone : c.len.result - c.len-before.result ≡ length (at_barrier c.args.b (open_calls (past s))) =
+    let gone : c.len.result - c.len-before.result
+    ≡ length (at_barrier c.args.b (open_calls (past s))) =
     omega (
       arith,
       trip-gone s c.push_trip.new.self c.args.b c.len-before.result c.len.result adds before
@@ -79,7 +80,8 @@ overflow_sub-self g c =
     omega (
       arith,
       needs,
-      trip-uses h c.requires.read.follows w.0 c.args.b (c.len.result - c.len-before.result) w.1.1.0 w.1.1.1 gone,
+      trip-uses h c.requires.read.follows w.0 c.args.b (c.len.result - c.len-before.result)
+          w.1.1.0 w.1.1.1 gone,
     )
 
 pub invariant_of-self : goal.invariant_of-self
@@ -111,5 +113,6 @@ invariant_of-self g c =
       timed-tripped s new c.self.inside.timers c.self.inside.timers read timed b adds,
       trip-touched s new c.self.inside.touched c.self.inside.entering b adds touched,
       reserved-forced s new (Trip b) adds c.self.inside.need _ reserved
-          (trip-uses h read.follows w.0 b (c.len.result - c.len-before.result) w.1.1.0 w.1.1.1 gone),
+          (trip-uses h read.follows w.0 b (c.len.result - c.len-before.result) w.1.1.0 w.1.1.1
+          gone),
     )

@@ -43,7 +43,8 @@ invariant_of-self g c =
       c.push_granted.ensures.timed,
       touched-forced old c.push_granted.new.state c.self.inside.touched c.self.inside.entering
           (Serve o) c.push_granted.ensures.adds
-          (c.self.invariant.2.touches ∙ still-touched (past old) w c.requires.other) c.self.invariant.2.enters,
+          (c.self.invariant.2.touches ∙ still-touched (past old) w c.requires.other)
+          c.self.invariant.2.enters,
       reserved-forced old c.push_granted.new.state (service (past old) w)
           c.push_granted.ensures.adds c.self.inside.need c.used_by_grant-used.result
           c.self.invariant.3 used,

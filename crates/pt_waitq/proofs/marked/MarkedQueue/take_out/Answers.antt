@@ -15,7 +15,8 @@ lowered-self-inside-requires c =
     (c.self.invariant (λ z. omega (arith, z, c.requires.len))) in
     subst (λ k. IsBound (side_of k new).counts (cond k w r)) c.if-writer.true bound
 
-pub lowered-self-inside-requires-then-self-p-eq0-2 : goal.lowered-self-inside-requires-then-self-p-eq0-2
+pub lowered-self-inside-requires-then-self-p-eq0-2 :
+    goal.lowered-self-inside-requires-then-self-p-eq0-2
 lowered-self-inside-requires-then-self-p-eq0-2 c =
     let p = c.args.p in
     let w = c.self.inside.writer in

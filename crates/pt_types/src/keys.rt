@@ -1,7 +1,7 @@
 //! The keys of names.
 
-ghost use Rattle.std.specs.Prelude.{◌≡◌, ◌<◌, length};
-ghost use Rattle.pt_hints.specs.Keys.{few_digits, four_digits, key};
+ghost use Rattle.std.specs.Prelude.{◌≡◌, ◌≤◌, ◌<◌, ◌^◌, length};
+ghost use Rattle.pt_types.specs.Keys.{few_digits, four_digits, key};
 
 /// How far names that differ in their length alone lie apart, so that as many may end in
 /// consecutive numbers.
@@ -13,7 +13,8 @@ const ZEROS: u32 = 0x3030_3030;
 // Fewer than four bytes, each times the power of ten that a digit in its place stands for.
 #[inline(always)]
 fn as_few_digits(bytes: &[u8]) -> u64
-    ensures { length bytes.now < 4 → result ≡ few_digits bytes.now }
+    ensures digits { length bytes.now < 4 → result ≡ few_digits bytes.now }
+    ensures small { result < 2 ^ 16 }
 {
     match bytes {
         [] => 0,
@@ -27,7 +28,8 @@ fn as_few_digits(bytes: &[u8]) -> u64
 // bytes are summed up at once, and then both sums.
 #[inline(always)]
 fn as_four_digits(bytes: [u8; 4]) -> u64
-    ensures { result ≡ four_digits bytes }
+    ensures digits { result ≡ four_digits bytes }
+    ensures small { result < 2 ^ 16 }
 {
     let digits = u32::from_le_bytes(bytes).wrapping_sub(ZEROS);
     let pairs = (digits.wrapping_mul(10 << 8 | 1) >> 8) & 0x00FF_00FF;
@@ -38,7 +40,8 @@ fn as_four_digits(bytes: [u8; 4]) -> u64
 /// in a few rows of them.
 #[inline(always)]
 pub fn key_of(bytes: &[u8]) -> u64
-    ensures { result ≡ key bytes.now }
+    ensures value { result ≡ key bytes.now }
+    ensures short { length bytes.now ≤ 32 → result < 2 ^ 32 }
 {
     let end = match bytes.last_chunk::<4>() {
         Some(last) => as_four_digits(*last),
