@@ -1,7 +1,7 @@
 ghost use Rattle.std.specs.Prelude.{◌≡◌, ◌&&◌, ◌||◌, not, false, OnOk, OnErr, IfErr};
 ghost use Rattle.pt_types.specs.Operations.{same_clock};
 ghost use Rattle.pt_timers.specs.declared.key.TimerKey.{TimerKey};
-ghost use Rattle.pt_timers.specs.Deadlines.{is_in, same_key};
+ghost use Rattle.pt_timers.specs.Deadlines.{same_key};
 
 use crate::key::TimerKey;
 use crate::order::Order;

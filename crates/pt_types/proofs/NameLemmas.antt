@@ -146,7 +146,8 @@ long_front bytes block half pair word zeros e first second enough long few rest 
     (ap (λ k. take k word) (sym count) ∙ (rest ∙ take_rest bytes 16))
 
 stand_front :
-    (m : ℕ) (xs : List ℕ) → list_all is_name_byte xs ≡ true → list_all is_name_byte (take m xs) ≡ true
+    (m : ℕ) (xs : List ℕ) → list_all is_name_byte xs ≡ true
+    → list_all is_name_byte (take m xs) ≡ true
 stand_front zero xs all = refl
 stand_front (suc m) [] all = refl
 stand_front (suc m) (x ∷ xs) all =

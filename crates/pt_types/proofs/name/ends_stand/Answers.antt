@@ -1,4 +1,4 @@
-use Rattle.std.proofs.Common.{rules, arith}
+use Rattle.std.proofs.Common.{rules}
 use Rattle.pt_types.proofs.NameLemmas.{both_ends}
 use Rattle.pt_types.proofs.name.ends_stand.Goals as goal
 
