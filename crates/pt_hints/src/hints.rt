@@ -92,6 +92,13 @@ impl<A: Allocator + Copy> Hints<A> {
         Ok(())
     }
 
+    /// The same hints in memory of their own.
+    pub fn copied(&self, alloc: A) -> Result<Self, AllocError> {
+        let mut places = Vec::with_capacity(alloc, self.places.len())?;
+        places.extend_from_slice(&self.places)?;
+        Ok(Hints { places })
+    }
+
     /// Makes as many hints as there may be.
     pub fn grow_to_most(&mut self) -> Result<(), AllocError> {
         self.places.resize(MOST, 0)

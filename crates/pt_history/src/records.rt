@@ -1,7 +1,7 @@
 //! What stored entries refer to: the texts of names, the deadlines, the readings of clocks, and
 //! the few entries whose numbers don't fit 32 bits.
 
-ghost use Rattle.std.specs.Prelude.{ℕ, IsOk, ◌≡◌, ◌≤◌, OnOk, vec_len};
+ghost use Rattle.std.specs.Prelude.{ℕ, IfOk, IsOk, ◌≡◌, ◌≤◌, OnOk, vec_len};
 ghost use Rattle.pt_history.specs.Records.{no_parts, parts_of, HasRoom, KeepsParts};
 
 use crate::compact::TimeLimit;
@@ -10,6 +10,9 @@ use pt_hints::Hints;
 use pt_model::Entry;
 use pt_types::Moment;
 use std::alloc::{AllocError, Allocator};
+
+/// How many bytes of names' texts stay at most when the entries are dropped.
+const MOST_KEPT: usize = 262_144;
 
 /// The parts that stored entries refer to by index.
 #[derive(Drop)]
@@ -37,6 +40,20 @@ impl<A: Allocator + Copy> Records<A> {
         }
     }
 
+    /// Records with the texts of others and their hints, if those aren't too many; else no records.
+    /// A name with a text there need not be stored again.
+    pub(crate) fn with_texts_of(other: &Records<A>, alloc: A) -> Result<Records<A>, AllocError>
+        ensures room { IfOk result (λ r. HasRoom r 0) }
+        ensures few { IfOk result (λ r. vec_len r.wholes ≡ 0) }
+    {
+        let mut records = Records::new(alloc);
+        if other.texts.len() <= MOST_KEPT {
+            records.texts.extend_from_slice(&other.texts)?;
+            records.hints = other.hints.copied(alloc)?;
+        }
+        Ok(records)
+    }
+
     /// Makes room for so many entries more, whatever they are.
     pub(crate) fn reserve(&mut self, room: u64) -> Result<(), AllocError>
         requires { room ≤ 4294967295 }
@@ -54,13 +71,15 @@ impl<A: Allocator + Copy> Records<A> {
         self.wholes.reserve(many)
     }
 
-    /// Forgets all. The memory stays.
+    /// Forgets all that no entry refers to any more, but for the texts of names, if they aren't too
+    /// many: a name with a text there need not be stored again. The memory stays.
     pub(crate) fn clear(&mut self)
-        ensures parts { parts_of self.new ≡ no_parts }
         ensures room { (n : ℕ) → HasRoom self.old n → HasRoom self.new n }
         ensures few { vec_len self.new.wholes ≡ 0 }
     {
-        self.texts.clear();
+        if self.texts.len() > MOST_KEPT {
+            self.texts.clear();
+        }
         self.limits.clear();
         self.moments.clear();
         self.wholes.clear();

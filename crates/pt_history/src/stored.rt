@@ -74,14 +74,17 @@ impl<A: Allocator + Copy> Model for History<A> {
 
 impl<A: Allocator + Copy> History<A> {
     ghost use Rattle.std.specs.Prelude.{◌≡◌, ◌↔◌, ◌+◌, ◌-◌, ◌<◌, ◌≤◌, [], ◌∷◌, ◌++◌, length};
-    ghost use Rattle.std.specs.Prelude.{slice_get, None, IsOk, OnOk, OnErr, IfErr, ◌≢◌};
+    ghost use Rattle.std.specs.Prelude.{slice_get, vec_len, None, IsOk, IfOk, OnOk, OnErr, IfErr, ◌≢◌};
     ghost use Rattle.pt_types.specs.Limits.{most_places};
     ghost use Rattle.pt_model.specs.StartRows.{rows_of};
+    ghost use Rattle.pt_history.specs.Records.{HasRoom};
     ghost use Rattle.pt_history.specs.Stored.{Stored, begun, caller_in, past_of, pushed};
     ghost use Rattle.pt_model.specs.Histories.{outer};
 
-    /// An empty history of at most so many entries. It takes no memory.
-    pub fn with_limit(alloc: A, limit: u32) -> History<A>
+    // An empty history of at most so many entries, with these records.
+    fn begin(alloc: A, limit: u32, records: Records<A>) -> History<A>
+        requires room { HasRoom records 0 }
+        requires few { vec_len records.wholes ≡ 0 }
         ensures { result ≡ begun limit }
     {
         History {
@@ -89,11 +92,30 @@ impl<A: Allocator + Copy> History<A> {
             base: 0,
             entries: Vec::new(alloc),
             memory: 0,
-            records: Records::new(alloc),
+            records,
             outer: 0,
             limit,
             room: 0,
         }
+    }
+
+    /// An empty history of at most so many entries. It takes no memory.
+    pub fn with_limit(alloc: A, limit: u32) -> History<A>
+        ensures { result ≡ begun limit }
+    {
+        History::begin(alloc, limit, Records::new(alloc))
+    }
+
+    /// An empty history of at most as many entries, for those after a seal. It takes over the texts
+    /// of names, if they aren't too many. ENOMEM if that growth is refused.
+    pub fn successor(&self, alloc: A) -> Result<History<A>, Refusal>
+        ensures ok { IfOk result (λ h. h ≡ begun self.now.limit) }
+        ensures err { IfErr result (λ r. r ≡ Refusal.Enomem) }
+    {
+        let Ok(records) = Records::with_texts_of(&self.records, alloc) else {
+            return Err(Refusal::Enomem);
+        };
+        Ok(History::begin(alloc, self.limit, records))
     }
 
     // Makes room for so many entries more, with memory for as many or more. ENOMEM if the growth is

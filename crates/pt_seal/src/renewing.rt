@@ -39,7 +39,7 @@ fn sealed_history<A: Allocator + Copy>(state: &State<A>, room: u64) -> Result<Hi
     ensures room { IfOk result (λ h. h.room ≡ room) }
     ensures reason { IfErr result (λ refusal. refusal ≡ Refusal.Enomem) }
 {
-    let mut stored = History::with_limit(state.alloc, state.stored.limit());
+    let mut stored = state.stored.successor(state.alloc)?;
     if stored.reserve_for(room).is_err() {
         return Err(Refusal::Enomem);
     }
