@@ -5,8 +5,10 @@ use Rattle.std.specs.Option.{option_and_then, option_map}
 use Rattle.pt_types.specs.Names.{IsName}
 use Rattle.pt_types.specs.declared.call.Call.{Call}
 use Rattle.pt_types.specs.declared.call.Call.TheVariants as call
-use Rattle.pt_lines.specs.Arguments.{name_of, alone, first_then}
+use Rattle.pt_types.specs.Times.{Timespec}
+use Rattle.pt_lines.specs.Arguments.{name_of, alone, first_then, one_deadline}
 use Rattle.pt_lines.specs.declared.call_line.CallLine.TheVariants as line
+use Rattle.pt_lines.specs.declared.verb.TimedVerb.{TimedVerb}
 use Rattle.pt_lines.specs.declared.verb.Verb.{Verb}
 use Rattle.pt_lines.specs.declared.verb.Verb.TheVariants as first
 use Rattle.pt_lines.specs.declared.client.Who.TheVariants.{Named}
@@ -14,7 +16,7 @@ use Rattle.pt_lines.specs.declared.script_line.ScriptBody.TheVariants.{Ask}
 use Rattle.pt_lines.specs.Fields.{fields}
 use Rattle.pt_lines.specs.Reading.{line_read, line_of, line_of_fields, IsAsked}
 use Rattle.pt_lines.specs.Script.{body_read}
-use Rattle.pt_lines.specs.Verbs.{word_of}
+use Rattle.pt_lines.specs.Verbs.{call_until, timed_word, word_of}
 use Rattle.pt_lines.proofs.ArgumentLemmas.{first_then-again, name_again}
 use Rattle.pt_lines.proofs.FieldLemmas.{is_word, fields-word}
 use Rattle.pt_lines.proofs.ScriptLemmas.{call_said}
@@ -62,3 +64,17 @@ wait_spelled text args cond mutex is parts client c m =
     ap (option_map (λ a. line.Ask (call.Wait a.0 a.1))) (two_names args cond mutex parts c m) in
     word_said text args (codes "wait ") first.Wait (Some (call.Wait cond mutex)) refl is asked
     client
+
+-- the word of a call with a deadline, a space, a name and a deadline are read as that call
+pub timed_spelled :
+    (text args name : List ℕ) (more : List (List ℕ)) (verb : TimedVerb) (due : Timespec)
+    → text ≡ (timed_word verb ++ 32 ∷ []) ++ args → fields args ≡ name ∷ more
+    → one_deadline more ≡ Some due → (client : List ℕ) → IsName name
+    → body_read (Named client) text ≡ Ok (Ask (call_until verb name due))
+timed_spelled text args name more verb due is parts d client n =
+    let asked : IsAsked (first.Timed verb) (fields args) (Some (call_until verb name due)) =
+    ap (option_map (λ a. line.Ask (call_until verb a.0 a.1)))
+    (sym (ap (first_then name_of one_deadline) parts
+    ∙ first_then-again name_of one_deadline name more name due (name_again name n) d)) in
+    word_said text args (timed_word verb ++ 32 ∷ []) (first.Timed verb)
+    (Some (call_until verb name due)) refl is asked client

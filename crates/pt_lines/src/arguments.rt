@@ -117,9 +117,9 @@ pub fn only_moment(args: Fields) -> Option<Moment>
     Moment::new(sec, nsec)
 }
 
-// A deadline, and no more.
+/// A deadline, and no more.
 #[inline(always)]
-fn only_deadline(args: Fields) -> Option<Deadline>
+pub fn only_deadline(args: Fields) -> Option<Deadline>
     ensures { result ≡ one_deadline args.entry }
 {
     let (sec, nsec) = only_time(args)?;

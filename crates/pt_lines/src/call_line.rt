@@ -84,9 +84,9 @@ fn read_clockwait(args: Fields) -> Option<Call>
     Some(Call::Clockwait(cond, mutex, clock, deadline))
 }
 
-/// A call with a deadline.
+// A call with a deadline.
 #[inline(always)]
-pub(crate) fn read_timed(verb: TimedVerb, args: Fields) -> Option<Call>
+fn read_timed(verb: TimedVerb, args: Fields) -> Option<Call>
     ensures { option_map CallLine.Ask result ≡ line_of (word.Timed verb) args.entry }
 {
     let (name, deadline) = name_and_deadline(args)?;

@@ -15,13 +15,13 @@ ghost use Rattle.pt_lines.specs.declared.client.Who.TheVariants as who;
 ghost use Rattle.pt_lines.specs.declared.script_line.ScriptBody.TheVariants as body;
 ghost use Rattle.pt_lines.specs.Reading.{line_of, IsAsked};
 ghost use Rattle.pt_lines.specs.Script.{asked_or_refused, body_read};
-ghost use Rattle.pt_lines.specs.Verbs.{named_word, timed_word, word_of};
+ghost use Rattle.pt_lines.specs.Verbs.{call_until, named_word, timed_word, word_of};
 
-use crate::arguments::only_moment;
-use crate::call_line::{read_asked, read_timed};
+use crate::arguments::{only_deadline, only_moment};
+use crate::call_line::read_asked;
 use crate::fields::Fields;
 use crate::verb::{TimedVerb, Verb};
-use pt_types::{Call, Moment, NamedVerb};
+use pt_types::{Call, Deadline, Moment, NamedVerb};
 
 // Whether two blocks are the same, which are compared as numbers.
 #[inline(always)]
@@ -190,17 +190,20 @@ fn timed_word_at_start(text: &[u8]) -> Option<(TimedVerb, &[u8])>
     Some((TimedVerb::Timedwrlock, rest))
 }
 
-/// The call of one name and a deadline, if a text begins with the word of one. A client's line that
-/// says this makes it, or is refused as SYNTAX if there is none.
+/// The word of a call of one name and a deadline, what is after it up to the next space, and the
+/// deadline after that, if a text begins with the word and goes on so. A client that says this
+/// makes this call, if the second is a name.
 #[inline(always)]
-pub fn timed_at_start(text: &[u8]) -> Option<Option<Call>>
-    ensures called { IfSome result (λ asked. IfSome asked (λ call. (client : List ℕ)
-        → body_read (who.Named client) text.now ≡ Ok (body.Ask call))) }
-    ensures read { IfSome result (λ asked. (client : List ℕ) → length text.now ≤ 128
-        → body_read (who.Named client) text.now ≡ asked_or_refused asked) }
+pub fn timed_at_start(text: &[u8]) -> Option<(TimedVerb, &[u8], Deadline)>
+    ensures { IfSome result (λ said. (client : List ℕ) → IsName said.1.now
+        → body_read (who.Named client) text.now
+        ≡ Ok (body.Ask (call_until said.0 said.1.now said.2))) }
 {
     let (verb, args) = timed_word_at_start(text)?;
-    Some(read_timed(verb, Fields::new(args)))
+    let mut fields = Fields::new(args);
+    let name = fields.next()?;
+    let deadline = only_deadline(fields)?;
+    Some((verb, name, deadline))
 }
 
 // The call that this verb makes of what is after its word and a space, if a text begins with them.

@@ -12,7 +12,7 @@ use http_server::Log;
 use pt_core::Core;
 use pt_lines::{ScriptBody, ScriptLine, Who, read_client};
 use pt_model::Event;
-use pt_types::{Call, ClientId, Priority, Refusal};
+use pt_types::{Call, ClientId, Clock, Moment, Priority, Refusal};
 use std::alloc::{Allocator, Global};
 use std::marker::Model;
 
@@ -190,6 +190,25 @@ impl<A: Allocator + Copy> Engine<A> {
         ensures why { IfErr result (λ fault. fault ≡ ScriptFault.Memory) }
     {
         self.run_marked(event, &Mark::Call(client), line, out)
+    }
+
+    // Does what a counted line of the clocks says, which is what a clock reads, and appends its
+    // answers.
+    #[inline(always)]
+    pub(crate) fn tick(
+        &mut self,
+        clock: Clock,
+        moment: Moment,
+        line: &LineId,
+        out: &mut Vec<u8, A>,
+    ) -> Result<(), ScriptFault>
+        requires counted { 0 < lines_of_who self.old.seen line.now.who }
+        ensures ok { OnOk result
+            (Adds (SaysOf (known_by self.old) (Event.Moment clock moment) line.now
+            (known_by self.new)) out.old.items out.new.items) }
+        ensures why { IfErr result (λ fault. fault ≡ ScriptFault.Memory) }
+    {
+        self.run_marked(&Event::Moment(clock, moment), &Mark::Nothing, line, out)
     }
 
     // Answers a hello under a name with which this client joined, if one did.

@@ -9,7 +9,6 @@ use crate::text::refuse;
 use pt_lines::{
     Who, asked_at_start, moment_at_start, named_at_start, read_said, timed_at_start, wait_at_start,
 };
-use pt_model::Event;
 use pt_types::{Call, ClientId, Clock, MOST_IN_LINE, Name, Refusal};
 use std::alloc::Allocator;
 
@@ -137,12 +136,12 @@ impl<A: Allocator + Copy> Engine<A> {
         ensures why { IfErr result (λ fault. fault ≡ ScriptFault.Memory) }
     {
         if let Who::Named(_) = line.who
-            && let Some(asked) = timed_at_start(rest)
-            && rest.len() <= MOST_IN_LINE
+            && let Some(said) = timed_at_start(rest)
+            && let Some(name) = Name::new(said.1)
         {
-            return self.ask_or_refuse(line, client, asked, out);
+            return self.ask(line, client, said.0.on(name, said.2), out);
         }
-        self.answer_asked(line, client, rest, out)
+        self.answer_rare(line, client, rest, out)
     }
 
     // Answers what the clocks say, most often a moment. It isn't inlined, so that other lines have
@@ -165,7 +164,7 @@ impl<A: Allocator + Copy> Engine<A> {
         if let Who::Star = line.who
             && let Some(moment) = moment_at_start(rest)
         {
-            return self.run(&Event::Moment(Clock::Real, moment), line, out);
+            return self.tick(Clock::Real, moment, line, out);
         }
         self.answer_rare(line, client, rest, out)
     }

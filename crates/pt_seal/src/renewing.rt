@@ -40,9 +40,9 @@ fn sealed_history<A: Allocator + Copy>(state: &State<A>, room: u64) -> Result<Hi
     ensures reason { IfErr result (λ refusal. refusal ≡ Refusal.Enomem) }
 {
     let mut stored = state.stored.successor(state.alloc)?;
-    if stored.reserve_for(room).is_err() {
+    let Ok(()) = stored.reserve_for(room) else {
         return Err(Refusal::Enomem);
-    }
+    };
     match start_of(state) {
         Ok(start) => {
             stored.seal(start);

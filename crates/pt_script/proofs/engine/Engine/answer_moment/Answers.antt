@@ -13,6 +13,6 @@ returns-clause-ok g c =
     ap (λ w. event_of_body s w (body_read w c.args.rest.now)) c.in-Star.is
     ∙ ap (event_of_body s Star) c.in-Some.ensures in
     subst
-    (λ v. OnOk c.run.result (Adds (SaysTo s c.args.line.now v (known_by c.run.new.self))
-    c.args.out.now.items c.run.new.out.items))
-    (sym asks) c.run.ensures.ok
+    (λ v. OnOk c.tick.result (Adds (SaysTo s c.args.line.now v (known_by c.tick.new.self))
+    c.args.out.now.items c.tick.new.out.items))
+    (sym asks) c.tick.ensures.ok
