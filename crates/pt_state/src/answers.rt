@@ -103,6 +103,7 @@ impl<A: Allocator + Copy> State<A> {
     }
 
     /// The answers that the entries from a place on gave, in order.
+    #[inline(always)]
     pub fn answers_since(&self, place: u64) -> LoggedAnswers<'_>
         requires { AreTables self.now }
         ensures { map (λ a. (logged a).1) result ≡ answers_in
