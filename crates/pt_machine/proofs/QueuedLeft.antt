@@ -1,12 +1,16 @@
 -- A call that is left waiting takes its place in a queue.
 use Rattle.std.proofs.Common.{◌≡◌, ◌⊎◌, inl, inr, ℕ, ◌<◌, ◌==◌, Bool, true, false, cond, List, []}
-use Rattle.std.proofs.Common.{◌∷◌, ◌++◌, Option, None, refl, sym, ap, ◌∙◌, subst, arith}
+use Rattle.std.proofs.Common.{◌∷◌, ◌++◌, Option, Some, None, unwrap_or, refl, sym}
+use Rattle.std.proofs.Common.{ap, ◌∙◌, subst, arith}
 use Rattle.std.proofs.lemmas.Bool.Decides.{nat_tests}
 use Rattle.std.specs.List.{AllByRecursion as Each}
 use Rattle.pt_types.specs.declared.call.Call.{Call as Asked}
 use Rattle.pt_types.specs.declared.outcome.Outcome.{Outcome}
-use Rattle.pt_types.specs.Operations.{Arrives, operation, clock_of}
+use Rattle.pt_types.specs.Times.{Timespec}
+use Rattle.pt_types.specs.Operations.{Arrives, Awaits, operation, clock_of}
 use Rattle.pt_types.specs.declared.operations.ObjectClass.TheVariants.{Barrier as BarrierClass}
+use Rattle.pt_types.specs.declared.operations.ObjectClass.TheVariants.{Cond as CondClass}
+use Rattle.pt_types.specs.declared.operations.ObjectClass.TheVariants.{Mutex as MutexClass}
 use Rattle.pt_waitq.specs.declared.waiter.Waiter.{Waiter}
 use Rattle.pt_waitq.specs.Queues.{queues_of, stands_in, IsLatest, insert_in_order}
 use Rattle.pt_waitq.specs.ListLemmas.{any-out}
@@ -14,12 +18,13 @@ use Rattle.pt_waitq.proofs.CallerLemmas.{latest-after}
 use Rattle.pt_waitq.proofs.MemberLemmas.{members-in}
 use Rattle.pt_model.specs.declared.entry.Entry.TheVariants.{Call}
 use Rattle.pt_model.specs.Searches.{In}
+use Rattle.pt_model.specs.Clients.{client}
 use Rattle.pt_model.specs.Histories.{History, ◌▷◌, place}
 use Rattle.pt_model.specs.declared.waiting_call.WaitingCall.{WaitingCall}
-use Rattle.pt_model.specs.declared.waiting_call.Role.TheVariants.{ForBarrier}
+use Rattle.pt_model.specs.declared.waiting_call.Role.TheVariants.{ForBarrier, ForCond}
 use Rattle.pt_model.specs.WaitingCall.{entered, meant, stood_by_operation}
 use Rattle.pt_model.specs.Answers.{open_calls}
-use Rattle.pt_model.specs.Moves.{at_object}
+use Rattle.pt_model.specs.Moves.{at_object, moved, object_by}
 use Rattle.pt_model.specs.Steps.{Step, Follows}
 use Rattle.pt_model.proofs.Lists.{In-append_left, In-append_right, In-append_cases}
 use Rattle.pt_model.proofs.Effects.{Effect, Idle, Creates, Removes, Relocks, Frees, Mends, Returns}
@@ -217,4 +222,43 @@ module _ (h : History) (f : Follows h) (c : ℕ) (call : Asked) (s : Step h (Cal
         its w i by =
             only-came w i by
             ∙ one (subst (λ d. In new.waiting (stood_by_operation h c (clock_of call) d)) arrives
+            new.stood)
+
+    -- a wait stands at its condition as its client, its place and its client's priority say
+    pub wait-takes : (n m : List ℕ) (d : Option Timespec) → operation call ≡ Awaits n m d
+        → (g : History) → g ≡ h ▷ Call c call None → (q j p : ℕ) (v : Waiter)
+        → q ≡ meant h n CondClass → j ≡ place h → client h c ≡ Some p
+        → v ≡ record (arriving c j) { prio = p } → Takes g c q v
+    wait-takes n m d awaits g e q j p v at is prior stands =
+        subst (λ (x : History). Takes x c q v) (sym e) (record {
+          seat = λ w i by.
+              at
+              ∙ sym (ap (at_object after) (its w i by)
+              ∙ ap (λ x. object_by (ForCond (meant h m MutexClass)) x (meant h n CondClass)) still);
+          same = λ w i by.
+              stands
+              ∙ (ap (λ k. record (arriving c k) { prio = p }) is
+              ∙ (ap (λ x. record (arriving c (place h)) { prio = x })
+              (sym (ap (λ (o : Option ℕ). unwrap_or o 0) prior))
+              ∙ (ap (λ x. record (arriving c (place h)) {
+                prio = unwrap_or (client h c) 0;
+                moved = x;
+              }) (sym (arrival-new h f wait refl))
+              ∙ sym (ap (waiter after) (its w i by)))));
+        })
+      where
+        wait : WaitingCall
+        wait = entered h c (meant h n CondClass) (ForCond (meant h m MutexClass)) (clock_of call) d
+
+        still : moved h (place h) ≡ None
+        still = (Fresh-follows h f).moves (place h) (omega arith)
+
+        one : In new.waiting (wait ∷ []) → new.waiting ≡ wait
+        one (inl k) = k
+        one (inr k) = absurd k
+
+        its : (w : WaitingCall) → In w (open_calls after) → w.client ≡ c → w ≡ wait
+        its w i by =
+            only-came w i by
+            ∙ one (subst (λ x. In new.waiting (stood_by_operation h c (clock_of call) x)) awaits
             new.stood)

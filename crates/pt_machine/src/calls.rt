@@ -17,7 +17,7 @@ ghost use Rattle.pt_state.specs.Reads.{AreTables};
 use crate::body::Body;
 use crate::cond::{push_broadcast, push_signal};
 use crate::objects::{push_ended, push_ended_object, push_made, push_new_object};
-use crate::queues::{arriving, take_place};
+use crate::queues::{arriving, entering, priority_of, take_place};
 use pt_state::{Request, State, known_verdict};
 use pt_types::operations::{LockKind, Operation, operation_of};
 use pt_types::{Call, ClientId, Name, ObjectId, Outcome, Refusal, Verdict};
@@ -73,9 +73,9 @@ fn leave_any<Q: WaitList, A: Allocator + Copy>(
     leave(state, queues, c, call, request)
 }
 
-// The barrier of an arrival; 0 if its name means none.
+// The object that a call's name means; 0 if it means none.
 #[inline(always)]
-fn barrier_meant(request: &Request) -> ObjectId
+fn object_named(request: &Request) -> ObjectId
     ensures { result ≡ unwrap_or request.now.object 0 }
 {
     match request.object {
@@ -106,7 +106,7 @@ fn arrive<Q: WaitList, A: Allocator + Copy>(
     ensures queued { IsQueued (past state.new) (Q.seen queues.new) }
 {
     let place = state.stored.len();
-    let b = barrier_meant(request);
+    let b = object_named(request);
     state.push_arrival(c, call, n, request.object);
     queues.insert(b, arriving(c, place));
     Ok(())
@@ -136,6 +136,32 @@ fn leave_arrival<Q: WaitList, A: Allocator + Copy>(
     }
 }
 
+// A wait with no deadline. It stands at its condition with its client's priority, which is read
+// before the wait is pushed, so its client's row is not looked at again.
+#[inline(always)]
+fn enter_wait<Q: WaitList, A: Allocator + Copy>(
+    state: &mut State<A>,
+    queues: &mut Q,
+    c: ClientId,
+    call: &Call,
+    n: &Name,
+    m: &Name,
+    request: &Request,
+)
+    requires ready { IsReadyFor state.old (entry.Call c call.now None) }
+    requires operation { operation call.now ≡ Awaits n.now m.now None }
+    requires asks { IsRequest (past state.old) (operation call.now) request.now }
+    requires queued { IsQueued (past state.old) (Q.seen queues.old) }
+    ensures adds { Adds state.old (entry.Call c call.now None) state.new }
+    ensures queued { IsQueued (past state.new) (Q.seen queues.new) }
+{
+    let place = state.stored.len();
+    let q = object_named(request);
+    let prio = priority_of(state, c);
+    state.push_await(c, call, n, m, None, request);
+    queues.insert(q, entering(c, place, prio));
+}
+
 // As `leave`, for a wait with no deadline.
 #[inline(never)]
 fn leave_wait<Q: WaitList, A: Allocator + Copy>(
@@ -156,8 +182,7 @@ fn leave_wait<Q: WaitList, A: Allocator + Copy>(
 {
     match call {
         Call::Wait(n, m) => {
-            state.push_await(c, call, n, m, None, request);
-            take_place(queues, state, c);
+            enter_wait(state, queues, c, call, n, m, request);
             Ok(())
         }
         _ => leave_any(state, queues, c, call, request),

@@ -23,8 +23,8 @@ insert-requires-clause-admitted g c =
     c.push_arrival.ensures in
     let takes = arrival-takes h c.requires.ready.read.follows c.args.c c.args.call.now
     c.requires.ready.step seen.queue seen.admitted seen.made c.requires.queued c.args.n.now
-    c.requires.operation new came c.barrier_meant-b.result c.len-place.result c.arriving.result
-    (c.barrier_meant-b.ensures
+    c.requires.operation new came c.object_named-b.result c.len-place.result c.arriving.result
+    (c.object_named-b.ensures
     ∙ ap (λ o. unwrap_or o 0) (c.requires.asks.object ∙ ap (object_meant h) c.requires.operation))
     (c.len-place.ensures ∙ sym (place_of_next old.stored)) c.arriving.ensures in
     let can = can-stand-left h c.requires.ready.read.follows c.args.c c.args.call.now
@@ -41,8 +41,8 @@ insert-requires-clause-nowhere g c =
     c.push_arrival.ensures in
     let takes = arrival-takes h c.requires.ready.read.follows c.args.c c.args.call.now
     c.requires.ready.step seen.queue seen.admitted seen.made c.requires.queued c.args.n.now
-    c.requires.operation new came c.barrier_meant-b.result c.len-place.result c.arriving.result
-    (c.barrier_meant-b.ensures
+    c.requires.operation new came c.object_named-b.result c.len-place.result c.arriving.result
+    (c.object_named-b.ensures
     ∙ ap (λ o. unwrap_or o 0) (c.requires.asks.object ∙ ap (object_meant h) c.requires.operation))
     (c.len-place.ensures ∙ sym (place_of_next old.stored)) c.arriving.ensures in
     let can = can-stand-left h c.requires.ready.read.follows c.args.c c.args.call.now
@@ -59,8 +59,8 @@ insert-requires-clause-made g c =
     c.push_arrival.ensures in
     let takes = arrival-takes h c.requires.ready.read.follows c.args.c c.args.call.now
     c.requires.ready.step seen.queue seen.admitted seen.made c.requires.queued c.args.n.now
-    c.requires.operation new came c.barrier_meant-b.result c.len-place.result c.arriving.result
-    (c.barrier_meant-b.ensures
+    c.requires.operation new came c.object_named-b.result c.len-place.result c.arriving.result
+    (c.object_named-b.ensures
     ∙ ap (λ o. unwrap_or o 0) (c.requires.asks.object ∙ ap (object_meant h) c.requires.operation))
     (c.len-place.ensures ∙ sym (place_of_next old.stored)) c.arriving.ensures in
     let can = can-stand-left h c.requires.ready.read.follows c.args.c c.args.call.now
@@ -77,8 +77,8 @@ insert-requires-clause-latest g c =
     c.push_arrival.ensures in
     let takes = arrival-takes h c.requires.ready.read.follows c.args.c c.args.call.now
     c.requires.ready.step seen.queue seen.admitted seen.made c.requires.queued c.args.n.now
-    c.requires.operation new came c.barrier_meant-b.result c.len-place.result c.arriving.result
-    (c.barrier_meant-b.ensures
+    c.requires.operation new came c.object_named-b.result c.len-place.result c.arriving.result
+    (c.object_named-b.ensures
     ∙ ap (λ o. unwrap_or o 0) (c.requires.asks.object ∙ ap (object_meant h) c.requires.operation))
     (c.len-place.ensures ∙ sym (place_of_next old.stored)) c.arriving.ensures in
     let can = can-stand-left h c.requires.ready.read.follows c.args.c c.args.call.now
@@ -95,13 +95,13 @@ returns-clause-queued g c =
     c.push_arrival.ensures in
     let takes = arrival-takes h c.requires.ready.read.follows c.args.c c.args.call.now
     c.requires.ready.step seen.queue seen.admitted seen.made c.requires.queued c.args.n.now
-    c.requires.operation new came c.barrier_meant-b.result c.len-place.result c.arriving.result
-    (c.barrier_meant-b.ensures
+    c.requires.operation new came c.object_named-b.result c.len-place.result c.arriving.result
+    (c.object_named-b.ensures
     ∙ ap (λ o. unwrap_or o 0) (c.requires.asks.object ∙ ap (object_meant h) c.requires.operation))
     (c.len-place.ensures ∙ sym (place_of_next old.stored)) c.arriving.ensures in
     let next = g.Q.WaitList.seen c.insert.new.self in
     queued-left h c.requires.ready.read.follows c.args.c c.args.call.now c.requires.ready.step
     seen.queue seen.admitted seen.made c.requires.queued new came next.queue next.admitted next.made
-    (take-put new c.args.c c.barrier_meant-b.result c.arriving.result takes seen.queue next.queue
+    (take-put new c.args.c c.object_named-b.result c.arriving.result takes seen.queue next.queue
     c.insert.ensures.queues)
     c.insert.ensures.admitted c.insert.ensures.made
