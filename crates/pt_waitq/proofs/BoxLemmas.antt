@@ -1,13 +1,12 @@
 -- Boxes: enough for all that wait, as waiters and clients come and go.
-use Rattle.std.proofs.Common.{◌≡◌, ◌≢◌, ℕ, ◌==◌, ◌+◌, ◌≤◌, ◌<◌, min, Bool, true, false, cond, ◌&&◌}
+use Rattle.std.proofs.Common.{◌≡◌, ℕ, ◌==◌, ◌+◌, ◌≤◌, ◌<◌, min, Bool, true, false, cond}
 use Rattle.std.proofs.Common.{not, List, [], ◌∷◌, ◌++◌, length}
 use Rattle.std.proofs.Common.{filter, Option, Some, None, is_some, nat_eq}
-use Rattle.std.proofs.Common.{slice_index_or, inl, inr, refl, sym, ap, ◌∙◌, subst, arith}
-use Rattle.std.specs.Prelude.{◌↔◌, slice_index, unwrap_or, IfSome, IsTrue}
+use Rattle.std.proofs.Common.{slice_index_or, refl, sym, ap, ◌∙◌, subst, arith}
+use Rattle.std.specs.Prelude.{slice_index, IfSome}
 use Rattle.std.specs.List.{AllByRecursion as Each}
 use Rattle.std.specs.Option.{option_map, option_to_list}
 use Rattle.std.specs.Map.{lookup}
-use Rattle.std.proofs.lemmas.Bool.{false≢true}
 use Rattle.std.proofs.lemmas.List.{get_or-replicate}
 use Rattle.pt_types.specs.Limits.{most_priority}
 use Rattle.pt_waitq.specs.declared.waiter.Waiter.{Waiter}
@@ -15,9 +14,8 @@ use Rattle.pt_waitq.specs.declared.nodes.Node.{Node}
 use Rattle.pt_waitq.specs.declared.sides.Queue.{Queue}
 use Rattle.pt_waitq.specs.Queues.{In}
 use Rattle.pt_waitq.specs.Waits.{is_listed, has_waiter}
-use Rattle.pt_waitq.specs.Chains.{numbers, side_of, home_of, AreChains, HasNone, IsPut}
-use Rattle.pt_waitq.specs.Chains.{IsFirst, IsFirstWriter, HasWriterFrom}
-use Rattle.pt_waitq.specs.Boxes.{no_queue, IsOpened, busy, AreBoxes}
+use Rattle.pt_waitq.specs.Chains.{numbers, side_of, home_of, AreChains, HasNone}
+use Rattle.pt_waitq.specs.Boxes.{no_queue, busy, AreBoxes}
 use Rattle.pt_waitq.proofs.HomeLemmas.{length-more}
 use Rattle.pt_waitq.proofs.InsertLemmas.{waiters-few}
 use Rattle.pt_waitq.proofs.StepLemmas.{some-if}
@@ -49,32 +47,6 @@ none-without =
     tails true p lt = get_or-replicate most_priority p None None lt
     tails false p lt = get_or-replicate most_priority p None None lt
 
--- what is seen of a queue by its box
-module _ {X : Type 0} (f : X → Queue) (o : Option X) (queue : Queue)
-    (view : unwrap_or (option_map f o) no_queue ≡ queue) where
-  pub own-box : (b : X) → o ≡ Some b → f b ≡ queue
-  own-box b e = ap (λ x. unwrap_or (option_map f x) no_queue) (sym e) ∙ view
-
-  without-box : o ≡ None → no_queue ≡ queue
-  without-box e = ap (λ x. unwrap_or (option_map f x) no_queue) (sym e) ∙ view
-
-  pub none-waits : o ≡ None → HasNone queue
-  none-waits e = subst HasNone (without-box e) none-without
-
-  pub none-first : o ≡ None → IsFirst queue None
-  none-first e =
-      subst (λ q. IsFirst q None) (without-box e) (inr (λ k p lt. none-without.counts k p lt, refl))
-
-  pub none-first_writer : o ≡ None → IsFirstWriter queue None
-  none-first_writer e =
-      subst (λ q. IsFirstWriter q None) (without-box e)
-      (inr (λ p lt. none-without.counts true p lt, refl))
-
-  pub no-writer-from : o ≡ None → (p : ℕ) → IsTrue false ↔ HasWriterFrom queue p
-  no-writer-from e p =
-      subst (λ q. IsTrue false ↔ HasWriterFrom q p) (without-box e)
-      (λ t. absurd (false≢true t), λ w. absurd (w.3 (none-without.counts true w.0 w.2)))
-
 pub if-boxed : {X : Type 0} (P : Queue → Type 0) (f : X → Queue) (o : Option X)
     → IfSome (option_map f o) P → IfSome o (λ x. P (f x))
 if-boxed P f None h = tt
@@ -94,70 +66,6 @@ each-last {X} P xs ys o x is some a =
     go : (zs : List X) → Each P (zs ++ x ∷ []) → P x
     go [] b = b.0
     go (z ∷ zs) b = go zs b.1
-
--- the box of a queue, or a spare one if it has none
-pub opened : {X : Type 0} (f : X → Queue) (old new : Option X) (queue : Queue) (box : X)
-    → unwrap_or (option_map f old) no_queue ≡ queue → IfSome old (λ b. (f b).len ≢ 0)
-    → IfSome old (λ b. new ≡ Some b) → (old ≡ None → IfSome new (λ b. HasNone (f b)))
-    → new ≡ Some box → IsOpened queue (f box)
-opened f None new queue box view some own spare is =
-    inr (
-      none-waits f None queue view refl,
-      subst (λ o. IfSome o (λ b. HasNone (f b))) is (spare refl),
-    )
-opened f (Some b) new queue box view some own spare is =
-    inl (
-      subst (λ (q : Queue). q.len ≢ 0) view some,
-      ap (λ o. unwrap_or (option_map f o) no_queue) (sym is ∙ own) ∙ view,
-    )
-
-pub opened-empty : (queue box : Queue) → IsOpened queue box → box.len ≡ 0 → HasNone box
-opened-empty queue box (inl h) z =
-    absurd (h.0 (ap (λ (q : Queue). q.len) (sym h.1) ∙ z))
-opened-empty queue box (inr h) z = h.1
-
--- what is put into a queue's box is put into the queue
-pub put-opened : (k : Bool) (p n : ℕ) (tail : Option ℕ) (old box new : Queue) → p < most_priority
-    → IsOpened old box → IsPut k p n tail box new → IsPut k p n tail old new
-put-opened k p n tail old box new within (inl e) put = subst (λ q. IsPut k p n tail q new) e.1 put
-put-opened k p n tail old box new within (inr h) put =
-    record {
-      len = put.len ∙ ap (λ m. m + 1) (h.1.len ∙ sym h.0.len);
-      other = λ i lt. let s = put.other i lt in
-          record {
-            count = s.count ∙ same-count (not k) i lt;
-            tail = s.tail ∙ same-tail (not k) i lt;
-            head = s.head ∙ same-head (not k) i lt;
-          };
-      last = put.last ∙ same-tail k p within;
-      counts = λ i lt.
-          put.counts i lt
-          ∙ (ap (λ x. cond (p == i) (x + 1) (slice_index (side_of k box).counts i))
-          (same-count k p within)
-          ∙ ap (λ x. cond (p == i) (slice_index (side_of k old).counts p + 1) x)
-          (same-count k i lt));
-      tails = λ i lt.
-          put.tails i lt ∙ ap (λ x. cond (p == i) (Some n) x) (same-tail k i lt);
-      heads = λ i lt.
-          put.heads i lt
-          ∙ (ap (λ x. cond ((p == i) && not (is_some x)) (Some n)
-          (slice_index_or (side_of k box).heads i None)) (same-tail k p within)
-          ∙ ap (λ x. cond ((p == i)
-          && not (is_some (slice_index_or (side_of k old).tails p None))) (Some n) x)
-          (same-head k i lt));
-    }
-  where
-    same-count : (l : Bool) (i : ℕ) → i < most_priority
-        → slice_index (side_of l box).counts i ≡ slice_index (side_of l old).counts i
-    same-count l i lt = h.1.counts l i lt ∙ sym (h.0.counts l i lt)
-
-    same-head : (l : Bool) (i : ℕ) → i < most_priority
-        → slice_index_or (side_of l box).heads i None ≡ slice_index_or (side_of l old).heads i None
-    same-head l i lt = h.1.heads l i lt ∙ sym (h.0.heads l i lt)
-
-    same-tail : (l : Bool) (i : ℕ) → i < most_priority
-        → slice_index_or (side_of l box).tails i None ≡ slice_index_or (side_of l old).tails i None
-    same-tail l i lt = h.1.tails l i lt ∙ sym (h.0.tails l i lt)
 
 module _ (homes : List (ℕ × ℕ)) (nodes : List (Option Node)) (queues : List (ℕ × Queue))
     (es : List (ℕ × Waiter)) (spares room boxes : ℕ) (a : AreChains homes nodes queues es)

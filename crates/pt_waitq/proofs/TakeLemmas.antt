@@ -304,9 +304,7 @@ module _ (homes : List (ℕ × ℕ)) (nodes nodes' : List (Option Node))
         subst (λ b. Whole o b q1 r) (sym e)
         (other o r (not w.writer) (side_of (not w.writer) q0) (side_of (not w.writer) q1)
         (other-kind o p (r + 1) w)
-        (ap (λ (s : Side). slice_index s.counts r) taken.other)
-        (ap (λ (s : Side). slice_index_or s.tails r None) taken.other)
-        (ap (λ (s : Side). slice_index_or s.heads r None) taken.other)
+        (taken.other r lt).count (taken.other r lt).tail (taken.other r lt).head
         (a.chains o q0 at (not w.writer) r lt))
 
     -- all chains after a waiter is taken out

@@ -170,7 +170,8 @@ pub record IsPut (k : Bool) (p node : ℕ) (tail : Option ℕ) (old new : Queue)
 -- a node was taken out of a chain
 pub record IsTaken (k : Bool) (p : ℕ) (before next : Option ℕ) (old new : Queue) : Type 0 where
   pub len : new.len + 1 ≡ old.len
-  pub other : side_of (not k) new ≡ side_of (not k) old
+  pub other : (i : ℕ) → i < most_priority
+      → IsSameChain (side_of (not k) old) (side_of (not k) new) i
   pub counts : (i : ℕ) → i < most_priority → slice_index (side_of k new).counts i
       ≡ (if p == i then slice_index (side_of k old).counts p - 1 else slice_index
       (side_of k old).counts i)

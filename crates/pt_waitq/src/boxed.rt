@@ -1,13 +1,13 @@
 //! Queues that have a box only while one waits in them.
 
 ghost use Rattle.std.specs.Prelude.{◌≡◌, ◌≢◌, ◌↔◌, ◌+◌, ◌<◌, ◌≤◌, ◌^◌, ◌==◌, IfSome};
-ghost use Rattle.std.specs.Prelude.{IsTrue, IsSome, Some, None, is_some, unwrap_or, slice_index};
+ghost use Rattle.std.specs.Prelude.{IsTrue, IsSome, Some, None, slice_index};
 ghost use Rattle.std.specs.Prelude.{vec_len, vec_capacity, if◌then◌else◌};
 ghost use Rattle.std.specs.List.{AllByRecursion as Each};
 ghost use Rattle.std.specs.Option.{option_map};
 ghost use Rattle.pt_types.specs.Limits.{most_priority};
 ghost use Rattle.pt_waitq.specs.declared.sides.Queue.{Queue};
-ghost use Rattle.pt_waitq.specs.Boxes.{no_queue, IsEmptied};
+ghost use Rattle.pt_waitq.specs.Boxes.{no_queue, lone_queue, queue_by, IsKept, IsSame, IsEmptied};
 ghost use Rattle.pt_waitq.specs.Chains.{side_of, HasNone, IsPut};
 ghost use Rattle.pt_waitq.specs.Chains.{IsFirst, IsFirstWriter, HasWriterFrom};
 
@@ -17,38 +17,63 @@ use crate::spares::Spares;
 use std::alloc::Allocator;
 use std::marker::Model;
 
-/// A queue. Its chains take 2.4 kB, so it has a box for them only while one waits there.
+/// A queue. Its chains take 2.4 kB, so it has a box for them only while one waits there. Who waits
+/// alone is not put into the box until another comes.
 #[derive(Drop)]
 pub(crate) struct BoxedQueue<A: Allocator> {
     boxed: Option<Box<MarkedQueue, A>>,
+    /// The lone waiter's node, unless that is put into the box.
+    lone: Link,
+    /// The index of its chain.
+    p: u8,
+    /// Whether it is a writer.
+    writer: bool,
 }
 
 impl<A: Allocator> Model for BoxedQueue<A> {
-    ghost use Rattle.std.specs.Prelude.{◌≢◌, IfSome, unwrap_or};
     ghost use Rattle.std.specs.Option.{option_map};
     ghost use Rattle.pt_waitq.specs.declared.sides.Queue.{Queue};
-    ghost use Rattle.pt_waitq.specs.Boxes.{no_queue};
+    ghost use Rattle.pt_waitq.specs.Boxes.{queue_by, IsKept};
 
     ghost Value = { Queue };
 
-    ghost view = { λ q. unwrap_or (option_map (λ b. b.value) q.boxed) no_queue };
+    ghost view = { λ q. queue_by (option_map (λ b. b.value) q.boxed) q.lone q.writer q.p };
 
-    ghost invariant = { λ q. IfSome q.boxed (λ b. b.value.len ≢ 0) };
+    ghost invariant = { λ q. IsKept (option_map (λ b. b.value) q.boxed) q.lone q.p };
 }
 
-// Takes a spare box if there is none.
-fn open<A: Allocator>(boxed: &mut Option<Box<MarkedQueue, A>>, spares: &mut Spares<A>)
-    requires spare { boxed.old ≡ None → 0 < vec_len spares.old }
-    requires empty { Each (λ b. HasNone b.value) spares.old.items }
+// Puts the lone waiter into the box, which is empty.
+#[cold]
+#[inline(never)]
+fn put_lone<A: Allocator>(
+    boxed: &mut Option<Box<MarkedQueue, A>>,
+    writer: bool,
+    p: usize,
+    node: NodeIndex,
+)
+    requires index { p < most_priority }
+    requires there { IsSome boxed.old }
+    requires empty { IfSome boxed.old (λ b. HasNone b.value) }
     ensures there { IsSome boxed.new }
-    ensures own { IfSome boxed.old (λ b. boxed.new ≡ Some b) }
-    ensures spare { boxed.old ≡ None → IfSome boxed.new (λ b. HasNone b.value) }
-    ensures len { vec_len spares.new + (if is_some boxed.old then 0 else 1) ≡ vec_len spares.old }
-    ensures capacity { vec_capacity spares.new ≡ vec_capacity spares.old }
-    ensures empty { Each (λ b. HasNone b.value) spares.new.items }
+    ensures put { IfSome boxed.new (λ b. IsSame (lone_queue writer p node) b.value) }
 {
-    if boxed.is_none() {
-        *boxed = spares.pop();
+    boxed.as_mut().unwrap().put_in(writer, p, node);
+}
+
+// All that wait are in the box then.
+#[inline(always)]
+fn join<A: Allocator>(boxed: &mut Option<Box<MarkedQueue, A>>, lone: &mut Link, writer: bool, p: u8)
+    requires there { IsSome boxed.old }
+    requires kept { IsKept (option_map (λ b. b.value) boxed.old) lone.old p }
+    ensures none { lone.new ≡ None }
+    ensures there { IsSome boxed.new }
+    ensures same { IfSome boxed.new (λ b.
+        IsSame (queue_by (option_map (λ b. b.value) boxed.old) lone.old writer p) b.value) }
+    ensures some { IfSome boxed.new (λ b. b.value.len ≢ 0) }
+{
+    if let Some(node) = lone.get() {
+        put_lone(boxed, writer, p as usize, node);
+        *lone = Link::none();
     }
 }
 
@@ -57,7 +82,12 @@ impl<A: Allocator + Copy> BoxedQueue<A> {
     pub(crate) fn new() -> Self
         ensures { result ≡ no_queue }
     {
-        BoxedQueue { boxed: None }
+        BoxedQueue {
+            boxed: None,
+            lone: Link::none(),
+            p: 0,
+            writer: false,
+        }
     }
 
     /// How many wait in it.
@@ -65,7 +95,8 @@ impl<A: Allocator + Copy> BoxedQueue<A> {
         ensures { result ≡ self.now.len }
     {
         match &self.boxed {
-            Some(queue) => queue.len(),
+            Some(queue) if self.lone.is_none() => queue.len(),
+            Some(_) => 1,
             None => 0,
         }
     }
@@ -90,7 +121,14 @@ impl<A: Allocator + Copy> BoxedQueue<A> {
         ensures capacity { vec_capacity spares.new ≡ vec_capacity spares.old }
         ensures empty { Each (λ b. HasNone b.value) spares.new.items }
     {
-        open(&mut self.boxed, spares);
+        if self.boxed.is_none() {
+            self.boxed = spares.pop();
+            self.lone = Link::to(node);
+            self.p = p as u8;
+            self.writer = writer;
+            return Link::none();
+        }
+        join(&mut self.boxed, &mut self.lone, self.writer, self.p);
         self.boxed.as_mut().unwrap().put_in(writer, p, node)
     }
 
@@ -110,6 +148,11 @@ impl<A: Allocator + Copy> BoxedQueue<A> {
         ensures { IsEmptied writer p before next self.old self.new
             (option_map (λ b. b.value) result) }
     {
+        if !self.lone.is_none() && before.is_none() && next.is_none() {
+            self.lone = Link::none();
+            return self.boxed.take();
+        }
+        join(&mut self.boxed, &mut self.lone, self.writer, self.p);
         let queue = self.boxed.as_mut().unwrap();
         if queue.take_out(writer, p, before, next) {
             self.boxed.take()
@@ -123,6 +166,9 @@ impl<A: Allocator + Copy> BoxedQueue<A> {
     pub(crate) fn first(&self) -> Option<NodeIndex>
         ensures { IsFirst self.now result }
     {
+        if let Some(node) = self.lone.get() {
+            return Some(node);
+        }
         match &self.boxed {
             Some(queue) => queue.first(),
             None => None,
@@ -133,6 +179,9 @@ impl<A: Allocator + Copy> BoxedQueue<A> {
     pub(crate) fn first_writer(&self) -> Option<NodeIndex>
         ensures { IsFirstWriter self.now result }
     {
+        if let Some(node) = self.lone.get() {
+            return if self.writer { Some(node) } else { None };
+        }
         match &self.boxed {
             Some(queue) => queue.first_writer(),
             None => None,
@@ -144,6 +193,9 @@ impl<A: Allocator + Copy> BoxedQueue<A> {
     pub(crate) fn has_writer_from(&self, p: usize) -> bool
         ensures { IsTrue result ↔ HasWriterFrom self.now p }
     {
+        if !self.lone.is_none() {
+            return self.writer && p <= self.p as usize;
+        }
         match &self.boxed {
             Some(queue) => queue.has_writer_from(p),
             None => false,
