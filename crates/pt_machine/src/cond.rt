@@ -146,6 +146,7 @@ fn first_waiting<'s, Q: WaitList, A: Allocator + Copy>(
 
 impl<Q: WaitList, A: Allocator + Copy> Body<Q, A> {
     /// The mutex with which calls wait at the condition, if some do.  [XSH pthread_cond_wait]
+    #[inline(never)]
     pub(crate) fn bound(&self, q: ObjectId) -> Option<ObjectId>
         requires read { AreTables self.now }
         requires cond { kind_of (past self.now) q ≡ Some kind.Cond }
