@@ -1,12 +1,15 @@
 -- WordLemmas: a verb's word, a space and fields are read as what the verb and the fields are.
 use Rattle.std.proofs.Common.{◌≡◌, ◌∙◌, ℕ, List, [], ◌∷◌, ◌++◌, Option, Some, IfSome, Ok, ap, sym}
-use Rattle.std.proofs.Common.{refl, true, codes, nat_le, length, append_assoc}
+use Rattle.std.proofs.Common.{refl, true, Bool, codes, nat_le, length, append_assoc}
 use Rattle.std.specs.Option.{option_and_then, option_map}
 use Rattle.pt_types.specs.Names.{IsName}
 use Rattle.pt_types.specs.declared.call.Call.{Call}
 use Rattle.pt_types.specs.declared.call.Call.TheVariants as call
 use Rattle.pt_types.specs.Times.{Timespec}
-use Rattle.pt_lines.specs.Arguments.{name_of, alone, first_then, one_deadline}
+use Rattle.pt_types.specs.declared.call.MutexKind.{MutexKind}
+use Rattle.pt_lines.specs.Numbers.{number_of}
+use Rattle.pt_lines.specs.Arguments.{name_of, alone, first_then, kind_of, one_deadline}
+use Rattle.pt_lines.specs.Arguments.{robust_of}
 use Rattle.pt_lines.specs.declared.call_line.CallLine.TheVariants as line
 use Rattle.pt_lines.specs.declared.verb.TimedVerb.{TimedVerb}
 use Rattle.pt_lines.specs.declared.verb.Verb.{Verb}
@@ -65,16 +68,51 @@ wait_spelled text args cond mutex is parts client c m =
     word_said text args (codes "wait ") first.Wait (Some (call.Wait cond mutex)) refl is asked
     client
 
+-- a name and what is read of the fields after it
+name_first :
+    {Y : Type 0} (rest : List (List ℕ) → Option Y) (args name : List ℕ) (more : List (List ℕ))
+    (y : Y) → fields args ≡ name ∷ more → rest more ≡ Some y → IsName name
+    → Some (name, y) ≡ first_then name_of rest (fields args)
+name_first rest args name more y parts read n =
+    sym (ap (first_then name_of rest) parts
+    ∙ first_then-again name_of rest name more name y (name_again name n) read)
+
 -- the word of a call with a deadline, a space, a name and a deadline are read as that call
 pub timed_spelled :
     (text args name : List ℕ) (more : List (List ℕ)) (verb : TimedVerb) (due : Timespec)
     → text ≡ (timed_word verb ++ 32 ∷ []) ++ args → fields args ≡ name ∷ more
     → one_deadline more ≡ Some due → (client : List ℕ) → IsName name
     → body_read (Named client) text ≡ Ok (Ask (call_until verb name due))
-timed_spelled text args name more verb due is parts d client n =
+timed_spelled text args name more verb due is parts read client n =
     let asked : IsAsked (first.Timed verb) (fields args) (Some (call_until verb name due)) =
     ap (option_map (λ a. line.Ask (call_until verb a.0 a.1)))
-    (sym (ap (first_then name_of one_deadline) parts
-    ∙ first_then-again name_of one_deadline name more name due (name_again name n) d)) in
+    (name_first one_deadline args name more due parts read n) in
     word_said text args (timed_word verb ++ 32 ∷ []) (first.Timed verb)
     (Some (call_until verb name due)) refl is asked client
+
+-- `mutex-init`, a space, a name, a kind and a robustness are read as the making of that mutex
+pub mutex_init_spelled :
+    (text args name : List ℕ) (more : List (List ℕ)) (made : MutexKind × Bool)
+    → text ≡ codes "mutex-init " ++ args → fields args ≡ name ∷ more
+    → first_then kind_of (alone robust_of) more ≡ Some made → (client : List ℕ) → IsName name
+    → body_read (Named client) text ≡ Ok (Ask (call.MutexInit name made.0 made.1))
+mutex_init_spelled text args name more made is parts read client n =
+    let makes = call.MutexInit name made.0 made.1 in
+    let asked : IsAsked first.MutexInit (fields args) (Some makes) =
+    ap (option_map (λ a. line.Ask (call.MutexInit a.0 a.1.0 a.1.1)))
+    (name_first (first_then kind_of (alone robust_of)) args name more made parts read n) in
+    word_said text args (codes "mutex-init ") first.MutexInit (Some makes) refl is asked client
+
+-- `barrier-init`, a space, a name and a count are read as the making of that barrier
+pub barrier_init_spelled :
+    (text args name : List ℕ) (more : List (List ℕ)) (count : ℕ)
+    → text ≡ codes "barrier-init " ++ args → fields args ≡ name ∷ more
+    → alone number_of more ≡ Some count → (client : List ℕ) → IsName name
+    → body_read (Named client) text ≡ Ok (Ask (call.BarrierInit name count))
+barrier_init_spelled text args name more count is parts read client n =
+    let makes = call.BarrierInit name count in
+    let asked : IsAsked first.BarrierInit (fields args) (Some makes) =
+    ap (option_map (λ a. line.Ask (call.BarrierInit a.0 a.1)))
+    (name_first (alone number_of) args name more count parts read n) in
+    word_said text args (codes "barrier-init ") first.BarrierInit (Some makes) refl is asked
+    client

@@ -80,10 +80,10 @@ pub fn only_name(args: Fields) -> Option<Name>
     read_name(args.rest()?)
 }
 
-// A number, and no more. No number has a space either.
+/// A number, and no more. No number has a space either.
 #[tactic(auto, using(crate::proofs::WholeLemmas::whole_number))]
 #[inline(always)]
-fn only_number(args: Fields) -> Option<u64>
+pub fn only_number(args: Fields) -> Option<u64>
     ensures value { result ≡ alone number_of args.entry }
     ensures fits { IfSome result IsNumber }
 {
@@ -191,8 +191,8 @@ pub fn name_and_count(mut args: Fields) -> Option<(Name, u64)>
     Some((name, count))
 }
 
-// A kind, and whether the mutex is robust.
-fn kind_and_robust(mut args: Fields) -> Option<(MutexKind, bool)>
+/// A kind, and whether the mutex is robust.
+pub fn kind_and_robust(mut args: Fields) -> Option<(MutexKind, bool)>
     ensures { result ≡ first_then kind_of (alone robust_of) args.entry }
 {
     let kind = read_kind(args.next()?)?;

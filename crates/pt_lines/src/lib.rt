@@ -24,7 +24,8 @@ pub use call_line::{CallLine, read_call};
 pub use client::{ClientName, Who};
 pub use cutter::{Cut, Cutter, cut_all, lines_of_texts};
 pub use named_start::{
-    asked_at_start, moment_at_start, named_at_start, timed_at_start, wait_at_start,
+    barrier_init_at_start, moment_at_start, mutex_init_at_start, named_at_start, timed_at_start,
+    timedwait_at_start, wait_at_start,
 };
 pub use reply::{Word, write_reply};
 pub use script_line::{ScriptBody, ScriptLine, read_client, read_said, read_script_line};

@@ -17,11 +17,11 @@ ghost use Rattle.pt_lines.specs.Reading.{line_of, IsAsked};
 ghost use Rattle.pt_lines.specs.Script.{asked_or_refused, body_read};
 ghost use Rattle.pt_lines.specs.Verbs.{call_until, named_word, timed_word, word_of};
 
-use crate::arguments::{only_deadline, only_moment};
+use crate::arguments::{kind_and_robust, only_deadline, only_moment, only_number};
 use crate::call_line::read_asked;
 use crate::fields::Fields;
 use crate::verb::{TimedVerb, Verb};
-use pt_types::{Call, Deadline, Moment, NamedVerb};
+use pt_types::{Call, Deadline, Moment, MutexKind, NamedVerb};
 
 // Whether two blocks are the same, which are compared as numbers.
 #[inline(always)]
@@ -222,20 +222,47 @@ fn asked_by(text: &[u8], verb: Verb, start: &[u8]) -> Option<Option<Call>>
     Some(read_asked(verb, Fields::new(args)))
 }
 
-/// The making of a mutex or a barrier, or the wait with a deadline, if a text begins with the word
-/// of one. A client's line that says this asks for it, or is refused as SYNTAX if there is none.
+/// The wait with a deadline, if a text begins with the word of one. A client's line that says this
+/// asks for it, or is refused as SYNTAX if there is none.
 #[inline(always)]
-pub fn asked_at_start(text: &[u8]) -> Option<Option<Call>>
+pub fn timedwait_at_start(text: &[u8]) -> Option<Option<Call>>
     ensures called { IfSome result (λ asked. IfSome asked (λ call. (client : List ℕ)
         → body_read (who.Named client) text.now ≡ Ok (body.Ask call))) }
     ensures read { IfSome result (λ asked. (client : List ℕ) → length text.now ≤ 128
         → body_read (who.Named client) text.now ≡ asked_or_refused asked) }
 {
-    match text.first() {
-        Some(b'm') => asked_by(text, Verb::MutexInit, b"mutex-init "),
-        Some(b't') => asked_by(text, Verb::Timedwait, b"timedwait "),
-        _ => asked_by(text, Verb::BarrierInit, b"barrier-init "),
-    }
+    asked_by(text, Verb::Timedwait, b"timedwait ")
+}
+
+/// What is after `mutex-init` up to the next space, and the kind and whether the mutex is robust
+/// after that, if a text begins with the word and goes on so. A client that says this makes this
+/// mutex, if the first is a name.
+#[inline(always)]
+pub fn mutex_init_at_start(text: &[u8]) -> Option<(&[u8], MutexKind, bool)>
+    ensures { IfSome result (λ said. (client : List ℕ) → IsName said.0.now
+        → body_read (who.Named client) text.now
+        ≡ Ok (body.Ask (call.MutexInit said.0.now said.1 said.2))) }
+{
+    let args = after(text, b"mutex-init ")?;
+    let mut fields = Fields::new(args);
+    let name = fields.next()?;
+    let (kind, robust) = kind_and_robust(fields)?;
+    Some((name, kind, robust))
+}
+
+/// What is after `barrier-init` up to the next space, and the count after that, if a text begins
+/// with the word and goes on so. A client that says this makes this barrier, if the first is a name.
+#[inline(always)]
+pub fn barrier_init_at_start(text: &[u8]) -> Option<(&[u8], u64)>
+    ensures { IfSome result (λ said. (client : List ℕ) → IsName said.0.now
+        → body_read (who.Named client) text.now
+        ≡ Ok (body.Ask (call.BarrierInit said.0.now said.1))) }
+{
+    let args = after(text, b"barrier-init ")?;
+    let mut fields = Fields::new(args);
+    let name = fields.next()?;
+    let count = only_number(fields)?;
+    Some((name, count))
 }
 
 /// The moment of the real clock, if a text begins with the word of one and a line of the clocks

@@ -7,7 +7,8 @@ use crate::fault::ScriptFault;
 use crate::line_id::LineId;
 use crate::text::refuse;
 use pt_lines::{
-    Who, asked_at_start, moment_at_start, named_at_start, read_said, timed_at_start, wait_at_start,
+    Who, barrier_init_at_start, moment_at_start, mutex_init_at_start, named_at_start, read_said,
+    timed_at_start, timedwait_at_start, wait_at_start,
 };
 use pt_types::{Call, ClientId, Clock, MOST_IN_LINE, Name, Refusal};
 use std::alloc::Allocator;
@@ -65,10 +66,10 @@ impl<A: Allocator + Copy> Engine<A> {
         }
     }
 
-    // Answers what begins as a making of a mutex or a barrier may, or as a wait with a deadline. It
-    // isn't inlined, so that other lines have no room to clear for it.
+    // Answers what begins as a wait with a deadline may. It isn't inlined, so that other lines have
+    // no room to clear for it.
     #[inline(never)]
-    fn answer_asked(
+    fn answer_timedwait(
         &mut self,
         line: &LineId,
         client: Option<ClientId>,
@@ -83,10 +84,62 @@ impl<A: Allocator + Copy> Engine<A> {
         ensures why { IfErr result (λ fault. fault ≡ ScriptFault.Memory) }
     {
         if let Who::Named(_) = line.who
-            && let Some(asked) = asked_at_start(rest)
+            && let Some(asked) = timedwait_at_start(rest)
             && rest.len() <= MOST_IN_LINE
         {
             return self.ask_or_refuse(line, client, asked, out);
+        }
+        self.answer_rare(line, client, rest, out)
+    }
+
+    // Answers what begins as the making of a mutex may. It isn't inlined, so that other lines have
+    // no room to clear for it.
+    #[inline(never)]
+    fn answer_mutex_init(
+        &mut self,
+        line: &LineId,
+        client: Option<ClientId>,
+        rest: &[u8],
+        out: &mut Vec<u8, A>,
+    ) -> Result<(), ScriptFault>
+        requires counted { 0 < lines_of_who self.old.seen line.now.who }
+        requires client { client ≡ number_of self.old.clients line.now.who }
+        ensures ok { OnOk result (Adds (SaysTo (known_by self.old) line.now
+            (event_of_body (known_by self.old) line.now.who (body_read line.now.who rest.now))
+            (known_by self.new)) out.old.items out.new.items) }
+        ensures why { IfErr result (λ fault. fault ≡ ScriptFault.Memory) }
+    {
+        if let Who::Named(_) = line.who
+            && let Some(said) = mutex_init_at_start(rest)
+            && let Some(name) = Name::new(said.0)
+        {
+            return self.ask(line, client, Call::MutexInit(name, said.1, said.2), out);
+        }
+        self.answer_rare(line, client, rest, out)
+    }
+
+    // Answers what begins as the making of a barrier may. It isn't inlined, so that other lines have
+    // no room to clear for it.
+    #[inline(never)]
+    fn answer_barrier_init(
+        &mut self,
+        line: &LineId,
+        client: Option<ClientId>,
+        rest: &[u8],
+        out: &mut Vec<u8, A>,
+    ) -> Result<(), ScriptFault>
+        requires counted { 0 < lines_of_who self.old.seen line.now.who }
+        requires client { client ≡ number_of self.old.clients line.now.who }
+        ensures ok { OnOk result (Adds (SaysTo (known_by self.old) line.now
+            (event_of_body (known_by self.old) line.now.who (body_read line.now.who rest.now))
+            (known_by self.new)) out.old.items out.new.items) }
+        ensures why { IfErr result (λ fault. fault ≡ ScriptFault.Memory) }
+    {
+        if let Who::Named(_) = line.who
+            && let Some(said) = barrier_init_at_start(rest)
+            && let Some(name) = Name::new(said.0)
+        {
+            return self.ask(line, client, Call::BarrierInit(name, said.1), out);
         }
         self.answer_rare(line, client, rest, out)
     }
@@ -188,9 +241,10 @@ impl<A: Allocator + Copy> Engine<A> {
         match (&line.who, rest.first(), rest.get(6)) {
             (Who::Star, _, _) => self.answer_moment(line, client, rest, out),
             (_, Some(b'w'), _) => self.answer_wait(line, client, rest, out),
-            (_, Some(b't'), Some(b'a')) => self.answer_asked(line, client, rest, out),
+            (_, Some(b't'), Some(b'a')) => self.answer_timedwait(line, client, rest, out),
             (_, Some(b't'), _) => self.answer_timed(line, client, rest, out),
-            (_, Some(b'm' | b'b'), _) => self.answer_asked(line, client, rest, out),
+            (_, Some(b'm'), _) => self.answer_mutex_init(line, client, rest, out),
+            (_, Some(b'b'), _) => self.answer_barrier_init(line, client, rest, out),
             _ => self.answer_rare(line, client, rest, out),
         }
     }

@@ -3,7 +3,7 @@ use Rattle.pt_lines.specs.Script.{body_read}
 use Rattle.pt_script.specs.Scripts.{event_of_body}
 use Rattle.pt_script.specs.Says.{SaysTo}
 use Rattle.pt_script.specs.Engines.{Adds, known_by}
-use Rattle.pt_script.proofs.engine.Engine.answer_asked.Goals as goal
+use Rattle.pt_script.proofs.engine.Engine.answer_timedwait.Goals as goal
 
 pub returns-clause-ok : goal.returns-clause-ok
 returns-clause-ok g c =
