@@ -74,7 +74,8 @@ impl<A: Allocator + Copy> Model for History<A> {
 
 impl<A: Allocator + Copy> History<A> {
     ghost use Rattle.std.specs.Prelude.{◌≡◌, ◌↔◌, ◌+◌, ◌-◌, ◌<◌, ◌≤◌, [], ◌∷◌, ◌++◌, length};
-    ghost use Rattle.std.specs.Prelude.{slice_get, vec_len, None, IsOk, IfOk, OnOk, OnErr, IfErr, ◌≢◌};
+    ghost use Rattle.std.specs.Prelude.{slice_get, vec_len, None, IsOk, IfOk, OnOk, OnErr, IfErr};
+    ghost use Rattle.std.specs.Prelude.{◌≢◌};
     ghost use Rattle.pt_types.specs.Limits.{most_places};
     ghost use Rattle.pt_model.specs.StartRows.{rows_of};
     ghost use Rattle.pt_history.specs.Records.{HasRoom};

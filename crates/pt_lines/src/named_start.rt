@@ -251,7 +251,8 @@ pub fn mutex_init_at_start(text: &[u8]) -> Option<(&[u8], MutexKind, bool)>
 }
 
 /// What is after `barrier-init` up to the next space, and the count after that, if a text begins
-/// with the word and goes on so. A client that says this makes this barrier, if the first is a name.
+/// with the word and goes on so. A client that says this makes this barrier, if the first is a
+/// name.
 #[inline(always)]
 pub fn barrier_init_at_start(text: &[u8]) -> Option<(&[u8], u64)>
     ensures { IfSome result (λ said. (client : List ℕ) → IsName said.0.now

@@ -118,8 +118,8 @@ impl<A: Allocator + Copy> Engine<A> {
         self.answer_rare(line, client, rest, out)
     }
 
-    // Answers what begins as the making of a barrier may. It isn't inlined, so that other lines have
-    // no room to clear for it.
+    // Answers what begins as the making of a barrier may. It isn't inlined, so that other lines
+    // have no room to clear for it.
     #[inline(never)]
     fn answer_barrier_init(
         &mut self,

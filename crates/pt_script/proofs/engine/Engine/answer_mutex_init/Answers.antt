@@ -19,8 +19,10 @@ returns-clause-ok g c =
     ap (λ w. event_of_body s w (body_read w c.args.rest.now)) who
     ∙ ap (event_of_body s client)
     (c.in-Some.ensures c.in-Named.field-0 (c.in-Some-new.ensures.valid.0 refl))
-    ∙ ap (λ n. of_client (λ d. event.Call d (MutexInit n c.in-Some.said.1 c.in-Some.said.2)) number) (sym name)
-    ∙ ap (of_client (λ d. event.Call d (MutexInit c.in-Some-new.name c.in-Some.said.1 c.in-Some.said.2)))
+    ∙ ap (λ n. of_client (λ d. event.Call d (MutexInit n c.in-Some.said.1 c.in-Some.said.2))
+    number) (sym name)
+    ∙ ap (of_client (λ d. event.Call d (MutexInit c.in-Some-new.name c.in-Some.said.1
+    c.in-Some.said.2)))
     (sym (c.requires.client ∙ ap (number_of s.clients) who)) in
     subst
     (λ v. OnOk c.ask.result (Adds (SaysTo s c.args.line.now v (known_by c.ask.new.self))
