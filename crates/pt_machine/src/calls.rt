@@ -136,7 +136,7 @@ fn leave_arrival<Q: WaitList, A: Allocator + Copy>(
     }
 }
 
-// A wait with no deadline. It stands at its condition with its client's priority, which is read
+// A wait with no deadline. It waits at its condition with its client's priority, which is read
 // before the wait is pushed, so its client's row is not looked at again.
 #[inline(always)]
 fn enter_wait<Q: WaitList, A: Allocator + Copy>(
