@@ -6,7 +6,6 @@ use Rattle.std.proofs.lemmas.Bool.Decides.{nat_tests}
 use Rattle.std.specs.Ordering.{is_lt}
 use Rattle.std.specs.List.{list_any}
 use Rattle.std.specs.BTreeMap.{is_at}
-use Rattle.std.specs.BTreeSet.{BTreeSet, btree_set_len, IsUpperBound}
 use Rattle.pt_types.specs.declared.time.Clock.{Clock}
 use Rattle.pt_types.specs.Times.{Timespec, deadline_nanos, is_bad_deadline, pair_before}
 use Rattle.pt_timers.specs.declared.key.TimerKey.{TimerKey}
@@ -14,32 +13,12 @@ use Rattle.pt_timers.specs.Deadlines.{deadline_at, pair_of, key_cmp, key_of, is_
 use Rattle.pt_timers.specs.Deadlines.{AreTimers}
 use Rattle.pt_timers.specs.Deadlines.{IsFirst, IsFirstDue, IsLeast}
 
--- what isn't below a key isn't before it
-not-before : (a b : TimerKey) → is_lt (key_cmp a b) ≡ false
-    → pair_before (pair_of b) (pair_of a) ≡ false
-not-before a b h = search rules
-
 first-least : (a b : ℕ × ℕ) → pair_before a b ≡ false → b.0 ≤ a.0
 first-least a b h = grind (arith, nat_tests)
 
--- nothing is among none
-none-in : (ks : List TimerKey) → (0 < length ks → false ≡ true)
-    → (q : TimerKey) → list_any (is_at (key_cmp q)) ks ≡ false
-none-in [] none q = refl
-none-in (k ∷ ks) none q = absurd (false≢true (none (omega arith)))
-
--- the last of the keys of an order is due first
-pub last-is-first : (order : BTreeSet TimerKey) (key : TimerKey) → is_in order key ≡ true
-    → IsUpperBound key_cmp order key → IsFirst order (Some key)
-last-is-first order key there last = (there, λ q h. not-before key q (last q h))
-
-pub none-is-first : (order : BTreeSet TimerKey) → (0 < btree_set_len order → false ≡ true)
-    → IsFirst order None
-none-is-first order none q = none-in order.keys none q
-
 module _ (places w : List (ℕ × (Clock × ℕ))) (view : places ≡ w)
     (is_due : Clock → TimerKey → Bool) (kept : AreTimers places is_due) (k : Clock)
-    (order : BTreeSet TimerKey) (own : (q : TimerKey) → is_in order q ≡ is_due k q)
+    (order : List TimerKey) (own : (q : TimerKey) → is_in order q ≡ is_due k q)
   where
     -- what is set is in its order
     listed : (q m : ℕ) → deadline_at w q ≡ Some (k, m)

@@ -2,7 +2,11 @@
 mod DueLemmas
 -- FirstLemmas: the first deadline in the order of a clock
 mod FirstLemmas
+-- KeyLemmas: the keys of a heap, as one is put in or taken away, and its first
+mod KeyLemmas
 -- PlaceLemmas: what is set at a place, as the map of the places has it
 mod PlaceLemmas
+-- StaleLemmas: the keys that aren't canceled, as one is put in or taken away
+mod StaleLemmas
 -- TimerLemmas: the deadlines in their orders, as one is set or taken away
 mod TimerLemmas

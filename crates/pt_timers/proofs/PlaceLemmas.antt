@@ -91,22 +91,22 @@ module _ {A : Type 0} (o : Orders A) where
       → is_due_at o k (key_of n p) ≡ true
   is-due p k n e =
       ⊎_elim (λ one. subst (λ c. is_due_at o c (key_of n p) ≡ true) one.0 one.1) other
-      (set-in Real (by_places Mono o.mono.keys) p o.real.keys k n e)
+      (set-in Real (by_places Mono o.mono) p o.real k n e)
     where
-      other : deadline_at (by_places Mono o.mono.keys) p ≡ Some (k, n)
+      other : deadline_at (by_places Mono o.mono) p ≡ Some (k, n)
           → is_due_at o k (key_of n p) ≡ true
       other f =
           ⊎_elim (λ one. subst (λ c. is_due_at o c (key_of n p) ≡ true) one.0 one.1)
           (λ none. absurd cc)
-          (set-in Mono [] p o.mono.keys k n
-          (ap (λ ts. deadline_at ts p) (append-nil (by_places Mono o.mono.keys)) ∙ f))
+          (set-in Mono [] p o.mono k n
+          (ap (λ ts. deadline_at ts p) (append-nil (by_places Mono o.mono)) ∙ f))
 
   -- where nothing is set, nothing is due
   pub not-due-at : (p : ℕ) → deadline_at (listed o) p ≡ None
       → (k : Clock) (q : TimerKey) → q.place ≡ p → is_due_at o k q ≡ true → ⊥
   not-due-at p e Real q at h =
-      (none-set Real (by_places Mono o.mono.keys) p o.real.keys e).0 q at h
+      (none-set Real (by_places Mono o.mono) p o.real e).0 q at h
   not-due-at p e Mono q at h =
-      (none-set Mono [] p o.mono.keys
-      (ap (λ ts. deadline_at ts p) (append-nil (by_places Mono o.mono.keys))
-      ∙ (none-set Real (by_places Mono o.mono.keys) p o.real.keys e).1)).0 q at h
+      (none-set Mono [] p o.mono
+      (ap (λ ts. deadline_at ts p) (append-nil (by_places Mono o.mono))
+      ∙ (none-set Real (by_places Mono o.mono) p o.real e).1)).0 q at h

@@ -236,12 +236,12 @@ module _ {A : Type 0} (old new : Orders A) (kept : AreTimers (listed old) (is_du
 
 -- the same keys are the same deadlines
 same-listed : {A : Type 0} (old new : Orders A)
-    → ((k : Clock) → (order_of new k).keys ≡ (order_of old k).keys) → listed new ≡ listed old
+    → ((k : Clock) → order_of new k ≡ order_of old k) → listed new ≡ listed old
 same-listed old new same =
     ap₂ (λ r m. by_places Real r ++ by_places Mono m) (same Real) (same Mono)
 
 same-timers : {A : Type 0} (old new : Orders A)
-    → ((k : Clock) → (order_of new k).keys ≡ (order_of old k).keys)
+    → ((k : Clock) → order_of new k ≡ order_of old k)
     → AreTimers (listed old) (is_due_at old) → AreTimers (listed new) (is_due_at new)
 same-timers old new same kept =
     timers-of new
@@ -259,7 +259,7 @@ module _ {A X E : Type 0} (old new : Orders A) (answer : Result X E) (k : Clock)
 
   -- the keys are as before
   abbrev IsSame : Type 0
-  IsSame = (l : Clock) → (order_of new l).keys ≡ (order_of old l).keys
+  IsSame = (l : Clock) → order_of new l ≡ order_of old l
 
   module _ (w : List (ℕ × (Clock × ℕ))) (view : listed old ≡ w) where
     -- a deadline that is refused changes nothing

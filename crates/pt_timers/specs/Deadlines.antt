@@ -1,9 +1,11 @@
 -- Deadlines: a finite map from places to deadlines, each with its clock and in nanoseconds.
-use Rattle.std.specs.Prelude.{ℕ, ◌≡◌, ◌≤◌, ◌<◌, ◌*◌, ◌==◌, ◌&&◌, Bool, true, false, nat_le}
+use Rattle.std.specs.Prelude.{ℕ, ◌≡◌, ◌≤◌, ◌<◌, ◌*◌, ◌==◌, ◌&&◌, not, Bool, true, false, nat_le}
 use Rattle.std.specs.Prelude.{if◌then◌else◌, List, [], ◌∷◌, Option, Some, None, MatchOption}
 use Rattle.std.specs.declared.cmp.Ordering.{Ordering}
 use Rattle.std.specs.Ordering.{ordering_then, nat_cmp}
-use Rattle.std.specs.BTreeSet.{BTreeSet, contains}
+use Rattle.std.specs.BTreeMap.{is_at}
+use Rattle.std.specs.BinaryHeap.{IsHeap}
+use Rattle.std.specs.List.{list_any, filter}
 use Rattle.pt_types.specs.declared.time.Clock.{Clock}
 use Rattle.pt_types.specs.declared.time.Clock.TheVariants.{Real, Mono}
 use Rattle.pt_types.specs.Operations.{same_clock}
@@ -84,17 +86,40 @@ is_found (Some f) key = same_key f key
 abbrev pub key_cmp : TimerKey → TimerKey → Ordering
 key_cmp a b = ordering_then (nat_cmp b.nanos a.nanos) (nat_cmp b.place a.place)
 
--- whether a deadline has this key
-abbrev pub is_in : BTreeSet TimerKey → TimerKey → Bool
-is_in order key = contains key_cmp order key
+-- whether one of these keys is of this deadline and place
+abbrev pub is_in : List TimerKey → TimerKey → Bool
+is_in keys q = list_any (is_at (key_cmp q)) keys
 
--- a key that is in an order, and none of the order is due before it; or none if none is in it
-abbrev pub IsFirst : BTreeSet TimerKey → Option TimerKey → Type 0
-IsFirst order found =
+-- a key that is among these, and none of them is due before it; or none if none is there
+abbrev pub IsFirst : List TimerKey → Option TimerKey → Type 0
+IsFirst keys found =
     MatchOption found
-    ((q : TimerKey) → is_in order q ≡ false)
-    (λ k. (is_in order k ≡ true)
-    × ((q : TimerKey) → is_in order q ≡ true → pair_before (pair_of q) (pair_of k) ≡ false))
+    ((q : TimerKey) → is_in keys q ≡ false)
+    (λ k. (is_in keys k ≡ true)
+    × ((q : TimerKey) → is_in keys q ≡ true → pair_before (pair_of q) (pair_of k) ≡ false))
+
+-- the keys of which none is canceled
+abbrev pub live : List TimerKey → List TimerKey → List TimerKey
+live keys canceled = filter (λ k. not (is_in canceled k)) keys
+
+-- whether a key is among these, and isn't canceled
+abbrev pub is_live : List TimerKey → List TimerKey → TimerKey → Bool
+is_live keys canceled q = not (is_in canceled q) && is_in keys q
+
+-- the first of the keys isn't canceled
+abbrev pub IsApart : List TimerKey → List TimerKey → Type 0
+IsApart keys canceled = (t : TimerKey) → IsFirst keys (Some t) → is_in canceled t ≡ false
+
+-- no key came after this place
+abbrev pub ComeBefore : List TimerKey → ℕ → Type 0
+ComeBefore keys last = (q : TimerKey) → is_in keys q ≡ true → q.place ≤ last
+
+-- the first of the keys isn't canceled, and is found without a search
+pub record IsOrder (keys canceled : List TimerKey) (last : ℕ) : Type 0 where
+  pub heap : IsHeap key_cmp keys
+  pub canceled_heap : IsHeap key_cmp canceled
+  pub apart : IsApart keys canceled
+  pub before : ComeBefore canceled last
 
 -- the nanoseconds of a deadline that is a time are below these  [profile]
 abbrev pub most_nanos : ℕ

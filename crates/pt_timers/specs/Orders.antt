@@ -1,6 +1,5 @@
 -- Orders: the deadlines of each clock, by their keys.
 use Rattle.std.specs.Prelude.{ℕ, Bool, List, [], ◌∷◌, ◌++◌}
-use Rattle.std.specs.BTreeSet.{BTreeSet}
 use Rattle.pt_types.specs.declared.time.Clock.{Clock}
 use Rattle.pt_types.specs.declared.time.Clock.TheVariants.{Real, Mono}
 use Rattle.pt_timers.specs.declared.key.TimerKey.{TimerKey}
@@ -8,7 +7,7 @@ use Rattle.pt_timers.specs.declared.orders.Orders.{Orders}
 use Rattle.pt_timers.specs.Deadlines.{is_in}
 
 -- the deadlines of a clock  [XSH pthread_mutex_clocklock]
-abbrev pub order_of : {A : Type 0} → Orders A → Clock → BTreeSet TimerKey
+abbrev pub order_of : {A : Type 0} → Orders A → Clock → List TimerKey
 order_of o Real = o.real
 order_of o Mono = o.mono
 
@@ -23,4 +22,4 @@ by_places k (q ∷ qs) = (q.place, (k, q.nanos)) ∷ by_places k qs
 
 -- the deadlines of both clocks, by their places
 abbrev pub listed : {A : Type 0} → Orders A → List (ℕ × (Clock × ℕ))
-listed o = by_places Real o.real.keys ++ by_places Mono o.mono.keys
+listed o = by_places Real o.real ++ by_places Mono o.mono

@@ -19,7 +19,8 @@ pub(crate) struct TimerKey {
     pub(crate) client: ClientId,
 }
 
-// The later is the less, so that the one that is due first is the last of its order.
+// The later is the less, so that the one that is due first is the greatest. Both parts are always
+// compared: no processor foretells a branch on which of two keys is sooner.
 impl Ord for TimerKey {
     ghost cmp = { then_cmp (flip_args (on (λ k. k.nanos) nat_cmp))
         (flip_args (on (λ k. k.place) nat_cmp)) };
@@ -32,13 +33,8 @@ impl Ord for TimerKey {
 
     #[inline(always)]
     fn cmp(&self, other: &TimerKey) -> Ordering {
-        if self.nanos < other.nanos {
-            Ordering::Greater
-        } else if other.nanos < self.nanos {
-            Ordering::Less
-        } else {
-            other.place.cmp(&self.place)
-        }
+        let by_place = other.place.cmp(&self.place);
+        other.nanos.cmp(&self.nanos).then(by_place)
     }
 }
 

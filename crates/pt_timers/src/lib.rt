@@ -5,8 +5,10 @@
 #![tactic(auto)]
 
 mod key;
+mod keys;
 mod order;
 mod orders;
+mod stale;
 mod timers;
 
 pub use timers::Timers;

@@ -1,32 +1,39 @@
-ghost use Rattle.std.specs.Prelude.{◌≡◌, ◌&&◌, ◌||◌, not, OnOk, OnErr, IfErr, false, Some};
+ghost use Rattle.std.specs.Prelude.{◌≡◌, ◌&&◌, ◌||◌, not, true, OnOk, OnErr, IfErr, false};
+ghost use Rattle.std.specs.BinaryHeap.{IsHeap, heap_items};
 ghost use Rattle.pt_types.specs.declared.outcome.Refusal.{Refusal};
 ghost use Rattle.pt_timers.specs.declared.key.TimerKey.{TimerKey};
-ghost use Rattle.pt_timers.specs.Deadlines.{is_found, is_in, same_key, IsFirst};
+ghost use Rattle.pt_timers.specs.Deadlines.{is_in, is_live, key_cmp, same_key};
+ghost use Rattle.pt_timers.specs.Deadlines.{ComeBefore, IsApart, IsFirst};
 
-use crate::key::{TimerKey, sooner};
+use crate::key::TimerKey;
+use crate::keys::{drop_key, first_of, is_key, pop_all, push, reserve};
+use crate::stale::{compact_if_sparse, settle};
 use pt_types::Refusal;
 use std::alloc::Allocator;
-use std::collections::BTreeSet;
+use std::collections::BinaryHeap;
 use std::marker::Model;
 
-/// The deadlines of a clock, with the one that is due first. It is the last of its keys, where it
-/// leaves without a search.
+/// The deadlines of a clock. A deadline that is canceled while another is due before it stays among
+/// the keys, and is noted among the canceled ones, of which none came after the last place.
 #[derive(Drop)]
 pub(crate) struct Order<A: Allocator + Copy> {
-    keys: BTreeSet<TimerKey, A>,
-    first: Option<TimerKey>,
+    keys: BinaryHeap<TimerKey, A>,
+    canceled: BinaryHeap<TimerKey, A>,
+    last: u64,
+    alloc: A,
 }
 
 impl<A: Allocator + Copy> Model for Order<A> {
-    ghost use Rattle.std.specs.BTreeSet.{BTreeSet};
+    ghost use Rattle.std.specs.Prelude.{List};
+    ghost use Rattle.std.specs.BinaryHeap.{heap_items};
     ghost use Rattle.pt_timers.specs.declared.key.TimerKey.{TimerKey};
-    ghost use Rattle.pt_timers.specs.Deadlines.{IsFirst};
+    ghost use Rattle.pt_timers.specs.Deadlines.{live, IsOrder};
 
-    ghost Value = { BTreeSet TimerKey };
+    ghost Value = { List TimerKey };
 
-    ghost view = { λ o. o.keys };
+    ghost view = { λ o. live (heap_items o.keys) (heap_items o.canceled) };
 
-    ghost invariant = { λ o. IsFirst o.keys o.first };
+    ghost invariant = { λ o. IsOrder (heap_items o.keys) (heap_items o.canceled) o.last };
 }
 
 impl<A: Allocator + Copy> Order<A> {
@@ -35,8 +42,10 @@ impl<A: Allocator + Copy> Order<A> {
         ensures { (q : TimerKey) → is_in result q ≡ false }
     {
         Order {
-            keys: BTreeSet::new(alloc),
-            first: None,
+            keys: BinaryHeap::new(alloc),
+            canceled: BinaryHeap::new(alloc),
+            last: 0,
+            alloc,
         }
     }
 
@@ -45,19 +54,18 @@ impl<A: Allocator + Copy> Order<A> {
     pub(crate) fn first(&self) -> Option<TimerKey>
         ensures { IsFirst self.now result }
     {
-        self.first
+        first_of(&self.keys)
     }
 
     /// Puts a deadline in its order; ENOMEM if the growth is refused, which changes nothing.
     pub(crate) fn insert(&mut self, key: TimerKey) -> Result<(), Refusal>
         ensures ok { OnOk result ((q : TimerKey)
             → is_in self.new q ≡ (same_key key q || is_in self.old q)) }
-        ensures err { OnErr result (self.new.keys ≡ self.old.keys) }
+        ensures err { OnErr result (self.new ≡ self.old) }
         ensures refusal { IfErr result (λ refusal. refusal ≡ Refusal.Enomem) }
     {
-        insert(&mut self.keys, &key)?;
-        let first = self.first;
-        self.first = Some(sooner(first, key));
+        insert(&mut self.keys, &mut self.canceled, self.last, &key)?;
+        compact_if_sparse(&mut self.keys, &mut self.canceled, self.alloc);
         Ok(())
     }
 
@@ -65,61 +73,68 @@ impl<A: Allocator + Copy> Order<A> {
     pub(crate) fn remove(&mut self, key: TimerKey)
         ensures { (q : TimerKey) → is_in self.new q ≡ (not (same_key key q) && is_in self.old q) }
     {
-        if is_key(&self.first, &key) {
-            remove_first(&mut self.keys, &key);
-            self.first = first_of(&self.keys);
+        let first = first_of(&self.keys);
+        if is_key(&first, &key) {
+            pop_all(&mut self.keys, &key);
         } else {
-            remove(&mut self.keys, key);
+            cancel(&mut self.keys, &mut self.canceled, &mut self.last, &key);
         }
+        settle(&mut self.keys, &mut self.canceled);
     }
 }
 
-// Whether this key is the one that was found.
-fn is_key(found: &Option<TimerKey>, key: &TimerKey) -> bool
-    ensures { result ≡ is_found found.now key.now }
-{
-    match found {
-        Some(first) => first == key,
-        None => false,
-    }
-}
-
+// Puts a key in, and leaves room for all keys to be canceled.
+#[inline(always)]
 fn insert<A: Allocator + Copy>(
-    order: &mut BTreeSet<TimerKey, A>,
+    keys: &mut BinaryHeap<TimerKey, A>,
+    canceled: &mut BinaryHeap<TimerKey, A>,
+    last: u64,
     key: &TimerKey,
 ) -> Result<(), Refusal>
+    requires heap { IsHeap key_cmp (heap_items keys.old) }
+    requires canceled { IsHeap key_cmp (heap_items canceled.old) }
+    requires apart { IsApart (heap_items keys.old) (heap_items canceled.old) }
+    requires before { ComeBefore (heap_items canceled.old) last }
+    ensures heap { IsHeap key_cmp (heap_items keys.new) }
+    ensures canceled { IsHeap key_cmp (heap_items canceled.new) }
+    ensures fewer { (q : TimerKey) → is_in (heap_items canceled.new) q ≡ true
+        → is_in (heap_items canceled.old) q ≡ true }
     ensures ok { OnOk result ((q : TimerKey)
-        → is_in order.new q ≡ (same_key key.now q || is_in order.old q)) }
-    ensures err { OnErr result (order.new.keys ≡ order.old.keys) }
+        → is_live (heap_items keys.new) (heap_items canceled.new) q
+        ≡ (same_key key.now q || is_live (heap_items keys.old) (heap_items canceled.old) q)) }
+    ensures apart { OnOk result (IsApart (heap_items keys.new) (heap_items canceled.new)) }
+    ensures err { OnErr result (heap_items keys.new ≡ heap_items keys.old) }
+    ensures same { OnErr result (heap_items canceled.new ≡ heap_items canceled.old) }
     ensures refusal { IfErr result (λ refusal. refusal ≡ Refusal.Enomem) }
 {
-    match order.insert(*key) {
-        Ok(_) => Ok(()),
-        Err(_) => Err(Refusal::Enomem),
+    reserve(canceled, keys.len())?;
+    push(keys, key)?;
+    if key.place <= last {
+        drop_key(canceled, key);
     }
+    Ok(())
 }
 
-fn remove<A: Allocator + Copy>(order: &mut BTreeSet<TimerKey, A>, key: TimerKey)
-    ensures { (q : TimerKey) → is_in order.new q ≡ (not (same_key key q) && is_in order.old q) }
+// Notes that a key is canceled, or takes it away if there is no room to note it.
+#[inline(never)]
+fn cancel<A: Allocator + Copy>(
+    keys: &mut BinaryHeap<TimerKey, A>,
+    canceled: &mut BinaryHeap<TimerKey, A>,
+    last: &mut u64,
+    key: &TimerKey,
+)
+    requires heap { IsHeap key_cmp (heap_items keys.old) }
+    requires canceled { IsHeap key_cmp (heap_items canceled.old) }
+    requires before { ComeBefore (heap_items canceled.old) last.old }
+    ensures heap { IsHeap key_cmp (heap_items keys.new) }
+    ensures canceled { IsHeap key_cmp (heap_items canceled.new) }
+    ensures before { ComeBefore (heap_items canceled.new) last.new }
+    ensures live { (q : TimerKey) → is_live (heap_items keys.new) (heap_items canceled.new) q
+        ≡ (not (same_key key.now q)
+        && is_live (heap_items keys.old) (heap_items canceled.old) q) }
 {
-    order.remove(&key);
-}
-
-// The key that is due first.
-fn first_of<A: Allocator + Copy>(order: &BTreeSet<TimerKey, A>) -> Option<TimerKey>
-    ensures { IsFirst order.now result }
-{
-    match order.last() {
-        Some(last) => Some(*last),
-        None => None,
+    *last = key.place.max(*last);
+    if canceled.capacity() <= canceled.len() || push(canceled, key).is_err() {
+        drop_key(keys, key);
     }
-}
-
-// Takes the key that is due first away.
-fn remove_first<A: Allocator + Copy>(order: &mut BTreeSet<TimerKey, A>, first: &TimerKey)
-    requires { IsFirst order.old (Some first.now) }
-    ensures { (q : TimerKey)
-        → is_in order.new q ≡ (not (same_key first.now q) && is_in order.old q) }
-{
-    order.pop_last();
 }

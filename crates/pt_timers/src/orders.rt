@@ -45,7 +45,7 @@ impl<A: Allocator + Copy> Orders<A> {
             → is_due_at self.new k q
             ≡ ((same_clock clock k && same_key key q) || is_due_at self.old k q)) }
         ensures err { OnErr result ((k : Clock)
-            → (order_of self.new k).keys ≡ (order_of self.old k).keys) }
+            → order_of self.new k ≡ order_of self.old k) }
         ensures refusal { IfErr result (λ refusal. refusal ≡ Refusal.Enomem) }
     {
         match clock {

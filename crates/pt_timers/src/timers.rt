@@ -30,8 +30,8 @@ fn deadline_of(nanos: u64) -> Deadline
     Deadline::new(sec, nanos % NANOSECONDS_IN_SECOND).unwrap()
 }
 
-/// Deadlines by the places of their calls. Only `set` takes memory. Each call takes time that
-/// grows with the logarithm of how many are set.
+/// Deadlines by the places of their calls. Only `set` takes memory. Over many calls, each takes
+/// time that grows with the logarithm of how many are set.
 #[derive(Drop)]
 pub struct Timers<A: Allocator + Copy = Global> {
     orders: Orders<A>,
