@@ -1,17 +1,14 @@
 -- The first deadline in the order of a clock.
-use Rattle.std.proofs.Common.{rules, ◌≡◌, ℕ, ◌<◌, ◌≤◌, Bool, true, false, List, [], ◌∷◌, Option}
-use Rattle.std.proofs.Common.{Some, None, length, refl, sym, ap, ◌∙◌, arith}
+use Rattle.std.proofs.Common.{◌≡◌, ℕ, ◌<◌, ◌≤◌, Bool, true, false, List, Option}
+use Rattle.std.proofs.Common.{Some, None, sym, ap, ◌∙◌, arith}
 use Rattle.std.proofs.lemmas.Bool.{false≢true}
 use Rattle.std.proofs.lemmas.Bool.Decides.{nat_tests}
-use Rattle.std.specs.Ordering.{is_lt}
-use Rattle.std.specs.List.{list_any}
-use Rattle.std.specs.BTreeMap.{is_at}
 use Rattle.pt_types.specs.declared.time.Clock.{Clock}
 use Rattle.pt_types.specs.Times.{Timespec, deadline_nanos, is_bad_deadline, pair_before}
 use Rattle.pt_timers.specs.declared.key.TimerKey.{TimerKey}
-use Rattle.pt_timers.specs.Deadlines.{deadline_at, pair_of, key_cmp, key_of, is_in, most_nanos}
+use Rattle.pt_timers.specs.Deadlines.{deadline_at, pair_of, key_of, is_in, most_nanos}
 use Rattle.pt_timers.specs.Deadlines.{AreTimers}
-use Rattle.pt_timers.specs.Deadlines.{IsFirst, IsFirstDue, IsLeast}
+use Rattle.pt_timers.specs.Deadlines.{IsFirstDue, IsLeast}
 
 first-least : (a b : ℕ × ℕ) → pair_before a b ≡ false → b.0 ≤ a.0
 first-least a b h = grind (arith, nat_tests)

@@ -7,7 +7,7 @@ use Rattle.pt_types.specs.Times.{pair_before}
 use Rattle.pt_timers.specs.declared.key.TimerKey.{TimerKey}
 use Rattle.pt_timers.specs.Deadlines.{pair_of, same_key, is_in, live, is_live, IsFirst, IsApart}
 use Rattle.pt_timers.specs.Deadlines.{ComeBefore}
-use Rattle.pt_timers.proofs.KeyLemmas.{in-live, in-same, one-first, same-back, same-parts-of}
+use Rattle.pt_timers.proofs.KeyLemmas.{in-live, in-same, one-first, same-parts-of}
 
 module _ (ks new cs : List TimerKey) (x : TimerKey)
     (out : (q : TimerKey) → is_in ks q ≡ (same_key x q || is_in new q)) where

@@ -117,7 +117,7 @@ fn compact<A: Allocator + Copy>(
     }
 }
 
-/// Takes all canceled keys away if they are more than half, and there is memory.
+/// Takes all canceled keys away if they are more than three in four, and there is memory.
 #[inline(always)]
 pub(crate) fn compact_if_sparse<A: Allocator + Copy>(
     keys: &mut BinaryHeap<TimerKey, A>,
@@ -135,7 +135,7 @@ pub(crate) fn compact_if_sparse<A: Allocator + Copy>(
         → is_in (heap_items canceled.old) q ≡ true }
     ensures apart { IsApart (heap_items keys.new) (heap_items canceled.new) }
 {
-    if FEW < canceled.len() && keys.len() / 2 < canceled.len() {
+    if FEW < canceled.len() && keys.len() - keys.len() / 4 < canceled.len() {
         compact(keys, canceled, alloc);
     }
 }
