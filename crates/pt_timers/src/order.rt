@@ -14,7 +14,7 @@ use std::collections::BinaryHeap;
 use std::marker::Model;
 
 /// The deadlines of a clock. A deadline that is canceled while another is due before it stays among
-/// the keys, and is noted among the canceled ones, of which none came after the last place.
+/// the keys, and is noted among the canceled ones, whose places are `last` or before it.
 #[derive(Drop)]
 pub(crate) struct Order<A: Allocator + Copy> {
     keys: BinaryHeap<TimerKey, A>,

@@ -11,7 +11,7 @@ use std::alloc::Allocator;
 use std::cmp::Ordering;
 use std::collections::BinaryHeap;
 
-// As few canceled keys stay.
+// So few canceled keys may always stay.
 const FEW: usize = 64;
 
 // Takes one key away if the first of the canceled ones isn't due after the first: that one if it is
