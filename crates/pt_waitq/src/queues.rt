@@ -332,6 +332,7 @@ pub(crate) fn discard<A: Allocator + Copy>(queues: &mut Queues<A>, object: u64)
 }
 
 /// The node of the first of a queue.
+#[inline(always)]
 pub(crate) fn first_of<A: Allocator + Copy>(queues: &Queues<A>, object: u64) -> Option<NodeIndex>
     ensures none { lookup (nat_eq object) queues.now ≡ None → result ≡ None }
     ensures queue { (queue : Queue)
