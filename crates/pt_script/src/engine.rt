@@ -1,4 +1,4 @@
-ghost use Rattle.std.specs.Prelude.{◌≡◌, ◌<◌, ◌+◌, ◌^◌, ◌++◌, [], length, None, OnOk, IfOk, IfErr};
+ghost use Rattle.std.specs.Prelude.{◌≡◌, ◌<◌, ◌+◌, ◌^◌, [], length, None, OnOk, IfOk, IfErr};
 ghost use Rattle.pt_script.specs.declared.mark.Mark.{Mark};
 
 use crate::accepting::{Calls, greet, note, tell_from};

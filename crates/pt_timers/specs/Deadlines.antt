@@ -114,7 +114,7 @@ IsApart keys canceled = (t : TimerKey) → IsFirst keys (Some t) → is_in cance
 abbrev pub ComeBefore : List TimerKey → ℕ → Type 0
 ComeBefore keys last = (q : TimerKey) → is_in keys q ≡ true → q.place ≤ last
 
--- the first of the keys isn't canceled, and is found without a search
+-- both are heaps; the first of the keys isn't canceled; and no canceled key came after this place
 pub record IsOrder (keys canceled : List TimerKey) (last : ℕ) : Type 0 where
   pub heap : IsHeap key_cmp keys
   pub canceled_heap : IsHeap key_cmp canceled
