@@ -96,11 +96,11 @@ raised_at m index name row unique at more same =
 
 -- the row at an index whose name is the same as this one
 pub row_at : (b : Bool) (rows : List (List ℕ × Row)) (index : ℕ) (key name : List ℕ) (row : Row)
-    → b ≡ bytes_eq key name → slice_get rows index ≡ Some (key, row) → row_of rows key ≡ Some row
-    → OnTrue b (IsAt rows index name)
+    → (b ≡ true → key ≡ name) → slice_get rows index ≡ Some (key, row)
+    → row_of rows key ≡ Some row → OnTrue b (IsAt rows index name)
 row_at false rows index key name row same at own = tt
 row_at true rows index key name row same at own =
-    let is : key ≡ name = (bytes_eq-Decides key name).0 (sym same) in
+    let is = same refl in
     record {
       row = row;
       at = at ∙ ap (λ n. Some (n, row)) is;

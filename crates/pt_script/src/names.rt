@@ -1,14 +1,13 @@
 ghost use Rattle.std.specs.Prelude.{◌≡◌, ◌≤◌, ◌<◌, ◌++◌, ◌^◌, ◌∷◌, [], suc, length, Some, None};
-ghost use Rattle.std.specs.Prelude.{OnOk, OnErr, IfOk, IfErr, IfSome, IsSome, take};
+ghost use Rattle.std.specs.Prelude.{OnOk, OnErr, IfOk, IfErr, IfSome, IsSome};
 ghost use Rattle.std.specs.Bool.{OnTrue};
-ghost use Rattle.std.specs.Str.{bytes_eq};
 ghost use Rattle.pt_script.specs.Names.{client_in, lines_in, row_of, IsAt, IsRowRaised};
 ghost use Rattle.pt_script.specs.Names.{IsRowGiven, AreRowsAlike};
 
 use crate::fault::ScriptFault;
 use http_server::Log;
 use indexmap::IndexMap;
-use pt_hints::Hints;
+use pt_hints::{Hints, are_same};
 use pt_lines::{ClientName, Who};
 use pt_types::{ClientId, key_of};
 use std::alloc::{Allocator, Global};
@@ -91,49 +90,13 @@ fn grow<A: Allocator + Copy>(hints: &mut Hints<A>, rows: &Rows<A>) -> Result<(),
     }
 }
 
-// Whether two blocks are the same, which are compared as numbers.
-#[inline(always)]
-fn are_same(one: &[u8; 4], other: &[u8; 4]) -> bool
-    ensures { OnTrue result (one.now ≡ other.now) }
-{
-    u32::from_le_bytes(*one) == u32::from_le_bytes(*other)
-}
-
-// How many bytes at the start of two names are seen to be the same, if four are compared at once.
-#[inline(always)]
-fn same_at_start(one: &[u8], other: &[u8]) -> usize
-    ensures within { result ≤ length one.now }
-    ensures same { take result one.now ≡ take result other.now }
-{
-    match (one.first_chunk::<4>(), other.first_chunk::<4>()) {
-        (Some(one), Some(other)) if are_same(one, other) => 4,
-        _ => 0,
-    }
-}
-
-// Whether two names are the same. They are short: a loop costs less than a call that compares.
-#[inline(always)]
-fn is_same(one: &[u8], other: &[u8]) -> bool
-    ensures { result ≡ bytes_eq one.now other.now }
-{
-    if one.len() != other.len() {
-        return false;
-    }
-    for place in same_at_start(one, other)..one.len() {
-        if one[place] != other[place] {
-            return false;
-        }
-    }
-    true
-}
-
 // Whether the row at an index is a name's.
 #[inline(always)]
 fn is_at<A: Allocator + Copy>(rows: &Rows<A>, index: usize, name: &ClientName) -> bool
     ensures { OnTrue result (IsAt rows.now.entries index name.now) }
 {
     match rows.get_index(index) {
-        Some((key, _)) => is_same(key.as_bytes(), name.as_bytes()),
+        Some((key, _)) => are_same(key.as_bytes(), name.as_bytes()),
         None => false,
     }
 }
