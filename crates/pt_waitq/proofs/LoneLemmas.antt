@@ -1,4 +1,4 @@
--- A queue in which one waits alone, who isn't put into the queue's box until another comes.
+-- A queue of one chain, which isn't put into the queue's box until one of another chain comes.
 use Rattle.std.proofs.Common.{◌≡◌, ◌≢◌, ℕ, ◌==◌, ◌+◌, ◌-◌, ◌≤◌, ◌<◌, Bool, true, false, cond, ◌&&◌}
 use Rattle.std.proofs.Common.{not, Option, Some, None, is_some, slice_index_or, inl, inr}
 use Rattle.std.proofs.Common.{refl, sym, ap, ◌∙◌, subst, arith, replicate, set}
@@ -12,25 +12,8 @@ use Rattle.pt_waitq.specs.declared.sides.Side.{Side}
 use Rattle.pt_waitq.specs.declared.sides.Queue.{Queue}
 use Rattle.pt_waitq.specs.Chains.{side_of, HasNone, IsSameChain, IsPut, IsTaken}
 use Rattle.pt_waitq.specs.Chains.{IsFirst, IsFirstChain, IsFirstWriter, HasWriterFrom}
-use Rattle.pt_waitq.specs.Boxes.{no_queue, lone_queue, IsSame}
+use Rattle.pt_waitq.specs.Boxes.{no_queue, lone_queue, IsNoChain, IsLone, IsSame}
 use Rattle.pt_waitq.proofs.BoxLemmas.{none-without}
-
--- a chain that is empty
-pub record IsNoChain (side : Side) (i : ℕ) : Type 0 where
-  pub count : slice_index side.counts i ≡ 0
-  pub tail : slice_index_or side.tails i None ≡ None
-  pub head : slice_index_or side.heads i None ≡ None
-
--- a node waits alone, in this chain
-pub record IsLone (k : Bool) (p n : ℕ) (q : Queue) : Type 0 where
-  pub len : q.len ≡ 1
-  pub count : (i : ℕ) → i < most_priority
-      → slice_index (side_of k q).counts i ≡ cond (p == i) 1 0
-  pub tail : (i : ℕ) → i < most_priority
-      → slice_index_or (side_of k q).tails i None ≡ cond (p == i) (Some n) None
-  pub head : (i : ℕ) → i < most_priority
-      → slice_index_or (side_of k q).heads i None ≡ cond (p == i) (Some n) None
-  pub other : (i : ℕ) → i < most_priority → IsNoChain (side_of (not k) q) i
 
 either : (k l : Bool) → (k ≡ l) ⊎ (k ≡ not l)
 either true true = inl refl
@@ -67,53 +50,59 @@ none-at k i lt =
       head = none-without.heads k i lt;
     }
 
-pub lone-queue : (k : Bool) (p n : ℕ) → p < most_priority → IsLone k p n (lone_queue k p n)
-lone-queue true p n within =
+and-false : (t : Bool) → (t && false) ≡ false
+and-false true = refl
+and-false false = refl
+
+pub lone-queue : (k : Bool) (p n : ℕ) (head tail : Option ℕ) → p < most_priority
+    → IsLone k p head tail n (lone_queue head tail n k p)
+lone-queue true p n head tail within =
     record {
       len = refl;
-      count = λ i lt. off-set p i 1 0 within lt;
-      tail = λ i lt. off-set p i (Some n) None within lt;
-      head = λ i lt. off-set p i (Some n) None within lt;
+      count = λ i lt. off-set p i n 0 within lt;
+      tail = λ i lt. off-set p i tail None within lt;
+      head = λ i lt. off-set p i head None within lt;
       other = λ i lt. none-at false i lt;
     }
-lone-queue false p n within =
+lone-queue false p n head tail within =
     record {
       len = refl;
-      count = λ i lt. off-set p i 1 0 within lt;
-      tail = λ i lt. off-set p i (Some n) None within lt;
-      head = λ i lt. off-set p i (Some n) None within lt;
+      count = λ i lt. off-set p i n 0 within lt;
+      tail = λ i lt. off-set p i tail None within lt;
+      head = λ i lt. off-set p i head None within lt;
       other = λ i lt. none-at true i lt;
     }
 
--- one that is put into an empty queue waits there alone
-pub put-lone : (k : Bool) (p n : ℕ) (tail : Option ℕ) (box new : Queue) → p < most_priority
-    → HasNone box → IsPut k p n tail box new → IsLone k p n new
-put-lone k p n tail box new within none put =
+-- a chain that an empty queue was given
+pub set-lone : (k : Bool) (p n : ℕ) (head tail : Option ℕ) (old new : Queue) → HasNone old
+    → new.len ≡ n
+    → side_of (not k) new ≡ side_of (not k) old
+    → ((i : ℕ) → i < most_priority → slice_index (side_of k new).counts i
+    ≡ cond (p == i) n (slice_index (side_of k old).counts i))
+    → ((i : ℕ) → i < most_priority → slice_index_or (side_of k new).tails i None
+    ≡ cond (p == i) tail (slice_index_or (side_of k old).tails i None))
+    → ((i : ℕ) → i < most_priority → slice_index_or (side_of k new).heads i None
+    ≡ cond (p == i) head (slice_index_or (side_of k old).heads i None))
+    → IsLone k p head tail n new
+set-lone k p n head tail old new none len other counts tails heads =
     record {
-      len = put.len ∙ ap (λ m. m + 1) none.len;
-      count = λ i lt.
-          put.counts i lt
-          ∙ (ap (λ x. cond (p == i) (x + 1) (slice_index (side_of k box).counts i))
-          (none.counts k p within)
-          ∙ ap (λ x. cond (p == i) 1 x) (none.counts k i lt));
-      tail = λ i lt. put.tails i lt ∙ ap (λ x. cond (p == i) (Some n) x) (none.tails k i lt);
-      head = λ i lt.
-          put.heads i lt
-          ∙ (ap (λ x. cond ((p == i) && not (is_some x)) (Some n)
-          (slice_index_or (side_of k box).heads i None)) (none.tails k p within)
-          ∙ (ap (λ t. cond t (Some n) (slice_index_or (side_of k box).heads i None))
-          (and-true (p == i))
-          ∙ ap (λ x. cond (p == i) (Some n) x) (none.heads k i lt)));
-      other = λ i lt. let s = put.other i lt in
+      len = len;
+      count = λ i lt. counts i lt ∙ ap (λ x. cond (p == i) n x) (none.counts k i lt);
+      tail = λ i lt. tails i lt ∙ ap (λ x. cond (p == i) tail x) (none.tails k i lt);
+      head = λ i lt. heads i lt ∙ ap (λ x. cond (p == i) head x) (none.heads k i lt);
+      other = λ i lt.
           record {
-            count = s.count ∙ none.counts (not k) i lt;
-            tail = s.tail ∙ none.tails (not k) i lt;
-            head = s.head ∙ none.heads (not k) i lt;
+            count = ap (λ (s : Side). slice_index s.counts i) other ∙ none.counts (not k) i lt;
+            tail = ap (λ (s : Side). slice_index_or s.tails i None) other
+                ∙ none.tails (not k) i lt;
+            head = ap (λ (s : Side). slice_index_or s.heads i None) other
+                ∙ none.heads (not k) i lt;
           };
     }
 
-pub both-lone : (k : Bool) (p n : ℕ) (a b : Queue) → IsLone k p n a → IsLone k p n b → IsSame a b
-both-lone k p n a b x y =
+pub both-lone : (k : Bool) (p n : ℕ) (head tail : Option ℕ) (a b : Queue)
+    → IsLone k p head tail n a → IsLone k p head tail n b → IsSame a b
+both-lone k p n head tail a b x y =
     record { len = y.len ∙ sym x.len; chains = λ l i lt. go l i lt (either l k) }
   where
     go : (l : Bool) (i : ℕ) → i < most_priority → (l ≡ k) ⊎ (l ≡ not k)
@@ -135,9 +124,9 @@ both-lone k p n a b x y =
 
 -- a node that is put into a queue with no box waits there alone
 pub put-first : (k : Bool) (p n : ℕ) → p < most_priority
-    → IsPut k p n None no_queue (lone_queue k p n)
+    → IsPut k p n None no_queue (lone_queue (Some n) (Some n) 1 k p)
 put-first k p n within =
-    let is = lone-queue k p n within in
+    let is = lone-queue k p 1 (Some n) (Some n) within in
     record {
       len = refl;
       other = λ i lt. let s = is.other i lt in
@@ -224,28 +213,32 @@ module _ (k : Bool) (p n : ℕ) (old box new : Queue) (within : p < most_priorit
             ∙ ap (λ x. cond ((p == i) && not (is_some before)) next x) (at k i lt).head;
       }
 
-module _ (k : Bool) (p n : ℕ) (q : Queue) (within : p < most_priority) (is : IsLone k p n q) where
-  own : slice_index (side_of k q).counts p ≡ 1
-  own = is.count p within ∙ ap (λ t. cond t 1 0) (self p)
+module _ (k : Bool) (p n : ℕ) (head tail : Option ℕ) (q : Queue) (within : p < most_priority)
+    (is : IsLone k p head tail n q) where
+  pub own-count : slice_index (side_of k q).counts p ≡ n
+  own-count = is.count p within ∙ ap (λ t. cond t n 0) (self p)
 
-  own-head : slice_index_or (side_of k q).heads p None ≡ Some n
-  own-head = is.head p within ∙ ap (λ t. cond t (Some n) None) (self p)
+  own-head : slice_index_or (side_of k q).heads p None ≡ head
+  own-head = is.head p within ∙ ap (λ t. cond t head None) (self p)
+
+  own-tail : slice_index_or (side_of k q).tails p None ≡ tail
+  own-tail = is.tail p within ∙ ap (λ t. cond t tail None) (self p)
 
   apart : (i : ℕ) → i < most_priority → p ≢ i → slice_index (side_of k q).counts i ≡ 0
   apart i lt off = go (p == i) refl (is.count i lt)
     where
-      go : (t : Bool) → (p == i) ≡ t → slice_index (side_of k q).counts i ≡ cond t 1 0
+      go : (t : Bool) → (p == i) ≡ t → slice_index (side_of k q).counts i ≡ cond t n 0
           → slice_index (side_of k q).counts i ≡ 0
       go true e h = absurd (off (grind (arith, nat_tests)))
       go false e h = h
 
-  -- the chain of one that waits is the lone waiter's
+  -- the chain of one that waits is the lone one
   pub stands-lone : (w : Bool) (i : ℕ) → i < most_priority
       → 1 ≤ slice_index (side_of w q).counts i → (w ≡ k) × (i ≡ p)
   stands-lone w i lt some = go (either w k)
     where
       here : (t : Bool) → (p == i) ≡ t → w ≡ k
-          → slice_index (side_of k q).counts i ≡ cond t 1 0 → (w ≡ k) × (i ≡ p)
+          → slice_index (side_of k q).counts i ≡ cond t n 0 → (w ≡ k) × (i ≡ p)
       here true e s c = (s, grind (arith, nat_tests))
       here false e s c =
           let some' = subst (λ m. 1 ≤ slice_index (side_of m q).counts i) s some in
@@ -258,11 +251,11 @@ module _ (k : Bool) (p n : ℕ) (q : Queue) (within : p < most_priority) (is : I
           let none = (is.other i lt).count in
           absurd (omega (arith, some', none))
 
-  -- the lone waiter is taken out of a queue whose box is empty
-  pub taken-lone : (box : Queue) → HasNone box → IsTaken k p None None q box
-  taken-lone box none =
+  -- the only waiter is taken out of a queue whose box is empty
+  pub taken-lone : n ≡ 1 → (box : Queue) → HasNone box → IsTaken k p None None q box
+  taken-lone one box none =
       record {
-        len = ap (λ m. m + 1) none.len ∙ sym is.len;
+        len = ap (λ m. m + 1) none.len ∙ sym (is.len ∙ one);
         other = λ i lt. let s = is.other i lt in
             record {
               count = none.counts (not k) i lt ∙ sym s.count;
@@ -270,29 +263,104 @@ module _ (k : Bool) (p n : ℕ) (q : Queue) (within : p < most_priority) (is : I
               head = none.heads (not k) i lt ∙ sym s.head;
             };
         counts = λ i lt. none.counts k i lt ∙ sym (counts i lt (p == i) refl);
-        tails = λ i lt. none.tails k i lt ∙ sym (ends i (p == i) refl _ (is.tail i lt));
-        heads = λ i lt. none.heads k i lt ∙ sym (ends i (p == i) refl _ (is.head i lt));
+        tails = λ i lt. none.tails k i lt ∙ sym (ends tail i (p == i) refl _ (is.tail i lt));
+        heads = λ i lt. none.heads k i lt ∙ sym (ends head i (p == i) refl _ (is.head i lt));
       }
     where
       counts : (i : ℕ) → i < most_priority → (t : Bool) → (p == i) ≡ t
           → cond t (slice_index (side_of k q).counts p - 1) (slice_index (side_of k q).counts i)
           ≡ 0
-      counts i lt true e = ap (λ m. m - 1) own
-      counts i lt false e = is.count i lt ∙ ap (λ t. cond t 1 0) e
+      counts i lt true e = ap (λ m. m - 1) (own-count ∙ one)
+      counts i lt false e = is.count i lt ∙ ap (λ t. cond t n 0) e
 
-      ends : (i : ℕ) (t : Bool) → (p == i) ≡ t → (o : Option ℕ) → o ≡ cond (p == i) (Some n) None
-          → cond (t && true) None o ≡ None
-      ends i true e o h = refl
-      ends i false e o h = h ∙ ap (λ t. cond t (Some n) None) e
+      ends : (end : Option ℕ) (i : ℕ) (t : Bool) → (p == i) ≡ t → (o : Option ℕ)
+          → o ≡ cond (p == i) end None → cond (t && true) None o ≡ None
+      ends end i true e o h = refl
+      ends end i false e o h = h ∙ ap (λ t. cond t end None) e
 
-  pub first-lone : IsFirst q (Some n)
-  first-lone = inl (k, p, chain, sym own-head)
+  -- one of more is taken out of the chain
+  pub taken-more : (before next : Option ℕ) → n ≢ 0
+      → IsTaken k p before next q (lone_queue (cond (is_some before) head next)
+      (cond (is_some next) tail before) (n - 1) k p)
+  taken-more before next some =
+      record {
+        len = omega (arith, some, is.len);
+        other = λ i lt. let s = is.other i lt in let t = left.other i lt in
+            record {
+              count = t.count ∙ sym s.count;
+              tail = t.tail ∙ sym s.tail;
+              head = t.head ∙ sym s.head;
+            };
+        counts = λ i lt. left.count i lt ∙ counts i lt (p == i) refl;
+        tails = λ i lt. left.tail i lt ∙ ends tail before next (p == i) _ (is.tail i lt);
+        heads = λ i lt. left.head i lt ∙ ends head next before (p == i) _ (is.head i lt);
+      }
+    where
+      left : IsLone k p (cond (is_some before) head next) (cond (is_some next) tail before)
+          (n - 1)
+          (lone_queue (cond (is_some before) head next) (cond (is_some next) tail before)
+          (n - 1) k p)
+      left = lone-queue k p (n - 1) _ _ within
+
+      counts : (i : ℕ) → i < most_priority → (t : Bool) → (p == i) ≡ t
+          → cond t (n - 1) 0
+          ≡ cond t (slice_index (side_of k q).counts p - 1) (slice_index (side_of k q).counts i)
+      counts i lt true e = ap (λ m. m - 1) (sym own-count)
+      counts i lt false e = sym (is.count i lt ∙ ap (λ t. cond t n 0) e)
+
+      ends : (end far near : Option ℕ) (t : Bool) (o : Option ℕ) → o ≡ cond t end None
+          → cond t (cond (is_some near) end far) None ≡ cond (t && not (is_some near)) far o
+      ends end far None true o h = refl
+      ends end far (Some m) true o h = sym h
+      ends end far None false o h = sym h
+      ends end far (Some m) false o h = sym h
+
+  -- a node is put at the end of the chain
+  pub put-more : (m t : ℕ) → tail ≡ Some t
+      → IsPut k p m tail q (lone_queue head (Some m) (n + 1) k p)
+  put-more m t there =
+      record {
+        len = ap (λ x. x + 1) (sym is.len);
+        other = λ i lt. let s = is.other i lt in let u = more.other i lt in
+            record {
+              count = u.count ∙ sym s.count;
+              tail = u.tail ∙ sym s.tail;
+              head = u.head ∙ sym s.head;
+            };
+        last = sym own-tail;
+        counts = λ i lt. more.count i lt ∙ counts i lt (p == i) refl;
+        tails = λ i lt. more.tail i lt ∙ tails (p == i) _ (is.tail i lt);
+        heads = λ i lt.
+            more.head i lt
+            ∙ sym (ap (λ x. cond ((p == i) && not (is_some x)) (Some m)
+            (slice_index_or (side_of k q).heads i None)) (own-tail ∙ there)
+            ∙ (ap (λ b. cond b (Some m) (slice_index_or (side_of k q).heads i None))
+            (and-false (p == i))
+            ∙ is.head i lt));
+      }
+    where
+      more : IsLone k p head (Some m) (n + 1) (lone_queue head (Some m) (n + 1) k p)
+      more = lone-queue k p (n + 1) head (Some m) within
+
+      counts : (i : ℕ) → i < most_priority → (b : Bool) → (p == i) ≡ b
+          → cond b (n + 1) 0
+          ≡ cond b (slice_index (side_of k q).counts p + 1) (slice_index (side_of k q).counts i)
+      counts i lt true e = ap (λ x. x + 1) (sym own-count)
+      counts i lt false e = sym (is.count i lt ∙ ap (λ b. cond b n 0) e)
+
+      tails : (b : Bool) (o : Option ℕ) → o ≡ cond b tail None
+          → cond b (Some m) None ≡ cond b (Some m) o
+      tails true o h = refl
+      tails false o h = sym h
+
+  pub first-lone : n ≢ 0 → IsFirst q head
+  first-lone waits = inl (k, p, chain, sym own-head)
     where
       chain : IsFirstChain q k p
       chain =
           record {
             within = within;
-            some = λ z. let o = own in absurd (omega (arith, z, o));
+            some = λ z. waits (sym own-count ∙ z);
             above = λ l i lt up. above l i lt up (either l k);
             beside = λ l lower. beside l lower (either l k);
           }
@@ -312,35 +380,33 @@ module _ (k : Bool) (p n : ℕ) (q : Queue) (within : p < most_priority) (is : I
           beside l lower (inr e) =
               subst (λ m. slice_index (side_of m q).counts p ≡ 0) (sym e) (is.other p within).count
 
-pub first-lone-writer : (p n : ℕ) (q : Queue) → p < most_priority → IsLone true p n q
-    → IsFirstWriter q (Some n)
-first-lone-writer p n q within is =
-    inl (
-      p,
-      within,
-      λ z. let o = own true p n q within is in absurd (omega (arith, z, o)),
-      λ i lt up. apart true p n q within is i lt (λ s. omega (arith, up, s)),
-      sym (own-head true p n q within is),
-    )
+module _ (p n : ℕ) (head tail : Option ℕ) (q : Queue) (within : p < most_priority) where
+  pub first-lone-writer : n ≢ 0 → IsLone true p head tail n q → IsFirstWriter q head
+  first-lone-writer waits is =
+      inl (
+        p,
+        within,
+        λ z. waits (sym (own-count true p n head tail q within is) ∙ z),
+        λ i lt up. apart true p n head tail q within is i lt (λ s. omega (arith, up, s)),
+        sym (own-head true p n head tail q within is),
+      )
 
-pub no-lone-writer : (p n : ℕ) (q : Queue) → IsLone false p n q → IsFirstWriter q None
-no-lone-writer p n q is = inr (λ i lt. (is.other i lt).count, refl)
+  pub no-lone-writer : IsLone false p head tail n q → IsFirstWriter q None
+  no-lone-writer is = inr (λ i lt. (is.other i lt).count, refl)
 
-pub lone-writer-from : (p n : ℕ) (q : Queue) → p < most_priority → IsLone true p n q
-    → (r : ℕ) → r ≤ p → HasWriterFrom q r
-lone-writer-from p n q within is r le =
-    (p, le, within, λ z. let o = own true p n q within is in absurd (omega (arith, z, o)))
+  pub lone-writer-from : n ≢ 0 → IsLone true p head tail n q → (r : ℕ) → r ≤ p
+      → HasWriterFrom q r
+  lone-writer-from waits is r le =
+      (p, le, within, λ z. waits (sym (own-count true p n head tail q within is) ∙ z))
 
-pub lone-writer-below : (p n : ℕ) (q : Queue) → p < most_priority → IsLone true p n q
-    → (r : ℕ) → HasWriterFrom q r → r ≤ p
-lone-writer-below p n q within is r w = go (p == w.0) refl
-  where
-    go : (t : Bool) → (p == w.0) ≡ t → r ≤ p
-    go true e =
-        let same : p ≡ w.0 = grind (arith, nat_tests) in
-        let le = w.1 in omega (arith, same, le)
-    go false e = absurd (w.3 (is.count w.0 w.2 ∙ ap (λ t. cond t 1 0) e))
+  pub lone-writer-below : IsLone true p head tail n q → (r : ℕ) → HasWriterFrom q r → r ≤ p
+  lone-writer-below is r w = go (p == w.0) refl
+    where
+      go : (t : Bool) → (p == w.0) ≡ t → r ≤ p
+      go true e =
+          let same : p ≡ w.0 = grind (arith, nat_tests) in
+          let le = w.1 in omega (arith, same, le)
+      go false e = absurd (w.3 (is.count w.0 w.2 ∙ ap (λ t. cond t n 0) e))
 
-pub lone-reader-from : (p n : ℕ) (q : Queue) → IsLone false p n q
-    → (r : ℕ) → HasWriterFrom q r → ⊥
-lone-reader-from p n q is r w = w.3 (is.other w.0 w.2).count
+  pub lone-reader-from : IsLone false p head tail n q → (r : ℕ) → HasWriterFrom q r → ⊥
+  lone-reader-from is r w = w.3 (is.other w.0 w.2).count

@@ -1,7 +1,7 @@
 -- Boxes: which queues have a box, and how many boxes there are.
 use Rattle.std.specs.Prelude.{ℕ, ◌≡◌, ◌≢◌, ◌+◌, ◌<◌, ◌≤◌, Bool, List, [], ◌∷◌, Option, Some, None}
-use Rattle.std.specs.Prelude.{min, replicate, slice_set, unwrap_or, IfSome, IfNone, MatchOption}
-use Rattle.std.specs.Prelude.{if◌then◌else◌}
+use Rattle.std.specs.Prelude.{min, replicate, slice_set, unwrap_or, IfSome, IfNone, IsSome}
+use Rattle.std.specs.Prelude.{MatchOption, if◌then◌else◌, ◌==◌, not, slice_index, slice_index_or}
 use Rattle.pt_types.specs.Limits.{most_priority}
 use Rattle.pt_waitq.specs.declared.waiter.Waiter.{Waiter}
 use Rattle.pt_waitq.specs.declared.sides.Side.{Side}
@@ -22,33 +22,51 @@ no_side =
 abbrev pub no_queue : Queue
 no_queue = record { writers = no_side; readers = no_side; len = 0 }
 
--- the chains of one kind if this node waits alone, in this chain
-abbrev pub lone_side : ℕ → ℕ → Side
-lone_side p n =
+-- a chain that is empty
+pub record IsNoChain (side : Side) (i : ℕ) : Type 0 where
+  pub count : slice_index side.counts i ≡ 0
+  pub tail : slice_index_or side.tails i None ≡ None
+  pub head : slice_index_or side.heads i None ≡ None
+
+-- this chain has so many waiters and these ends, and no other has a waiter
+pub record IsLone (k : Bool) (p : ℕ) (first last : Option ℕ) (n : ℕ) (q : Queue) : Type 0 where
+  pub len : q.len ≡ n
+  pub count : (i : ℕ) → i < most_priority
+      → slice_index (side_of k q).counts i ≡ (if p == i then n else 0)
+  pub tail : (i : ℕ) → i < most_priority
+      → slice_index_or (side_of k q).tails i None ≡ (if p == i then last else None)
+  pub head : (i : ℕ) → i < most_priority
+      → slice_index_or (side_of k q).heads i None ≡ (if p == i then first else None)
+  pub other : (i : ℕ) → i < most_priority → IsNoChain (side_of (not k) q) i
+
+-- the chains of one kind if this is the only one
+abbrev pub lone_side : ℕ → Option ℕ → Option ℕ → ℕ → Side
+lone_side p head tail n =
     record {
-      counts = slice_set no_side.counts p 1;
-      heads = slice_set no_side.heads p (Some n);
-      tails = slice_set no_side.tails p (Some n);
+      counts = slice_set no_side.counts p n;
+      heads = slice_set no_side.heads p head;
+      tails = slice_set no_side.tails p tail;
     }
 
--- a queue in which this node waits alone
-abbrev pub lone_queue : Bool → ℕ → ℕ → Queue
-lone_queue k p n =
+-- a queue of one chain
+abbrev pub lone_queue : Option ℕ → Option ℕ → ℕ → Bool → ℕ → Queue
+lone_queue head tail n k p =
     record {
-      writers = if k then lone_side p n else no_side;
-      readers = if k then no_side else lone_side p n;
-      len = 1;
+      writers = if k then lone_side p head tail n else no_side;
+      readers = if k then no_side else lone_side p head tail n;
+      len = n;
     }
 
--- a queue by its box and by the node that waits alone, if that isn't put into the box
-abbrev pub queue_by : Option Queue → Option ℕ → Bool → ℕ → Queue
-queue_by box None k p = unwrap_or box no_queue
-queue_by box (Some n) k p = lone_queue k p n
+-- a queue by its box and by its lone chain, if that isn't put into the box
+abbrev pub queue_by : Option Queue → Option ℕ → Option ℕ → ℕ → Bool → ℕ → Queue
+queue_by box None tail n k p = unwrap_or box no_queue
+queue_by box (Some head) tail n k p = lone_queue (Some head) tail n k p
 
--- there is a box only while one waits, and an empty one while a node waits that isn't put into it
-abbrev pub IsKept : Option Queue → Option ℕ → ℕ → Type 0
-IsKept box None p = IfSome box (λ q. q.len ≢ 0)
-IsKept box (Some n) p = (p < most_priority) × MatchOption box ⊥ HasNone
+-- there is a box only while one waits, and an empty one while a chain isn't put into it
+abbrev pub IsKept : Option Queue → Option ℕ → Option ℕ → ℕ → ℕ → Type 0
+IsKept box None tail n p = IfSome box (λ q. q.len ≢ 0)
+IsKept box (Some head) tail n p =
+    (p < most_priority) × (n ≢ 0) × IsSome tail × MatchOption box ⊥ HasNone
 
 -- queues of the same chains
 pub record IsSame (a b : Queue) : Type 0 where

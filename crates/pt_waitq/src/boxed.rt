@@ -1,7 +1,8 @@
 //! Queues that have a box only while one waits in them.
 
 ghost use Rattle.std.specs.Prelude.{◌≡◌, ◌≢◌, ◌↔◌, ◌+◌, ◌<◌, ◌≤◌, ◌^◌, ◌==◌, IfSome};
-ghost use Rattle.std.specs.Prelude.{IsTrue, IsSome, Some, None, slice_index};
+ghost use Rattle.std.specs.Prelude.{IsTrue, IsSome, Some, None, slice_index, is_some, true, false};
+ghost use Rattle.std.specs.Prelude.{◌||◌};
 ghost use Rattle.std.specs.Prelude.{vec_len, vec_capacity, if◌then◌else◌};
 ghost use Rattle.std.specs.List.{AllByRecursion as Each};
 ghost use Rattle.std.specs.Option.{option_map};
@@ -17,16 +18,20 @@ use crate::spares::Spares;
 use std::alloc::Allocator;
 use std::marker::Model;
 
-/// A queue. Its chains take 2.4 kB, so it has a box for them only while one waits there. Who waits
-/// alone is not put into the box until another comes.
+/// A queue. Its chains take 2.4 kB, so it has a box for them only while one waits there. Those who
+/// wait in one chain are not put into the box until one of another chain comes.
 #[derive(Drop)]
 pub(crate) struct BoxedQueue<A: Allocator> {
     boxed: Option<Box<MarkedQueue, A>>,
-    /// The lone waiter's node, unless that is put into the box.
-    lone: Link,
-    /// The index of its chain.
+    /// The first of the lone chain, unless that is put into the box.
+    head: Link,
+    /// The last of it.
+    tail: Link,
+    /// How many wait in it.
+    count: u32,
+    /// Its index.
     p: u8,
-    /// Whether it is a writer.
+    /// Whether it is one of writers.
     writer: bool,
 }
 
@@ -37,44 +42,85 @@ impl<A: Allocator> Model for BoxedQueue<A> {
 
     ghost Value = { Queue };
 
-    ghost view = { λ q. queue_by (option_map (λ b. b.value) q.boxed) q.lone q.writer q.p };
+    ghost view = { λ q. queue_by (option_map (λ b. b.value) q.boxed) q.head q.tail q.count
+        q.writer q.p };
 
-    ghost invariant = { λ q. IsKept (option_map (λ b. b.value) q.boxed) q.lone q.p };
+    ghost invariant = { λ q. IsKept (option_map (λ b. b.value) q.boxed) q.head q.tail q.count
+        q.p };
 }
 
-// Puts the lone waiter into the box, which is empty.
+// Puts the lone chain into the box, which is empty.
 #[cold]
 #[inline(never)]
 fn put_lone<A: Allocator>(
     boxed: &mut Option<Box<MarkedQueue, A>>,
+    head: NodeIndex,
+    tail: Link,
+    count: u32,
     writer: bool,
     p: usize,
-    node: NodeIndex,
 )
     requires index { p < most_priority }
+    requires some { count ≢ 0 }
     requires there { IsSome boxed.old }
     requires empty { IfSome boxed.old (λ b. HasNone b.value) }
     ensures there { IsSome boxed.new }
-    ensures put { IfSome boxed.new (λ b. IsSame (lone_queue writer p node) b.value) }
+    ensures put { IfSome boxed.new (λ b.
+        IsSame (lone_queue (Some head) tail count writer p) b.value) }
 {
-    boxed.as_mut().unwrap().put_in(writer, p, node);
+    let queue = boxed.as_mut().unwrap();
+    queue.put_chain(Link::to(head), tail, count, writer, p);
 }
 
 // All that wait are in the box then.
 #[inline(always)]
-fn join<A: Allocator>(boxed: &mut Option<Box<MarkedQueue, A>>, lone: &mut Link, writer: bool, p: u8)
+fn join<A: Allocator>(
+    boxed: &mut Option<Box<MarkedQueue, A>>,
+    head: &mut Link,
+    tail: Link,
+    count: u32,
+    writer: bool,
+    p: u8,
+)
     requires there { IsSome boxed.old }
-    requires kept { IsKept (option_map (λ b. b.value) boxed.old) lone.old p }
-    ensures none { lone.new ≡ None }
+    requires kept { IsKept (option_map (λ b. b.value) boxed.old) head.old tail count p }
+    ensures none { head.new ≡ None }
     ensures there { IsSome boxed.new }
     ensures same { IfSome boxed.new (λ b.
-        IsSame (queue_by (option_map (λ b. b.value) boxed.old) lone.old writer p) b.value) }
+        IsSame (queue_by (option_map (λ b. b.value) boxed.old) head.old tail count writer p)
+        b.value) }
     ensures some { IfSome boxed.new (λ b. b.value.len ≢ 0) }
 {
-    if let Some(node) = lone.get() {
-        put_lone(boxed, writer, p as usize, node);
-        *lone = Link::none();
+    if let Some(first) = head.get() {
+        put_lone(boxed, first, tail, count, writer, p as usize);
+        *head = Link::none();
     }
+}
+
+// Whether there is a lone chain, and it is this one.
+#[inline(always)]
+fn is_lone(head: Link, own: bool, own_p: u8, writer: bool, p: usize) -> bool
+    ensures { result ≡ true → (is_some head ≡ true) × (writer ≡ own) × (p ≡ own_p) }
+{
+    !head.is_none() && own == writer && own_p as usize == p
+}
+
+// Whether a node between these two is all of the lone chain.
+#[inline(always)]
+fn is_last(head: Link, count: u32, before: Link, next: Link) -> bool
+    ensures { result ≡ true → (is_some head ≡ true)
+        × (count ≡ 1) × (is_some before ≡ false) × (is_some next ≡ false) }
+{
+    !head.is_none() && count == 1 && before.is_none() && next.is_none()
+}
+
+// Whether a node between these two is one of more in the lone chain.
+#[inline(always)]
+fn is_of_more(head: Link, count: u32, before: Link, next: Link) -> bool
+    ensures { result ≡ true → (is_some head ≡ true)
+        × (count ≢ 1) × ((is_some before || is_some next) ≡ true) }
+{
+    !head.is_none() && count != 1 && !(before.is_none() && next.is_none())
 }
 
 impl<A: Allocator + Copy> BoxedQueue<A> {
@@ -84,7 +130,9 @@ impl<A: Allocator + Copy> BoxedQueue<A> {
     {
         BoxedQueue {
             boxed: None,
-            lone: Link::none(),
+            head: Link::none(),
+            tail: Link::none(),
+            count: 0,
             p: 0,
             writer: false,
         }
@@ -94,9 +142,11 @@ impl<A: Allocator + Copy> BoxedQueue<A> {
     pub(crate) fn len(&self) -> usize
         ensures { result ≡ self.now.len }
     {
+        if let Some(_) = self.head.get() {
+            return self.count as usize;
+        }
         match &self.boxed {
-            Some(queue) if self.lone.is_none() => queue.len(),
-            Some(_) => 1,
+            Some(queue) => queue.len(),
             None => 0,
         }
     }
@@ -123,12 +173,27 @@ impl<A: Allocator + Copy> BoxedQueue<A> {
     {
         if self.boxed.is_none() {
             self.boxed = spares.pop();
-            self.lone = Link::to(node);
+            self.head = Link::to(node);
+            self.tail = Link::to(node);
+            self.count = 1;
             self.p = p as u8;
             self.writer = writer;
             return Link::none();
         }
-        join(&mut self.boxed, &mut self.lone, self.writer, self.p);
+        if is_lone(self.head, self.writer, self.p, writer, p) {
+            let last = self.tail;
+            self.tail = Link::to(node);
+            self.count += 1;
+            return last;
+        }
+        join(
+            &mut self.boxed,
+            &mut self.head,
+            self.tail,
+            self.count,
+            self.writer,
+            self.p,
+        );
         self.boxed.as_mut().unwrap().put_in(writer, p, node)
     }
 
@@ -148,11 +213,24 @@ impl<A: Allocator + Copy> BoxedQueue<A> {
         ensures { IsEmptied writer p before next self.old self.new
             (option_map (λ b. b.value) result) }
     {
-        if !self.lone.is_none() && before.is_none() && next.is_none() {
-            self.lone = Link::none();
+        if is_last(self.head, self.count, before, next) {
+            self.head = Link::none();
             return self.boxed.take();
         }
-        join(&mut self.boxed, &mut self.lone, self.writer, self.p);
+        if is_of_more(self.head, self.count, before, next) {
+            self.head = self.head.unless_after(before, next);
+            self.tail = self.tail.unless_after(next, before);
+            self.count -= 1;
+            return None;
+        }
+        join(
+            &mut self.boxed,
+            &mut self.head,
+            self.tail,
+            self.count,
+            self.writer,
+            self.p,
+        );
         let queue = self.boxed.as_mut().unwrap();
         if queue.take_out(writer, p, before, next) {
             self.boxed.take()
@@ -166,7 +244,7 @@ impl<A: Allocator + Copy> BoxedQueue<A> {
     pub(crate) fn first(&self) -> Option<NodeIndex>
         ensures { IsFirst self.now result }
     {
-        if let Some(node) = self.lone.get() {
+        if let Some(node) = self.head.get() {
             return Some(node);
         }
         match &self.boxed {
@@ -179,7 +257,7 @@ impl<A: Allocator + Copy> BoxedQueue<A> {
     pub(crate) fn first_writer(&self) -> Option<NodeIndex>
         ensures { IsFirstWriter self.now result }
     {
-        if let Some(node) = self.lone.get() {
+        if let Some(node) = self.head.get() {
             return if self.writer { Some(node) } else { None };
         }
         match &self.boxed {
@@ -193,7 +271,7 @@ impl<A: Allocator + Copy> BoxedQueue<A> {
     pub(crate) fn has_writer_from(&self, p: usize) -> bool
         ensures { IsTrue result ↔ HasWriterFrom self.now p }
     {
-        if !self.lone.is_none() {
+        if !self.head.is_none() {
             return self.writer && p <= self.p as usize;
         }
         match &self.boxed {

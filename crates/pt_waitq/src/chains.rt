@@ -196,6 +196,7 @@ impl<A: Allocator + Copy> WaitList for Chains<A> {
         queues::has_writer_from(&self.queues, object.0, prio.level() as usize - 1)
     }
 
+    #[inline(always)]
     fn len(&self, object: ObjectId) -> usize {
         queues::len_of(&self.queues, object.0)
     }

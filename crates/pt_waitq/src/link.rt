@@ -1,6 +1,7 @@
 //! The index of a node, and a link to a node or to none, each in 4 bytes.
 
 ghost use Rattle.std.specs.Prelude.{◌≡◌, ◌<◌, ◌-◌, ◌^◌, None, Some, is_some, not};
+ghost use Rattle.std.specs.Prelude.{if◌then◌else◌};
 
 use std::marker::Model;
 
@@ -96,5 +97,13 @@ impl Link {
         ensures { is_some self ≡ not result }
     {
         self.number == u32::MAX
+    }
+
+    /// This link if the first of these leads to a node, and otherwise the second.
+    #[inline(always)]
+    pub(crate) fn unless_after(self, first: Link, second: Link) -> Link
+        ensures { result ≡ (if is_some first then self else second) }
+    {
+        if first.is_none() { second } else { self }
     }
 }

@@ -6,6 +6,7 @@ ghost use Rattle.pt_types.specs.Limits.{most_priority};
 ghost use Rattle.pt_waitq.specs.declared.sides.Queue.{Queue};
 ghost use Rattle.pt_waitq.specs.Chains.{side_of, HasNone, IsPut, IsTaken};
 ghost use Rattle.pt_waitq.specs.Chains.{IsFirst, IsFirstWriter, HasWriterFrom};
+ghost use Rattle.pt_waitq.specs.Boxes.{IsLone};
 ghost use Rattle.pt_waitq.specs.Highest.{IsBound, IsHighestChain};
 
 use crate::link::{Link, NodeIndex};
@@ -98,6 +99,18 @@ impl MarkedQueue {
             self.reader = raised(self.reader, p);
         }
         sides::put_in(&mut self.queue, writer, p, node)
+    }
+
+    /// Puts a chain with these ends into a queue with no waiter.
+    pub(crate) fn put_chain(&mut self, head: Link, tail: Link, count: u32, writer: bool, p: usize)
+        requires index { p < most_priority }
+        requires some { count ≢ 0 }
+        requires empty { HasNone self.old }
+        ensures { IsLone writer p head tail count self.new }
+    {
+        self.writer = if writer { Some(p) } else { None };
+        self.reader = if writer { None } else { Some(p) };
+        sides::put_chain(&mut self.queue, head, tail, count, writer, p);
     }
 
     /// Takes a node, which is between these two, out of one of its chains. Returns whether no one

@@ -178,6 +178,60 @@ pub(crate) fn take_out(queue: &mut Queue, writer: bool, p: usize, before: Link, 
     }
 }
 
+// Gives a chain its ends and its count.
+fn set_chain(side: &mut Side, p: usize, head: Link, tail: Link, count: u32)
+    requires index { p < most_priority }
+    ensures counts { (i : ℕ)
+        → i < most_priority
+        → slice_index side.new.counts i
+        ≡ (if p == i then count else slice_index side.old.counts i) }
+    ensures tails { (i : ℕ)
+        → i < most_priority
+        → slice_index_or side.new.tails i None
+        ≡ (if p == i then tail else slice_index_or side.old.tails i None) }
+    ensures heads { (i : ℕ)
+        → i < most_priority
+        → slice_index_or side.new.heads i None
+        ≡ (if p == i then head else slice_index_or side.old.heads i None) }
+{
+    side.heads[p] = head;
+    side.tails[p] = tail;
+    side.counts[p] = count;
+}
+
+/// Gives a queue this chain, in which all of its waiters are.
+pub(crate) fn put_chain(
+    queue: &mut Queue,
+    head: Link,
+    tail: Link,
+    count: u32,
+    writer: bool,
+    p: usize,
+)
+    requires index { p < most_priority }
+    ensures len { queue.new.len ≡ count }
+    ensures other { side_of (not writer) queue.new ≡ side_of (not writer) queue.old }
+    ensures counts { (i : ℕ)
+        → i < most_priority
+        → slice_index (side_of writer queue.new).counts i
+        ≡ (if p == i then count else slice_index (side_of writer queue.old).counts i) }
+    ensures tails { (i : ℕ)
+        → i < most_priority
+        → slice_index_or (side_of writer queue.new).tails i None
+        ≡ (if p == i then tail else slice_index_or (side_of writer queue.old).tails i None) }
+    ensures heads { (i : ℕ)
+        → i < most_priority
+        → slice_index_or (side_of writer queue.new).heads i None
+        ≡ (if p == i then head else slice_index_or (side_of writer queue.old).heads i None) }
+{
+    queue.len = count as usize;
+    if writer {
+        set_chain(&mut queue.writers, p, head, tail, count)
+    } else {
+        set_chain(&mut queue.readers, p, head, tail, count)
+    }
+}
+
 /// How many wait in a queue.
 pub(crate) fn len_of<A: Allocator + Copy>(queues: &Rows<BoxedQueue<A>, A>, object: u64) -> usize
     ensures { result
