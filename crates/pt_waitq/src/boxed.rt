@@ -102,25 +102,24 @@ fn join<A: Allocator>(
 fn is_lone(head: Link, own: bool, own_p: u8, writer: bool, p: usize) -> bool
     ensures { result ≡ true → (is_some head ≡ true) × (writer ≡ own) × (p ≡ own_p) }
 {
-    !head.is_none() && own == writer && own_p as usize == p
+    !head.is_none() && own_p as usize == p && own == writer
 }
 
-// Whether a node between these two is all of the lone chain.
+// Whether a node between these two is all of a chain of so many.
 #[inline(always)]
-fn is_last(head: Link, count: u32, before: Link, next: Link) -> bool
-    ensures { result ≡ true → (is_some head ≡ true)
-        × (count ≡ 1) × (is_some before ≡ false) × (is_some next ≡ false) }
+fn is_last(count: u32, before: Link, next: Link) -> bool
+    ensures { result ≡ true
+        → (count ≡ 1) × (is_some before ≡ false) × (is_some next ≡ false) }
 {
-    !head.is_none() && count == 1 && before.is_none() && next.is_none()
+    before.is_none() && next.is_none() && count == 1
 }
 
-// Whether a node between these two is one of more in the lone chain.
+// Whether a node between these two is one of more in a chain of so many.
 #[inline(always)]
-fn is_of_more(head: Link, count: u32, before: Link, next: Link) -> bool
-    ensures { result ≡ true → (is_some head ≡ true)
-        × (count ≢ 1) × ((is_some before || is_some next) ≡ true) }
+fn is_of_more(count: u32, before: Link, next: Link) -> bool
+    ensures { result ≡ true → (count ≢ 1) × ((is_some before || is_some next) ≡ true) }
 {
-    !head.is_none() && count != 1 && !(before.is_none() && next.is_none())
+    !(before.is_none() && next.is_none()) && count != 1
 }
 
 impl<A: Allocator + Copy> BoxedQueue<A> {
@@ -142,7 +141,7 @@ impl<A: Allocator + Copy> BoxedQueue<A> {
     pub(crate) fn len(&self) -> usize
         ensures { result ≡ self.now.len }
     {
-        if let Some(_) = self.head.get() {
+        if !self.head.is_none() {
             return self.count as usize;
         }
         match &self.boxed {
@@ -213,15 +212,17 @@ impl<A: Allocator + Copy> BoxedQueue<A> {
         ensures { IsEmptied writer p before next self.old self.new
             (option_map (λ b. b.value) result) }
     {
-        if is_last(self.head, self.count, before, next) {
-            self.head = Link::none();
-            return self.boxed.take();
-        }
-        if is_of_more(self.head, self.count, before, next) {
-            self.head = self.head.unless_after(before, next);
-            self.tail = self.tail.unless_after(next, before);
-            self.count -= 1;
-            return None;
+        if !self.head.is_none() {
+            if is_last(self.count, before, next) {
+                self.head = Link::none();
+                return self.boxed.take();
+            }
+            if is_of_more(self.count, before, next) {
+                self.head = self.head.unless_after(before, next);
+                self.tail = self.tail.unless_after(next, before);
+                self.count -= 1;
+                return None;
+            }
         }
         join(
             &mut self.boxed,

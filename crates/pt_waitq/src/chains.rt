@@ -141,8 +141,10 @@ impl<A: Allocator + Copy> WaitList for Chains<A> {
         let place = nodes::place_of(&self.homes, &self.nodes, client.0)?;
         let waiter = place.waiter;
         let p = waiter.prio.level() as usize - 1;
+        let at = queues::noted_row(&self.queues, place.object);
         let emptied = queues::remove(
             &mut self.queues,
+            at,
             place.object,
             waiter.writer,
             p,
@@ -157,7 +159,8 @@ impl<A: Allocator + Copy> WaitList for Chains<A> {
 
     #[inline(always)]
     fn take_first(&mut self, object: ObjectId) -> Option<Waiter> {
-        let node = queues::first_in_row(&self.queues, object.0)?;
+        let at = queues::noted_row(&self.queues, object.0);
+        let node = queues::first_in_row(&self.queues, at, object.0)?;
         let place = nodes::place_at(&self.nodes, node);
         let waiter = place.waiter;
         let p = waiter.prio.level() as usize - 1;
@@ -165,6 +168,7 @@ impl<A: Allocator + Copy> WaitList for Chains<A> {
         let before = Link::none();
         let freed = queues::remove(
             &mut self.queues,
+            at,
             object.0,
             waiter.writer,
             p,

@@ -19,7 +19,7 @@ ghost use Rattle.pt_waitq.specs.Waits.{is_listed};
 use crate::boxed::BoxedQueue;
 use crate::link::{Link, NodeIndex};
 use crate::marked::MarkedQueue;
-use crate::rows::{Rows, index_of};
+use crate::rows::{Rows, index_of, note_again};
 use crate::sides;
 use crate::spares::Spares;
 use http_server::Log;
@@ -225,6 +225,7 @@ pub(crate) fn insert<A: Allocator + Copy>(
 #[inline(always)]
 pub(crate) fn remove<A: Allocator + Copy>(
     queues: &mut Queues<A>,
+    at: usize,
     object: u64,
     writer: bool,
     p: usize,
@@ -245,7 +246,7 @@ pub(crate) fn remove<A: Allocator + Copy>(
         → lookup (nat_eq object) queues.new ≡ Some new
         → IsEmptied writer p before next old new (option_map (λ b. b.value) result) }
 {
-    sides::remove(&mut queues.rows, object, writer, p, before, next)
+    sides::remove(&mut queues.rows, at, object, writer, p, before, next)
 }
 
 /// Makes an empty queue, and returns whether there was memory for its row.
@@ -269,19 +270,6 @@ pub(crate) fn make<A: Allocator + Copy>(queues: &mut Queues<A>, object: u64) -> 
     queues.log = queues.log.and(&true, &object);
     queues.len += 1;
     true
-}
-
-// Notes anew where the row at an index is, if one is there.
-fn note_again<A: Allocator + Copy>(rows: &mut Rows<BoxedQueue<A>, A>, index: Option<usize>)
-    ensures { rows.new.map ≡ rows.old.map }
-{
-    let Some(index) = index else {
-        return;
-    };
-    if let Some((number, _)) = rows.map.get_index(index) {
-        let number = *number;
-        rows.note(number, index);
-    }
 }
 
 // Takes a queue's row away, if it has one. The last row takes its place.
@@ -345,10 +333,17 @@ pub(crate) fn first_of<A: Allocator + Copy>(queues: &Queues<A>, object: u64) -> 
     sides::first_of(&queues.rows, object)
 }
 
-/// As `first_of`, for a queue that has a row, most likely.
+/// The index that is noted for a queue's row. The row there may be another's.
+#[inline(always)]
+pub(crate) fn noted_row<A: Allocator + Copy>(queues: &Queues<A>, object: u64) -> usize {
+    queues.rows.hint(object)
+}
+
+/// As `first_of`, for a queue that has a row, most likely. That is looked for at this index first.
 #[inline(always)]
 pub(crate) fn first_in_row<A: Allocator + Copy>(
     queues: &Queues<A>,
+    at: usize,
     object: u64,
 ) -> Option<NodeIndex>
     ensures none { lookup (nat_eq object) queues.now ≡ None → result ≡ None }
@@ -356,7 +351,7 @@ pub(crate) fn first_in_row<A: Allocator + Copy>(
         → lookup (nat_eq object) queues.now ≡ Some queue
         → IsFirst queue result }
 {
-    sides::first_of(&queues.rows, object)
+    sides::first_from(&queues.rows, at, object)
 }
 
 /// The node of the first of a queue that asks for a write lock.

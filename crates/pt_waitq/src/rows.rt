@@ -59,10 +59,21 @@ impl<T, A: Allocator + Copy> Rows<T, A> {
         }
     }
 
-    // The index at which a number's row is looked for first.
+    /// The index at which a number's row is looked for first.
     #[inline(always)]
-    fn hint(&self, number: u64) -> usize {
+    pub(crate) fn hint(&self, number: u64) -> usize {
         self.hints[number as usize % COUNT] as usize
+    }
+}
+
+// The row at an index, if it is the number's.
+#[inline(always)]
+fn row_at<T, A: Allocator + Copy>(rows: &Rows<T, A>, index: usize, number: u64) -> Option<&T>
+    ensures { IfSome result (λ row. lookup (nat_eq number) rows.now.map.entries ≡ Some row.now) }
+{
+    match rows.map.get_index(index) {
+        Some((listed, row)) if *listed == number => Some(row),
+        _ => None,
     }
 }
 
@@ -71,10 +82,7 @@ impl<T, A: Allocator + Copy> Rows<T, A> {
 pub(crate) fn row_by_hint<T, A: Allocator + Copy>(rows: &Rows<T, A>, number: u64) -> Option<&T>
     ensures { IfSome result (λ row. lookup (nat_eq number) rows.now.map.entries ≡ Some row.now) }
 {
-    match rows.map.get_index(rows.hint(number)) {
-        Some((listed, row)) if *listed == number => Some(row),
-        _ => None,
-    }
+    row_at(rows, rows.hint(number), number)
 }
 
 // The row of a number by its hash.
@@ -98,15 +106,29 @@ pub(crate) fn row_of<T, A: Allocator + Copy>(rows: &Rows<T, A>, number: u64) -> 
     }
 }
 
-// A number's hint, if the number is listed there.
+// This index, if the number is listed there.
 #[inline(always)]
-fn index_by_hint<T, A: Allocator + Copy>(rows: &Rows<T, A>, number: u64) -> Option<usize>
+fn index_at<T, A: Allocator + Copy>(rows: &Rows<T, A>, index: usize, number: u64) -> Option<usize>
     ensures { IfSome result (λ i. slice_get (numbers rows.now.map.entries) i ≡ Some number) }
 {
-    let hint = rows.hint(number);
-    match rows.map.get_index(hint) {
-        Some((listed, _)) if *listed == number => Some(hint),
+    match rows.map.get_index(index) {
+        Some((listed, _)) if *listed == number => Some(index),
         _ => None,
+    }
+}
+
+/// As `row_of`, looked for at this index first.
+#[inline(always)]
+pub(crate) fn row_from<T, A: Allocator + Copy>(
+    rows: &Rows<T, A>,
+    index: usize,
+    number: u64,
+) -> Option<&T>
+    ensures { option_copied result ≡ lookup (nat_eq number) rows.now.map.entries }
+{
+    match row_at(rows, index, number) {
+        Some(row) => Some(row),
+        None => row_by_hash(rows, number),
     }
 }
 
@@ -126,8 +148,34 @@ pub(crate) fn index_of<T, A: Allocator + Copy>(rows: &Rows<T, A>, number: u64) -
     ensures found { IfSome result (λ i. slice_get (numbers rows.now.map.entries) i ≡ Some number) }
     ensures none { IfNone result (lookup (nat_eq number) rows.now.map.entries ≡ None) }
 {
-    match index_by_hint(rows, number) {
+    index_from(rows, rows.hint(number), number)
+}
+
+/// As `index_of`, looked for at this index first.
+#[inline(always)]
+pub(crate) fn index_from<T, A: Allocator + Copy>(
+    rows: &Rows<T, A>,
+    index: usize,
+    number: u64,
+) -> Option<usize>
+    ensures found { IfSome result (λ i. slice_get (numbers rows.now.map.entries) i ≡ Some number) }
+    ensures none { IfNone result (lookup (nat_eq number) rows.now.map.entries ≡ None) }
+{
+    match index_at(rows, index, number) {
         Some(index) => Some(index),
         None => index_by_hash(rows, number),
+    }
+}
+
+/// Notes anew where the row at an index is, if one is there.
+pub(crate) fn note_again<T, A: Allocator + Copy>(rows: &mut Rows<T, A>, index: Option<usize>)
+    ensures { rows.new.map ≡ rows.old.map }
+{
+    let Some(index) = index else {
+        return;
+    };
+    if let Some((number, _)) = rows.map.get_index(index) {
+        let number = *number;
+        rows.note(number, index);
     }
 }

@@ -16,7 +16,7 @@ ghost use Rattle.pt_waitq.specs.Chains.{IsFirst, IsFirstWriter, HasWriterFrom};
 use crate::boxed::BoxedQueue;
 use crate::link::{Link, NodeIndex};
 use crate::marked::MarkedQueue;
-use crate::rows::{Rows, index_of, row_by_hint, row_of};
+use crate::rows::{Rows, index_from, row_by_hint, row_from, row_of};
 use pt_types::MOST_PRIORITY;
 use std::alloc::Allocator;
 
@@ -259,10 +259,11 @@ pub(crate) fn len_by_hint<A: Allocator + Copy>(
 }
 
 /// Takes a node out of a chain of a queue that there is, if it was between these two. Returns the
-/// queue's box if no one waits there any more.
+/// queue's box if no one waits there any more. Its row is looked for at this index first.
 #[inline(always)]
 pub(crate) fn remove<A: Allocator + Copy>(
     queues: &mut Rows<BoxedQueue<A>, A>,
+    at: usize,
     object: u64,
     writer: bool,
     p: usize,
@@ -284,7 +285,7 @@ pub(crate) fn remove<A: Allocator + Copy>(
         → IsEmptied writer p before next old new (option_map (λ b. b.value) result) }
     ensures more { spare queues.new.map ≡ spare queues.old.map }
 {
-    let index = index_of(queues, object).unwrap();
+    let index = index_from(queues, at, object).unwrap();
     let queue = queues.map.get_index_mut(index).unwrap();
     queue.take_out(writer, p, before, next)
 }
@@ -300,6 +301,21 @@ pub(crate) fn first_of<A: Allocator + Copy>(
         → IsFirst queue result }
 {
     row_of(queues, object)?.first()
+}
+
+/// As `first_of`. The queue's row is looked for at this index first.
+#[inline(always)]
+pub(crate) fn first_from<A: Allocator + Copy>(
+    queues: &Rows<BoxedQueue<A>, A>,
+    at: usize,
+    object: u64,
+) -> Option<NodeIndex>
+    ensures none { lookup (nat_eq object) queues.now.map.entries ≡ None → result ≡ None }
+    ensures queue { (queue : Queue)
+        → lookup (nat_eq object) queues.now.map.entries ≡ Some queue
+        → IsFirst queue result }
+{
+    row_from(queues, at, object)?.first()
 }
 
 /// The node of the first of a queue that asks for a write lock.

@@ -7,13 +7,13 @@ use Rattle.pt_waitq.proofs.queues.first_in_row.Goals as goal
 
 pub returns-clause-none : goal.returns-clause-none
 returns-clause-none g c = λ none.
-    c.first_of.ensures.none
+    c.first_from.ensures.none
     (unmade-by (made_by c.queues.inside.log.items) c.queues.inside.rows.map.entries _ _ _
     c.args.object c.queues.invariant (ap (lookup (nat_eq c.args.object)) c.queues.view_is ∙ none))
 
 pub returns-clause-queue : goal.returns-clause-queue
 returns-clause-queue g c = λ queue is.
     first-by (made_by c.queues.inside.log.items) c.queues.inside.rows.map.entries _ _ _
-    c.args.object c.queues.invariant c.first_of.result
-    c.first_of.ensures.none c.first_of.ensures.queue queue
+    c.args.object c.queues.invariant c.first_from.result
+    c.first_from.ensures.none c.first_from.ensures.queue queue
     (ap (lookup (nat_eq c.args.object)) c.queues.view_is ∙ is)

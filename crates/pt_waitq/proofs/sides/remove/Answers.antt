@@ -8,8 +8,8 @@ use Rattle.pt_waitq.proofs.sides.remove.Goals as goal
 
 pub take_out-requires-clause-stands : goal.take_out-requires-clause-stands
 take_out-requires-clause-stands g c =
-    let there = listed-at c.args.queues.now.map.entries c.args.object c.index_of.result
-    c.unwrap-index.result c.index_of.ensures.found c.unwrap-index.ensures in
+    let there = listed-at c.args.queues.now.map.entries c.args.object c.index_from.result
+    c.unwrap-index.result c.index_from.ensures.found c.unwrap-index.ensures in
     let at = found-at c.args.queues.now.map.entries c.unwrap-index.result c.args.object
     c.get_index_mut.ensures.unique there in
     let lent = sym c.get_index_mut.ensures.value ∙ ap option_copied_mut c.unwrap-queue.ensures in
@@ -18,8 +18,8 @@ take_out-requires-clause-stands g c =
 
 pub take_out-requires-clause-len : goal.take_out-requires-clause-len
 take_out-requires-clause-len g c =
-    let there = listed-at c.args.queues.now.map.entries c.args.object c.index_of.result
-    c.unwrap-index.result c.index_of.ensures.found c.unwrap-index.ensures in
+    let there = listed-at c.args.queues.now.map.entries c.args.object c.index_from.result
+    c.unwrap-index.result c.index_from.ensures.found c.unwrap-index.ensures in
     let at = found-at c.args.queues.now.map.entries c.unwrap-index.result c.args.object
     c.get_index_mut.ensures.unique there in
     let lent = sym c.get_index_mut.ensures.value ∙ ap option_copied_mut c.unwrap-queue.ensures in
@@ -31,15 +31,15 @@ returns-clause-numbers g c =
 
 pub returns-clause-others : goal.returns-clause-others
 returns-clause-others g c = λ x other.
-    let there = listed-at c.args.queues.now.map.entries c.args.object c.index_of.result
-    c.unwrap-index.result c.index_of.ensures.found c.unwrap-index.ensures in
+    let there = listed-at c.args.queues.now.map.entries c.args.object c.index_from.result
+    c.unwrap-index.result c.index_from.ensures.found c.unwrap-index.ensures in
     others-set c.args.queues.now.map.entries c.unwrap-index.result c.args.object x
     c.take_out.new.self there other
 
 pub returns-clause-queue : goal.returns-clause-queue
 returns-clause-queue g c = λ old new was is.
-    let there = listed-at c.args.queues.now.map.entries c.args.object c.index_of.result
-    c.unwrap-index.result c.index_of.ensures.found c.unwrap-index.ensures in
+    let there = listed-at c.args.queues.now.map.entries c.args.object c.index_from.result
+    c.unwrap-index.result c.index_from.ensures.found c.unwrap-index.ensures in
     let at = found-at c.args.queues.now.map.entries c.unwrap-index.result c.args.object
     c.get_index_mut.ensures.unique there in
     let lent = sym c.get_index_mut.ensures.value ∙ ap option_copied_mut c.unwrap-queue.ensures in

@@ -10,7 +10,8 @@ returns-then-is_last g c =
     let last = c.if-is_last.ensures refl in
     let emptied = lone-emptied (λ b. b.value) own.boxed own.head own.tail own.count own.writer own.p
     c.args.self.now c.self.view_is c.self.invariant c.args.writer c.args.p c.args.before c.args.next
-    c.requires.index last.0 last.1 last.2 last.3 c.requires.stands in
+    c.requires.index c.if-not-is_none.ensures last.0 last.1 last.2
+    c.requires.stands in
     let new = ap (λ b. queue_by (option_map (λ x. x.value) b) None own.tail own.count own.writer
     own.p) (sym c.take.ensures.after)
     ∙ ap (λ l. queue_by (option_map (λ x. x.value) c.take.new.self) l own.tail own.count own.writer
@@ -35,4 +36,4 @@ returns-then-is_of_more g c =
     own.p) None) (sym head)
     (lone-less (λ b. b.value) own.boxed own.head own.tail own.count own.writer own.p
     c.args.self.now c.self.view_is c.self.invariant c.args.writer c.args.p c.args.before c.args.next
-    c.requires.index more.0 more.1 more.2 c.requires.stands))
+    c.requires.index c.if-not-is_none.ensures more.0 more.1 c.requires.stands))

@@ -1,5 +1,5 @@
 use Rattle.pt_waitq.proofs.PlaceLemmas.{number-at}
-use Rattle.pt_waitq.proofs.rows.index_by_hint.Goals as goal
+use Rattle.pt_waitq.proofs.rows.index_at.Goals as goal
 
 pub returns-in-Some : goal.returns-in-Some
 returns-in-Some g c =
