@@ -1,14 +1,21 @@
--- BarrierArrivals: the waiters of a barrier's queue are those of the calls that wait at it.
-use Rattle.std.proofs.Common.{◌≡◌, ℕ, ◌==◌, Bool, true, cond, ◌&&◌, List, refl, sym, ap, ◌∙◌, subst}
-use Rattle.std.proofs.Common.{arith, eq-eqb}
+-- BarrierArrivals: the waiters of a barrier's queue are those of the calls that wait at it, in order
+-- of their places.
+use Rattle.std.proofs.Common.{◌≡◌, ℕ, ◌==◌, ◌≤◌, nat_lt, Bool, true, false, cond, ◌&&◌, ◌||◌, List}
+use Rattle.std.proofs.Common.{[], ◌∷◌, None, inl, inr, refl, sym, ap, ◌∙◌, subst, arith, eq-eqb}
+use Rattle.std.specs.List.{AllByRecursion as Each}
+use Rattle.std.proofs.lemmas.Bool.{and_parts, false≢true}
 use Rattle.std.proofs.lemmas.Bool.Decides.{nat_tests}
+use Rattle.pt_types.specs.Limits.{most_priority}
 use Rattle.pt_waitq.specs.declared.waiter.Waiter.{Waiter}
-use Rattle.pt_waitq.specs.Queues.{queues_of}
+use Rattle.pt_waitq.specs.Queues.{In as Among, IsInKeyOrder, comes_before, queues_of}
 use Rattle.pt_model.specs.declared.entry.Entry.TheVariants.{Grant, Trip}
 use Rattle.pt_model.specs.Searches.{In}
 use Rattle.pt_model.specs.Histories.{History}
 use Rattle.pt_model.specs.declared.waiting_call.WaitingCall.{WaitingCall}
-use Rattle.pt_model.specs.WaitingCall.{is_arrival}
+use Rattle.pt_model.specs.declared.waiting_call.Role.{Role}
+use Rattle.pt_model.specs.declared.waiting_call.Role.TheVariants.{ForBarrier, ForCond, ForMutex}
+use Rattle.pt_model.specs.declared.waiting_call.Role.TheVariants.{ForRead, ForWrite}
+use Rattle.pt_model.specs.WaitingCall.{is_arrival, is_wait, is_write}
 use Rattle.pt_model.specs.Answers.{open_calls}
 use Rattle.pt_model.specs.Moves.{moved, at_object}
 use Rattle.pt_model.specs.Grants.{grant_outcome}
@@ -17,16 +24,17 @@ use Rattle.pt_model.specs.Steps.{Follows}
 use Rattle.pt_model.proofs.Lists.{In-filter, filter-in}
 use Rattle.pt_model.proofs.Seats.{housed}
 use Rattle.pt_records.specs.declared.clients.Open.{Open}
-use Rattle.pt_records.specs.Arrivals.{AreArrivals}
+use Rattle.pt_records.specs.Arrivals.{AreArrivals, AreInOrder}
 use Rattle.pt_records.specs.Callers.{opens_of}
 use Rattle.pt_state.specs.declared.state.State.{State}
 use Rattle.pt_state.specs.Adds.{past}
 use Rattle.pt_state.specs.Reads.{AreTables}
 use Rattle.pt_state.specs.Serving.{called}
 use Rattle.pt_state.proofs.ServingFinds.{are-open}
-use Rattle.pt_machine.specs.Queued.{IsQueued, waiter}
+use Rattle.pt_machine.specs.Queued.{IsQueued, arriving, waiter, waiter_by}
 use Rattle.pt_machine.proofs.Membership.{in-list, in-queue}
 use Rattle.pt_machine.proofs.QueuedOut.{arrived, barrier-of}
+use Rattle.pt_machine.proofs.WaitMoves.{plain-stays}
 
 -- the entry that serves an arrival is the Trip of its barrier
 pub service-trip : (h : History) (o : Open) → is_arrival (called o).role ≡ true
@@ -34,6 +42,45 @@ pub service-trip : (h : History) (o : Open) → is_arrival (called o).role ≡ t
 service-trip h o arrival =
     ap (λ b. cond b (Trip o.call.object)
     (Grant o.call.place (grant_outcome h (called o)))) arrival
+
+-- an arrival as it waits, which isn't moved
+module _ (h : History) (f : Follows h) (w : WaitingCall) (i : In w (open_calls h))
+    (arrival : is_arrival w.role ≡ true) where
+  no_wait : (r : Role) → is_arrival r ≡ true → is_wait r ≡ false
+  no_wait ForBarrier e = refl
+  no_wait ForMutex e = absurd cc
+  no_wait ForRead e = absurd cc
+  no_wait ForWrite e = absurd cc
+  no_wait (ForCond m) e = absurd cc
+
+  no_write : (r : Role) → is_arrival r ≡ true → is_write r ≡ false
+  no_write ForBarrier e = refl
+  no_write ForMutex e = absurd cc
+  no_write ForRead e = absurd cc
+  no_write ForWrite e = absurd cc
+  no_write (ForCond m) e = absurd cc
+
+  pub arrival-waits : waiter h w ≡ arriving w.client w.place
+  arrival-waits =
+      ap (λ m. waiter_by m w) (plain-stays h f w i (no_wait w.role arrival))
+      ∙ (ap (λ b. record (waiter_by None w) { prio = cond b most_priority w.priority }) arrival
+      ∙ ap (λ b. record (arriving w.client w.place) { writer = b }) (no_write w.role arrival))
+
+-- of two arrivals, the one that goes first came first
+rises : (v w : Waiter) (c j d k : ℕ) → v ≡ arriving c j → w ≡ arriving d k
+    → comes_before w v ≡ false → v.place ≤ w.place
+rises v w c j d k e i late =
+    subst (λ (x : Waiter). x.place ≤ w.place) (sym e)
+    (subst (λ (y : Waiter). j ≤ y.place) (sym i) (go (nat_lt k j) refl))
+  where
+    told : comes_before (arriving d k) (arriving c j) ≡ false
+    told =
+        ap (λ (x : Waiter). comes_before (arriving d k) x) (sym e)
+        ∙ (ap (λ (y : Waiter). comes_before y v) (sym i) ∙ late)
+
+    go : (b : Bool) → nat_lt k j ≡ b → j ≤ k
+    go false less = grind (arith, nat_tests)
+    go true less = absurd (false≢true (sym told ∙ ap (λ b. b || ((k == j) && b)) less))
 
 module _ (h : History) (u : WaitingCall) (queue : ℕ → List Waiter) (admitted made : ℕ → Bool)
     (f : Follows h) (i : In u (open_calls h)) (arrival : is_arrival u.role ≡ true)
@@ -44,6 +91,36 @@ module _ (h : History) (u : WaitingCall) (queue : ℕ → List Waiter) (admitted
   stands w j =
       arrived h w.role (moved h w.place) w.object u.object (housed h f w j)
       (barrier-of h f u i arrival)
+
+  -- the call of one that stands there
+  abbrev Standing : Waiter → Type 0
+  Standing v =
+      (w : WaitingCall) × In w (open_calls h) × (is_arrival w.role ≡ true) × (v ≡ waiter h w)
+
+  called-by : (v : Waiter) → Among v (queue u.object) → Standing v
+  called-by v j =
+      let r = k.members.known u.object v j in
+      let there = in-list r.0 (open_calls h) r.1 in
+      let at = eq-eqb (at_object h r.0) u.object r.2 in
+      (r.0, there, (and_parts (is_arrival r.0.role) _ (sym (stands r.0 there) ∙ at)).0, r.3)
+
+  rising : (vs : List Waiter) → IsInKeyOrder vs → ((v : Waiter) → Among v vs → Standing v)
+      → AreInOrder vs
+  rising [] k s = tt
+  rising (v ∷ vs) k s = (later vs k.0 (λ w i. i), rising vs k.1 (λ w i. s w (inr i)))
+    where
+      one : (w : Waiter) → comes_before w v ≡ false → Among w vs → v.place ≤ w.place
+      one w late i =
+          let a = s v (inl refl) in
+          let b = s w (inr i) in
+          rises v w a.0.client a.0.place b.0.client b.0.place
+          (a.3 ∙ arrival-waits h f a.0 a.1 a.2) (b.3 ∙ arrival-waits h f b.0 b.1 b.2) late
+
+      later : (ws : List Waiter) → Each (λ w. comes_before w v ≡ false) ws
+          → ((w : Waiter) → Among w ws → Among w vs) → Each (λ w. v.place ≤ w.place) ws
+      later [] e t = tt
+      later (w ∷ ws) e t =
+          (one w e.0 (t w (inl refl)), later ws e.1 (λ x i. t x (inr i)))
 
   pub arrivals-queued : AreArrivals h u.object (queue u.object)
   arrivals-queued =
@@ -72,6 +149,7 @@ module _ (h : History) (u : WaitingCall) (queue : ℕ → List Waiter) (admitted
                 (refl, refl),
               ),
             );
+        in_order = rising (queue u.object) (k.members.in_order u.object) called-by;
       }
 
 -- the queue of the barrier at which a call waits

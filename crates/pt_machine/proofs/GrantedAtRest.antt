@@ -1,5 +1,5 @@
 -- GrantedAtRest: nothing must follow the Grant of a call that is granted as it comes.
-use Rattle.std.proofs.Common.{◌≡◌, ℕ, ◌<◌, Bool, true, false, cond, not, ◌||◌, ◌&&◌, ◌==◌, nat_lt}
+use Rattle.std.proofs.Common.{◌≡◌, ℕ, Bool, true, false, cond, not, ◌||◌, ◌&&◌, ◌==◌, nat_lt}
 use Rattle.std.proofs.Common.{suc, ◌-◌, Option, Some, None, is_some, is_none, filter, refl, sym, ap}
 use Rattle.std.proofs.Common.{◌∙◌, List, subst, arith, eq-eqb}
 use Rattle.std.proofs.lemmas.Bool.{false≢true}
@@ -13,15 +13,14 @@ use Rattle.pt_types.specs.declared.operations.LockKind.{LockKind}
 use Rattle.pt_types.specs.declared.operations.LockKind.TheVariants.{MutexLock, ReadLock, WriteLock}
 use Rattle.pt_types.specs.declared.outcome.Outcome.{Outcome}
 use Rattle.pt_types.specs.MutexTable.{after_release, is_acquired, is_lost, is_number}
-use Rattle.pt_types.specs.Operations.{Operation, class_needed, class_of, operation}
+use Rattle.pt_types.specs.Operations.{Operation, class_needed, class_of}
 use Rattle.pt_model.specs.declared.entry.Entry.TheVariants.{Call, Grant}
-use Rattle.pt_model.specs.Searches.{In, first_below, least}
-use Rattle.pt_model.specs.Histories.{History, ◌▷◌, place}
-use Rattle.pt_model.specs.Clients.{is_alive}
+use Rattle.pt_model.specs.Searches.{In, least}
+use Rattle.pt_model.specs.Histories.{History, place}
 use Rattle.pt_model.specs.Objects.{is_robust, kind_of}
 use Rattle.pt_model.specs.declared.waiting_call.WaitingCall.{WaitingCall}
 use Rattle.pt_model.specs.WaitingCall.{is_write, mutex_of, role_needed}
-use Rattle.pt_model.specs.Answers.{open_calls, open_place}
+use Rattle.pt_model.specs.Answers.{open_calls}
 use Rattle.pt_model.specs.Moves.{at_object, precedes}
 use Rattle.pt_model.specs.Mutexes.{consistency, count, frees, gained, lost, owner, unlocks_to_wait}
 use Rattle.pt_model.specs.Rwlocks.{reader, reads, reads_there, writer, writes, writes_there}
@@ -42,7 +41,7 @@ use Rattle.pt_state.proofs.StepLemmas.{Called, called as known_call}
 use Rattle.pt_touched.specs.Candidates.{candidate, candidate_by, candidate_if, comes_back, entering}
 use Rattle.pt_touched.specs.Candidates.{first_at, if_passes, is_write_if, open_call_if}
 use Rattle.pt_touched.specs.Candidates.{rwlock_candidate, reads_again_at}
-use Rattle.pt_touched.specs.Touched.{touched, waiting_if}
+use Rattle.pt_touched.specs.Touched.{waiting_if}
 use Rattle.pt_touched.proofs.Candidates.{candidates, serves_touched}
 use Rattle.pt_touched.proofs.ClientCalls.{open_call-found, open_call-is}
 use Rattle.pt_touched.proofs.ServedFirsts.{none_serves}

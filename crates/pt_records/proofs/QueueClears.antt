@@ -4,9 +4,11 @@ use Rattle.std.proofs.Common.{filter, List, [], ◌∷◌, ◌++◌, map, Option
 use Rattle.std.proofs.Common.{◌∙◌, subst, append_assoc, arith, eq-eqb}
 use Rattle.std.specs.Prelude.{IfSome, IfNone}
 use Rattle.std.specs.List.{list_any}
-use Rattle.std.proofs.lemmas.Bool.{false≢true}
+use Rattle.std.proofs.lemmas.Bool.{false≢true, ne_eqb}
 use Rattle.std.proofs.lemmas.Bool.Decides.{nat_tests}
 use Rattle.pt_waitq.specs.declared.waiter.Waiter.{Waiter}
+use Rattle.pt_records.specs.declared.answers.Answered.{Answered}
+use Rattle.pt_records.specs.Arrivals.{answer_to, passed_to, with_serial}
 use Rattle.pt_waitq.specs.Queues.{head_of, of_client, stands_in, without}
 use Rattle.pt_waitq.specs.ListLemmas.{filter-rest}
 use Rattle.pt_waitq.proofs.CallerLemmas.{head-stands}
@@ -94,14 +96,27 @@ pub emptied : (ws : List Waiter) → head_of ws ≡ None → ws ≡ []
 emptied [] e = refl
 emptied (w ∷ ws) e = absurd cc
 
+-- what the first of a queue is answered comes first
+pub serial-first : (k : ℕ) (w : Waiter) (left : List Waiter)
+    → with_serial (map (passed_to k) (w ∷ left))
+    ≡ answer_to k (length left == 0) w ∷ with_serial (map (passed_to k) left)
+serial-first k w [] = refl
+serial-first k w (v ∷ vs) =
+    ap (λ b. answer_to k b w ∷ with_serial (map (passed_to k) (v ∷ vs)))
+    (sym (ne_eqb (length (v ∷ vs)) 0 (λ e. omega (arith, e))))
+
 -- the queue's first was answered, and has left it
-pub told-first : {X : Type 0} (f : Waiter → X) (now then : List X) (ws left : List Waiter)
-    (w : Waiter) → then ≡ now ++ f w ∷ [] → ws ≡ w ∷ left
-    → then ++ map f left ≡ now ++ map f ws
-told-first f now then ws left w is split =
-    ap (λ ts. ts ++ map f left) is
-    ∙ (append_assoc now (f w ∷ []) (map f left)
-    ∙ ap (λ vs. now ++ map f vs) (sym split))
+pub told-first : (k : ℕ) (last : Bool) (now then : List Answered) (ws left : List Waiter)
+    (w : Waiter) → last ≡ (length left == 0) → then ≡ now ++ answer_to k last w ∷ []
+    → ws ≡ w ∷ left
+    → then ++ with_serial (map (passed_to k) left) ≡ now ++ with_serial (map (passed_to k) ws)
+told-first k last now then ws left w ends is split =
+    let rest = with_serial (map (passed_to k) left) in
+    ap (λ ts. ts ++ rest) is
+    ∙ (append_assoc now (answer_to k last w ∷ []) rest
+    ∙ (ap (λ b. now ++ answer_to k b w ∷ rest) ends
+    ∙ (ap (λ ts. now ++ ts) (sym (serial-first k w left))
+    ∙ ap (λ vs. now ++ with_serial (map (passed_to k) vs)) (sym split))))
 
 -- the queue that was emptied is empty, and the others are as they were
 pub emptied-one : (b q : ℕ) (queue old : ℕ → List Waiter) → queue b ≡ []

@@ -1,12 +1,12 @@
 -- What a Trip answers, and the rows that its answers close.
-use Rattle.std.proofs.Common.{◌≡◌, ℕ, zero, suc, ◌<◌, ◌≤◌, Bool, true, false, cond, ◌==◌, List, []}
-use Rattle.std.proofs.Common.{◌∷◌, ◌++◌, Option, Some, None, map, length, drop, take, ◌-◌}
-use Rattle.std.proofs.Common.{length-drop, refl, sym, ap, ◌∙◌, subst, arith, inl, inr}
-use Rattle.std.specs.Prelude.{option_map, slice_index_or, slice_set}
+use Rattle.std.proofs.Common.{◌≡◌, ℕ, suc, ◌≤◌, Bool, true, false, cond, ◌==◌, List, []}
+use Rattle.std.proofs.Common.{◌∷◌, ◌++◌, Option, Some, None, map, length}
+use Rattle.std.proofs.Common.{refl, sym, ap, ◌∙◌, subst, arith, inl, inr}
+use Rattle.std.specs.Prelude.{option_map}
 use Rattle.pt_types.specs.declared.outcome.Outcome.{Outcome}
-use Rattle.pt_types.specs.declared.outcome.Outcome.TheVariants.{Done, Serial}
+use Rattle.pt_types.specs.declared.outcome.Outcome.TheVariants.{Done}
 use Rattle.std.specs.Option.{option_and_then, option_or}
-use Rattle.std.specs.List.Sorted.{IsPermutation, IsNonDecreasingBy}
+use Rattle.std.specs.List.{AllByRecursion as Each}
 use Rattle.std.proofs.lemmas.List.{length-map}
 use Rattle.std.proofs.lemmas.Bool.{cases_eq, eq-eqb, ne_eqb, false≢true}
 use Rattle.pt_table.specs.declared.clients.ClientRow.{ClientRow}
@@ -35,7 +35,8 @@ use Rattle.pt_records.proofs.ArrivalLemmas.{arrivals-ascend, arrivals-lone, arri
 use Rattle.pt_records.proofs.CallerWrites.{changes-some}
 use Rattle.pt_records.proofs.LogLemmas.{last_to-append}
 use Rattle.pt_records.proofs.OpenRows.{call_of-in, call_of-open}
-use Rattle.pt_records.proofs.TripOrder.{Climbs, in-map, lone-length, map-in, place_of, sorted-same}
+use Rattle.pt_records.proofs.TripOrder.{Climbs, climbs-same, in-map, lone-length, map-in}
+use Rattle.pt_records.proofs.TripOrder.{order-climbs}
 
 passed-climbs : (k n : ℕ) (ws : List WaitingCall) → Ascends n ws → Climbs n (map (passed_at k) ws)
 passed-climbs k n [] a = tt
@@ -75,30 +76,24 @@ serial-told k [] = refl
 serial-told k (w ∷ []) = refl
 serial-told k (w ∷ v ∷ ws) = ap (λ ps. logged (passed_at k w) ∷ ps) (serial-told k (v ∷ ws))
 
--- the last one is made serial
-pub serial-set : (ts : List Answered) (n : ℕ) (d : Answered) → suc n ≡ length ts
-    → slice_set ts n (record (slice_index_or ts n d) { outcome = Serial }) ≡ with_serial ts
-serial-set [] n d e = absurd (omega (arith, e))
-serial-set (a ∷ []) zero d e = refl
-serial-set (a ∷ []) (suc n) d e = absurd (omega (arith, e))
-serial-set (a ∷ b ∷ ts) zero d e = absurd (omega (arith, e))
-serial-set (a ∷ b ∷ ts) (suc n) d e =
-    ap (λ xs. a ∷ xs) (serial-set (b ∷ ts) n d (omega (arith, e)))
-
-pub trip-told : (h : History) (b k : ℕ) (vs : List Waiter) (ys : List Answered)
+pub trip-told : (h : History) (b k : ℕ) (vs : List Waiter)
     → AreArrivals h b vs → ((c : ℕ) → length (of_client c vs) ≤ 1)
-    → IsPermutation (map (passed_to k) vs) ys → IsNonDecreasingBy place_of ys
-    → map logged (with_serial ys) ≡ told_at k (told_by_trip (at_barrier b (open_calls h)))
-trip-told h b k vs ys a once p r =
+    → map logged (with_serial (map (passed_to k) vs))
+    ≡ told_at k (told_by_trip (at_barrier b (open_calls h)))
+trip-told h b k vs a once =
     ap (λ ts. map logged (with_serial ts)) same ∙ serial-told k ws
   where
     ws : List WaitingCall
     ws = at_barrier b (open_calls h)
 
-    same : ys ≡ map (passed_at k) ws
+    late : (us : List Waiter) → Each (λ u. 0 ≤ u.place) us
+    late [] = tt
+    late (u ∷ us) = (omega arith, late us)
+
+    same : map (passed_to k) vs ≡ map (passed_at k) ws
     same =
-        sorted-same (map (passed_to k) vs) ys (map (passed_at k) ws) p r
-        (λ n. arrivals-lone h b k n vs once a.known)
+        climbs-same 0 0 (map (passed_to k) vs) (map (passed_at k) ws)
+        (order-climbs k 0 vs a.in_order (λ n. arrivals-lone h b k n vs once a.known) (late vs))
         (passed-climbs k 0 ws (arrivals-ascend h b)) (waiter-passed h b k vs a)
         (passed-waiter h b k vs a)
 
@@ -116,81 +111,30 @@ arrivals-room h b k vs a once =
           (λ n. arrivals-lone h b k n vs once a.known) (waiter-passed h b k vs a),
     )
 
-pub drop_front : (xs ys : List Answered) → drop (length xs) (xs ++ ys) ≡ ys
-drop_front [] ys = refl
-drop_front (x ∷ xs) ys = drop_front xs ys
+-- the rows that were closed by some of these answers are still to be closed by the rest
+pub record ClosedSoFar (old now : List (ClientRow Caller)) (ts rest : List Answered) : Type 0 where
+  pub look : (d : ℕ) → option_map (closed_by_all d rest) (client_value now d)
+      ≡ option_map (closed_by_all d ts) (client_value old d)
+  pub many : length now ≡ length old
+  pub once : Once old → Once now
 
-pub take_front : (xs ys : List Answered) → take (length xs) (xs ++ ys) ≡ xs
-take_front [] ys = refl
-take_front (x ∷ xs) ys = ap (λ zs. x ∷ zs) (take_front xs ys)
-
-pub serial-length : (ts : List Answered) → length (with_serial ts) ≡ length ts
-serial-length [] = refl
-serial-length (a ∷ []) = refl
-serial-length (a ∷ b ∷ ts) = ap suc (serial-length (b ∷ ts))
-
--- what is left of a list where all of it was written
-pub whole : (new old : List Answered) (n : ℕ) → length new ≡ length old → n ≡ length old
-    → take n (new ++ drop (length new) old) ≡ new
-whole new old n e is =
-    ap (λ m. take m (new ++ drop (length new) old)) (is ∙ sym e)
-    ∙ take_front new (drop (length new) old)
-
--- the answers after others
-pub tail-logged : (xs ys : List Answered) (qs : List (ℕ × Told))
-    → map logged ys ≡ map logged xs ++ qs → map logged (drop (length xs) ys) ≡ qs
-tail-logged [] ys qs e = e
-tail-logged (x ∷ xs) [] qs e = absurd cc
-tail-logged (x ∷ xs) (y ∷ ys) qs e =
-    let rest : map logged ys ≡ map logged xs ++ qs = cc in tail-logged xs ys qs rest
-
-pub take_rest : (ts : List Answered) (n : ℕ) → take (length ts - n) (drop n ts) ≡ drop n ts
-take_rest ts n =
-    ap (λ m. take m (drop n ts)) (sym (length-drop n ts)) ∙ take_all (drop n ts)
-  where
-    take_all : (xs : List Answered) → take (length xs) xs ≡ xs
-    take_all [] = refl
-    take_all (x ∷ xs) = ap (λ zs. x ∷ zs) (take_all xs)
-
-drop-first : (ts : List Answered) (i : ℕ) (a : Answered) → i < length ts
-    → a ≡ slice_index_or ts i a → drop i ts ≡ a ∷ drop (suc i) ts
-drop-first [] i a lt is = absurd (omega (arith, lt))
-drop-first (t ∷ ts) zero a lt is = ap (λ x. x ∷ ts) (sym is)
-drop-first (t ∷ ts) (suc i) a lt is = drop-first ts i a (omega (arith, lt)) is
-
-pub drop-end : (ts : List Answered) (i : ℕ) → length ts ≤ i → drop i ts ≡ []
-drop-end [] zero le = refl
-drop-end [] (suc i) le = refl
-drop-end (t ∷ ts) zero le = absurd (omega (arith, le))
-drop-end (t ∷ ts) (suc i) le = drop-end ts i (omega (arith, le))
-
--- how far the rows have been closed by these answers
-pub record ClosedSoFar (old now : List (ClientRow Caller)) (ts : List Answered) (i : ℕ) : Type 0
-  where
-    pub look : (d : ℕ) → option_map (closed_by_all d (drop i ts)) (client_value now d)
-        ≡ option_map (closed_by_all d ts) (client_value old d)
-    pub many : length now ≡ length old
-    pub once : Once old → Once now
-
-pub closed-more : (old now then : List (ClientRow Caller)) (ts : List Answered) (i j : ℕ)
-    (a : Answered) → j ≡ suc i → i < length ts → a ≡ slice_index_or ts i a
-    → ChangesCaller now then a.client (closed_by a) → ClosedSoFar old now ts i
-    → ClosedSoFar old then ts j
-closed-more old now then ts i j a next lt is c s =
-    subst (λ n. ClosedSoFar old then ts n) (sym next) (record {
+pub closed-more : (old now then : List (ClientRow Caller)) (ts rest more : List Answered)
+    (a : Answered) → rest ≡ a ∷ more → ChangesCaller now then a.client (closed_by a)
+    → ClosedSoFar old now ts rest → ClosedSoFar old then ts more
+closed-more old now then ts rest more a is c s =
+    record {
       look = λ d.
-          ap (option_map (closed_by_all d (drop (suc i) ts))) (c.look d)
+          ap (option_map (closed_by_all d more)) (c.look d)
           ∙ (one d (a.client == d) (client_value now d)
-          ∙ (ap (λ xs. option_map (closed_by_all d xs) (client_value now d))
-          (sym (drop-first ts i a lt is)) ∙ s.look d));
+          ∙ (ap (λ xs. option_map (closed_by_all d xs) (client_value now d)) (sym is)
+          ∙ s.look d));
       many = c.many ∙ s.many;
       once = λ once. c.once (s.once once);
-    })
+    }
   where
     one : (d : ℕ) (t : Bool) (kept : Option Caller)
-        → option_map (closed_by_all d (drop (suc i) ts))
-        (cond t (option_map (closed_by a) kept) kept)
-        ≡ option_map (λ v. closed_by_all d (drop (suc i) ts) (cond t (closed_by a v) v)) kept
+        → option_map (closed_by_all d more) (cond t (option_map (closed_by a) kept) kept)
+        ≡ option_map (λ v. closed_by_all d more (cond t (closed_by a v) v)) kept
     one d true None = refl
     one d true (Some v) = refl
     one d false None = refl
@@ -200,14 +144,14 @@ option_same : (kept : Option Caller) → option_map (λ v. v) kept ≡ kept
 option_same None = refl
 option_same (Some v) = refl
 
-pub closed-end : (old now : List (ClientRow Caller)) (ts : List Answered) (i : ℕ)
-    → length ts ≤ i → ClosedSoFar old now ts i → ClosesBy old now ts
-closed-end old now ts i le s =
+pub closed-end : (old now : List (ClientRow Caller)) (ts rest : List Answered) → rest ≡ []
+    → ClosedSoFar old now ts rest → ClosesBy old now ts
+closed-end old now ts rest none s =
     record {
       look = λ d.
           sym (option_same (client_value now d))
-          ∙ (ap (λ xs. option_map (closed_by_all d xs) (client_value now d))
-          (sym (drop-end ts i le)) ∙ s.look d);
+          ∙ (ap (λ xs. option_map (closed_by_all d xs) (client_value now d)) (sym none)
+          ∙ s.look d);
       many = s.many;
       once = s.once;
     }

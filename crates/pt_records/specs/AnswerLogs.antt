@@ -52,9 +52,7 @@ pub record Shortens {A : Type 0} (b : ℕ) (a : Answered) (old new : Vec Answere
   pub len : vec_len new ≤ vec_len old + 1
   pub capacity : vec_capacity new ≡ vec_capacity old
 
--- there is memory for so many answers more, whatever they are, and for as many of a Trip
-pub record HasRoom {A : Type 0} (ss : Vec Short A) (ws ts : Vec Answered A) (n : ℕ) : Type 0 where
+-- there is memory for so many answers more, whatever they are
+pub record HasRoom {A : Type 0} (ss : Vec Short A) (ws : Vec Answered A) (n : ℕ) : Type 0 where
   pub shorts : vec_len ss + n ≤ vec_capacity ss
   pub wholes : vec_len ws + n ≤ vec_capacity ws
-  pub trip : n ≤ vec_capacity ts
-  pub none : vec_len ts ≡ 0

@@ -1,6 +1,7 @@
 -- Arrivals: the calls that wait at a barrier, as its queue has them, and what a Trip answers them.
 use Rattle.std.specs.Prelude.{ℕ, ◌≡◌, ◌==◌, List, [], ◌∷◌, Some, length, option_map, if◌then◌else◌}
-use Rattle.std.specs.Prelude.{None}
+use Rattle.std.specs.Prelude.{None, Bool, ◌≤◌}
+use Rattle.std.specs.List.{AllByRecursion as Each}
 use Rattle.pt_table.specs.declared.clients.ClientRow.{ClientRow}
 use Rattle.pt_table.specs.ClientRows.{client_value}
 use Rattle.pt_types.specs.declared.outcome.Outcome.TheVariants.{Done, Serial}
@@ -26,16 +27,34 @@ passed_at k w = record { at = k; client = w.client; place = w.place; outcome = D
 abbrev pub passed_to : ℕ → Waiter → Answered
 passed_to k v = record { at = k; client = v.client; place = v.place; outcome = Done }
 
+-- a call's answer by the entry at place k: the last one is serial
+-- [XSH pthread_barrier_wait, which one is profile]
+abbrev pub answer_to : ℕ → Bool → Waiter → Answered
+answer_to k last v =
+    record {
+      at = k;
+      client = v.client;
+      place = v.place;
+      outcome = if last then Serial else Done;
+    }
+
 -- the call waits as this waiter
 abbrev pub WaitsAs : WaitingCall → Waiter → Type 0
 WaitsAs w v = (v.client ≡ w.client) × (v.place ≡ w.place)
 
--- the waiters are those of the calls that wait at the barrier  [XSH pthread_barrier_wait]
+-- none came before one that is ahead of it
+abbrev pub AreInOrder : List Waiter → Type 0
+AreInOrder [] = Unit {0}
+AreInOrder (v ∷ vs) = Each (λ u. v.place ≤ u.place) vs × AreInOrder vs
+
+-- the waiters are those of the calls that wait at the barrier, in order of their places
+-- [XSH pthread_barrier_wait]
 pub record AreArrivals (h : History) (b : ℕ) (vs : List Waiter) : Type 0 where
   pub known : (v : Waiter) → In v vs
       → (w : WaitingCall) × (In w (at_barrier b (open_calls h)) × WaitsAs w v)
   pub held : (w : WaitingCall) → In w (at_barrier b (open_calls h))
       → (v : Waiter) × (In v vs × WaitsAs w v)
+  pub in_order : AreInOrder vs
 
 -- the barrier's queue is empty, and nothing else has changed  [XSH pthread_barrier_wait]
 pub record Empties (b : ℕ) (old new : QueuesView) : Type 0 where

@@ -18,8 +18,6 @@ pub struct AnswerLog<A: Allocator + Copy = Global> {
     pub(crate) base: u64,
     pub(crate) shorts: Vec<Short, A>,
     pub(crate) wholes: Vec<Answered, A>,
-    /// The answers of a Trip before they are stored; else none.
-    pub(crate) trip: Vec<Answered, A>,
     /// For how many more answers there is memory, whatever they are.
     pub(crate) room: usize,
 }
@@ -36,7 +34,7 @@ impl<A: Allocator + Copy> Model for AnswerLog<A> {
     } };
 
     ghost invariant = { λ l. AreReadable l.base l.wholes.items l.shorts.items
-        × HasRoom l.shorts l.wholes l.trip l.room };
+        × HasRoom l.shorts l.wholes l.room };
 }
 
 /// The answers that are left of those in a log, one after another.
@@ -87,7 +85,6 @@ impl<A: Allocator + Copy> AnswerLog<A> {
             base: 0,
             shorts: Vec::new(alloc),
             wholes: Vec::new(alloc),
-            trip: Vec::new(alloc),
             room: 0,
         }
     }
@@ -101,7 +98,6 @@ impl<A: Allocator + Copy> AnswerLog<A> {
             base: 0,
             shorts: Vec::with_capacity(alloc, room)?,
             wholes: Vec::with_capacity(alloc, room)?,
-            trip: Vec::with_capacity(alloc, room)?,
             room,
         })
     }
@@ -117,7 +113,6 @@ impl<A: Allocator + Copy> AnswerLog<A> {
     {
         self.shorts.reserve(many)?;
         self.wholes.reserve(many)?;
-        self.trip.reserve(many)?;
         self.room = many;
         Ok(())
     }
@@ -180,7 +175,6 @@ impl<A: Allocator + Copy> AnswerLog<A> {
     {
         take_memory(&mut self.shorts, other.shorts);
         take_memory(&mut self.wholes, other.wholes);
-        take_memory(&mut self.trip, other.trip);
     }
 
     /// For how many more answers there is memory.

@@ -5,6 +5,6 @@ use Rattle.pt_records.proofs.barrier.close_by.Goals as goal
 
 pub returns-in-Some : goal.returns-in-Some
 returns-in-Some g c =
-    closes-client c.args.clients.now _ _ c.args.answer c.in-Some.row.now
+    closes-client c.args.clients.now _ _ c.args.answer.now c.in-Some.row.now
     (ap (λ (a : Answered). a.client) c.answer.view_is)
     (ap (λ (a : Answered). a.outcome) c.answer.view_is) c.in-Some.ensures.value

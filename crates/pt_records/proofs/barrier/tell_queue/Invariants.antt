@@ -1,17 +1,22 @@
-use Rattle.std.proofs.Common.{ℕ, ◌≡◌, ◌≤◌, ◌+◌, ◌++◌, ◌==◌, false, length, map, vec_len}
-use Rattle.std.proofs.Common.{vec_capacity}
-use Rattle.pt_records.specs.Arrivals.{passed_to}
+use Rattle.std.proofs.Common.{ℕ, ◌≡◌, ◌≤◌, ◌+◌, ◌++◌, ◌==◌, false, length, map}
+use Rattle.pt_records.specs.Arrivals.{passed_to, with_serial}
+use Rattle.pt_records.proofs.TripLemmas.{ClosedSoFar}
 use Rattle.pt_records.proofs.barrier.tell_queue.Given as goal
 
 abbrev pub invariant-loop-first : goal.invariant-loop-first
 invariant-loop-first g l =
     record {
-      told : l.answers.items ++ map (passed_to l.at) ((g.Q.WaitList.seen l.queues).queue l.b)
+      told : l.answers.items
+          ++ with_serial (map (passed_to l.at) ((g.Q.WaitList.seen l.queues).queue l.b))
           ≡ l.fn.answers.items
-          ++ map (passed_to l.at) ((g.Q.WaitList.seen l.fn.queues).queue l.b);
-      room : vec_len l.answers + length ((g.Q.WaitList.seen l.queues).queue l.b)
-          ≤ vec_capacity l.fn.answers;
-      capacity : vec_capacity l.answers ≡ vec_capacity l.fn.answers;
+          ++ with_serial (map (passed_to l.at) ((g.Q.WaitList.seen l.fn.queues).queue l.b));
+      room : length l.answers.items + length ((g.Q.WaitList.seen l.queues).queue l.b)
+          ≤ l.fn.answers.capacity;
+      capacity : l.answers.capacity ≡ l.fn.answers.capacity;
+      left : l.left ≡ length ((g.Q.WaitList.seen l.queues).queue l.b);
+      closed : ClosedSoFar l.fn.clients l.clients
+          (with_serial (map (passed_to l.at) ((g.Q.WaitList.seen l.fn.queues).queue l.b)))
+          (with_serial (map (passed_to l.at) ((g.Q.WaitList.seen l.queues).queue l.b)));
       others : (q : ℕ) → (l.b == q) ≡ false
           → (g.Q.WaitList.seen l.queues).queue q ≡ (g.Q.WaitList.seen l.fn.queues).queue q;
       admitted : (c : ℕ)

@@ -1,82 +1,47 @@
-use Rattle.std.proofs.Common.{◌≡◌, ◌≤◌, ◌++◌, drop, length, map, ap, sym, ◌∙◌, subst, arith}
-use Rattle.std.proofs.lemmas.List.{length-map}
+use Rattle.std.proofs.Common.{◌≡◌, ◌++◌, List, map, ap, sym, ◌∙◌, arith}
 use Rattle.pt_history.specs.Stored.{past_of}
-use Rattle.pt_records.specs.AnswerLogs.{lengthened, lengthened_all}
-use Rattle.pt_records.specs.Logs.{logged}
+use Rattle.pt_history.proofs.Places.{place_of_next}
+use Rattle.pt_model.specs.Answers.{at_barrier, open_calls, told_by_trip}
+use Rattle.pt_records.specs.declared.answers.Answered.{Answered}
+use Rattle.pt_records.specs.Arrivals.{passed_to, with_serial}
+use Rattle.pt_records.specs.Logs.{logged, told_at}
 use Rattle.pt_records.proofs.LogParts.{told-after}
-use Rattle.pt_records.proofs.TripLemmas.{closes-rewrites, tail-logged, trip_log}
-use Rattle.pt_records.proofs.barrier.trip.Given.{Over}
+use Rattle.pt_records.proofs.TripLemmas.{arrivals-room, closes-rewrites, trip-told, trip_log}
 use Rattle.pt_records.proofs.barrier.trip.Goals as goal
 
--- there is room for what is told
-few-told : (g : Over) → (c : goal.After-clear g) → c.len-2.result ≤ c.answers.inside.room
-few-told g c =
-    let i = c.answers.inside in
+pub tell_queue-requires : goal.tell_queue-requires
+tell_queue-requires g c =
     omega (
       arith,
-      c.len-2.ensures,
-      c.tell_trip.ensures.len,
-      c.answers.invariant.1.none,
       c.requires.room,
-      ap length (ap (λ s. s.items) c.answers.view_is),
-      length-map i.shorts.items (lengthened i.base i.wholes.items),
-      i.shorts.ok.0,
-      ap (λ s. s.capacity) c.answers.view_is,
-    )
-
-pub invariant_of-answers : goal.invariant_of-answers
-invariant_of-answers g c =
-    let room = c.answers.invariant.1 in
-    let all = c.close_all.ensures in
-    let new : length c.as_slice-2.result.now ≡ c.len-2.result =
-    ap length c.as_slice-2.ensures.value
-    ∙ (sym c.tell_trip.new.answers.ok.0 ∙ sym c.len-2.ensures) in
-    let few = few-told g c in (
-      all.readable,
-      record {
-        shorts = omega (arith, few, new, room.shorts, all.len, all.capacity);
-        wholes = omega (arith, few, new, room.wholes, all.wholes, all.wholes_capacity);
-        trip = omega (arith, room.trip, c.clear.ensures.capacity, c.tell_trip.ensures.capacity);
-        none = c.clear.ensures.len;
-      },
+      arrivals-room (past_of c.args.history.now) c.args.b 0
+          ((g.Q.WaitList.seen c.args.queues.now).queue c.args.b) c.requires.arrived
+          (λ d. g.met.Q.WaitList.once c.args.queues.now d c.args.b),
     )
 
 pub returns : goal.returns
 returns g c =
     let h = past_of c.args.history.now in
     let rows = c.args.clients.now in
-    let i = c.answers.inside in
-    let b = c.base_with-answers-inside.result in
-    let ws = i.wholes.items in
+    let b = c.args.b in
+    let at = c.len.result in
+    let vs = (g.Q.WaitList.seen c.args.queues.now).queue b in
     let old = c.args.answers.now.items in
-    let new = c.tell_trip.new.answers.items in
-    let all = lengthened_all b c.close_all.new.wholes.items c.close_all.new.shorts.items in
-    let log = trip_log h rows c.args.b c.requires.follows c.requires.callers (map logged old) in
-    let none : length i.trip.items ≡ 0 = omega (arith, c.answers.invariant.1.none, i.trip.ok.0) in
+    let all = c.tell_queue.new.answers.items in
+    let new : List Answered = with_serial (map (passed_to at) vs) in
+    let log = trip_log h rows b c.requires.follows c.requires.callers (map logged old) in
     let tail : map logged new ≡ log =
-    ap (λ n. map logged (drop n new)) (sym none)
-    ∙ tail-logged i.trip.items new log c.tell_trip.ensures.told in
-    let same : lengthened_all b ws i.shorts.items ≡ old =
-    subst (λ ss. lengthened_all b ws ss ≡ lengthened_all i.base ws ss) c.as_slice.ensures.value
-    (c.base_with-answers-inside.ensures.same ws) ∙ ap (λ s. s.items) c.answers.view_is in
-    let whole : all ≡ old ++ new =
-    c.close_all.ensures.same
-    ∙ (ap (λ xs. xs ++ c.as_slice-2.result.now) same
-    ∙ ap (λ xs. old ++ xs) c.as_slice-2.ensures.value) in
-    let told : map logged all ≡ map logged old ++ log = told-after old new all log whole tail in
+    trip-told h b at vs c.requires.arrived
+    (λ d. g.met.Q.WaitList.once c.args.queues.now d b)
+    ∙ ap (λ n. told_at n (told_by_trip (at_barrier b (open_calls h))))
+    (c.len.ensures ∙ sym (place_of_next c.args.history.now)) in
+    let told : map logged all ≡ map logged old ++ log =
+    told-after old new all log c.tell_queue.ensures.told tail in
     record {
       told = told;
-      capacity = omega (
-        arith,
-        few-told g c,
-        ap length c.as_slice-2.ensures.value,
-        c.tell_trip.new.answers.ok.0,
-        c.len-2.ensures,
-        c.close_all.ensures.len,
-        ap (λ s. s.capacity) c.answers.view_is,
-      );
-      emptied = c.tell_trip.ensures.emptied;
-      closed = closes-rewrites h rows c.args.b c.requires.follows c.requires.callers
-          (map logged old) c.close_all.new.clients c.as_slice-2.result.now (map logged all)
-          (ap (map logged) c.as_slice-2.ensures.value ∙ tail) told c.close_all.ensures.closed;
+      capacity = c.tell_queue.ensures.capacity;
+      emptied = c.tell_queue.ensures.emptied;
+      closed = closes-rewrites h rows b c.requires.follows c.requires.callers
+          (map logged old) c.tell_queue.new.clients new (map logged all) tail told
+          c.tell_queue.ensures.closed;
     }

@@ -14,7 +14,5 @@ invariant_of-self g c =
       record {
         shorts = omega (arith, room.shorts, len, c.push_reserved.ensures.capacity);
         wholes = omega (arith, room.wholes);
-        trip = omega (arith, room.trip);
-        none = room.none;
       },
     )
