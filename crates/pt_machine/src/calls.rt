@@ -17,7 +17,7 @@ ghost use Rattle.pt_state.specs.Reads.{AreTables};
 use crate::body::Body;
 use crate::cond::{push_broadcast, push_signal};
 use crate::objects::{push_ended, push_ended_object, push_made, push_new_object};
-use crate::queues::{arriving, entering, priority_of, take_place};
+use crate::queues::{arriving, entering, take_place};
 use pt_state::{Request, State, known_verdict};
 use pt_types::operations::{LockKind, Operation, operation_of};
 use pt_types::{Call, ClientId, Name, ObjectId, Outcome, Refusal, Verdict};
@@ -136,8 +136,8 @@ fn leave_arrival<Q: WaitList, A: Allocator + Copy>(
     }
 }
 
-// A wait with no deadline. It waits at its condition with its client's priority, which is read
-// before the wait is pushed, so its client's row is not looked at again.
+// A wait with no deadline. It waits at its condition with its client's priority, which the push
+// returns, so its client's row is looked at once.
 #[inline(always)]
 fn enter_wait<Q: WaitList, A: Allocator + Copy>(
     state: &mut State<A>,
@@ -157,8 +157,7 @@ fn enter_wait<Q: WaitList, A: Allocator + Copy>(
 {
     let place = state.stored.len();
     let q = object_named(request);
-    let prio = priority_of(state, c);
-    state.push_await(c, call, n, m, None, request);
+    let prio = state.push_endless_wait(c, call, n, m, request);
     queues.insert(q, entering(c, place, prio));
 }
 

@@ -1,12 +1,11 @@
 //! The queues of waiting calls: who takes a place, and who leaves it.
 
-ghost use Rattle.std.specs.Prelude.{Some, ℕ, ◌==◌, ◌≡◌, if◌then◌else◌, true};
+ghost use Rattle.std.specs.Prelude.{ℕ, ◌==◌, ◌≡◌, if◌then◌else◌};
 ghost use Rattle.pt_machine.specs.Queued.{CanStand, arriving as arriving_in};
 ghost use Rattle.pt_machine.specs.Queued.{standing as standing_in, waiter, waiter_by};
 ghost use Rattle.pt_model.specs.Searches.{In};
 ghost use Rattle.pt_model.specs.declared.waiting_call.WaitingCall.{WaitingCall};
 ghost use Rattle.pt_model.specs.Answers.{open_calls};
-ghost use Rattle.pt_model.specs.Clients.{client, is_alive};
 ghost use Rattle.pt_model.specs.Moves.{at_object};
 ghost use Rattle.pt_waitq.specs.Queues.{insert_in_order};
 ghost use Rattle.pt_state.specs.Adds.{past};
@@ -47,16 +46,6 @@ pub(crate) fn arriving(client: ClientId, place: u64) -> Waiter
         writer: false,
         moved: place,
     }
-}
-
-/// A living client's priority.  [XSH 2.8.4]
-#[inline(always)]
-pub(crate) fn priority_of<A: Allocator + Copy>(state: &State<A>, c: ClientId) -> Priority
-    requires read { AreTables state.now }
-    requires alive { is_alive (past state.now) c ≡ true }
-    ensures { client (past state.now) c ≡ Some result }
-{
-    state.clients.at(c.0).unwrap().priority
 }
 
 /// A call for no write lock as it waits where it came, by its client and its place.  [XSH 2.8.4]

@@ -2,6 +2,7 @@
 
 ghost use Rattle.pt_types.specs.declared.operations.ObjectClass.TheVariants.{Cond as CondClass};
 ghost use Rattle.pt_types.specs.declared.operations.ObjectClass.TheVariants.{Mutex as MutexClass};
+ghost use Rattle.pt_model.specs.Clients.{client};
 ghost use Rattle.pt_model.specs.Objects.{find};
 ghost use Rattle.std.specs.Prelude.{None, Some, ◌≡◌, option_map};
 ghost use Rattle.pt_types.specs.declared.outcome.Outcome.TheVariants as told;
@@ -19,10 +20,10 @@ use crate::state::State;
 use pt_model::Cause;
 use pt_model::waiting_call::Role;
 use pt_records::Open;
-use pt_records::cond::{wake, wake_waits};
+use pt_records::cond::{wait_at, wake, wake_waits};
 use pt_records::mutex::release;
 use pt_types::operations::clock_of;
-use pt_types::{Call, ClientId, Deadline, Name, ObjectId, Outcome};
+use pt_types::{Call, ClientId, Deadline, Name, ObjectId, Outcome, Priority};
 use std::alloc::Allocator;
 
 impl<A: Allocator + Copy> State<A> {
@@ -91,5 +92,39 @@ impl<A: Allocator + Copy> State<A> {
         let role = Role::ForCond(mutex);
         let open = self.entered(c, or_zero(request.object), role, clock_of(call), deadline);
         self.push_wait(c, call, mutex, open);
+    }
+
+    /// A wait at a condition, by no deadline. Returns its client's priority.
+    /// [XSH pthread_cond_wait]
+    #[inline(always)]
+    pub fn push_endless_wait(
+        &mut self,
+        c: ClientId,
+        call: &Call,
+        n: &Name,
+        m: &Name,
+        request: &Request,
+    ) -> Priority
+        requires ready { IsReadyFor self.old (entry.Call c call.now None) }
+        requires operation { operation call.now ≡ Awaits n.now m.now None }
+        requires object { request.now.object ≡ find (past self.old) n.now CondClass }
+        requires mutex { request.now.mutex ≡ find (past self.old) m.now MutexClass }
+        ensures adds { Adds self.old (entry.Call c call.now None) self.new }
+        ensures priority { client (past self.old) c ≡ Some result }
+    {
+        // What is read off the call is read first, while the compiler knows which word it is.
+        let place = self.stored.len();
+        let clock = clock_of(call);
+        let mutex = or_zero(request.mutex);
+        self.stored.push_wait(c, call, None);
+        release(&mut self.clients, &mut self.objects, mutex, c);
+        wait_at(
+            &mut self.clients,
+            c,
+            place,
+            or_zero(request.object),
+            mutex,
+            clock,
+        )
     }
 }
