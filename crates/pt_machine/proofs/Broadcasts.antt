@@ -1,6 +1,7 @@
 -- What a broadcast makes of the history: the waits at its condition are moved, and nothing else.
 use Rattle.std.proofs.Common.{◌≡◌, ℕ, Bool, true, false, cond, ◌&&◌, ◌==◌, List, ◌++◌, Option, Some}
 use Rattle.std.proofs.Common.{None, is_none, refl, sym, ap, ◌∙◌, subst, arith, append-nil, eq-eqb}
+use Rattle.std.proofs.Common.{unwrap_or}
 use Rattle.std.proofs.lemmas.Bool.Decides.{nat_tests}
 use Rattle.std.proofs.lemmas.Bool.{and_parts}
 use Rattle.pt_types.specs.declared.call.Call.{Call as Asked}
@@ -26,9 +27,10 @@ use Rattle.pt_model.specs.declared.waiting_call.Role.TheVariants.{ForBarrier, Fo
 use Rattle.pt_model.specs.WaitingCall.{is_wait}
 use Rattle.pt_model.specs.Answers.{open_calls}
 use Rattle.pt_model.specs.Moves.{arrival_by, cond_waits, woken, move_or, moved, object_by}
-use Rattle.pt_model.specs.Moves.{at_object}
+use Rattle.pt_model.specs.Moves.{at_object, waiting_at}
+use Rattle.pt_model.specs.Verdicts.{bound_by}
 use Rattle.pt_model.specs.Steps.{Step, Follows}
-use Rattle.pt_model.proofs.Lists.{false_by}
+use Rattle.pt_model.proofs.Lists.{false_by, filter-in}
 use Rattle.pt_model.proofs.Effects.{Wakes, act, effect, Allowed}
 use Rattle.pt_model.proofs.Allowances.{allowed}
 use Rattle.pt_model.proofs.Changes.{left_by, kind_effect, cause_effect}
@@ -38,6 +40,7 @@ use Rattle.pt_model.proofs.Opens.{open-call}
 use Rattle.pt_model.proofs.Moves.{moved-call, woken-broadcast}
 use Rattle.pt_model.proofs.Named.{known_exists}
 use Rattle.pt_model.proofs.Seats.{exists_as, HousedBy, one_class, housed}
+use Rattle.pt_touched.proofs.BoundMutex.{at_cond, bound-any}
 use Rattle.pt_state.specs.declared.state.State.{State}
 use Rattle.pt_state.specs.Adds.{past, IsReadyFor, Adds}
 use Rattle.pt_state.proofs.StepLemmas.{called}
@@ -225,3 +228,16 @@ module _ {h g : History} {q : ℕ} (b : Broadcast h g q) where
       (false_by (still_waits w.role (moved h w.place) w.object q) (λ t.
       let at : at_object h w ≡ q = stands-by w.role (moved h w.place) w.object q t in
       absurd (let here = eq-eqb (at_object h w) q at in let no = n in cc)))
+
+  -- it stands at the mutex that was bound to the condition
+  pub goes : (w : WaitingCall) → In w (open_calls g) → at_object h w ≡ q
+      → at_object g w ≡ unwrap_or (bound_by (waiting_at h q)) 0
+  goes w i e =
+      let there : In w (waiting_at h q) =
+      filter-in (λ (u : WaitingCall). at_object h u == q) (open_calls h) w (was w i)
+      (eq-eqb (at_object h w) q e) in
+      let known = at_cond h q w b.before b.is_cond there in
+      ap (λ x. object_by w.role x w.object) (rouses w i e)
+      ∙ (ap (λ r. object_by r (roused (place h)) w.object) known.1.1.0
+      ∙ sym (ap (λ (o : Option ℕ). unwrap_or o 0)
+      (bound-any h b.before q w known.1.0 known.0 known.1.1.1.1 known.1.1.0 known.1.1.1.0)))

@@ -1,7 +1,7 @@
 -- The queues while a broadcast moves the waits at its condition, one by one in key order.
 use Rattle.std.proofs.Common.{◌≡◌, ℕ, suc, ◌<◌, Bool, true, false, cond, not, ◌&&◌, ◌||◌, ◌==◌}
 use Rattle.std.proofs.Common.{nat_lt, List, [], ◌∷◌, length, Option, Some, None, is_some, refl, sym}
-use Rattle.std.proofs.Common.{ap, ◌∙◌, subst, arith, eq-eqb, inl, inr}
+use Rattle.std.proofs.Common.{ap, ◌∙◌, subst, arith, eq-eqb, inl, inr, unwrap_or}
 use Rattle.std.proofs.lemmas.Bool.Decides.{nat_tests}
 use Rattle.std.proofs.lemmas.Bool.{false≢true, and_parts}
 use Rattle.std.proofs.lemmas.List.Filters.{length-filter_both}
@@ -21,13 +21,15 @@ use Rattle.pt_model.specs.Objects.{kind_of}
 use Rattle.pt_model.specs.declared.waiting_call.WaitingCall.{WaitingCall}
 use Rattle.pt_model.specs.declared.waiting_call.Move.{Move}
 use Rattle.pt_model.specs.Answers.{open_calls}
-use Rattle.pt_model.specs.Moves.{arrival_by, moved, object_by, at_object}
+use Rattle.pt_model.specs.Moves.{arrival_by, moved, object_by, at_object, waiting_at}
+use Rattle.pt_model.specs.Verdicts.{bound_by}
 use Rattle.pt_model.proofs.Lists.{false_by}
 use Rattle.pt_model.proofs.Found.{open_alive}
 use Rattle.pt_model.proofs.OneEach.{one_each}
 use Rattle.pt_machine.specs.Queued.{waiter_by, waiter, IsQueued, CanStand}
 use Rattle.pt_machine.proofs.ArrivalBounds.{arrival-below, object-there}
-use Rattle.pt_machine.proofs.Broadcasts.{Broadcast, was, came, rouses, away, spares}
+use Rattle.pt_machine.proofs.Broadcasts.{Broadcast, was, came, rouses, away, spares, goes}
+use Rattle.pt_machine.proofs.PlaceTakes.{Takes}
 
 -- the move of a call, where those that stand in this queue have not been moved yet
 abbrev pub move_now : History → History → List Waiter → WaitingCall → Option Move
@@ -204,6 +206,24 @@ module _ {h g : History} {q : ℕ} {queue : ℕ → List Waiter} {admitted made 
           same = r.3
               ∙ ap (λ t. waiter_by (cond t (moved h r.0.place) (moved g r.0.place)) r.0) here;
         }
+
+    -- the first of them as it was moved waits at the mutex that was bound to the condition
+    pub rousing-takes : {m : ℕ} {v : Waiter} → m ≡ unwrap_or (bound_by (waiting_at h q)) 0
+        → v ≡ record first { moved = place h } → Takes g first.client m v
+    rousing-takes {m = m} {v = v} m_is v_is =
+        record {
+          seat = λ w i e.
+              m_is
+              ∙ (sym (goes k.by next.call next.open next.at) ∙ ap (at_object g) (its w i e));
+          same = λ w i e.
+              v_is
+              ∙ (ap (λ (x : Waiter). record x { moved = place h }) next.same
+              ∙ (sym (ap (λ x. waiter_by x next.call) (rouses k.by next.call next.open next.at))
+              ∙ ap (waiter g) (its w i e)));
+        }
+      where
+        its : (w : WaitingCall) → In w (open_calls g) → w.client ≡ first.client → next.call ≡ w
+        its w i e = sym (one_each g k.by.after w next.call i next.open (e ∙ next.its))
 
     -- what stands at its mutex was there before, or was moved there ahead of it
     behind : (v : Waiter) → In v (queue (at_object g next.call))

@@ -2,6 +2,7 @@
 
 ghost use Rattle.std.specs.Option.{option_copied};
 ghost use Rattle.std.specs.Prelude.{IfSome, None, Some, ◌≡◌, ◌≤◌, filter, length, option_map, true};
+ghost use Rattle.std.specs.Prelude.{unwrap_or};
 ghost use Rattle.pt_types.specs.declared.outcome.Outcome.TheVariants as told;
 ghost use Rattle.pt_types.specs.Operations.{Awaits, Broadcasts, Signals, operation};
 ghost use Rattle.pt_types.specs.declared.operations.ObjectClass.TheVariants.{Cond as CondClass};
@@ -28,7 +29,7 @@ use pt_model::waiting_call::mutex_awaited;
 use pt_records::Open;
 use pt_state::{Request, State};
 use pt_types::{Call, ClientId, Deadline, Name, ObjectId, Outcome, Verdict};
-use pt_waitq::WaitList;
+use pt_waitq::{WaitList, Waiter};
 use std::alloc::Allocator;
 
 // Pushes a `signal` that wakes this wait, which then waits at its mutex.
@@ -79,6 +80,20 @@ pub(crate) fn push_signal<Q: WaitList, A: Allocator + Copy>(
     }
 }
 
+// A waiter, as it waits once the entry at this place has moved it.  [XSH pthread_cond_broadcast]
+#[inline(always)]
+fn moved_at(place: u64, waiter: &Waiter) -> Waiter
+    ensures { result ≡ record waiter.now { moved = place } }
+{
+    Waiter {
+        client: waiter.client,
+        place: waiter.place,
+        prio: waiter.prio,
+        writer: waiter.writer,
+        moved: place,
+    }
+}
+
 /// Pushes a `broadcast`: all waits at its condition are woken, and wait at their mutex.
 /// [XSH pthread_cond_broadcast]
 pub(crate) fn push_broadcast<Q: WaitList, A: Allocator + Copy>(
@@ -97,9 +112,11 @@ pub(crate) fn push_broadcast<Q: WaitList, A: Allocator + Copy>(
     ensures queued { IsQueued (past state.new) (Q.seen queues.new) }
 {
     let q = object.unwrap();
+    let place = state.stored.len();
+    let m = mutex_of_waits(queues, state, q);
     state.push_broadcast(c, call, n, Some(q));
     while let Some(first) = queues.take_first(q) {
-        take_place(queues, state, first.client);
+        queues.insert(m, moved_at(place, &first));
     }
 }
 
@@ -144,6 +161,42 @@ fn first_waiting<'s, Q: WaitList, A: Allocator + Copy>(
     }
 }
 
+// The mutex with which calls wait at the condition, if some do.  [XSH pthread_cond_wait]
+#[inline(always)]
+fn bound_at<Q: WaitList, A: Allocator + Copy>(
+    queues: &Q,
+    state: &State<A>,
+    q: ObjectId,
+) -> Option<ObjectId>
+    requires read { AreTables state.now }
+    requires queued { IsQueued (past state.now) (Q.seen queues.now) }
+    requires cond { kind_of (past state.now) q ≡ Some kind.Cond }
+    ensures { result ≡ bound_by (waiting_at (past state.now) q) }
+{
+    match first_waiting(queues, state, q) {
+        Some(first) => mutex_awaited(first.call.role),
+        None => None,
+    }
+}
+
+// The mutex with which calls wait at the condition; 0 if none do.  [XSH pthread_cond_wait]
+#[inline(always)]
+fn mutex_of_waits<Q: WaitList, A: Allocator + Copy>(
+    queues: &Q,
+    state: &State<A>,
+    q: ObjectId,
+) -> ObjectId
+    requires read { AreTables state.now }
+    requires queued { IsQueued (past state.now) (Q.seen queues.now) }
+    requires cond { kind_of (past state.now) q ≡ Some kind.Cond }
+    ensures { result ≡ unwrap_or (bound_by (waiting_at (past state.now) q)) 0 }
+{
+    match bound_at(queues, state, q) {
+        Some(m) => m,
+        None => ObjectId(0),
+    }
+}
+
 impl<Q: WaitList, A: Allocator + Copy> Body<Q, A> {
     /// The mutex with which calls wait at the condition, if some do.  [XSH pthread_cond_wait]
     #[inline(never)]
@@ -152,10 +205,7 @@ impl<Q: WaitList, A: Allocator + Copy> Body<Q, A> {
         requires cond { kind_of (past self.now) q ≡ Some kind.Cond }
         ensures { result ≡ bound_by (waiting_at (past self.now) q) }
     {
-        match first_waiting(&self.queues, &self.state, q) {
-            Some(first) => mutex_awaited(first.call.role),
-            None => None,
-        }
+        bound_at(&self.queues, &self.state, q)
     }
 
     // The condition, bound to the mutex with which calls wait there, if some do.

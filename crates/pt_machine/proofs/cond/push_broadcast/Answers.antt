@@ -1,11 +1,22 @@
-use Rattle.std.proofs.Common.{◌≡◌, ℕ, List, Option, Some, None, IfSome, IfNone, subst}
+use Rattle.std.proofs.Common.{◌≡◌, ℕ, ◌==◌, cond, List, Option, Some, None, IfSome, IfNone, sym, ap}
+use Rattle.std.proofs.Common.{◌∙◌, subst}
+use Rattle.pt_history.proofs.Places.{place_of_next}
+use Rattle.pt_model.specs.Searches.{In}
+use Rattle.pt_model.specs.Answers.{open_calls}
+use Rattle.pt_model.specs.Moves.{at_object}
+use Rattle.pt_model.specs.declared.waiting_call.WaitingCall.{WaitingCall}
 use Rattle.pt_waitq.specs.declared.waiter.Waiter.{Waiter}
-use Rattle.pt_waitq.specs.Queues.{without}
+use Rattle.pt_waitq.specs.Queues.{insert_in_order, without}
 use Rattle.pt_state.specs.Adds.{past}
+use Rattle.pt_records.proofs.LockViews.{cond-found}
+use Rattle.pt_machine.specs.Queued.{CanStand, waiter}
 use Rattle.pt_machine.proofs.Broadcasts.{broadcasting}
 use Rattle.pt_machine.proofs.QueuedBroadcast.{rousing-begins, rousing-ends, rousing-stands}
-use Rattle.pt_machine.proofs.QueuedBroadcast.{rousing-shorter, rousing-next}
+use Rattle.pt_machine.proofs.QueuedBroadcast.{rousing-shorter, rousing-next, rousing-takes}
 use Rattle.pt_machine.proofs.QueuedSame.{queued-lists}
+use Rattle.pt_machine.proofs.PlaceTakes.{Takes, take-admitted, take-nowhere, take-made, take-latest}
+use Rattle.pt_machine.proofs.PlaceTakes.{take-put}
+use Rattle.pt_machine.proofs.cond.push_broadcast.Given.{Over}
 use Rattle.pt_machine.proofs.cond.push_broadcast.Goals as goal
 
 -- the queues without the one that was taken out
@@ -28,13 +39,58 @@ loop-first-init g c =
     c.requires.found
     c.unwrap-q.ensures c.push_broadcast.ensures) c.requires.queued
 
-pub take_place-requires-clause-ready : goal.take_place-requires-clause-ready
-take_place-requires-clause-ready g c =
+pub mutex_of_waits-m-requires-clause-cond : goal.mutex_of_waits-m-requires-clause-cond
+mutex_of_waits-m-requires-clause-cond g c =
+    cond-found (past c.args.state.now) c.requires.ready.read.follows c.args.n.now
+    c.unwrap-q.result (sym c.requires.found ∙ c.unwrap-q.ensures)
+
+-- the first of the waits, moved, is at its mutex
+its-place : (g : Over) → (c : goal.After-moved_at g)
+    → Takes (past c.push_broadcast.new.self) c.in-Some.first.client c.mutex_of_waits-m.result
+    c.moved_at.result
+its-place g c =
+    rousing-takes c.loop-first.invariant c.take_first.ensures.first c.in-Some.is
+    c.mutex_of_waits-m.ensures
+    (c.moved_at.ensures ∙ ap (λ j. record c.in-Some.first { moved = j })
+    (c.len-place.ensures ∙ sym (place_of_next c.args.state.now.stored)))
+
+-- and may stand there
+may-stand : (g : Over) → (c : goal.After-moved_at g)
+    → CanStand (past c.push_broadcast.new.self) c.in-Some.first.client
+    (g.Q.WaitList.seen c.take_first.new.self)
+may-stand g c =
     let out = taken (g.Q.WaitList.seen c.loop-first.queues).queue
     (g.Q.WaitList.seen c.take_first.new.self).queue _ c.in-Some.first c.in-Some.is
     c.take_first.ensures.taken in
     rousing-stands c.loop-first.invariant c.take_first.ensures.first c.in-Some.is out
     c.take_first.ensures.admitted c.take_first.ensures.made
+
+pub insert-requires-clause-admitted : goal.insert-requires-clause-admitted
+insert-requires-clause-admitted g c = take-admitted (may-stand g c) (its-place g c)
+
+pub insert-requires-clause-nowhere : goal.insert-requires-clause-nowhere
+insert-requires-clause-nowhere g c = take-nowhere (may-stand g c) (its-place g c)
+
+pub insert-requires-clause-made : goal.insert-requires-clause-made
+insert-requires-clause-made g c = take-made (may-stand g c) (its-place g c)
+
+pub insert-requires-clause-latest : goal.insert-requires-clause-latest
+insert-requires-clause-latest g c = take-latest (may-stand g c) (its-place g c)
+
+-- the queues in which it has its place
+put : (g : Over) → (c : goal.After-insert g) → (w : WaitingCall)
+    → In w (open_calls (past c.push_broadcast.new.self)) → w.client ≡ c.in-Some.first.client
+    → (r : ℕ)
+    → (g.Q.WaitList.seen c.insert.new.self).queue r
+    ≡ cond (at_object (past c.push_broadcast.new.self) w == r)
+    (insert_in_order (waiter (past c.push_broadcast.new.self) w)
+    ((g.Q.WaitList.seen c.take_first.new.self).queue r))
+    ((g.Q.WaitList.seen c.take_first.new.self).queue r)
+put g c =
+    take-put (past c.push_broadcast.new.self) c.in-Some.first.client c.mutex_of_waits-m.result
+    c.moved_at.result (its-place g c.before)
+    (g.Q.WaitList.seen c.take_first.new.self).queue (g.Q.WaitList.seen c.insert.new.self).queue
+    c.insert.ensures.queues
 
 pub loop-first-smaller : goal.loop-first-smaller
 loop-first-smaller g c =
@@ -42,7 +98,7 @@ loop-first-smaller g c =
     (g.Q.WaitList.seen c.take_first.new.self).queue _ c.in-Some.first c.in-Some.is
     c.take_first.ensures.taken in
     rousing-shorter c.loop-first.invariant c.take_first.ensures.first c.in-Some.is out
-    c.take_place.ensures.queues
+    (put g c)
 
 pub loop-first-preserved : goal.loop-first-preserved
 loop-first-preserved g c =
@@ -50,8 +106,8 @@ loop-first-preserved g c =
     (g.Q.WaitList.seen c.take_first.new.self).queue _ c.in-Some.first c.in-Some.is
     c.take_first.ensures.taken in
     rousing-next c.loop-first.invariant c.take_first.ensures.first c.in-Some.is out
-    c.take_place.ensures.queues c.take_first.ensures.admitted c.take_first.ensures.made
-    c.take_place.ensures.admitted c.take_place.ensures.made
+    (put g c) c.take_first.ensures.admitted c.take_first.ensures.made
+    c.insert.ensures.admitted c.insert.ensures.made
 
 pub returns-clause-queued : goal.returns-clause-queued
 returns-clause-queued g c =
