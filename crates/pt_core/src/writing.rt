@@ -53,6 +53,7 @@ fn outcome_by_answer<Q: WaitList, A: Allocator + Copy>(
     match (event, answer) {
         (Event::Call(..), Some(answer)) => Some(answer),
         (Event::Call(..), None) if body.len() - 1 == first => None,
+        (Event::Call(c, _), None) => body.outcome_of(*c, first),
         _ => told(body, event, first),
     }
 }
