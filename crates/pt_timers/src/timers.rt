@@ -52,7 +52,7 @@ impl<A: Allocator + Copy> Model for Timers<A> {
 
 impl<A: Allocator + Copy> Timers<A> {
     ghost use Rattle.std.specs.Prelude.{ℕ, false, OnOk, OnErr, IfErr, if◌then◌else◌, Some, None};
-    ghost use Rattle.std.specs.Prelude.{◌&&◌, option_map};
+    ghost use Rattle.std.specs.Prelude.{◌&&◌, option_map, IsTrue, ◌↔◌};
     ghost use Rattle.pt_timers.specs.Deadlines.{deadline_at, is_set_to, moments, IsFirstDue};
     ghost use Rattle.pt_timers.specs.Deadlines.{IsLeast, IsLeastDue};
 
@@ -122,6 +122,18 @@ impl<A: Allocator + Copy> Timers<A> {
         }
     }
 
+    // Whether no deadline of a clock is set.
+    #[inline(always)]
+    fn has_none(&self, clock: Clock) -> bool
+        ensures { IsTrue result
+            ↔ ((q m : ℕ) → deadline_at self.now q ≡ Some (clock, m) → ⊥) }
+    {
+        match self.orders.of(clock).first() {
+            Some(_) => false,
+            None => true,
+        }
+    }
+
     /// The place that is due, with the client that was set with it: of the deadlines at or before
     /// the moment of their own clock the least, whichever the clock, and of equal ones that of the
     /// least place.  [XSH pthread_mutex_clocklock; the order is profile]
@@ -129,6 +141,10 @@ impl<A: Allocator + Copy> Timers<A> {
     pub fn least_due(&self, real: Option<Moment>, mono: Option<Moment>) -> Option<(u64, ClientId)>
         ensures { IsLeastDue self.now (moments real mono) (option_map (λ due. due.0) result) }
     {
+        // Asked first, since most often it is so.
+        if self.has_none(Clock::Real) && self.has_none(Clock::Mono) {
+            return None;
+        }
         let by_real = self.first_due(Clock::Real, real);
         let due = match self.first_due(Clock::Mono, mono) {
             Some(key) => sooner(by_real, key),
