@@ -7,7 +7,11 @@ use Rattle.std.specs.List.{AllByRecursion as Each}
 use Rattle.pt_types.specs.declared.call.Call.{Call as Asked}
 use Rattle.pt_types.specs.declared.outcome.Outcome.{Outcome}
 use Rattle.pt_types.specs.Times.{Timespec}
-use Rattle.pt_types.specs.Operations.{Arrives, Awaits, operation, clock_of}
+use Rattle.pt_types.specs.declared.call.How.{How}
+use Rattle.pt_types.specs.Operations.{Acquires, Arrives, Awaits, operation, clock_of}
+use Rattle.pt_types.specs.Operations.{class_needed, deadline_of}
+use Rattle.pt_types.specs.declared.operations.LockKind.{LockKind}
+use Rattle.pt_types.specs.declared.operations.LockKind.TheVariants.{MutexLock, ReadLock, WriteLock}
 use Rattle.pt_types.specs.declared.operations.ObjectClass.TheVariants.{Barrier as BarrierClass}
 use Rattle.pt_types.specs.declared.operations.ObjectClass.TheVariants.{Cond as CondClass}
 use Rattle.pt_types.specs.declared.operations.ObjectClass.TheVariants.{Mutex as MutexClass}
@@ -22,7 +26,8 @@ use Rattle.pt_model.specs.Clients.{client}
 use Rattle.pt_model.specs.Histories.{History, ◌▷◌, place}
 use Rattle.pt_model.specs.declared.waiting_call.WaitingCall.{WaitingCall}
 use Rattle.pt_model.specs.declared.waiting_call.Role.TheVariants.{ForBarrier, ForCond}
-use Rattle.pt_model.specs.WaitingCall.{entered, meant, stood_by_operation}
+use Rattle.pt_model.specs.declared.waiting_call.Move.{Move}
+use Rattle.pt_model.specs.WaitingCall.{entered, is_write, meant, role_needed, stood_by_operation}
 use Rattle.pt_model.specs.Answers.{open_calls}
 use Rattle.pt_model.specs.Moves.{at_object, moved, object_by}
 use Rattle.pt_model.specs.Steps.{Step, Follows}
@@ -37,7 +42,7 @@ use Rattle.pt_model.proofs.Opens.{open-call}
 use Rattle.pt_model.proofs.OneEach.{none_of_client}
 use Rattle.pt_model.proofs.Stands.{stands-operation}
 use Rattle.pt_state.proofs.StepLemmas.{called}
-use Rattle.pt_machine.specs.Queued.{arriving, waiter, IsQueued, CanStand}
+use Rattle.pt_machine.specs.Queued.{arriving, standing, waiter, IsQueued, CanStand}
 use Rattle.pt_machine.proofs.ArrivalBounds.{waiters-below, arrival-new, object-there}
 use Rattle.pt_machine.proofs.PlaceTakes.{Takes}
 
@@ -53,6 +58,18 @@ alone (Frees m) w i = absurd i
 alone (Mends m) w i = absurd i
 alone (Returns r) w i = absurd i
 alone (Wakes n all) w i = absurd i
+
+-- a call for a lock waits at its object
+stays : (k : LockKind) (m : Option Move) (o : ℕ) → object_by (role_needed k) m o ≡ o
+stays MutexLock m o = refl
+stays ReadLock m o = refl
+stays WriteLock m o = refl
+
+-- it waits with its client's priority
+own-priority : (k : LockKind) (p : ℕ) → standing (role_needed k) p ≡ p
+own-priority MutexLock p = refl
+own-priority ReadLock p = refl
+own-priority WriteLock p = refl
 
 -- a call that has just come, and is the only one that the entry leaves
 record Came (h : History) (c : ℕ) (call : Asked) : Type 0 where
@@ -261,4 +278,48 @@ module _ (h : History) (f : Follows h) (c : ℕ) (call : Asked) (s : Step h (Cal
         its w i by =
             only-came w i by
             ∙ one (subst (λ x. In new.waiting (stood_by_operation h c (clock_of call) x)) awaits
+            new.stood)
+
+    -- a call for a lock waits there as its client, its place and its client's priority say
+    pub lock-takes : (n : List ℕ) (k : LockKind) (how : How) → operation call ≡ Acquires n k how
+        → (g : History) → g ≡ h ▷ Call c call None → (o j p : ℕ) (v : Waiter)
+        → o ≡ meant h n (class_needed k) → j ≡ place h → client h c ≡ Some p
+        → v ≡ record (arriving c j) { prio = p; writer = is_write (role_needed k) }
+        → Takes g c o v
+    lock-takes n k how acquires g e o j p v at is prior stands =
+        subst (λ (x : History). Takes x c o v) (sym e) (record {
+          seat = λ w i by.
+              at
+              ∙ sym (ap (at_object after) (its w i by)
+              ∙ stays k (moved h (place h)) (meant h n (class_needed k)));
+          same = λ w i by.
+              stands
+              ∙ (ap (λ m. record (arriving c m) { prio = p; writer = is_write (role_needed k) }) is
+              ∙ (ap (λ x. record (arriving c (place h)) {
+                prio = x;
+                writer = is_write (role_needed k);
+              }) (sym (ap (λ (u : Option ℕ). unwrap_or u 0) prior))
+              ∙ (ap (λ x. record (arriving c (place h)) {
+                prio = unwrap_or (client h c) 0;
+                writer = is_write (role_needed k);
+                moved = x;
+              }) (sym (arrival-new h f lock refl))
+              ∙ (ap (λ x. record (waiter after lock) { prio = x })
+              (sym (own-priority k (unwrap_or (client h c) 0)))
+              ∙ sym (ap (waiter after) (its w i by))))));
+        })
+      where
+        lock : WaitingCall
+        lock =
+            entered h c (meant h n (class_needed k)) (role_needed k) (clock_of call)
+            (deadline_of how)
+
+        one : In new.waiting (lock ∷ []) → new.waiting ≡ lock
+        one (inl i) = i
+        one (inr i) = absurd i
+
+        its : (w : WaitingCall) → In w (open_calls after) → w.client ≡ c → w ≡ lock
+        its w i by =
+            only-came w i by
+            ∙ one (subst (λ x. In new.waiting (stood_by_operation h c (clock_of call) x)) acquires
             new.stood)

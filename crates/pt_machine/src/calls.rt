@@ -16,6 +16,7 @@ ghost use Rattle.pt_state.specs.Reads.{AreTables};
 
 use crate::body::Body;
 use crate::cond::{push_broadcast, push_signal};
+use crate::locks::{leave_mutex_lock, leave_read_lock, leave_write_lock};
 use crate::objects::{push_ended, push_ended_object, push_made, push_new_object};
 use crate::queues::{arriving, entering, take_place};
 use pt_state::{Request, State, known_verdict};
@@ -52,9 +53,9 @@ fn leave<Q: WaitList, A: Allocator + Copy>(
     }
 }
 
-// As `leave`, for any call.
+/// As `leave`, for any call.
 #[inline(never)]
-fn leave_any<Q: WaitList, A: Allocator + Copy>(
+pub(crate) fn leave_any<Q: WaitList, A: Allocator + Copy>(
     state: &mut State<A>,
     queues: &mut Q,
     c: ClientId,
@@ -73,9 +74,9 @@ fn leave_any<Q: WaitList, A: Allocator + Copy>(
     leave(state, queues, c, call, request)
 }
 
-// The object that a call's name means; 0 if it means none.
+/// The object that a call's name means; 0 if it means none.
 #[inline(always)]
-fn object_named(request: &Request) -> ObjectId
+pub(crate) fn object_named(request: &Request) -> ObjectId
     ensures { result ≡ unwrap_or request.now.object 0 }
 {
     match request.object {
@@ -209,6 +210,9 @@ pub(crate) fn push_left<Q: WaitList, A: Allocator + Copy>(
     ensures queued { IsQueued (past state.new) (Q.seen queues.new) }
 {
     match call {
+        Call::Lock(_) => leave_mutex_lock(state, queues, c, call, request),
+        Call::Rdlock(_) => leave_read_lock(state, queues, c, call, request),
+        Call::Wrlock(_) => leave_write_lock(state, queues, c, call, request),
         Call::Bwait(_) => leave_arrival(state, queues, c, call, request),
         Call::Wait(..) => leave_wait(state, queues, c, call, request),
         _ => leave_any(state, queues, c, call, request),

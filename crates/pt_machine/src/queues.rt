@@ -10,6 +10,7 @@ ghost use Rattle.pt_model.specs.Moves.{at_object};
 ghost use Rattle.pt_waitq.specs.Queues.{insert_in_order};
 ghost use Rattle.pt_state.specs.Adds.{past};
 ghost use Rattle.pt_state.specs.Reads.{AreTables};
+ghost use Rattle.pt_model.specs.WaitingCall.{is_write as is_write_role, role_needed as role_meant};
 ghost use Rattle.pt_model.specs.Verdicts.{is_awaited as is_awaited_in};
 
 use crate::body::Body;
@@ -17,6 +18,7 @@ use pt_model::waiting_call::{Role, is_arrival, is_write};
 use pt_records::Open;
 use pt_records::calls::at_object;
 use pt_state::State;
+use pt_types::operations::LockKind;
 use pt_types::{ClientId, MOST_PRIORITY, ObjectId, Priority};
 use pt_waitq::{WaitList, Waiter};
 use std::alloc::Allocator;
@@ -58,6 +60,24 @@ pub(crate) fn entering(client: ClientId, place: u64, prio: Priority) -> Waiter
         place,
         prio,
         writer: false,
+        moved: place,
+    }
+}
+
+/// A call for a lock as it waits, by its client and its place.  [XSH 2.8.4]
+#[inline(always)]
+pub(crate) fn asking(client: ClientId, place: u64, prio: Priority, lock_kind: LockKind) -> Waiter
+    ensures { result
+        ≡ record (arriving_in client place) {
+          prio = prio;
+          writer = is_write_role (role_meant lock_kind);
+        } }
+{
+    Waiter {
+        client,
+        place,
+        prio,
+        writer: lock_kind == LockKind::WriteLock,
         moved: place,
     }
 }

@@ -193,9 +193,10 @@ impl<A: Allocator + Copy> State<A> {
         }
     }
 
-    // A call for a lock.  [XSH pthread_mutex_lock, pthread_rwlock_rdlock, pthread_rwlock_wrlock]
+    /// A call for a lock that is left waiting. ENOMEM if there is no memory for its row in a
+    /// read-write lock.  [XSH pthread_mutex_lock, pthread_rwlock_rdlock, pthread_rwlock_wrlock]
     #[inline(always)]
-    fn push_acquire(
+    pub fn push_acquire(
         &mut self,
         c: ClientId,
         call: &Call,

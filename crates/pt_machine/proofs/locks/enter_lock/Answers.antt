@@ -1,0 +1,79 @@
+use Rattle.std.proofs.Common.{None, unwrap_or, sym, ap, ◌∙◌}
+use Rattle.pt_history.proofs.Places.{place_of_next}
+use Rattle.pt_types.specs.declared.call.How.TheVariants.{Plain}
+use Rattle.pt_model.specs.declared.entry.Entry.TheVariants as entry
+use Rattle.pt_state.specs.Adds.{past}
+use Rattle.pt_state.specs.Requests.{object_meant}
+use Rattle.pt_state.proofs.StepLemmas.{called}
+use Rattle.pt_machine.specs.Queued.{CanStand}
+use Rattle.pt_machine.proofs.PlaceTakes.{Takes, take-admitted, take-nowhere, take-made, take-latest}
+use Rattle.pt_machine.proofs.PlaceTakes.{take-put}
+use Rattle.pt_machine.proofs.QueuedSame.{past-adds}
+use Rattle.pt_machine.proofs.QueuedLeft.{can-stand-left, lock-takes, queued-left}
+use Rattle.pt_machine.proofs.locks.enter_lock.Given.{Over}
+use Rattle.pt_machine.proofs.locks.enter_lock.Goals as goal
+
+pub priority_of-prio-requires-clause-alive : goal.priority_of-prio-requires-clause-alive
+priority_of-prio-requires-clause-alive g c =
+    (called (past c.args.state.now) c.args.c c.args.call.now None c.requires.ready.step).alive
+
+pub push_acquire-requires-clause-found : goal.push_acquire-requires-clause-found
+push_acquire-requires-clause-found g c =
+    c.requires.asks.object ∙ ap (object_meant (past c.args.state.now)) c.requires.operation
+
+-- the call takes its place at its lock
+its-place : (g : Over) → (c : goal.After-asking g)
+    → Takes (past c.push_acquire.new.self) c.args.c c.object_named-o.result c.asking.result
+its-place g c =
+    let old = c.args.state.now in
+    let h = past old in
+    let seen = g.Q.WaitList.seen c.args.queues.now in
+    lock-takes h c.requires.ready.read.follows c.args.c c.args.call.now
+    c.requires.ready.step seen.queue seen.admitted seen.made c.requires.queued c.args.n.now
+    c.args.lock_kind Plain c.requires.operation (past c.push_acquire.new.self)
+    (past-adds old c.push_acquire.new.self (entry.Call c.args.c c.args.call.now None)
+    c.in-Ok.ensures.ok)
+    c.object_named-o.result c.len-place.result c.priority_of-prio.result c.asking.result
+    (c.object_named-o.ensures
+    ∙ ap (λ o. unwrap_or o 0) (c.requires.asks.object ∙ ap (object_meant h) c.requires.operation))
+    (c.len-place.ensures ∙ sym (place_of_next old.stored)) c.priority_of-prio.ensures
+    c.asking.ensures
+
+-- it may stand there
+may-stand : (g : Over) → (c : goal.After-asking g)
+    → CanStand (past c.push_acquire.new.self) c.args.c (g.Q.WaitList.seen c.args.queues.now)
+may-stand g c =
+    let old = c.args.state.now in
+    let seen = g.Q.WaitList.seen c.args.queues.now in
+    can-stand-left (past old) c.requires.ready.read.follows c.args.c c.args.call.now
+    c.requires.ready.step seen.queue seen.admitted seen.made c.requires.queued
+    (past c.push_acquire.new.self)
+    (past-adds old c.push_acquire.new.self (entry.Call c.args.c c.args.call.now None)
+    c.in-Ok.ensures.ok)
+
+pub insert-requires-clause-admitted : goal.insert-requires-clause-admitted
+insert-requires-clause-admitted g c = take-admitted (may-stand g c) (its-place g c)
+
+pub insert-requires-clause-nowhere : goal.insert-requires-clause-nowhere
+insert-requires-clause-nowhere g c = take-nowhere (may-stand g c) (its-place g c)
+
+pub insert-requires-clause-made : goal.insert-requires-clause-made
+insert-requires-clause-made g c = take-made (may-stand g c) (its-place g c)
+
+pub insert-requires-clause-latest : goal.insert-requires-clause-latest
+insert-requires-clause-latest g c = take-latest (may-stand g c) (its-place g c)
+
+pub returns-in-Ok-clause-queued : goal.returns-in-Ok-clause-queued
+returns-in-Ok-clause-queued g c =
+    let old = c.args.state.now in
+    let new = past c.push_acquire.new.self in
+    let seen = g.Q.WaitList.seen c.args.queues.now in
+    let next = g.Q.WaitList.seen c.insert.new.self in
+    queued-left (past old) c.requires.ready.read.follows c.args.c c.args.call.now
+    c.requires.ready.step seen.queue seen.admitted seen.made c.requires.queued new
+    (past-adds old c.push_acquire.new.self (entry.Call c.args.c c.args.call.now None)
+    c.in-Ok.ensures.ok)
+    next.queue next.admitted next.made
+    (take-put new c.args.c c.object_named-o.result c.asking.result (its-place g c.before)
+    seen.queue next.queue c.insert.ensures.queues)
+    c.insert.ensures.admitted c.insert.ensures.made
