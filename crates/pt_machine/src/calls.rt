@@ -369,11 +369,14 @@ impl<Q: WaitList, A: Allocator + Copy> Body<Q, A> {
             Operation::Acquires(n, LockKind::MutexLock, how) => {
                 self.state.mutex_verdict(c, n, how, object)
             }
+            // A copy is lent to what isn't inlined, so that the operation may stay in registers.
             Operation::Acquires(n, LockKind::ReadLock, how) => {
-                self.read_verdict(c, n, how, object)
+                let how = *how;
+                self.read_verdict(c, n, &how, object)
             }
             Operation::Acquires(n, LockKind::WriteLock, how) => {
-                self.state.write_verdict(c, n, how, object)
+                let how = *how;
+                self.state.write_verdict(c, n, &how, object)
             }
             Operation::Unlocks(n) => self.state.unlocks_verdict(c, n, object),
             Operation::Restores(n) => self.state.restores_verdict(c, n, object),

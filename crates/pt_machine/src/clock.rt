@@ -68,7 +68,7 @@ fn deadline_in(call: &Call) -> Option<Deadline>
 
 // The deadline of a call, if it is a time.  [XSH pthread_mutex_timedlock, EINVAL]
 #[inline(always)]
-pub(crate) fn good_deadline(call: &Call) -> Option<Deadline>
+fn good_deadline(call: &Call) -> Option<Deadline>
     ensures { result ≡ good_of (asked (operation call.now)) }
 {
     match deadline_in(call) {

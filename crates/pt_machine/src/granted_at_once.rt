@@ -14,7 +14,8 @@ ghost use Rattle.pt_model.specs.declared.entry.Event.TheVariants as event_is;
 ghost use Rattle.pt_model.specs.declared.entry.Entry.TheVariants as entry_is;
 ghost use Rattle.pt_state.specs.Adds.{IsReadyFor, Stays, past};
 ghost use Rattle.pt_state.specs.Reads.{AreTables};
-ghost use Rattle.pt_types.specs.Operations.{operation, operation as operation_meant};
+ghost use Rattle.pt_types.specs.Operations.{deadline_of, operation};
+ghost use Rattle.pt_types.specs.Operations.{operation as operation_meant};
 ghost use Rattle.pt_types.specs.Shown.{shown_operation};
 ghost use Rattle.pt_state.specs.Outer.{asks_to_read as asks_to_read_of};
 ghost use Rattle.pt_state.specs.Requests.{IsRequest, object_meant};
@@ -25,10 +26,10 @@ ghost use Rattle.pt_machine.specs.GrantedAtOnce.{asks_for_mutex as asks_for_mute
 ghost use Rattle.pt_machine.specs.Memory.{needs_memory};
 ghost use Rattle.pt_machine.specs.Planned.{HasOperation, HasRequest, IsAtOnce, IsPlanned};
 ghost use Rattle.pt_machine.specs.Planned.{entry_with};
+ghost use Rattle.pt_machine.specs.Timed.{good_of};
 ghost use Rattle.pt_model.specs.Room.{entry_for};
 
 use crate::body::Body;
-use crate::clock::good_deadline;
 use crate::planning::Plan;
 use pt_model::Event;
 use pt_records::Object;
@@ -37,7 +38,7 @@ use pt_rwlock::Holders;
 use pt_state::{Had, Request, State};
 use pt_types::operations::{LockKind, Operation};
 use pt_types::views::is_acquired;
-use pt_types::{Call, ClientId, ObjectId, Outcome, Priority, Refusal};
+use pt_types::{Call, ClientId, How, ObjectId, Outcome, Priority, Refusal};
 use pt_waitq::WaitList;
 use std::alloc::Allocator;
 
@@ -51,6 +52,17 @@ fn is_free_lock<A: Allocator + Copy>(kind: LockKind, lock: &Holders<A>) -> bool
         LockKind::MutexLock => false,
         LockKind::ReadLock => lock.writer().is_none(),
         LockKind::WriteLock => lock.is_free(),
+    }
+}
+
+// Whether a call for a lock has no deadline that is a time.  [XSH pthread_mutex_timedlock]
+#[inline(always)]
+fn is_untimed(how: &How) -> bool
+    ensures { OnTrue result (good_of (deadline_of how.now) ≡ None) }
+{
+    match how {
+        How::Timed(deadline) => deadline.is_bad(),
+        _ => true,
     }
 }
 
@@ -241,9 +253,9 @@ impl<Q: WaitList, A: Allocator + Copy> Body<Q, A> {
         ensures { OnTrue result (IsGrantedAtOnce (past self.now) c call.now) }
     {
         match (operation, request.object) {
-            (Operation::Acquires(_, kind, _), Some(o)) => {
+            (Operation::Acquires(_, kind, how), Some(o)) => {
                 answer.is_none()
-                    && good_deadline(call).is_none()
+                    && is_untimed(how)
                     && is_free(&self.state, *kind, o)
                     && self.is_ahead(c, o)
             }
