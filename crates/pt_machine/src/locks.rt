@@ -1,21 +1,33 @@
 //! Calls for locks that have to wait and have no deadline.
 
 ghost use Rattle.pt_state.specs.Requests.{IsRequest};
-ghost use Rattle.std.specs.Prelude.{IfErr, IsOk, None, OnErr, OnOk, ◌≡◌, false};
+ghost use Rattle.std.specs.Prelude.{IfErr, IsOk, None, OnErr, OnOk, Some, ◌≡◌, false, true};
 ghost use Rattle.pt_types.specs.Operations.{Acquires, operation};
 ghost use Rattle.pt_types.specs.declared.call.How.TheVariants.{Plain};
+ghost use Rattle.pt_model.specs.Clients.{client, is_alive};
 ghost use Rattle.pt_model.specs.declared.entry.Entry.TheVariants as entry;
 ghost use Rattle.pt_state.specs.Adds.{Adds, IsReadyFor, Stays, past};
 ghost use Rattle.pt_state.specs.Outer.{asks_to_read};
+ghost use Rattle.pt_state.specs.Reads.{AreTables};
 ghost use Rattle.pt_machine.specs.Queued.{IsQueued};
 
 use crate::calls::{leave_any, object_named};
-use crate::queues::{asking, priority_of};
+use crate::queues::asking;
 use pt_state::{Request, State};
 use pt_types::operations::LockKind;
-use pt_types::{Call, ClientId, How, Name, Refusal};
+use pt_types::{Call, ClientId, How, Name, Priority, Refusal};
 use pt_waitq::WaitList;
 use std::alloc::Allocator;
+
+// A living client's priority, by its row.  [XSH 2.8.4]
+#[inline(always)]
+fn priority_in_row<A: Allocator + Copy>(state: &State<A>, c: ClientId) -> Priority
+    requires read { AreTables state.now }
+    requires alive { is_alive (past state.now) c ≡ true }
+    ensures { client (past state.now) c ≡ Some result }
+{
+    state.clients.at(c.0).unwrap().priority
+}
 
 // Pushes a call for a lock, and puts it into its queue. It waits there with its client's priority,
 // which is read before the call is pushed, so its client's row is not looked at again. ENOMEM if
@@ -43,7 +55,7 @@ fn enter_lock<Q: WaitList, A: Allocator + Copy>(
 {
     let place = state.stored.len();
     let o = object_named(request);
-    let prio = priority_of(state, c);
+    let prio = priority_in_row(state, c);
     match state.push_acquire(c, call, n, lock_kind, How::Plain, request.object) {
         Ok(()) => {
             queues.insert(o, asking(c, place, prio, lock_kind));

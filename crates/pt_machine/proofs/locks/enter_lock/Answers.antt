@@ -13,8 +13,8 @@ use Rattle.pt_machine.proofs.QueuedLeft.{can-stand-left, lock-takes, queued-left
 use Rattle.pt_machine.proofs.locks.enter_lock.Given.{Over}
 use Rattle.pt_machine.proofs.locks.enter_lock.Goals as goal
 
-pub priority_of-prio-requires-clause-alive : goal.priority_of-prio-requires-clause-alive
-priority_of-prio-requires-clause-alive g c =
+pub priority_in_row-prio-requires-clause-alive : goal.priority_in_row-prio-requires-clause-alive
+priority_in_row-prio-requires-clause-alive g c =
     (called (past c.args.state.now) c.args.c c.args.call.now None c.requires.ready.step).alive
 
 pub push_acquire-requires-clause-found : goal.push_acquire-requires-clause-found
@@ -33,10 +33,10 @@ its-place g c =
     c.args.lock_kind Plain c.requires.operation (past c.push_acquire.new.self)
     (past-adds old c.push_acquire.new.self (entry.Call c.args.c c.args.call.now None)
     c.in-Ok.ensures.ok)
-    c.object_named-o.result c.len-place.result c.priority_of-prio.result c.asking.result
+    c.object_named-o.result c.len-place.result c.priority_in_row-prio.result c.asking.result
     (c.object_named-o.ensures
     ∙ ap (λ o. unwrap_or o 0) (c.requires.asks.object ∙ ap (object_meant h) c.requires.operation))
-    (c.len-place.ensures ∙ sym (place_of_next old.stored)) c.priority_of-prio.ensures
+    (c.len-place.ensures ∙ sym (place_of_next old.stored)) c.priority_in_row-prio.ensures
     c.asking.ensures
 
 -- it may stand there
