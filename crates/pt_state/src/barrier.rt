@@ -6,7 +6,7 @@ ghost use Rattle.std.specs.Prelude.{None, ◌≡◌};
 ghost use Rattle.pt_model.specs.declared.entry.Entry.TheVariants as entry;
 ghost use Rattle.pt_state.specs.Adds.{Adds, IsReadyFor, past};
 ghost use Rattle.pt_records.specs.Arrivals.{AreArrivals, Empties};
-ghost use Rattle.pt_types.specs.Operations.{Arrives, operation};
+ghost use Rattle.pt_types.specs.Operations.{Arrives, clock_of as clock_meant, operation};
 
 use crate::request::or_zero;
 use crate::state::State;
@@ -14,13 +14,26 @@ use pt_history::ForcedEntry;
 use pt_records::barrier::trip;
 use pt_records::calls::arrive;
 use pt_types::operations::clock_of;
-use pt_types::{Call, ClientId, Name, ObjectId};
+use pt_types::{Call, ClientId, Clock, Name, ObjectId};
 use pt_waitq::WaitList;
 use std::alloc::Allocator;
+
+// The clock of a call, of which no more is asked once it is known to be an arrival.
+// [XSH pthread_mutex_clocklock]
+#[inline(always)]
+fn clock_of_arrival(call: &Call) -> Clock
+    ensures { result ≡ clock_meant call.now }
+{
+    match call {
+        Call::Bwait(_) => Clock::Real,
+        _ => clock_of(call),
+    }
+}
 
 impl<A: Allocator + Copy> State<A> {
     /// A full barrier lets the calls that wait at it go on, and they leave its queue.
     /// [XSH pthread_barrier_wait]
+    #[inline(always)]
     pub fn push_trip<Q: WaitList>(&mut self, b: ObjectId, queues: &mut Q)
         requires ready { IsReadyFor self.old (entry.Trip b) }
         requires arrived { AreArrivals (past self.old) b ((Q.seen queues.old).queue b) }
@@ -47,7 +60,7 @@ impl<A: Allocator + Copy> State<A> {
     {
         // What is read off the call is read first, while the compiler knows which word it is.
         let place = self.stored.len();
-        let clock = clock_of(call);
+        let clock = clock_of_arrival(call);
         self.stored.push_named(c, call, None);
         arrive(&mut self.clients, c, place, or_zero(object), clock);
     }

@@ -70,10 +70,11 @@ returns g c =
       latest = Some j;
       answer = None;
     } in
-    let same : arrived_by c.len-place.result d b c.clock_of-clock.result v
+    let same : arrived_by c.len-place.result d b c.clock_of_arrival-clock.result v
     ≡ record (called_at (place h) None v) { «open» = Some o } =
-    ap (λ j. row j c.clock_of-clock.result v.priority) place_is
-    ∙ (ap (λ z. row (place h) z v.priority) c.clock_of-clock.ensures ∙ ap (row (place h) k) prio) in
+    ap (λ j. row j c.clock_of_arrival-clock.result v.priority) place_is
+    ∙ (ap (λ z. row (place h) z v.priority) c.clock_of_arrival-clock.ensures
+    ∙ ap (row (place h) k) prio) in
     let written : WritesCaller s.clients c.arrive.new.clients d
     (record (called_at (place h) None v) { «open» = Some o }) =
     subst (WritesCaller s.clients c.arrive.new.clients d) same (c.arrive.ensures v at) in
