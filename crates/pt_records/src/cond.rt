@@ -97,13 +97,13 @@ fn wake_nth<A: Allocator + Copy>(
     requires { Once clients.old }
     ensures { clients.new ≡ rewritten_nth (woken_at q at cause) clients.old index }
 {
-    let Some((c, caller)) = clients.nth(index) else {
+    let Some((slot, c, caller)) = clients.nth_in_slot(index) else {
         return;
     };
     if !is_waiting(caller, q) {
         return;
     }
-    if let Some(row) = clients.at_mut_near(index, c) {
+    if let Some(row) = clients.at_mut_near(slot, c) {
         move_open(row, at, cause);
     }
 }

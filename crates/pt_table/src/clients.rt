@@ -11,7 +11,7 @@ ghost use Rattle.std.specs.Map.{lookup};
 
 use crate::fault::TableFault;
 use crate::numbers::Numbers;
-use crate::rows::{make_room, nth_row, put, row_by_number, slot_of, take_out};
+use crate::rows::{make_room, nth_row, nth_row_in_slot, put, row_by_number, slot_of, take_out};
 use pt_types::MOST_CLIENTS;
 use slab::Slab;
 use std::alloc::{Allocator, Global};
@@ -36,6 +36,23 @@ impl<T> ClientRow<T> {
     }
 }
 
+// This slot, if a number's row is in it.
+#[inline(always)]
+fn slot_if_its<T, A: Allocator + Copy>(
+    rows: &Slab<ClientRow<T>, A>,
+    numbers: &Numbers<A>,
+    slot: usize,
+    number: u64,
+) -> Option<usize>
+    requires { IsNumbered (λ row. row.number) rows.now.slots numbers.now.entries most_clients }
+    ensures { IfSome result (λ slot. lookup (nat_eq number) numbers.now.entries ≡ Some slot) }
+{
+    match rows.get(slot) {
+        Some(row) if row.number == number => Some(slot),
+        _ => None,
+    }
+}
+
 // The slot of a number's row, if the number's hint is right.
 #[inline(always)]
 fn slot_by_hint<T, A: Allocator + Copy>(
@@ -46,11 +63,7 @@ fn slot_by_hint<T, A: Allocator + Copy>(
     requires { IsNumbered (λ row. row.number) rows.now.slots numbers.now.entries most_clients }
     ensures { IfSome result (λ slot. lookup (nat_eq number) numbers.now.entries ≡ Some slot) }
 {
-    let hint = numbers.hint(number);
-    match rows.get(hint) {
-        Some(row) if row.number == number => Some(hint),
-        _ => None,
-    }
+    slot_if_its(rows, numbers, numbers.hint(number), number)
 }
 
 // The row of a number, which is looked for by the number's hint first.
@@ -155,6 +168,18 @@ impl<T, A: Allocator + Copy> Clients<T, A> {
         }
     }
 
+    /// As `nth`, with the slot in which the client's row is, for `at_mut_near`.
+    #[inline(always)]
+    pub fn nth_in_slot(&self, index: usize) -> Option<(usize, u64, &T)>
+        ensures number { option_map (λ p. p.1) result ≡ nth_number self.now index }
+        ensures value { option_map (λ p. p.2.now) result ≡ nth_value self.now index }
+    {
+        match nth_row_in_slot(&self.rows, &self.numbers, index) {
+            Some((slot, row)) => Some((slot, row.number, &row.value)),
+            None => None,
+        }
+    }
+
     /// The row at this index, in the order in which the clients were added.
     pub fn row(&self, index: usize) -> Option<&ClientRow<T>>
         ensures { option_copied result ≡ slice_get self.now index }
@@ -175,16 +200,6 @@ impl<T, A: Allocator + Copy> Clients<T, A> {
         ensures { is_some result ≡ has_client self.now number }
     {
         self.numbers.get(number)
-    }
-
-    // The slot of a client's row, if there is such a client. It is looked for at this index first.
-    fn slot_by_index(&self, index: usize, number: u64) -> Option<usize>
-        ensures { is_some result ≡ has_client self.now number }
-    {
-        match self.numbers.get_index(index) {
-            Some((listed, slot)) if listed == number => Some(slot),
-            _ => self.slot_if(number),
-        }
     }
 
     // The value of a client, whose row is looked for in this slot first.
@@ -233,15 +248,24 @@ impl<T, A: Allocator + Copy> Clients<T, A> {
         }
     }
 
-    /// The value of the client with this number, to be changed. The client is looked for at this
-    /// index first, and need not be there.
-    pub fn at_mut_near(&mut self, index: usize, number: u64) -> Option<&mut T>
+    // This slot, if a client's row is in it.
+    #[inline(always)]
+    fn its_slot(&self, slot: usize, number: u64) -> Option<usize>
+        ensures { OnSome result (IsSome (client_at self.now number)) }
+    {
+        slot_if_its(&self.rows, &self.numbers, slot, number)
+    }
+
+    /// The value of the client with this number, to be changed. The client is looked for in this
+    /// slot first, and need not be there.
+    #[inline(always)]
+    pub fn at_mut_near(&mut self, slot: usize, number: u64) -> Option<&mut T>
         ensures* lends { sem 𝓛 (lends_if_at T.row A.row A.Allocator self.entry number result) }
         ensures value { option_copied_mut result ≡ client_value self.old number }
     {
-        match self.slot_by_index(index, number) {
+        match self.its_slot(slot, number) {
             Some(slot) => Some(self.value_mut(slot, number)),
-            None => None,
+            None => self.at_mut_by_number(number),
         }
     }
 

@@ -1,7 +1,7 @@
 // Rows in a slab, and where each number's row lies there.
 ghost use Rattle.std.specs.Prelude.{◌≡◌, ◌<◌, ◌++◌, [], ◌∷◌, Some, None, IsSome, IfSome, IfNone};
 ghost use Rattle.std.specs.Prelude.{OnOk, OnSome, nat_eq};
-ghost use Rattle.std.specs.Option.{option_copied};
+ghost use Rattle.std.specs.Option.{option_copied, option_map};
 ghost use Rattle.std.specs.Map.{lookup};
 ghost use Rattle.slab.specs.Slab.{HasRoomFor};
 ghost use Rattle.pt_table.specs.Slots.{row_in_slot, row_in_any, nth_listed, without_number, HasRow};
@@ -49,6 +49,19 @@ pub(crate) fn nth_row<'a, R, A: Allocator + Copy>(
         Some((_, slot)) => rows.get(slot),
         None => None,
     }
+}
+
+/// As `nth_row`, with the slot in which the row is.
+pub(crate) fn nth_row_in_slot<'a, R, A: Allocator + Copy>(
+    rows: &'a Slab<R, A>,
+    numbers: &Numbers<A>,
+    index: usize,
+) -> Option<(usize, &'a R)>
+    ensures { option_map (λ p. p.1.now) result
+        ≡ nth_listed rows.now.slots numbers.now.entries index }
+{
+    let (_, slot) = numbers.get_index(index)?;
+    Some((slot, rows.get(slot)?))
 }
 
 // The slot of a number that has one.
