@@ -1,8 +1,8 @@
 -- PlaceLemmas: the place of a client's row: a look-up, a change and a new row there.
 use Rattle.std.proofs.Common.{rules, ℕ, zero, suc, Bool, ◌≡◌, ◌==◌, ◌<◌, ◌≤◌, true, false, cond}
-use Rattle.std.proofs.Common.{nat_lt, List, [], ◌∷◌, Some, None, is_some, length, get_or, set}
-use Rattle.std.proofs.Common.{refl, sym, ap, ◌∙◌, inl, inr, arith, subst}
-use Rattle.std.specs.Prelude.{slice_get, IsSome}
+use Rattle.std.proofs.Common.{nat_lt, List, [], ◌∷◌, Option, Some, None, is_some, length, get_or}
+use Rattle.std.proofs.Common.{refl, set, sym, ap, ◌∙◌, inl, inr, arith, subst}
+use Rattle.std.specs.Prelude.{slice_get, IfSome, IsSome}
 use Rattle.std.specs.List.{AllByRecursion, insert}
 use Rattle.std.specs.List.Sorted.{IsStrictlySortedBy}
 use Rattle.std.specs.Map.{lookup, set_value, keys_of}
@@ -375,3 +375,12 @@ found-there inside now c place same ordered at =
     ap (λ p. reads_for c (slice_get inside p)) at
     ∙ ap (λ rows. reads_for c (slice_get rows (place_in now c))) same
     ∙ sym (found now c (subst IsInOrder same ordered))
+
+-- what a place has that is the client's is found there
+pub hinted-reads : (rows : List (ℕ × ℕ)) (c i : ℕ) (r : Option ℕ) → IsInOrder rows
+    → r ≡ reads_for c (slice_get rows i)
+    → IfSome r (λ reads. lookup (is_at (nat_cmp c)) rows ≡ Some reads)
+hinted-reads rows c i None ordered e = tt
+hinted-reads rows c i (Some x) ordered e =
+    sym (e
+    ∙ found-there rows rows c i refl ordered (own-there rows c i ordered (ap is_some (sym e))))

@@ -45,6 +45,24 @@ fn count_below(rows: &[(u64, u8)], client: u64) -> usize
     low
 }
 
+// The read locks in a client's row, if its hint leads there.
+#[inline(always)]
+fn reads_hinted(rows: &[(u64, u8)], hint: Option<usize>, client: u64) -> Option<u8>
+    requires { IsInOrder rows.now }
+    ensures { IfSome result (λ reads. lookup (is_at (nat_cmp client)) rows.now ≡ Some reads) }
+{
+    reads_at(rows, hint?, client)
+}
+
+// The read locks in a client's row, if it has one, found without a hint.
+#[inline(never)]
+fn reads_apart(rows: &[(u64, u8)], client: u64) -> Option<u8>
+    requires { IsInOrder rows.now }
+    ensures { result ≡ lookup (is_at (nat_cmp client)) rows.now }
+{
+    reads_at(rows, count_below(rows, client), client)
+}
+
 // The place of a client's row, if it is the one of its hint.
 #[inline(always)]
 fn hinted(rows: &[(u64, u8)], hint: Option<usize>, client: u64) -> Option<usize>
@@ -147,19 +165,8 @@ impl<A: Allocator + Copy> Rows<A> {
         self.rows.len()
     }
 
-    // The place of a client's row, or the one in which it would be.
-    #[inline(always)]
-    fn place_of(&self, client: u64) -> usize
-        ensures { result ≡ place_in self.now client }
-    {
-        let rows = self.rows.as_slice();
-        match hinted(rows, self.hints.get(client), client) {
-            Some(place) => place,
-            None => count_below(rows, client),
-        }
-    }
-
-    // The same, found without a hint and noted as one.
+    // The place of a client's row, or the one in which it would be, found without a hint and noted
+    // as one.
     #[inline(never)]
     fn search(&mut self, client: u64) -> usize
         ensures place { result ≡ place_in self.old client }
@@ -187,7 +194,21 @@ impl<A: Allocator + Copy> Rows<A> {
     pub(crate) fn get(&self, client: u64) -> Option<u8>
         ensures { result ≡ lookup (is_at (nat_cmp client)) self.now }
     {
-        reads_at(self.rows.as_slice(), self.place_of(client), client)
+        let rows = self.rows.as_slice();
+        match reads_hinted(rows, self.hints.get(client), client) {
+            Some(reads) => Some(reads),
+            None => reads_apart(rows, client),
+        }
+    }
+
+    // Whether a client has a row, found without a hint. Its place is noted.
+    #[inline(never)]
+    fn has_apart(&mut self, client: u64) -> bool
+        ensures found { result ≡ is_some (lookup (is_at (nat_cmp client)) self.old) }
+        ensures same { self.new ≡ self.old }
+    {
+        let place = self.search(client);
+        reads_at(self.rows.as_slice(), place, client).is_some()
     }
 
     /// Whether a client has a row. Its place is noted.
@@ -196,8 +217,10 @@ impl<A: Allocator + Copy> Rows<A> {
         ensures found { result ≡ is_some (lookup (is_at (nat_cmp client)) self.old) }
         ensures same { self.new ≡ self.old }
     {
-        let place = self.note_place_of(client);
-        reads_at(self.rows.as_slice(), place, client).is_some()
+        match reads_hinted(self.rows.as_slice(), self.hints.get(client), client) {
+            Some(_) => true,
+            None => self.has_apart(client),
+        }
     }
 
     /// Adds a row with no read locks for a client that has none.
