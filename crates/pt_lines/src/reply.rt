@@ -183,7 +183,7 @@ fn write_any<A: Allocator + Copy>(
 }
 
 // Appends the answer `0` to a client's line, for which there is room. Most answers are such.
-#[inline(never)]
+#[inline(always)]
 #[tactic(auto, using(crate::proofs::DigitLemmas::few_digits))]
 fn append_done<A: Allocator + Copy>(out: &mut Vec<u8, A>, name: &ClientName, n: u64)
     requires below { n < 1000000 }

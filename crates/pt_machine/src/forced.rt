@@ -234,7 +234,7 @@ impl<Q: WaitList, A: Allocator + Copy> Body<Q, A> {
 
     // A robust mutex is taken from its dead owner, and is touched then.
     // [XSH pthread_mutex_lock, EOWNERDEAD]
-    #[inline(never)]
+    #[inline(always)]
     fn push_yield(&mut self, m: ObjectId)
         requires ready { IsReadyFor self.old (entry.Yield m) }
         ensures { Adds self.old (entry.Yield m) self.new }
