@@ -21,7 +21,7 @@ use crate::objects::{push_ended, push_ended_object, push_made, push_new_object};
 use crate::queues::{arriving, entering, take_place};
 use pt_state::{Request, State, known_verdict};
 use pt_types::operations::{LockKind, Operation, operation_of};
-use pt_types::{Call, ClientId, Name, ObjectId, Outcome, Refusal, Verdict};
+use pt_types::{Call, ClientId, How, Name, ObjectId, Outcome, Refusal, Verdict};
 use pt_waitq::WaitList;
 use std::alloc::Allocator;
 
@@ -368,6 +368,9 @@ impl<Q: WaitList, A: Allocator + Copy> Body<Q, A> {
             Operation::Ends(n, class) => self.ends_verdict(n, *class, object),
             Operation::Acquires(n, LockKind::MutexLock, how) => {
                 self.state.mutex_verdict(c, n, how, object)
+            }
+            Operation::Acquires(n, LockKind::ReadLock, How::Plain) => {
+                self.plain_read_verdict(c, n, object)
             }
             // A copy is lent to what isn't inlined, so that the operation may stay in registers.
             Operation::Acquires(n, LockKind::ReadLock, how) => {

@@ -8,6 +8,7 @@ ghost use Rattle.pt_model.specs.Grants.{is_blocked as is_blocked_in};
 ghost use Rattle.pt_state.specs.Adds.{past};
 ghost use Rattle.pt_state.specs.Reads.{AreTables};
 ghost use Rattle.pt_types.specs.Operations.{Acquires};
+ghost use Rattle.pt_types.specs.declared.call.How.TheVariants.{Plain};
 ghost use Rattle.pt_types.specs.RwlockTable.{read_verdict as read_table};
 ghost use Rattle.pt_types.specs.declared.views.RwlockView.{RwlockView};
 ghost use Rattle.pt_types.specs.declared.operations.LockKind.TheVariants.{ReadLock};
@@ -47,14 +48,9 @@ impl<Q: WaitList, A: Allocator + Copy> Body<Q, A> {
         }
     }
 
-    /// A client's call to read.  [XSH pthread_rwlock_rdlock]
-    pub(crate) fn read_verdict(
-        &self,
-        c: ClientId,
-        n: &Name,
-        how: &How,
-        object: Option<ObjectId>,
-    ) -> Verdict
+    // A client's call to read.  [XSH pthread_rwlock_rdlock]
+    #[inline(always)]
+    fn verdict_to_read(&self, c: ClientId, n: &Name, how: &How, object: Option<ObjectId>) -> Verdict
         requires read { AreTables self.now }
         requires found { object ≡ find (past self.now) n.now RwlockClass }
         ensures { result ≡ said_of (past self.now) c (Acquires n.now ReadLock how.now) }
@@ -66,5 +62,36 @@ impl<Q: WaitList, A: Allocator + Copy> Body<Q, A> {
             }
             None => Verdict::Reply(Outcome::Einval),
         }
+    }
+
+    /// A client's call to read. It isn't inlined.  [XSH pthread_rwlock_rdlock]
+    #[inline(never)]
+    pub(crate) fn read_verdict(
+        &self,
+        c: ClientId,
+        n: &Name,
+        how: &How,
+        object: Option<ObjectId>,
+    ) -> Verdict
+        requires read { AreTables self.now }
+        requires found { object ≡ find (past self.now) n.now RwlockClass }
+        ensures { result ≡ said_of (past self.now) c (Acquires n.now ReadLock how.now) }
+    {
+        self.verdict_to_read(c, n, how, object)
+    }
+
+    /// As `read_verdict`, for a call that waits as long as it must.  [XSH pthread_rwlock_rdlock]
+    #[inline(never)]
+    pub(crate) fn plain_read_verdict(
+        &self,
+        c: ClientId,
+        n: &Name,
+        object: Option<ObjectId>,
+    ) -> Verdict
+        requires read { AreTables self.now }
+        requires found { object ≡ find (past self.now) n.now RwlockClass }
+        ensures { result ≡ said_of (past self.now) c (Acquires n.now ReadLock Plain) }
+    {
+        self.verdict_to_read(c, n, &How::Plain, object)
     }
 }

@@ -120,6 +120,7 @@ impl<A: Allocator + Copy> State<A> {
 
     /// A client's call to read, given whether a writer goes before it.
     /// [XSH pthread_rwlock_rdlock]
+    #[inline(always)]
     pub fn read_verdict(&self, c: ClientId, r: ObjectId, blocked: bool, how: &How) -> Verdict
         requires read { AreTables self.now }
         requires lock { kind_of (past self.now) r ≡ Some ObjectKind.Rwlock }

@@ -6,7 +6,7 @@ use Rattle.pt_model.specs.Rwlocks.{rwlock_view}
 use Rattle.pt_model.specs.Verdicts.{lock_kind_verdict, on}
 use Rattle.pt_state.specs.Adds.{past}
 use Rattle.pt_records.proofs.LockViews.{lock-found}
-use Rattle.pt_machine.proofs.body.Body.read_verdict.Goals as goal
+use Rattle.pt_machine.proofs.body.Body.verdict_to_read.Goals as goal
 
 pub read_verdict-requires-clause-lock : goal.read_verdict-requires-clause-lock
 read_verdict-requires-clause-lock g c =
