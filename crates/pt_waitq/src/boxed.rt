@@ -97,12 +97,12 @@ fn join<A: Allocator>(
     }
 }
 
-// Whether there is a lone chain, and it is this one.
+// Whether a chain is this one.
 #[inline(always)]
-fn is_lone(head: Link, own: bool, own_p: u8, writer: bool, p: usize) -> bool
-    ensures { result ≡ true → (is_some head ≡ true) × (writer ≡ own) × (p ≡ own_p) }
+fn is_chain(own: bool, own_p: u8, writer: bool, p: usize) -> bool
+    ensures { result ≡ true → (writer ≡ own) × (p ≡ own_p) }
 {
-    !head.is_none() && own_p as usize == p && own == writer
+    own_p as usize == p && own == writer
 }
 
 // Whether a node between these two is all of a chain of so many.
@@ -179,7 +179,7 @@ impl<A: Allocator + Copy> BoxedQueue<A> {
             self.writer = writer;
             return Link::none();
         }
-        if is_lone(self.head, self.writer, self.p, writer, p) {
+        if !self.head.is_none() && is_chain(self.writer, self.p, writer, p) {
             let last = self.tail;
             self.tail = Link::to(node);
             self.count += 1;

@@ -27,19 +27,21 @@ returns-then-is_none-clause-put g c =
 pub overflow_add-self : goal.overflow_add-self
 overflow_add-self g c =
     let own = c.self.inside in
-    let lone = c.if-is_lone.ensures refl in
+    let some = c.if-not-is_none.ensures in
+    let same = c.if-is_chain.ensures refl in
     let count = lone-count (λ b. b.value) own.boxed own.head own.tail own.count own.writer own.p
-    c.args.self.now c.self.view_is c.self.invariant c.args.writer c.args.p lone.0 lone.1 lone.2 in
+    c.args.self.now c.self.view_is c.self.invariant c.args.writer c.args.p some same.0 same.1 in
     let room = c.requires.room in
     omega (arith, count, room)
 
-pub returns-then-is_lone-clause-put : goal.returns-then-is_lone-clause-put
-returns-then-is_lone-clause-put g c =
+pub returns-then-is_chain-clause-put : goal.returns-then-is_chain-clause-put
+returns-then-is_chain-clause-put g c =
     let own = c.self.inside in
-    let lone = c.if-is_lone.ensures refl in
+    let some = c.if-not-is_none.ensures in
+    let same = c.if-is_chain.ensures refl in
     subst (λ l. IsPut c.args.writer c.args.p c.args.node own.tail c.args.self.now
     (queue_by (option_map (λ b. b.value) own.boxed) own.head l (own.count + 1) own.writer own.p))
-    (sym c.to-self-inside-then-is_lone.ensures)
+    (sym c.to-self-inside-then-is_chain.ensures)
     (lone-put (λ b. b.value) own.boxed own.head own.tail own.count own.writer own.p
-    c.args.self.now c.self.view_is c.self.invariant c.args.writer c.args.p c.args.node lone.0 lone.1
-    lone.2)
+    c.args.self.now c.self.view_is c.self.invariant c.args.writer c.args.p c.args.node some same.0
+    same.1)
