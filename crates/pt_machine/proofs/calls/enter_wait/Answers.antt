@@ -11,7 +11,8 @@ use Rattle.pt_machine.proofs.QueuedLeft.{can-stand-left, queued-left, wait-takes
 use Rattle.pt_machine.proofs.calls.enter_wait.Given.{Over}
 use Rattle.pt_machine.proofs.calls.enter_wait.Goals as goal
 
-pub push_endless_wait-prio-requires-clause-object : goal.push_endless_wait-prio-requires-clause-object
+pub push_endless_wait-prio-requires-clause-object :
+    goal.push_endless_wait-prio-requires-clause-object
 push_endless_wait-prio-requires-clause-object g c =
     c.requires.asks.object ∙ ap (object_meant (past c.args.state.now)) c.requires.operation
 
@@ -21,7 +22,8 @@ push_endless_wait-prio-requires-clause-mutex g c =
 
 -- the wait takes its place at its condition
 its-place : (g : Over) → (c : goal.After-entering g)
-    → Takes (past c.push_endless_wait-prio.new.self) c.args.c c.object_named-q.result c.entering.result
+    → Takes (past c.push_endless_wait-prio.new.self) c.args.c c.object_named-q.result
+    c.entering.result
 its-place g c =
     let old = c.args.state.now in
     let h = past old in
@@ -39,7 +41,8 @@ its-place g c =
 
 -- it may stand there
 may-stand : (g : Over) → (c : goal.After-entering g)
-    → CanStand (past c.push_endless_wait-prio.new.self) c.args.c (g.Q.WaitList.seen c.args.queues.now)
+    → CanStand (past c.push_endless_wait-prio.new.self) c.args.c
+    (g.Q.WaitList.seen c.args.queues.now)
 may-stand g c =
     let old = c.args.state.now in
     let seen = g.Q.WaitList.seen c.args.queues.now in
