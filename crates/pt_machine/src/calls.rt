@@ -114,7 +114,7 @@ fn arrive<Q: WaitList, A: Allocator + Copy>(
 }
 
 // As `leave`, for an arrival at a barrier.
-#[inline(always)]
+#[inline(never)]
 fn leave_arrival<Q: WaitList, A: Allocator + Copy>(
     state: &mut State<A>,
     queues: &mut Q,
@@ -190,8 +190,8 @@ fn leave_wait<Q: WaitList, A: Allocator + Copy>(
 }
 
 /// Pushes a call that waits, and puts it into its queue, in a function of its own for each call
-/// that comes often, of which an arrival's is inlined. ENOMEM if there is no memory for its row in a
-/// read-write lock; no other call needs memory.  [XSH, the call's page]
+/// that comes often. ENOMEM if there is no memory for its row in a read-write lock; no other call
+/// needs memory.  [XSH, the call's page]
 #[inline(always)]
 pub(crate) fn push_left<Q: WaitList, A: Allocator + Copy>(
     state: &mut State<A>,
