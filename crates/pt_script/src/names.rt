@@ -1,5 +1,5 @@
-ghost use Rattle.std.specs.Prelude.{◌≡◌, ◌≤◌, ◌<◌, ◌++◌, ◌^◌, ◌∷◌, [], suc, length, Some, None};
-ghost use Rattle.std.specs.Prelude.{OnOk, OnErr, IfOk, IfErr, IfSome, IsSome};
+ghost use Rattle.std.specs.Prelude.{◌≡◌, ◌<◌, ◌++◌, ◌^◌, ◌∷◌, [], suc, length, Some, None};
+ghost use Rattle.std.specs.Prelude.{OnOk, OnErr, IfOk, IfErr, IsSome};
 ghost use Rattle.std.specs.Bool.{OnTrue};
 ghost use Rattle.pt_script.specs.Names.{client_in, lines_in, row_of, IsAt, IsRowRaised};
 ghost use Rattle.pt_script.specs.Names.{IsRowGiven, AreRowsAlike};
