@@ -1,5 +1,5 @@
--- BarrierArrivals: the waiters of a barrier's queue are those of the calls that wait at it, in order
--- of their places.
+-- BarrierArrivals: the waiters of a barrier's queue are those of the calls that wait at it, in
+-- order of their places.
 use Rattle.std.proofs.Common.{◌≡◌, ℕ, ◌==◌, ◌≤◌, nat_lt, Bool, true, false, cond, ◌&&◌, ◌||◌, List}
 use Rattle.std.proofs.Common.{[], ◌∷◌, None, inl, inr, refl, sym, ap, ◌∙◌, subst, arith, eq-eqb}
 use Rattle.std.specs.List.{AllByRecursion as Each}

@@ -40,8 +40,10 @@ mod PlaceLemmas
 mod BusyLemmas
 -- BoxLemmas: enough boxes for all that wait
 mod BoxLemmas
--- LoneLemmas: a queue in which one waits alone, who isn't put into the queue's box
+-- LoneLemmas: a queue of one chain, which isn't put into the queue's box
 mod LoneLemmas
+-- LoneWriters: the writers of a queue of one chain
+mod LoneWriters
 -- SeenLemmas: what is seen of a queue by its box and by the node that waits alone
 mod SeenLemmas
 -- EmptiedLemmas: a queue whose last waiter is taken out gives its box back

@@ -11,7 +11,7 @@ use Rattle.pt_types.specs.Limits.{most_priority}
 use Rattle.pt_waitq.specs.declared.sides.Side.{Side}
 use Rattle.pt_waitq.specs.declared.sides.Queue.{Queue}
 use Rattle.pt_waitq.specs.Chains.{side_of, HasNone, IsSameChain, IsPut, IsTaken}
-use Rattle.pt_waitq.specs.Chains.{IsFirst, IsFirstChain, IsFirstWriter, HasWriterFrom}
+use Rattle.pt_waitq.specs.Chains.{IsFirst, IsFirstChain}
 use Rattle.pt_waitq.specs.Boxes.{no_queue, lone_queue, IsNoChain, IsLone, IsSame}
 use Rattle.pt_waitq.proofs.BoxLemmas.{none-without}
 
@@ -218,13 +218,13 @@ module _ (k : Bool) (p n : ℕ) (head tail : Option ℕ) (q : Queue) (within : p
   pub own-count : slice_index (side_of k q).counts p ≡ n
   own-count = is.count p within ∙ ap (λ t. cond t n 0) (self p)
 
-  own-head : slice_index_or (side_of k q).heads p None ≡ head
+  pub own-head : slice_index_or (side_of k q).heads p None ≡ head
   own-head = is.head p within ∙ ap (λ t. cond t head None) (self p)
 
   own-tail : slice_index_or (side_of k q).tails p None ≡ tail
   own-tail = is.tail p within ∙ ap (λ t. cond t tail None) (self p)
 
-  apart : (i : ℕ) → i < most_priority → p ≢ i → slice_index (side_of k q).counts i ≡ 0
+  pub apart : (i : ℕ) → i < most_priority → p ≢ i → slice_index (side_of k q).counts i ≡ 0
   apart i lt off = go (p == i) refl (is.count i lt)
     where
       go : (t : Bool) → (p == i) ≡ t → slice_index (side_of k q).counts i ≡ cond t n 0
@@ -379,34 +379,3 @@ module _ (k : Bool) (p n : ℕ) (head tail : Option ℕ) (q : Queue) (within : p
               let same = ap rank e in absurd (omega (arith, lower, same))
           beside l lower (inr e) =
               subst (λ m. slice_index (side_of m q).counts p ≡ 0) (sym e) (is.other p within).count
-
-module _ (p n : ℕ) (head tail : Option ℕ) (q : Queue) (within : p < most_priority) where
-  pub first-lone-writer : n ≢ 0 → IsLone true p head tail n q → IsFirstWriter q head
-  first-lone-writer waits is =
-      inl (
-        p,
-        within,
-        λ z. waits (sym (own-count true p n head tail q within is) ∙ z),
-        λ i lt up. apart true p n head tail q within is i lt (λ s. omega (arith, up, s)),
-        sym (own-head true p n head tail q within is),
-      )
-
-  pub no-lone-writer : IsLone false p head tail n q → IsFirstWriter q None
-  no-lone-writer is = inr (λ i lt. (is.other i lt).count, refl)
-
-  pub lone-writer-from : n ≢ 0 → IsLone true p head tail n q → (r : ℕ) → r ≤ p
-      → HasWriterFrom q r
-  lone-writer-from waits is r le =
-      (p, le, within, λ z. waits (sym (own-count true p n head tail q within is) ∙ z))
-
-  pub lone-writer-below : IsLone true p head tail n q → (r : ℕ) → HasWriterFrom q r → r ≤ p
-  lone-writer-below is r w = go (p == w.0) refl
-    where
-      go : (t : Bool) → (p == w.0) ≡ t → r ≤ p
-      go true e =
-          let same : p ≡ w.0 = grind (arith, nat_tests) in
-          let le = w.1 in omega (arith, same, le)
-      go false e = absurd (w.3 (is.count w.0 w.2 ∙ ap (λ t. cond t n 0) e))
-
-  pub lone-reader-from : IsLone false p head tail n q → (r : ℕ) → HasWriterFrom q r → ⊥
-  lone-reader-from is r w = w.3 (is.other w.0 w.2).count

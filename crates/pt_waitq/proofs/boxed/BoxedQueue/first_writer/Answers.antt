@@ -1,7 +1,7 @@
 use Rattle.std.proofs.Common.{sym, ap, ◌∙◌, subst, is_some}
 use Rattle.pt_waitq.specs.Boxes.{IsLone}
 use Rattle.pt_waitq.specs.Chains.{IsFirstWriter}
-use Rattle.pt_waitq.proofs.LoneLemmas.{first-lone-writer, no-lone-writer}
+use Rattle.pt_waitq.proofs.LoneWriters.{first-lone-writer, no-lone-writer}
 use Rattle.pt_waitq.proofs.SeenLemmas.{lone-waits, lone-within, none-first-writer, seen-lone}
 use Rattle.pt_waitq.proofs.boxed.BoxedQueue.first_writer.Goals as goal
 

@@ -2,7 +2,7 @@ use Rattle.std.proofs.Common.{sym, ap, ◌∙◌, subst, is_some, arith}
 use Rattle.std.proofs.lemmas.Bool.Decides.{nat_tests}
 use Rattle.std.proofs.lemmas.Bool.{false≢true}
 use Rattle.pt_waitq.specs.Boxes.{IsLone}
-use Rattle.pt_waitq.proofs.LoneLemmas.{lone-reader-from, lone-writer-below, lone-writer-from}
+use Rattle.pt_waitq.proofs.LoneWriters.{lone-reader-from, lone-writer-below, lone-writer-from}
 use Rattle.pt_waitq.proofs.SeenLemmas.{lone-waits, lone-within, no-writer-from, seen-lone}
 use Rattle.pt_waitq.proofs.boxed.BoxedQueue.has_writer_from.Goals as goal
 
