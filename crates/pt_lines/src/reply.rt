@@ -1,5 +1,5 @@
 ghost use Rattle.std.specs.Prelude.{◌≡◌, ◌≤◌, ◌<◌, ◌+◌, ◌++◌, IsOk, OnOk, OnErr, IfErr, length};
-ghost use Rattle.std.specs.Prelude.{vec_len, vec_capacity, decimal, ◌∷◌, [], Some, take};
+ghost use Rattle.std.specs.Prelude.{vec_len, vec_capacity, ◌∷◌, [], Some, take};
 ghost use Rattle.std.specs.Option.{option_copied};
 ghost use Rattle.pt_types.specs.Words.{outcome_word, refusal_word};
 ghost use Rattle.pt_lines.specs.Replies.{answer_word, reply_line, sender};

@@ -4,7 +4,7 @@ ghost use Rattle.pt_model.specs.Objects.{find};
 ghost use Rattle.pt_types.specs.Operations.{class_needed as class_meant};
 ghost use Rattle.pt_types.specs.declared.operations.LockKind.TheVariants.{ReadLock};
 ghost use Rattle.pt_state.specs.Requests.{IsRequest};
-ghost use Rattle.std.specs.Prelude.{IfErr, IsOk, None, OnErr, OnOk, Some, ◌≡◌, false, true};
+ghost use Rattle.std.specs.Prelude.{IfErr, IsOk, None, OnErr, OnOk, Some, ◌≡◌, false};
 ghost use Rattle.pt_model.specs.declared.entry.Entry.TheVariants as entry;
 ghost use Rattle.pt_state.specs.Adds.{Adds, IsNearly, IsReadyFor, Stays, past};
 ghost use Rattle.pt_state.specs.Calling.{is_done};
