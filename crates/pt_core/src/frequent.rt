@@ -12,6 +12,7 @@ ghost use Rattle.pt_core.specs.Wholes.{IsWhole};
 
 use crate::applied::Applied;
 use crate::applying::{apply, plan};
+use crate::arriving::try_arrival;
 use crate::settling::{AtOnce, InTurn};
 use crate::writing::write;
 use pt_machine::Body;
@@ -43,8 +44,6 @@ struct LockReleases;
 struct Waits;
 
 struct Signals;
-
-struct Arrivals;
 
 struct MutexMakes;
 
@@ -124,13 +123,6 @@ impl Frequent for Signals {
     #[inline(always)]
     fn is(event: &Event) -> bool {
         matches!(event, Event::Call(_, Call::Signal(_)))
-    }
-}
-
-impl Frequent for Arrivals {
-    #[inline(always)]
-    fn is(event: &Event) -> bool {
-        matches!(event, Event::Call(_, Call::Bwait(_)))
     }
 }
 
@@ -221,17 +213,18 @@ fn apply_any<Q: WaitList, A: Allocator + Copy>(
     apply(body, event, &plan)
 }
 
-// What came of an event for which a copy of the steps was tried.
+/// What came of an event for which a copy of the steps was tried.
 #[derive(Clone, Copy)]
-enum Tried {
-    // It is written, its call has this answer by then, and no other call was answered.
+pub enum Tried {
+    /// It is written, its call has this answer by then, and no other call was answered.
     Alone(Outcome),
-    // It is written, and its call has this answer by then.
+    /// It is written, and its call has this answer by then.
     Answered(Outcome),
-    // It is written, and has no answer.
+    /// It is written, and has no answer.
     Unanswered,
+    /// It is refused.
     Refused(Refusal),
-    // It is of another kind, or has no room yet: nothing is done.
+    /// It is of another kind, or has no room yet: nothing is done.
     Left,
 }
 
@@ -291,7 +284,7 @@ fn try_by_kind<Q: WaitList, A: Allocator + Copy>(body: &mut Body<Q, A>, event: &
         Event::Call(_, Call::Rwunlock(_)) => try_frequent::<LockReleases, Q, A>(body, event),
         Event::Call(_, Call::Wait(..)) => try_frequent::<Waits, Q, A>(body, event),
         Event::Call(_, Call::Signal(_)) => try_frequent::<Signals, Q, A>(body, event),
-        Event::Call(_, Call::Bwait(_)) => try_frequent::<Arrivals, Q, A>(body, event),
+        Event::Call(_, Call::Bwait(_)) => try_arrival(body, event),
         Event::Call(_, Call::MutexInit(..)) => try_frequent::<MutexMakes, Q, A>(body, event),
         Event::Call(_, Call::RwlockInit(_)) => try_frequent::<RwlockMakes, Q, A>(body, event),
         Event::Call(_, Call::CondInit(_)) => try_frequent::<CondMakes, Q, A>(body, event),

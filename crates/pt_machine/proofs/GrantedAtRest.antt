@@ -49,7 +49,7 @@ use Rattle.pt_machine.specs.GrantedAtOnce.{IsFree, IsGrantedAtOnce}
 use Rattle.pt_machine.proofs.GrantsAtOnce.{after, comes, comes-open, granted, same_open, touches}
 
 -- if the first of two that is there is none, there is neither
-neither : {X : Type 0} (a b : Option X) → option_or a b ≡ None → (a ≡ None) × (b ≡ None)
+pub neither : {X : Type 0} (a b : Option X) → option_or a b ≡ None → (a ≡ None) × (b ≡ None)
 neither None b e = (refl, e)
 neither (Some x) b e = absurd cc
 
@@ -62,7 +62,7 @@ and_true : (a : Bool) → (a && true) ≡ a
 and_true true = refl
 and_true false = refl
 
-and_false : (a : Bool) → (a && false) ≡ false
+pub and_false : (a : Bool) → (a && false) ≡ false
 and_false true = refl
 and_false false = refl
 

@@ -18,6 +18,8 @@ pub mod ServiceLemmas
 pub mod GrantsAtOnce
 -- GrantedAtRest: nothing must follow the Grant of a call that is granted as it comes
 pub mod GrantedAtRest
+-- ArrivalsAtRest: what must follow an arrival is the Trip of its barrier, or nothing
+pub mod ArrivalsAtRest
 -- AnswersAdded: the answers of the entries that were added to a stored history
 pub mod AnswersAdded
 -- GrantedStates: the tables after a call that is granted as it comes, and after its Grant

@@ -157,7 +157,7 @@ module _ {A : Type 0} (old : State A) (timers : List (ℕ × (Clock × ℕ))) (c
       timed j ∙ (ap (set_at (past old)) (next j at) ∙ set-new (past old) ready.read.follows)
 
   -- a call without a deadline that is a time sets none
-  untimed : (new : State A) → good_of (asked (operation call)) ≡ None
+  pub untimed : (new : State A) → good_of (asked (operation call)) ≡ None
       → Adds old (Call c call None) new
       → AreTimed (past new) timers
   untimed new none a =

@@ -1,9 +1,9 @@
 //! Barriers: who has arrived, and trips.
 
-ghost use Rattle.std.specs.Prelude.{Some, ◌≡◌, length, option_map, true};
+ghost use Rattle.std.specs.Prelude.{None, Some, ◌≡◌, false, length, option_map, true};
 ghost use Rattle.pt_model.specs.Searches.{In};
 ghost use Rattle.pt_model.specs.WaitingCall.{is_arrival as is_arrival_role};
-ghost use Rattle.pt_model.specs.Forced.{service};
+ghost use Rattle.pt_model.specs.Forced.{forced, service};
 ghost use Rattle.pt_state.specs.Adds.{Adds, IsReadyFor, past};
 ghost use Rattle.pt_records.specs.Callers.{opens_of};
 ghost use Rattle.pt_state.specs.Serving.{called};
@@ -15,11 +15,19 @@ ghost use Rattle.pt_model.specs.Answers.{at_barrier, open_calls};
 ghost use Rattle.pt_state.specs.Reads.{AreTables};
 ghost use Rattle.pt_model.specs.declared.entry.Entry.TheVariants as entry;
 ghost use Rattle.pt_model.specs.declared.waiting_call.WaitingCall.{WaitingCall};
+ghost use Rattle.pt_machine.specs.GrantedAtOnce.{AddsBoth, IsReadyAfter};
+ghost use Rattle.pt_model.specs.declared.entry.Event.TheVariants as event;
+ghost use Rattle.pt_types.specs.Operations.{Arrives, operation};
+ghost use Rattle.pt_state.specs.Requests.{IsRequest};
+ghost use Rattle.pt_machine.specs.Planned.{IsPlanned};
 
 use crate::body::Body;
+use crate::calls::object_named;
+use crate::planning::Plan;
+use crate::queues::arriving;
 use pt_records::Open;
-use pt_state::State;
-use pt_types::ObjectId;
+use pt_state::{Request, State};
+use pt_types::{Call, ClientId, Name, ObjectId};
 use pt_waitq::WaitList;
 use std::alloc::Allocator;
 
@@ -39,7 +47,69 @@ pub(crate) fn push_tripped<Q: WaitList, A: Allocator + Copy>(
     state.push_trip(found.call.object, queues);
 }
 
+// Pushes an arrival that waits, and puts it into its barrier's queue. It waits there without regard
+// to its client's priority, so its client's row is not looked at again.  [XSH pthread_barrier_wait]
+#[inline(always)]
+fn arrive<Q: WaitList, A: Allocator + Copy>(
+    state: &mut State<A>,
+    queues: &mut Q,
+    c: ClientId,
+    call: &Call,
+    n: &Name,
+    request: &Request,
+)
+    requires ready { IsReadyFor state.old (entry.Call c call.now None) }
+    requires operation { operation call.now ≡ Arrives n.now }
+    requires asks { IsRequest (past state.old) (operation call.now) request.now }
+    requires queued { IsQueued (past state.old) (Q.seen queues.old) }
+    ensures adds { Adds state.old (entry.Call c call.now None) state.new }
+    ensures queued { IsQueued (past state.new) (Q.seen queues.new) }
+{
+    let place = state.stored.len();
+    let b = object_named(request);
+    state.push_arrival(c, call, n, request.object);
+    queues.insert(b, arriving(c, place));
+}
+
 impl<Q: WaitList, A: Allocator + Copy> Body<Q, A> {
+    // An arrival at a barrier, which waits.  [XSH pthread_barrier_wait]
+    #[inline(always)]
+    fn push_arrival(&mut self, c: ClientId, call: &Call, n: &Name, plan: &Plan)
+        requires ready { IsReadyFor self.old (entry.Call c call.now None) }
+        requires operation { operation call.now ≡ Arrives n.now }
+        requires planned { IsPlanned (past self.old) (event.Call c call.now) plan.now }
+        requires waits { plan.now.answer ≡ None }
+        ensures { Adds self.old (entry.Call c call.now None) self.new }
+    {
+        arrive(&mut self.state, &mut self.queues, c, call, n, &plan.request);
+        self.touched = plan.touched;
+        self.entering = Some(c);
+        self.need = plan.need;
+    }
+
+    /// An arrival at a barrier, which waits, and the Trip of the barrier if it is full then.
+    /// Returns whether it isn't: then nothing must follow.  [XSH pthread_barrier_wait]
+    #[inline(always)]
+    pub fn push_arrived(&mut self, c: ClientId, call: &Call, n: &Name, plan: &Plan) -> bool
+        requires ready { IsReadyFor self.old (entry.Call c call.now None) }
+        requires next { IsReadyAfter self.old (entry.Call c call.now None) }
+        requires operation { operation call.now ≡ Arrives n.now }
+        requires planned { IsPlanned (past self.old) (event.Call c call.now) plan.now }
+        requires waits { plan.now.answer ≡ None }
+        ensures adds { result ≡ true → Adds self.old (entry.Call c call.now None) self.new }
+        ensures rests { result ≡ true → forced (past self.new) ≡ None }
+        ensures both { result ≡ false → AddsBoth self.old (entry.Call c call.now None) self.new }
+    {
+        self.push_arrival(c, call, n, plan);
+        match self.arrival_service(object_named(&plan.request)) {
+            Some(service) => {
+                self.push_first(service);
+                false
+            }
+            None => true,
+        }
+    }
+
     /// A full barrier lets its calls go on, and they leave its queue.  [XSH pthread_barrier_wait]
     #[inline(never)]
     pub(crate) fn push_full(&mut self, b: ObjectId)

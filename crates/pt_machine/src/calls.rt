@@ -18,7 +18,7 @@ use crate::body::Body;
 use crate::cond::{push_broadcast, push_signal};
 use crate::locks::{leave_mutex_lock, leave_read_lock, leave_write_lock};
 use crate::objects::{push_ended, push_ended_object, push_made, push_new_object};
-use crate::queues::{arriving, entering, take_place};
+use crate::queues::{entering, take_place};
 use pt_state::{Request, State, known_verdict};
 use pt_types::operations::{LockKind, Operation, operation_of};
 use pt_types::{Call, ClientId, How, Name, ObjectId, Outcome, Refusal, Verdict};
@@ -82,58 +82,6 @@ pub(crate) fn object_named(request: &Request) -> ObjectId
     match request.object {
         Some(b) => b,
         None => ObjectId(0),
-    }
-}
-
-// As `leave`, for an arrival at a barrier. It waits there without regard to its client's priority,
-// so its client's row is not looked at again.
-#[inline(always)]
-fn arrive<Q: WaitList, A: Allocator + Copy>(
-    state: &mut State<A>,
-    queues: &mut Q,
-    c: ClientId,
-    call: &Call,
-    n: &Name,
-    request: &Request,
-) -> Result<(), Refusal>
-    requires ready { IsReadyFor state.old (entry.Call c call.now None) }
-    requires operation { operation call.now ≡ Arrives n.now }
-    requires asks { IsRequest (past state.old) (operation call.now) request.now }
-    requires queued { IsQueued (past state.old) (Q.seen queues.old) }
-    ensures ok { OnOk result (Adds state.old (entry.Call c call.now None) state.new) }
-    ensures err { OnErr result (Stays state.old state.new) }
-    ensures reason { IfErr result (λ refusal. refusal ≡ Refusal.Enomem) }
-    ensures enough { asks_to_read (operation call.now) ≡ false → IsOk result }
-    ensures queued { IsQueued (past state.new) (Q.seen queues.new) }
-{
-    let place = state.stored.len();
-    let b = object_named(request);
-    state.push_arrival(c, call, n, request.object);
-    queues.insert(b, arriving(c, place));
-    Ok(())
-}
-
-// As `leave`, for an arrival at a barrier.
-#[inline(never)]
-fn leave_arrival<Q: WaitList, A: Allocator + Copy>(
-    state: &mut State<A>,
-    queues: &mut Q,
-    c: ClientId,
-    call: &Call,
-    request: &Request,
-) -> Result<(), Refusal>
-    requires ready { IsReadyFor state.old (entry.Call c call.now None) }
-    requires asks { IsRequest (past state.old) (operation call.now) request.now }
-    requires queued { IsQueued (past state.old) (Q.seen queues.old) }
-    ensures ok { OnOk result (Adds state.old (entry.Call c call.now None) state.new) }
-    ensures err { OnErr result (Stays state.old state.new) }
-    ensures reason { IfErr result (λ refusal. refusal ≡ Refusal.Enomem) }
-    ensures enough { asks_to_read (operation call.now) ≡ false → IsOk result }
-    ensures queued { IsQueued (past state.new) (Q.seen queues.new) }
-{
-    match call {
-        Call::Bwait(n) => arrive(state, queues, c, call, n, request),
-        _ => leave_any(state, queues, c, call, request),
     }
 }
 
@@ -213,7 +161,6 @@ pub(crate) fn push_left<Q: WaitList, A: Allocator + Copy>(
         Call::Lock(_) => leave_mutex_lock(state, queues, c, call, request),
         Call::Rdlock(_) => leave_read_lock(state, queues, c, call, request),
         Call::Wrlock(_) => leave_write_lock(state, queues, c, call, request),
-        Call::Bwait(_) => leave_arrival(state, queues, c, call, request),
         Call::Wait(..) => leave_wait(state, queues, c, call, request),
         _ => leave_any(state, queues, c, call, request),
     }

@@ -192,4 +192,26 @@ impl<Q: WaitList, A: Allocator + Copy> Body<Q, A> {
             Object::Cond(_) => None,
         }
     }
+
+    // As `service_at`. It isn't inlined.
+    #[cold]
+    #[inline(never)]
+    fn service_apart(&self, o: ObjectId) -> Option<Service>
+        requires { AreTables self.now }
+        ensures { IsService (past self.now) (candidate_in (past self.now) o) result }
+    {
+        self.service_at(o)
+    }
+
+    /// As `service_at`, for an object that is a barrier.  [XSH pthread_barrier_wait]
+    #[inline(always)]
+    pub(crate) fn arrival_service(&self, b: ObjectId) -> Option<Service>
+        requires { AreTables self.now }
+        ensures { IsService (past self.now) (candidate_in (past self.now) b) result }
+    {
+        match self.state.objects.at(b.0)? {
+            Object::Barrier(barrier) => self.barrier_service(b, barrier),
+            _ => self.service_apart(b),
+        }
+    }
 }

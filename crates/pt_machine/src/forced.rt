@@ -219,7 +219,7 @@ impl<Q: WaitList, A: Allocator + Copy> Body<Q, A> {
     // The call that is served first gets what it waits for, and at a barrier all others that wait
     // there.  [XSH pthread_barrier_wait]
     #[inline(always)]
-    fn push_first(&mut self, service: Service)
+    pub(crate) fn push_first(&mut self, service: Service)
         requires read { AreTables self.old }
         requires ready { (w : WaitingCall) × (In w (open_calls (past self.old))
             × (Serves service w × IsReadyFor self.old (service_of (past self.old) w))) }

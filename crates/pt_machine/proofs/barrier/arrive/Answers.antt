@@ -7,7 +7,7 @@ use Rattle.pt_machine.proofs.PlaceTakes.{take-admitted, take-nowhere, take-made,
 use Rattle.pt_machine.proofs.PlaceTakes.{take-put}
 use Rattle.pt_machine.proofs.QueuedSame.{past-adds}
 use Rattle.pt_machine.proofs.QueuedLeft.{arrival-takes, can-stand-left, queued-left}
-use Rattle.pt_machine.proofs.calls.arrive.Goals as goal
+use Rattle.pt_machine.proofs.barrier.arrive.Goals as goal
 
 pub push_arrival-requires-clause-found : goal.push_arrival-requires-clause-found
 push_arrival-requires-clause-found g c =
