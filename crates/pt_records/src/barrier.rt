@@ -53,6 +53,7 @@ fn close_by<A: Allocator + Copy>(clients: &mut Clients<Caller, A>, answer: &Answ
 
 // Answers each waiter of a queue, in order of the queue, and all of them leave it. Their calls are
 // open no more, and each has its answer.
+#[inline(always)]
 fn tell_queue<Q: WaitList, A: Allocator + Copy>(
     clients: &mut Clients<Caller, A>,
     queues: &mut Q,
@@ -80,6 +81,7 @@ fn tell_queue<Q: WaitList, A: Allocator + Copy>(
 
 /// Adds what the barrier's Trip after this history answers, in room that was made for it. The calls
 /// are open no more, each has its answer, and they leave the barrier's queue.
+#[inline(always)]
 pub fn trip<Q: WaitList, A: Allocator + Copy>(
     history: &History<A>,
     clients: &mut Clients<Caller, A>,
