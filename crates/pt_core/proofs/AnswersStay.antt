@@ -43,7 +43,7 @@ told-kept h (e ∷ fs) j x f a is =
     told-kept (h ▷ e) fs j x (f, s) a.1 (told-step h e j x f s is)
 
 -- it is there with the call's own entry
-told-called : (h : History) (c : ℕ) (call : _) (x : Outcome)
+pub told-called : (h : History) (c : ℕ) (call : _) (x : Outcome)
     → outcome (h ▷ Call c call (Some x)) (place h) ≡ Some x
 told-called h c call x =
     let there : (place h == place h) ≡ true = grind (arith, nat_tests) in rw there refl

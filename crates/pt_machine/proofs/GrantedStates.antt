@@ -1,6 +1,7 @@
 -- GrantedStates: the tables after a call that is granted as it comes, and after its Grant.
 use Rattle.std.proofs.Common.{◌≡◌, ℕ, ◌+◌, Bool, true, false, cond, not, List, Option, Some}
 use Rattle.std.proofs.Common.{None, is_none, refl, sym, ap, ◌∙◌, subst, eq-eqb, [], ◌∷◌, ◌++◌}
+use Rattle.std.proofs.Common.{◌&&◌}
 use Rattle.std.specs.Option.{option_or}
 use Rattle.pt_model.specs.Answers.{outcome}
 use Rattle.std.proofs.lemmas.Bool.{and_parts}
@@ -8,6 +9,11 @@ use Rattle.std.specs.Prelude.{IsSome, option_map, unwrap_or}
 use Rattle.pt_types.specs.declared.call.Call.{Call as Asked}
 use Rattle.pt_types.specs.declared.time.Clock.{Clock}
 use Rattle.pt_types.specs.declared.outcome.Outcome.{Outcome}
+use Rattle.pt_types.specs.declared.call.ObjectKind.TheVariants.{Rwlock}
+use Rattle.pt_types.specs.Operations.{class_needed, class_of}
+use Rattle.pt_types.specs.declared.operations.ObjectClass.TheVariants.{Mutex as MutexClass}
+use Rattle.pt_types.specs.declared.operations.ObjectClass.TheVariants.{Rwlock as RwlockClass}
+use Rattle.pt_model.specs.Objects.{kind_of}
 use Rattle.pt_types.specs.declared.operations.LockKind.{LockKind}
 use Rattle.pt_types.specs.declared.operations.LockKind.TheVariants.{MutexLock, ReadLock, WriteLock}
 use Rattle.pt_rwlock.specs.RwlockState.{RwlockState, is_read as is_read_by}
@@ -70,6 +76,18 @@ free-lock h WriteLock r x f kept e =
     no : {b : Bool} → not b ≡ true → b ≡ false
     no {b = false} e = refl
     no {b = true} e = absurd cc
+
+-- and its row says so if it is
+pub lock-free : (h : History) (k : LockKind) (r : ℕ) (x : RwlockState) → Follows h
+    → IsRwlock h r x → kind_of h r ≡ Some Rwlock
+    → option_map class_of (kind_of h r) ≡ Some (class_needed k) → IsFree h k r → IsFreeLock k x
+lock-free h MutexLock r x f kept kind class e =
+    let no : Some RwlockClass ≡ Some MutexClass = sym (ap (option_map class_of) kind) ∙ class in
+    absurd cc
+lock-free h ReadLock r x f kept kind class e = kept.writer ∙ e
+lock-free h WriteLock r x f kept kind class e =
+    ap (λ w. is_none w && not (is_read_by x)) (kept.writer ∙ e.0)
+    ∙ ap not (read-same h r x f kept ∙ e.1)
 
 -- what is found of something is there
 there : {X Y : Type 0} (f : X → Y) (x : Option X) (y : Y) → option_map f x ≡ Some y → IsSome x

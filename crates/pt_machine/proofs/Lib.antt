@@ -20,6 +20,10 @@ pub mod GrantsAtOnce
 pub mod GrantedAtRest
 -- ArrivalsAtRest: what must follow an arrival is the Trip of its barrier, or nothing
 pub mod ArrivalsAtRest
+-- CalmCalls: nothing must follow a call that gives nothing back and leaves none waiting
+pub mod CalmCalls
+-- CallsAtRest: nothing must follow a call that gives nothing back, or one for a lock that is held
+pub mod CallsAtRest
 -- AnswersAdded: the answers of the entries that were added to a stored history
 pub mod AnswersAdded
 -- GrantedStates: the tables after a call that is granted as it comes, and after its Grant

@@ -1,6 +1,6 @@
 -- QueueAhead: the first of a queue has the greatest priority of those that wait there.
 use Rattle.std.proofs.Common.{◌≡◌, ℕ, ◌==◌, ◌<◌, ◌≤◌, Bool, true, false, cond, List, Option, Some}
-use Rattle.std.proofs.Common.{None, refl, sym, ◌∙◌, arith}
+use Rattle.std.proofs.Common.{None, refl, sym, ◌∙◌, arith, eq-eqb}
 use Rattle.std.proofs.lemmas.Bool.Decides.{nat_tests}
 use Rattle.std.specs.Prelude.{nat_lt}
 use Rattle.pt_types.specs.declared.key_order.Key.{Key}
@@ -9,15 +9,17 @@ use Rattle.pt_types.specs.Limits.{most_priority}
 use Rattle.pt_waitq.specs.declared.waiter.Waiter.{Waiter}
 use Rattle.pt_waitq.specs.Members.{Members}
 use Rattle.pt_waitq.specs.Queues.{head_of, key_of}
-use Rattle.pt_waitq.proofs.MemberLemmas.{head-first, head-none}
+use Rattle.pt_waitq.proofs.MemberLemmas.{head-first, head-in, head-none}
 use Rattle.pt_model.specs.Histories.{History}
 use Rattle.pt_model.specs.declared.waiting_call.WaitingCall.{WaitingCall}
 use Rattle.pt_model.specs.WaitingCall.{is_arrival}
 use Rattle.pt_model.specs.Answers.{open_calls}
 use Rattle.pt_model.specs.Moves.{at_object}
 use Rattle.pt_model.specs.Steps.{Follows}
+use Rattle.pt_machine.specs.AtRest.{NoneWaits}
 use Rattle.pt_machine.specs.GrantedAtOnce.{IsAhead}
 use Rattle.pt_machine.specs.Queued.{waiter}
+use Rattle.pt_machine.proofs.Membership.{in-list}
 use Rattle.pt_machine.proofs.QueueFirsts.{stands}
 
 -- what does not go before another has no higher priority
@@ -52,3 +54,9 @@ module _ (h : History) (queue : ℕ → List Waiter)
       own : (b : Bool) (n : ℕ) → cond b most_priority n < p → n < p
       own true n k = absurd (omega (arith, k, le))
       own false n k = k
+
+  -- where there is a first, one waits
+  pub not-alone : (v : Waiter) → first ≡ Some v → NoneWaits h q → ⊥
+  not-alone v s none =
+      let r = m.known q v (head-in (queue q) v (sym e ∙ s)) in
+      none r.0 (in-list r.0 (open_calls h) r.1) (eq-eqb (at_object h r.0) q r.2)

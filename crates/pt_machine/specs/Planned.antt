@@ -1,5 +1,5 @@
 -- Planned: what is known of an event's entry before it is pushed.
-use Rattle.std.specs.Prelude.{◌≡◌, Bool, false, Option, Some, None}
+use Rattle.std.specs.Prelude.{◌≡◌, Bool, true, false, Option, Some, None}
 use Rattle.std.specs.Bool.{OnTrue}
 use Rattle.pt_types.specs.declared.outcome.Outcome.{Outcome}
 use Rattle.pt_model.specs.declared.entry.Entry.{Entry}
@@ -14,6 +14,7 @@ use Rattle.pt_types.specs.declared.operations.Operation.{Operation as PlainOpera
 use Rattle.pt_touched.specs.Touched.{touched_by}
 use Rattle.pt_state.specs.Requests.{IsRequest}
 use Rattle.pt_state.specs.declared.request.Request.{Request}
+use Rattle.pt_machine.specs.AtRest.{IsUnopposed}
 use Rattle.pt_machine.specs.GrantedAtOnce.{IsGrantedAtOnce}
 use Rattle.pt_machine.specs.declared.planning.Plan.{Plan}
 
@@ -46,12 +47,21 @@ IsAtOnce h (event.Join p) b = b ≡ false
 IsAtOnce h (event.Death c) b = b ≡ false
 IsAtOnce h (event.Moment k t) b = b ≡ false
 
+-- an event that is a call without a deadline, for a lock that is free and for which none waits, is
+-- said to be granted as it comes
+abbrev pub KnowsUnopposed : History → Event → Bool → Type 0
+KnowsUnopposed h (event.Call c call) b = IsUnopposed h c call → b ≡ true
+KnowsUnopposed h (event.Join p) b = Unit {0}
+KnowsUnopposed h (event.Death c) b = Unit {0}
+KnowsUnopposed h (event.Moment k t) b = Unit {0}
+
 -- the objects that the event's call names, the answer that it gets at once, how many entries are
 -- reserved after its entry, the one object that the entry touches, and whether it is a call that is
--- granted as it comes  [profile]
+-- granted as it comes, as it is if its lock is free and none waits for it  [profile]
 pub record IsPlanned (h : History) (v : Event) (p : Plan) : Type 0 where
   pub asks : HasRequest h v p.request
   pub enters : entry_with h v p.answer ≡ entry_for h v
   pub needs : p.need ≡ need (h ▷ entry_for h v)
   pub touches : p.touched ≡ touched_by h (entry_for h v)
   pub at_once : IsAtOnce h v p.at_once
+  pub unopposed : KnowsUnopposed h v p.at_once

@@ -1,7 +1,7 @@
 //! Calls for a lock that is free: each is pushed with its Grant, and stands in no queue.
 
 ghost use Rattle.std.specs.Prelude.{IfErr, IfOk, IsOk, None, OnErr, OnOk, Some, ◌&&◌, false, ◌≡◌};
-ghost use Rattle.std.specs.Prelude.{◌<◌, ◌≤◌, if◌then◌else◌, true, unwrap_or};
+ghost use Rattle.std.specs.Prelude.{◌<◌, ◌≤◌, if◌then◌else◌, option_map, true, unwrap_or};
 ghost use Rattle.pt_types.specs.Limits.{most_priority};
 ghost use Rattle.pt_types.specs.MutexTable.{is_acquired as is_acquired_it};
 ghost use Rattle.pt_types.specs.declared.outcome.Outcome.TheVariants as told;
@@ -14,7 +14,8 @@ ghost use Rattle.pt_model.specs.declared.entry.Event.TheVariants as event_is;
 ghost use Rattle.pt_model.specs.declared.entry.Entry.TheVariants as entry_is;
 ghost use Rattle.pt_state.specs.Adds.{IsReadyFor, Stays, past};
 ghost use Rattle.pt_state.specs.Reads.{AreTables};
-ghost use Rattle.pt_types.specs.Operations.{deadline_of, operation};
+ghost use Rattle.pt_model.specs.Objects.{kind_of};
+ghost use Rattle.pt_types.specs.Operations.{class_needed, class_of, deadline_of, operation};
 ghost use Rattle.pt_types.specs.Operations.{operation as operation_meant};
 ghost use Rattle.pt_types.specs.Shown.{shown_operation};
 ghost use Rattle.pt_state.specs.Outer.{asks_to_read as asks_to_read_of};
@@ -23,9 +24,10 @@ ghost use Rattle.pt_machine.specs.GrantedAtOnce.{AddsBoth, AddsGranted, AnswersO
 ghost use Rattle.pt_machine.specs.GrantedAtOnce.{IsAhead, IsFree, IsFreeLock, IsGrantedAtOnce};
 ghost use Rattle.pt_machine.specs.GrantedAtOnce.{IsReadyAfter};
 ghost use Rattle.pt_machine.specs.GrantedAtOnce.{asks_for_mutex as asks_for_mutex_of};
+ghost use Rattle.pt_machine.specs.AtRest.{IsUnopposed, NoneWaits};
 ghost use Rattle.pt_machine.specs.Memory.{needs_memory};
 ghost use Rattle.pt_machine.specs.Planned.{HasOperation, HasRequest, IsAtOnce, IsPlanned};
-ghost use Rattle.pt_machine.specs.Planned.{entry_with};
+ghost use Rattle.pt_machine.specs.Planned.{KnowsUnopposed, entry_with};
 ghost use Rattle.pt_machine.specs.Timed.{good_of};
 ghost use Rattle.pt_model.specs.Room.{entry_for};
 
@@ -46,7 +48,8 @@ use std::alloc::Allocator;
 // [XSH pthread_rwlock_rdlock, pthread_rwlock_wrlock]
 #[inline(always)]
 fn is_free_lock<A: Allocator + Copy>(kind: LockKind, lock: &Holders<A>) -> bool
-    ensures { OnTrue result (IsFreeLock kind lock.now) }
+    ensures free { OnTrue result (IsFreeLock kind lock.now) }
+    ensures all { IsFreeLock kind lock.now → result ≡ true }
 {
     match kind {
         LockKind::MutexLock => false,
@@ -58,7 +61,8 @@ fn is_free_lock<A: Allocator + Copy>(kind: LockKind, lock: &Holders<A>) -> bool
 // Whether a call for a lock has no deadline that is a time.  [XSH pthread_mutex_timedlock]
 #[inline(always)]
 fn is_untimed(how: &How) -> bool
-    ensures { OnTrue result (good_of (deadline_of how.now) ≡ None) }
+    ensures untimed { OnTrue result (good_of (deadline_of how.now) ≡ None) }
+    ensures plain { how.now ≡ How.Plain → result ≡ true }
 {
     match how {
         How::Timed(deadline) => deadline.is_bad(),
@@ -71,7 +75,10 @@ fn is_untimed(how: &How) -> bool
 #[inline(always)]
 fn is_free<A: Allocator + Copy>(state: &State<A>, kind: LockKind, o: ObjectId) -> bool
     requires { AreTables state.now }
-    ensures { OnTrue result (IsFree (past state.now) kind o) }
+    ensures free { OnTrue result (IsFree (past state.now) kind o) }
+    ensures all { let h = past state.now in
+        option_map class_of (kind_of h o) ≡ Some (class_needed kind)
+        → IsFree h kind o → result ≡ true }
 {
     match state.objects.at(o.0) {
         Some(Object::Mutex(mutex)) => matches!(kind, LockKind::MutexLock) && may_lock(mutex),
@@ -224,8 +231,9 @@ impl<Q: WaitList, A: Allocator + Copy> Body<Q, A> {
     #[inline(always)]
     fn is_ahead(&self, c: ClientId, o: ObjectId) -> bool
         requires { AreTables self.now }
-        ensures { let h = past self.now in
+        ensures ahead { let h = past self.now in
             OnTrue result (IsAhead h (unwrap_or (client h c) 0) o) }
+        ensures alone { NoneWaits (past self.now) o → result ≡ true }
     {
         match self.queues.first(o) {
             Some(first) => self.is_above(c, first.prio),
@@ -250,14 +258,18 @@ impl<Q: WaitList, A: Allocator + Copy> Body<Q, A> {
         requires enters { let h = past self.now in
             entry_is.Call c call.now answer ≡ entry_for h (event_is.Call c call.now) }
         requires asks { IsRequest (past self.now) (operation_meant call.now) request.now }
-        ensures { OnTrue result (IsGrantedAtOnce (past self.now) c call.now) }
+        ensures granted { OnTrue result (IsGrantedAtOnce (past self.now) c call.now) }
+        ensures unopposed { IsUnopposed (past self.now) c call.now → result ≡ true }
     {
         match (operation, request.object) {
             (Operation::Acquires(_, kind, how), Some(o)) => {
-                answer.is_none()
-                    && is_untimed(how)
-                    && is_free(&self.state, *kind, o)
-                    && self.is_ahead(c, o)
+                if answer.is_some() || !is_untimed(how) {
+                    return false;
+                }
+                if !is_free(&self.state, *kind, o) {
+                    return false;
+                }
+                self.is_ahead(c, o)
             }
             _ => false,
         }
@@ -277,7 +289,8 @@ impl<Q: WaitList, A: Allocator + Copy> Body<Q, A> {
         requires enters { let h = past self.now in
             entry_with h event.now answer ≡ entry_for h event.now }
         requires asks { HasRequest (past self.now) event.now request.now }
-        ensures { IsAtOnce (past self.now) event.now result }
+        ensures granted { IsAtOnce (past self.now) event.now result }
+        ensures unopposed { KnowsUnopposed (past self.now) event.now result }
     {
         match event {
             Event::Call(c, call) => {

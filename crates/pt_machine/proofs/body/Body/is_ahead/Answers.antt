@@ -3,7 +3,7 @@ use Rattle.std.specs.Bool.{OnTrue}
 use Rattle.pt_model.specs.Clients.{client}
 use Rattle.pt_state.specs.Adds.{past}
 use Rattle.pt_machine.specs.Queued.{IsQueued}
-use Rattle.pt_machine.proofs.QueueAhead.{ahead-first, ahead-none}
+use Rattle.pt_machine.proofs.QueueAhead.{ahead-first, ahead-none, not-alone}
 use Rattle.pt_machine.proofs.body.Body.is_ahead.Goals as goal
 
 -- what follows from what holds if a value is true
@@ -11,8 +11,8 @@ if_true : {P Q : Type 0} (b : Bool) → OnTrue b P → (P → Q) → OnTrue b Q
 if_true true p f = f p
 if_true false p f = tt
 
-pub returns-in-Some : goal.returns-in-Some
-returns-in-Some g c =
+pub returns-in-Some-clause-ahead : goal.returns-in-Some-clause-ahead
+returns-in-Some-clause-ahead g c =
     let s = c.args.self.now in
     let queues = c.self.inside.queues in
     let queued : IsQueued (past s) (g.Q.WaitList.seen queues) =
@@ -22,11 +22,21 @@ returns-in-Some g c =
     c.requires.follows c.args.o (unwrap_or (client (past s) c.args.c) 0) c.first.result
     c.first.ensures c.in-Some.first c.in-Some.is k.0 k.1)
 
-pub returns-in-None : goal.returns-in-None
-returns-in-None g c =
+pub returns-in-None-clause-ahead : goal.returns-in-None-clause-ahead
+returns-in-None-clause-ahead g c =
     let s = c.args.self.now in
     let queues = c.self.inside.queues in
     let queued : IsQueued (past s) (g.Q.WaitList.seen queues) =
     rw (← c.self.view_is) c.self.invariant.0 in
     ahead-none (past s) (g.Q.WaitList.seen queues).queue queued.members c.requires.follows c.args.o
     (unwrap_or (client (past s) c.args.c) 0) c.first.result c.first.ensures c.in-None.is
+
+pub returns-in-Some-clause-alone : goal.returns-in-Some-clause-alone
+returns-in-Some-clause-alone g c = λ none.
+    let s = c.args.self.now in
+    let queues = c.self.inside.queues in
+    let queued : IsQueued (past s) (g.Q.WaitList.seen queues) =
+    rw (← c.self.view_is) c.self.invariant.0 in
+    absurd (not-alone (past s) (g.Q.WaitList.seen queues).queue queued.members
+    c.requires.follows c.args.o (unwrap_or (client (past s) c.args.c) 0) c.first.result
+    c.first.ensures c.in-Some.first c.in-Some.is none)

@@ -52,7 +52,8 @@ returns-clause-planned g c =
         need-event h c.args.event.now c.requires.read.follows c.requires.step,
       );
       touches = c.change_by-change.ensures.touches ∙ ap (touched_by h) enters;
-      at_once = c.is_at_once.ensures;
+      at_once = c.is_at_once.ensures.granted;
+      unopposed = c.is_at_once.ensures.unopposed;
     }
 
 pub returns-clause-small : goal.returns-clause-small

@@ -1,0 +1,74 @@
+use Rattle.std.proofs.Common.{◌≡◌, Bool, true, false, is_some, List, ℕ, Option, Some, None, refl}
+use Rattle.std.proofs.Common.{◌∙◌, sym, ap}
+use Rattle.std.proofs.lemmas.Bool.{false≢true}
+use Rattle.std.specs.Bool.{OnTrue}
+use Rattle.std.specs.Prelude.{option_map, unwrap_or}
+use Rattle.pt_types.specs.declared.call.Call.{Call as Asked}
+use Rattle.pt_types.specs.declared.call.How.{How}
+use Rattle.pt_types.specs.declared.operations.LockKind.{LockKind}
+use Rattle.pt_types.specs.Operations.{Acquires, class_needed, class_of, deadline_of, operation}
+use Rattle.pt_types.specs.declared.outcome.Outcome.{Outcome}
+use Rattle.pt_types.specs.Shown.{shown_operation}
+use Rattle.pt_model.specs.Clients.{client}
+use Rattle.pt_model.specs.declared.entry.Entry.TheVariants.{Call}
+use Rattle.pt_model.specs.declared.entry.Event.TheVariants as event
+use Rattle.pt_model.specs.Histories.{History}
+use Rattle.pt_model.specs.Objects.{kind_of}
+use Rattle.pt_model.specs.Room.{entry_for}
+use Rattle.pt_state.specs.Adds.{past}
+use Rattle.pt_state.specs.Requests.{object_meant}
+use Rattle.pt_machine.specs.GrantedAtOnce.{IsAhead, IsFree, IsGrantedAtOnce}
+use Rattle.pt_machine.specs.Timed.{asked, good_of}
+use Rattle.pt_machine.proofs.CallsAtRest.{unopposed-free}
+use Rattle.pt_machine.proofs.body.Body.is_granted_at_once.Goals as goal
+
+pub returns-then-not-is_free-clause-unopposed : goal.returns-then-not-is_free-clause-unopposed
+returns-then-not-is_free-clause-unopposed g c = λ known.
+    let h = past c.args.self.now in
+    let asks = sym c.requires.does ∙ ap shown_operation c.in-Acquires-Some.is-0 in
+    let free = unopposed-free h c.args.c c.args.call.now _ c.in-Acquires-Some.kind
+    c.in-Acquires-Some.how c.in-Acquires-Some.o c.requires.read.follows asks
+    (sym c.requires.asks.object ∙ c.in-Acquires-Some.is-1) known in
+    let class : option_map class_of (kind_of (past c.self.inside.state) c.in-Acquires-Some.o)
+    ≡ Some (class_needed c.in-Acquires-Some.kind) = rw c.self.view_is free.0 in
+    let there : IsFree (past c.self.inside.state) c.in-Acquires-Some.kind c.in-Acquires-Some.o =
+    rw c.self.view_is free.1 in
+    absurd (false≢true (sym c.if-not-is_free.true ∙ c.is_free.ensures.all class there))
+
+-- a call for a free lock is granted as it comes if it goes before those that wait
+granted : (h : History) (c : ℕ) (call : Asked) (answer : Option Outcome) (n : List ℕ) (k : LockKind)
+    (how : How) (o : ℕ) → operation call ≡ Acquires n k how
+    → Call c call answer ≡ entry_for h (event.Call c call) → is_some answer ≡ false
+    → good_of (deadline_of how) ≡ None → object_meant h (operation call) ≡ Some o → IsFree h k o
+    → (b : Bool) → OnTrue b (IsAhead h (unwrap_or (client h c) 0) o)
+    → OnTrue b (IsGrantedAtOnce h c call)
+granted h c call answer n k how o asks enters none untimed found free false ahead = tt
+granted h c call answer n k how o asks enters none untimed found free true ahead =
+    record {
+      name = n;
+      kind = k;
+      how = how;
+      object = o;
+      asks = asks;
+      waits = sym enters ∙ ap (Call c call) (not_some answer none);
+      untimed = ap (λ d. good_of (asked d)) asks ∙ untimed;
+      found = ap (object_meant h) (sym asks) ∙ found;
+      free = free;
+      ahead = ahead;
+    }
+  where
+    not_some : (x : Option Outcome) → is_some x ≡ false → x ≡ None
+    not_some None e = refl
+    not_some (Some x) e = absurd cc
+
+pub returns-else-not-is_free-clause-granted : goal.returns-else-not-is_free-clause-granted
+returns-else-not-is_free-clause-granted g c =
+    let h = past c.args.self.now in
+    let asks = sym c.requires.does ∙ ap shown_operation c.in-Acquires-Some.is-0 in
+    let free : IsFree h c.in-Acquires-Some.kind c.in-Acquires-Some.o =
+    rw (← c.self.view_is) c.if-not-is_free.ensures.free in
+    granted h c.args.c c.args.call.now c.args.answer _ c.in-Acquires-Some.kind
+    c.in-Acquires-Some.how c.in-Acquires-Some.o asks c.requires.enters
+    (sym c.is_some.ensures ∙ c.if-is_some.false) c.if-not-is_untimed.ensures.untimed
+    (sym c.requires.asks.object ∙ c.in-Acquires-Some.is-1) free c.is_ahead.result
+    c.is_ahead.ensures.ahead

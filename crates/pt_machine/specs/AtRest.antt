@@ -1,0 +1,51 @@
+-- AtRest: calls after whose entry nothing must follow.
+use Rattle.std.specs.Prelude.{ℕ, ◌≡◌, ◌==◌, Bool, true, false, not, List, Some, None}
+use Rattle.pt_types.specs.declared.call.Call.{Call as Asked}
+use Rattle.pt_types.specs.declared.call.How.TheVariants.{Plain}
+use Rattle.pt_types.specs.declared.operations.LockKind.{LockKind}
+use Rattle.pt_types.specs.declared.operations.LockKind.TheVariants.{MutexLock, WriteLock}
+use Rattle.pt_types.specs.Operations.{Operation, Acquires, Ends, Makes, Restores, class_needed}
+use Rattle.pt_types.specs.Operations.{operation}
+use Rattle.pt_model.specs.declared.entry.Entry.TheVariants.{Call}
+use Rattle.pt_model.specs.declared.entry.Event.{Event}
+use Rattle.pt_model.specs.declared.entry.Event.TheVariants as event
+use Rattle.pt_model.specs.declared.waiting_call.WaitingCall.{WaitingCall}
+use Rattle.pt_model.specs.Answers.{open_calls}
+use Rattle.pt_model.specs.Histories.{History}
+use Rattle.pt_model.specs.Moves.{at_object}
+use Rattle.pt_model.specs.Objects.{find}
+use Rattle.pt_model.specs.Room.{entry_for}
+use Rattle.pt_model.specs.Searches.{In}
+use Rattle.pt_machine.specs.GrantedAtOnce.{IsFree}
+
+-- no call waits at an object  [XSH 2.8.4]
+abbrev pub NoneWaits : History → ℕ → Type 0
+NoneWaits h o = (w : WaitingCall) → In w (open_calls h) → (at_object h w == o) ≡ true → ⊥
+
+-- a call without a deadline, for a lock that is free and for which none waits
+-- [XSH pthread_mutex_lock, pthread_rwlock_rdlock, pthread_rwlock_wrlock]
+pub record IsUnopposed (h : History) (c : ℕ) (call : Asked) : Type 0 where
+  pub name : List ℕ
+  pub kind : LockKind
+  pub object : ℕ
+  pub asks : operation call ≡ Acquires name kind Plain
+  pub waits : entry_for h (event.Call c call) ≡ Call c call None
+  pub found : find h name (class_needed kind) ≡ Some object
+  pub free : IsFree h kind object
+  pub alone : NoneWaits h object
+
+-- whether nothing must follow a call by what it does: it gives nothing back; or it is for a mutex or
+-- a write lock, with no deadline, and is not granted as it comes
+-- [XSH pthread_mutex_lock, pthread_rwlock_wrlock]
+abbrev pub rests_by : Operation → (at_once : Bool) → Bool
+rests_by (Acquires n MutexLock Plain) at_once = not at_once
+rests_by (Acquires n WriteLock Plain) at_once = not at_once
+rests_by (Makes n kind) at_once = true
+rests_by (Ends n class) at_once = true
+rests_by (Restores n) at_once = true
+rests_by _ at_once = false
+
+-- the same of an event
+abbrev pub rests_after : Event → (at_once : Bool) → Bool
+rests_after (event.Call c call) at_once = rests_by (operation call) at_once
+rests_after _ at_once = false

@@ -1,0 +1,38 @@
+//! Calls after whose entry nothing must follow.
+
+ghost use Rattle.std.specs.Prelude.{◌≡◌};
+ghost use Rattle.pt_types.specs.Operations.{operation};
+ghost use Rattle.pt_machine.specs.AtRest.{rests_after as rests_after_it, rests_by as rests_by_it};
+
+use crate::planning::Plan;
+use pt_model::Event;
+use pt_types::Call;
+
+// Whether nothing must follow a call, given whether it is granted as it comes.
+// [XSH pthread_mutex_lock, pthread_rwlock_wrlock]
+#[inline(always)]
+fn rests_by(call: &Call, at_once: bool) -> bool
+    ensures { result ≡ rests_by_it (operation call.now) at_once }
+{
+    match call {
+        Call::Lock(_) | Call::Wrlock(_) => !at_once,
+        Call::MutexInit(..) | Call::RwlockInit(_) => true,
+        Call::CondInit(_) | Call::BarrierInit(..) => true,
+        Call::MutexDestroy(_) | Call::RwlockDestroy(_) => true,
+        Call::CondDestroy(_) | Call::BarrierDestroy(_) => true,
+        Call::Consistent(_) => true,
+        _ => false,
+    }
+}
+
+/// Whether it is known by its plan that nothing must follow an event's entry.
+/// [XSH pthread_mutex_lock, pthread_rwlock_wrlock]
+#[inline(always)]
+pub fn rests_after(event: &Event, plan: &Plan) -> bool
+    ensures { result ≡ rests_after_it event.now plan.now.at_once }
+{
+    match event {
+        Event::Call(_, call) => rests_by(call, plan.at_once),
+        _ => false,
+    }
+}
