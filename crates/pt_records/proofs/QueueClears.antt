@@ -1,8 +1,8 @@
 -- A queue whose first is taken out until none is left.
 use Rattle.std.proofs.Common.{◌≡◌, ℕ, ◌<◌, ◌≤◌, length, ◌==◌, Bool, true, false, cond, not, ◌||◌}
-use Rattle.std.proofs.Common.{filter, List, [], ◌∷◌, ◌++◌, map, Option, Some, None, refl, sym, ap}
+use Rattle.std.proofs.Common.{filter, List, [], ◌∷◌, ◌++◌, map, Option, Some, refl, sym, ap}
 use Rattle.std.proofs.Common.{◌∙◌, subst, append_assoc, arith, eq-eqb}
-use Rattle.std.specs.Prelude.{IfSome, IfNone}
+use Rattle.std.specs.Prelude.{IfSome, IsSome}
 use Rattle.std.specs.List.{list_any}
 use Rattle.std.proofs.lemmas.Bool.{false≢true, ne_eqb}
 use Rattle.std.proofs.lemmas.Bool.Decides.{nat_tests}
@@ -39,10 +39,6 @@ module _ (queue queue' : ℕ → List Waiter) (found : Option Waiter) where
       → (q : ℕ) → queue' q ≡ without w.client (queue q)
   taken w is out =
       subst (λ o. IfSome o (λ v. (q : ℕ) → queue' q ≡ without v.client (queue q))) is out
-
-  pub left : found ≡ None → IfNone found ((q : ℕ) → queue' q ≡ queue q)
-      → (q : ℕ) → queue' q ≡ queue q
-  left is same = subst (λ o. IfNone o ((q : ℕ) → queue' q ≡ queue q)) is same
 
 -- the first of one queue is in no other
 pub others-stay :
@@ -91,10 +87,15 @@ first-split (v ∷ vs) w e le =
         ∙ ap (λ xs. w ∷ xs)
         (sym (filter-rest (λ (x : Waiter). x.client == w.client) vs none))
 
--- a queue without a first is empty
-pub emptied : (ws : List Waiter) → head_of ws ≡ None → ws ≡ []
-emptied [] e = refl
-emptied (w ∷ ws) e = absurd cc
+-- a queue in which one waits has a first
+pub some-first : (ws : List Waiter) → 0 < length ws → IsSome (head_of ws)
+some-first [] e = absurd (omega (arith, e))
+some-first (w ∷ ws) e = refl
+
+-- a queue in which nobody waits is empty
+pub none-left : (ws : List Waiter) → length ws ≡ 0 → ws ≡ []
+none-left [] e = refl
+none-left (w ∷ ws) e = absurd (omega (arith, e))
 
 -- what the first of a queue is answered comes first
 pub serial-first : (k : ℕ) (w : Waiter) (left : List Waiter)

@@ -71,8 +71,9 @@ fn tell_queue<Q: WaitList, A: Allocator + Copy>(
     ensures emptied { Empties b (Q.seen queues.old) (Q.seen queues.new) }
 {
     let mut left = queues.len(b);
-    while let Some(first) = queues.take_first(b) {
+    while left > 0 {
         left -= 1;
+        let first = queues.take_first(b).unwrap();
         let answer = answer_to(at, &first, left == 0);
         close_by(clients, &answer);
         answers.push(answer);

@@ -3,8 +3,8 @@ use Rattle.pt_records.specs.Arrivals.{passed_to, with_serial}
 use Rattle.pt_records.proofs.TripLemmas.{ClosedSoFar}
 use Rattle.pt_records.proofs.barrier.tell_queue.Given as goal
 
-abbrev pub invariant-loop-first : goal.invariant-loop-first
-invariant-loop-first g l =
+abbrev pub invariant-loop-left : goal.invariant-loop-left
+invariant-loop-left g l =
     record {
       told : l.answers.items
           ++ with_serial (map (passed_to l.at) ((g.Q.WaitList.seen l.queues).queue l.b))
@@ -25,5 +25,5 @@ invariant-loop-first g l =
           → (g.Q.WaitList.seen l.queues).made o ≡ (g.Q.WaitList.seen l.fn.queues).made o;
     }
 
-abbrev pub decreases-loop-first : goal.decreases-loop-first
-decreases-loop-first g l = length ((g.Q.WaitList.seen l.queues).queue l.b)
+abbrev pub decreases-loop-left : goal.decreases-loop-left
+decreases-loop-left g l = length ((g.Q.WaitList.seen l.queues).queue l.b)
