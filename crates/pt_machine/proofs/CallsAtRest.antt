@@ -37,7 +37,8 @@ use Rattle.pt_model.specs.Searches.{In}
 use Rattle.pt_model.specs.Steps.{Follows, Step}
 use Rattle.pt_model.specs.Verdicts.{lock_kind_verdict, on, operation_verdict, verdict}
 use Rattle.pt_model.specs.WaitingCall.{entered, is_arrival, meant, role_needed}
-use Rattle.pt_model.proofs.Changes.{awaited, cause_effect, consistency_effect, gives_up, kind_effect}
+use Rattle.pt_model.proofs.Changes.{awaited, cause_effect, consistency_effect}
+use Rattle.pt_model.proofs.Changes.{gives_up, kind_effect}
 use Rattle.pt_model.proofs.Changes.{left_by, resolved, returns_it}
 use Rattle.pt_model.proofs.Effects.{Effect, Idle}
 use Rattle.pt_model.proofs.Effects.{Waits, act, effect, stays}

@@ -34,8 +34,8 @@ pub record IsUnopposed (h : History) (c : ℕ) (call : Asked) : Type 0 where
   pub free : IsFree h kind object
   pub alone : NoneWaits h object
 
--- whether nothing must follow a call by what it does: it gives nothing back; or it is for a mutex or
--- a write lock, with no deadline, and is not granted as it comes
+-- whether nothing must follow a call by what it does: it gives nothing back; or it is for a mutex
+-- or a write lock, with no deadline, and is not granted as it comes
 -- [XSH pthread_mutex_lock, pthread_rwlock_wrlock]
 abbrev pub rests_by : Operation → (at_once : Bool) → Bool
 rests_by (Acquires n MutexLock Plain) at_once = not at_once
