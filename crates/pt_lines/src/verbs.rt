@@ -1,6 +1,6 @@
 //! The verbs, by the length of their word.
 
-ghost use Rattle.std.specs.Prelude.{◌≡◌, ◌==◌, IfSome, find, length};
+ghost use Rattle.std.specs.Prelude.{◌≡◌, ◌==◌, find, length};
 ghost use Rattle.std.specs.List.{filter};
 ghost use Rattle.std.specs.Str.{bytes_eq};
 ghost use Rattle.pt_lines.specs.declared.verb.TheConstants.{VERBS};
@@ -102,33 +102,9 @@ fn find_in(verbs: &[Verb], text: &[u8]) -> Option<Verb>
         .find(|verb| is_same(verb.word(), text))
 }
 
-// The verb with this word, if it is one of those that most lines have.
-fn common_verb(text: &[u8]) -> Option<Verb>
-    ensures { IfSome result (λ verb. text.now ≡ word_of verb) }
-{
-    match text {
-        b"lock" => Some(Verb::Named(NamedVerb::Lock)),
-        b"unlock" => Some(Verb::Named(NamedVerb::Unlock)),
-        b"rdlock" => Some(Verb::Named(NamedVerb::Rdlock)),
-        b"wrlock" => Some(Verb::Named(NamedVerb::Wrlock)),
-        b"rwunlock" => Some(Verb::Named(NamedVerb::Rwunlock)),
-        b"signal" => Some(Verb::Named(NamedVerb::Signal)),
-        b"broadcast" => Some(Verb::Named(NamedVerb::Broadcast)),
-        b"wait" => Some(Verb::Wait),
-        b"bwait" => Some(Verb::Named(NamedVerb::Bwait)),
-        b"trylock" => Some(Verb::Named(NamedVerb::Trylock)),
-        b"timedlock" => Some(Verb::Timed(TimedVerb::Timedlock)),
-        b"consistent" => Some(Verb::Named(NamedVerb::Consistent)),
-        _ => None,
-    }
-}
-
 /// The verb with this word.
 pub fn find_verb(text: &[u8]) -> Option<Verb>
     ensures { result ≡ verb_of text.now }
 {
-    match common_verb(text) {
-        Some(verb) => Some(verb),
-        None => find_in(verbs_of_length(text.len()), text),
-    }
+    find_in(verbs_of_length(text.len()), text)
 }
