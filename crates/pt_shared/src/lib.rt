@@ -7,8 +7,6 @@
 //! clock alone; what a call makes of the hub is the contract of that call of `Hub`.
 #![tactic(auto)]
 
-mod attendance;
-mod bells;
 mod calls;
 mod sessions;
 mod shared;

@@ -2,8 +2,7 @@
 
 ghost use Rattle.pt_hub.specs.Hubs.{Fits};
 
-use crate::attendance::Attendance;
-use crate::bells::{Bell, bells};
+use pt_bells::{Attendance, Bell, bells};
 use pt_hub::{Hub, SessionId};
 use pt_types::ClientId;
 use std::sync::ledger::Ledger;

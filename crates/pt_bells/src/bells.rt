@@ -29,7 +29,7 @@ const PERIOD: u64 = 64;
 /// A sleeper may be warned that a ring is likely to come soon. It wakes, and looks at the count for
 /// a while. Then the ring finds it awake, which spares the time that a wake-up takes.
 #[derive(Drop)]
-pub(crate) struct Bell {
+pub struct Bell {
     rings: AtomicU64,
     sleepers: AtomicU64,
     ends: AtomicU64,
@@ -141,7 +141,7 @@ impl Bell {
 }
 
 /// The bells, or as many of them as there is memory for.
-pub(crate) fn bells(alloc: Global) -> Vec<Bell> {
+pub fn bells(alloc: Global) -> Vec<Bell> {
     let mut bells = Vec::new(alloc);
     for _ in 0..MOST_BELLS {
         if bells.push(Bell::new()).is_err() {

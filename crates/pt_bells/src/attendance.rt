@@ -6,7 +6,7 @@ use std::alloc::Global;
 
 /// The session that takes a client's answers.
 #[derive(Clone, Copy, Debug, PartialEq, Eq)]
-pub(crate) struct Attached {
+struct Attached {
     client: ClientId,
     session: SessionId,
     /// Whether the session sleeps until the client's call is answered.
@@ -16,7 +16,7 @@ pub(crate) struct Attached {
 /// Which session takes whose answers, and the sessions whose calls wait, in the order in which they
 /// began to.
 #[derive(Drop)]
-pub(crate) struct Attendance {
+pub struct Attendance {
     attached: Vec<Attached>,
     waiting: Vec<SessionId>,
 }
@@ -25,7 +25,7 @@ impl Attendance {
     ghost use Rattle.std.specs.Prelude.{◌<◌, IfSome, vec_len};
 
     /// Nobody is there yet.
-    pub(crate) fn new(alloc: Global) -> Attendance {
+    pub fn new(alloc: Global) -> Attendance {
         Attendance {
             attached: Vec::new(alloc),
             waiting: Vec::new(alloc),
@@ -33,7 +33,7 @@ impl Attendance {
     }
 
     /// A client's answers are taken by this session. It isn't noted if a growth is refused.
-    pub(crate) fn attach(&mut self, session: SessionId, client: ClientId) {
+    pub fn attach(&mut self, session: SessionId, client: ClientId) {
         let _ = self.attached.push(Attached {
             client,
             session,
@@ -49,7 +49,7 @@ impl Attendance {
     }
 
     /// A client takes no more answers.
-    pub(crate) fn detach(&mut self, client: ClientId) {
+    pub fn detach(&mut self, client: ClientId) {
         if let Some(k) = self.place_of(client) {
             let gone = self.attached.swap_remove(k);
             self.end_wait(gone.session);
@@ -57,14 +57,14 @@ impl Attendance {
     }
 
     /// Notes whether a client's session sleeps until its call is answered.
-    pub(crate) fn note_wait(&mut self, client: ClientId, waits: bool) {
+    pub fn note_wait(&mut self, client: ClientId, waits: bool) {
         if let Some(k) = self.place_of(client) {
             self.attached[k].waits = waits;
         }
     }
 
     /// Whether a session sleeps until a call is answered, if that was noted.
-    pub(crate) fn is_waiting(&self, session: SessionId) -> bool {
+    pub fn is_waiting(&self, session: SessionId) -> bool {
         self.attached
             .iter()
             .any(|it| it.session == session && it.waits)
@@ -78,33 +78,33 @@ impl Attendance {
     }
 
     /// A client's call waits from here on. It isn't noted if a growth is refused.
-    pub(crate) fn begin_wait(&mut self, client: ClientId) {
+    pub fn begin_wait(&mut self, client: ClientId) {
         if let Some(session) = self.session_of(client) {
             let _ = self.waiting.push(session);
         }
     }
 
     /// The call of a session waits no more.
-    pub(crate) fn end_wait(&mut self, session: SessionId) {
+    pub fn end_wait(&mut self, session: SessionId) {
         if let Some(k) = self.turn_of(session) {
             let _ = self.waiting.remove(k);
         }
     }
 
     /// The session whose client's call was answered, if it was noted. It waits no more.
-    pub(crate) fn answered(&mut self, client: ClientId) -> Option<SessionId> {
+    pub fn answered(&mut self, client: ClientId) -> Option<SessionId> {
         let session = self.session_of(client)?;
         self.end_wait(session);
         Some(session)
     }
 
     /// The session whose call has waited longest.
-    pub(crate) fn longest_waiting(&self) -> Option<SessionId> {
+    pub fn longest_waiting(&self) -> Option<SessionId> {
         self.waiting.first().copied()
     }
 
     /// The session that takes a client's answers, if it was noted.
-    pub(crate) fn session_of(&self, client: ClientId) -> Option<SessionId> {
+    pub fn session_of(&self, client: ClientId) -> Option<SessionId> {
         let found = self.attached.iter().find(|it| it.client == client)?;
         Some(found.session)
     }

@@ -1,0 +1,8 @@
+//! The bells that sessions sleep at, and whose calls wait. No contract speaks of who wakes.
+#![tactic(auto)]
+
+mod attendance;
+mod bells;
+
+pub use attendance::Attendance;
+pub use bells::{Bell, bells};
