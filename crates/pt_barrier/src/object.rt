@@ -22,7 +22,7 @@ pub fn verdict_init(count: u64) -> Verdict
 // fewer               it waits with them
 
 /// A barrier, which lets the calls that wait at it go on together.  [XSH pthread_barrier_wait]
-#[derive(Debug, Drop)]
+#[derive(Drop)]
 pub struct BarrierObj {
     count: u32,
 }

@@ -5,7 +5,7 @@ use pt_types::ClientId;
 use std::alloc::Global;
 
 /// The session that takes a client's answers.
-#[derive(Clone, Copy, Debug, PartialEq, Eq)]
+#[derive(Clone, Copy, PartialEq, Eq)]
 struct Attached {
     client: ClientId,
     session: SessionId,

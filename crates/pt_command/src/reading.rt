@@ -12,7 +12,7 @@ const USAGE: u8 = 2;
 const MEMORY: u8 = 5;
 
 /// Whose clock deadlines are compared with.
-#[derive(Clone, Copy, Debug, PartialEq, Eq)]
+#[derive(Clone, Copy, PartialEq, Eq)]
 pub enum ClockWord {
     /// The connections': they send moment lines.
     Lines,
@@ -20,7 +20,7 @@ pub enum ClockWord {
 }
 
 /// What is served, and for how long.
-#[derive(Debug, Drop)]
+#[derive(Drop)]
 pub struct Service {
     /// The path of the socket.
     pub path: String,

@@ -11,7 +11,7 @@ use std::marker::Model;
 // a mutex      waits there too           EINVAL          binds nothing
 
 /// A condition variable: the mutex with which calls wait at it.  [XSH pthread_cond_wait]
-#[derive(Debug, Drop)]
+#[derive(Drop)]
 pub struct CondObj {
     bound: Option<ObjectId>,
 }

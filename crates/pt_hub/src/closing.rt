@@ -9,14 +9,14 @@ use std::alloc::{Allocator, Global};
 use std::sync::ledger::Ledger;
 
 /// How many events and how many entries a history has.
-#[derive(Clone, Copy, Debug, PartialEq, Eq)]
+#[derive(Clone, Copy, PartialEq, Eq)]
 pub struct Closed {
     pub outer: u64,
     pub entries: u64,
 }
 
 /// Why a hub doesn't close, in the order of the checks.
-#[derive(Clone, Copy, Debug, PartialEq, Eq)]
+#[derive(Clone, Copy, PartialEq, Eq)]
 pub enum CloseFault {
     /// The history has so many events, and so many were handed in.
     Missing { expected: u64, found: u128 },

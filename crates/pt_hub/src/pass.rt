@@ -6,7 +6,7 @@ use std::marker::Model;
 use std::sync::ledger::{Ledger, Share};
 
 /// A call that a client made: its place, and its answer once it was taken.
-#[derive(Debug, PartialEq, Eq, Drop)]
+#[derive(PartialEq, Eq, Drop)]
 pub struct Receipt {
     pub place: u64,
     pub call: Call,
@@ -14,28 +14,28 @@ pub struct Receipt {
 }
 
 /// A call that was sent: its place, and whether it is answered already.
-#[derive(Clone, Copy, Debug, PartialEq, Eq)]
+#[derive(Clone, Copy, PartialEq, Eq)]
 pub struct Sent {
     pub place: u64,
     pub ready: bool,
 }
 
 /// The answer to the call at a place.
-#[derive(Clone, Copy, Debug, PartialEq, Eq)]
+#[derive(Clone, Copy, PartialEq, Eq)]
 pub struct Answer {
     pub place: u64,
     pub outcome: Outcome,
 }
 
 /// A reading of a clock.
-#[derive(Clone, Copy, Debug, PartialEq, Eq)]
+#[derive(Clone, Copy, PartialEq, Eq)]
 pub struct Tick {
     pub clock: Clock,
     pub moment: Moment,
 }
 
 /// The number of a session: how many were opened before it.
-#[derive(Clone, Copy, Debug, PartialEq, Eq)]
+#[derive(Clone, Copy, PartialEq, Eq)]
 pub struct SessionId(pub u64);
 
 /// A living client. Contracts see its number, its priority and its receipts.

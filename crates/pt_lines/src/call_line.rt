@@ -16,7 +16,7 @@ use crate::verb::{ClockedVerb, TimedVerb, Verb};
 use pt_types::{Call, Clock, MOST_IN_LINE, Moment, Priority, Refusal};
 
 /// A line of a connection: a hello, a call, or a reading of a clock.  [profile]
-#[derive(Debug, PartialEq, Eq, Drop)]
+#[derive(PartialEq, Eq, Drop)]
 pub enum CallLine {
     Hello(Priority),
     Ask(Call),

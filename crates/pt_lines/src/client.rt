@@ -263,7 +263,7 @@ impl Hash for ClientName {
 }
 
 /// Whose a line of a script is.
-#[derive(Clone, Debug, PartialEq, Eq, Hash, Drop)]
+#[derive(Clone, PartialEq, Eq, Hash, Drop)]
 pub enum Who {
     /// A client's.
     Named(ClientName),

@@ -11,7 +11,7 @@ use crate::verbs::is_same;
 use pt_types::{Call, Clock, MOST_IN_LINE, Moment, Priority, Refusal};
 
 /// What a line of a script says.
-#[derive(Debug, PartialEq, Eq, Drop)]
+#[derive(PartialEq, Eq, Drop)]
 pub enum ScriptBody {
     Hello(Priority),
     Ask(Call),
@@ -21,7 +21,7 @@ pub enum ScriptBody {
 }
 
 /// A line of a script: whose it is, and what it says, or SYNTAX or LONG.  [profile]
-#[derive(Debug, PartialEq, Eq, Drop)]
+#[derive(PartialEq, Eq, Drop)]
 pub struct ScriptLine {
     pub who: Who,
     pub body: Result<ScriptBody, Refusal>,

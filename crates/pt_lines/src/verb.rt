@@ -7,7 +7,7 @@ use crate::verbs::find_verb;
 use pt_types::{Call, Clock, Deadline, Name, NamedVerb};
 
 /// The word of a call that a name and a deadline follow.
-#[derive(Clone, Copy, Debug, PartialEq, Eq)]
+#[derive(Clone, Copy, PartialEq, Eq)]
 pub enum TimedVerb {
     Timedlock,
     Timedrdlock,
@@ -15,7 +15,7 @@ pub enum TimedVerb {
 }
 
 /// The word of a call that a name, a clock and a deadline follow.
-#[derive(Clone, Copy, Debug, PartialEq, Eq)]
+#[derive(Clone, Copy, PartialEq, Eq)]
 pub enum ClockedVerb {
     Clocklock,
     Clockrdlock,
@@ -23,7 +23,7 @@ pub enum ClockedVerb {
 }
 
 /// The first word of a line, by what follows it.
-#[derive(Clone, Copy, Debug, PartialEq, Eq)]
+#[derive(Clone, Copy, PartialEq, Eq)]
 pub enum Verb {
     Hello,
     Moment(Clock),

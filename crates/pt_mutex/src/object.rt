@@ -14,7 +14,7 @@ use std::marker::Model;
 /// [XSH 2.9.3]
 ///
 /// A wait is bound to its mutex while it waits at its condition.
-#[derive(Debug, Drop)]
+#[derive(Drop)]
 pub struct MutexObj {
     owner: Option<ClientId>,
     bound_waits: u32,

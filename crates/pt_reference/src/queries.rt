@@ -22,7 +22,7 @@ use pt_readings::waiting::waiting_call_at;
 use pt_types::{ClientId, Clock, Outcome};
 
 /// An answer: who gets it, to the call at which place, and what it says.
-#[derive(Clone, Copy, Debug, PartialEq, Eq)]
+#[derive(Clone, Copy, PartialEq, Eq)]
 pub struct Told {
     pub client: ClientId,
     /// The place of the call.

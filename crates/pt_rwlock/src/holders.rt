@@ -9,7 +9,7 @@ use std::alloc::{Allocator, Global};
 use std::marker::Model;
 
 /// How a client holds a lock.  [XSH pthread_rwlock_unlock]
-#[derive(Clone, Copy, Debug, PartialEq, Eq)]
+#[derive(Clone, Copy, PartialEq, Eq)]
 pub enum Held {
     Nothing,
     /// This many read locks, at least one.

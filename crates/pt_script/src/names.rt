@@ -15,14 +15,14 @@ use std::hash::{BuildHasherDefault, FoldHasher};
 use std::marker::Model;
 
 /// What is stored of a client's name: how many of its lines came, and its number once it joined.
-#[derive(Debug, Drop)]
+#[derive(Drop)]
 pub struct Row {
     pub lines: u64,
     pub client: Option<ClientId>,
 }
 
 /// A line that was counted.
-#[derive(Clone, Copy, Debug, PartialEq, Eq)]
+#[derive(Clone, Copy, PartialEq, Eq)]
 pub struct CountedLine {
     /// Its number among the lines of its client, from 1.
     pub number: u64,

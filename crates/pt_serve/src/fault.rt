@@ -27,7 +27,7 @@ pub enum ServeFault {
 }
 
 /// Why no more connections are served.
-#[derive(Clone, Copy, Debug, PartialEq, Eq)]
+#[derive(Clone, Copy, PartialEq, Eq)]
 pub enum HostFault {
     Accept,
     Thread,

@@ -18,7 +18,7 @@ use std::alloc::{Allocator, Global};
 use std::marker::Model;
 
 /// A row of the table of clients, as its contracts see it.
-#[derive(Debug, Drop)]
+#[derive(Drop)]
 pub struct ClientRow<T> {
     pub number: u64,
     pub value: T,

@@ -2,7 +2,7 @@ ghost use Rattle.std.specs.Prelude.{◌≡◌};
 ghost use Rattle.pt_table.specs.ObjectRows.{out_of_chains};
 
 /// Where the row of an object is in a chain.
-#[derive(Clone, Copy, Debug)]
+#[derive(Clone, Copy)]
 pub struct Link {
     /// Whether the row is in a chain.
     pub linked: bool,

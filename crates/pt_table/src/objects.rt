@@ -26,7 +26,7 @@ use std::alloc::{AllocError, Allocator, Global};
 use std::marker::Model;
 
 /// A row of the table of objects, as its contracts see it.
-#[derive(Debug, Drop)]
+#[derive(Drop)]
 pub struct ObjectRow<T> {
     pub number: u64,
     pub name: Name,

@@ -4,7 +4,7 @@ use crate::link::Link;
 use std::marker::Model;
 
 /// A link as it lies in its row: in 24 bytes.
-#[derive(Debug, Drop)]
+#[derive(Drop)]
 pub struct StoredLink {
     next: u64,
     before: u64,

@@ -6,7 +6,7 @@ use crate::call::Call;
 use crate::name::Name;
 
 /// A call word that one name follows, and nothing else.  [XSH, the call's page]
-#[derive(Clone, Copy, Debug, PartialEq, Eq)]
+#[derive(Clone, Copy, PartialEq, Eq)]
 pub enum NamedVerb {
     Lock,
     Trylock,

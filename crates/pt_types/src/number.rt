@@ -2,7 +2,7 @@ use crate::limits::MOST_PRIORITY;
 use std::marker::Model;
 
 /// A client, by the place of its join.  [profile]
-#[derive(Clone, Copy, Debug, PartialEq, Eq)]
+#[derive(Clone, Copy, PartialEq, Eq)]
 pub struct ClientId(pub u64);
 
 impl Model for ClientId {
@@ -16,7 +16,7 @@ impl Model for ClientId {
 }
 
 /// An object, by the place of the call that made it.  [profile]
-#[derive(Clone, Copy, Debug, PartialEq, Eq)]
+#[derive(Clone, Copy, PartialEq, Eq)]
 pub struct ObjectId(pub u64);
 
 impl Model for ObjectId {
@@ -30,7 +30,7 @@ impl Model for ObjectId {
 }
 
 /// A priority of SCHED_FIFO, from 1 to the highest.  [XSH 2.8.4]
-#[derive(Clone, Copy, Debug, PartialEq, Eq)]
+#[derive(Clone, Copy, PartialEq, Eq)]
 pub struct Priority {
     level: u8,
 }
