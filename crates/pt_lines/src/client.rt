@@ -5,7 +5,6 @@ ghost use Rattle.std.specs.List.{list_all};
 ghost use Rattle.std.specs.Str.{bytes_eq};
 ghost use Rattle.pt_lines.specs.ClientNames.{is_client_byte, IsClientName};
 
-use std::fmt;
 use std::hash::{Hash, Hasher};
 use std::marker::Model;
 use std::simd::prelude::*;
@@ -240,12 +239,6 @@ impl PartialEq for ClientName {
 
 impl Eq for ClientName {
     ghost laws = { nat_list_eq_equiv };
-}
-
-impl fmt::Debug for ClientName {
-    fn fmt<W: fmt::Write>(&self, f: &mut fmt::Formatter<W>) -> fmt::Result {
-        self.as_bytes().fmt(f)
-    }
 }
 
 // The bytes are hashed at once, and not one after the other.
