@@ -70,30 +70,44 @@ docs/RULES.md has the rules, and examples/ has scripts to try:
 
   ptserver script < examples/two-clients.script";
 
-// The word `serve` and its options.
-fn serve<'a>(alloc: Global) -> Result<Command<'a>, Error> {
-    let socket = Arg::new(alloc, "socket")
+fn socket<'a>(alloc: Global) -> Arg<'a> {
+    Arg::new(alloc, "socket")
         .long("socket")
         .value_name("PATH")
         .help(SOCKET)
         .required(true)
-        .action(ArgAction::Set);
-    let clock = Arg::new(alloc, "clock")
+        .action(ArgAction::Set)
+}
+
+fn clock<'a>(alloc: Global) -> Arg<'a> {
+    Arg::new(alloc, "clock")
         .long("clock")
         .value_name("CLOCK")
         .help(CLOCK)
         .value_parser(["lines", "system"].as_slice())
-        .default_value("lines");
-    let sessions = Arg::new(alloc, "sessions")
+        .default_value("lines")
+}
+
+fn sessions<'a>(alloc: Global) -> Arg<'a> {
+    Arg::new(alloc, "sessions")
         .long("sessions")
         .value_name("N")
         .help(SESSIONS)
         .value_parser(value_parser!(u64))
-        .default_value("0");
+        .default_value("0")
+}
+
+// The word `serve` and its options.
+fn serve<'a>(alloc: Global) -> Result<Command<'a>, Error> {
     let serve = Command::new(alloc, "serve")
         .about(SERVE)
         .after_help(CONNECTIONS);
-    Ok(serve.arg(socket)?.arg(clock)?.arg(sessions)?)
+    Ok(
+        serve
+            .arg(socket(alloc))?
+            .arg(clock(alloc))?
+            .arg(sessions(alloc))?,
+    )
 }
 
 /// The command line: `script`, `serve`, `--help` and `--version`.
