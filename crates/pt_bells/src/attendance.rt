@@ -5,7 +5,7 @@ use pt_types::ClientId;
 use std::alloc::Global;
 
 /// The session that takes a client's answers.
-#[derive(Clone, Copy, PartialEq, Eq)]
+#[derive(Clone, Copy)]
 struct Attached {
     client: ClientId,
     session: SessionId,

@@ -17,7 +17,7 @@ use std::marker::Model;
 /// What the hub keeps of a living client: whether it awaited an answer when the history was sealed,
 /// how many answers it took since, and whether it awaits one, from its call on until it takes the
 /// answer.
-#[derive(Clone, Copy, PartialEq, Eq)]
+#[derive(Clone, Copy)]
 pub struct Account {
     pub awaited: bool,
     pub taken: u64,

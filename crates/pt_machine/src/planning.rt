@@ -32,7 +32,7 @@ use pt_waitq::WaitList;
 use std::alloc::Allocator;
 
 /// What is known of an event's entry before it is pushed.  [profile]
-#[derive(Clone, Copy, PartialEq, Eq)]
+#[derive(Clone, Copy)]
 pub struct Plan {
     /// The objects that the names of the event's call mean; none if it is no call.
     pub request: Request,

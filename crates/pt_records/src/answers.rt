@@ -9,7 +9,7 @@ use pt_types::{ClientId, Outcome};
 use std::alloc::Allocator;
 
 /// An answer, with the place of the entry that gave it.
-#[derive(Clone, Copy, PartialEq, Eq)]
+#[derive(Clone, Copy)]
 pub struct Answered {
     /// The place of the entry that gave it.
     pub at: u64,

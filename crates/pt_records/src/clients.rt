@@ -57,7 +57,7 @@ pub fn dismiss<A: Allocator + Copy>(clients: &mut Clients<Caller, A>, c: ClientI
 }
 
 /// A client's open call, with its move if it is a wait that was moved.
-#[derive(Clone, Copy, PartialEq, Eq)]
+#[derive(Clone, Copy)]
 pub struct Open {
     pub call: WaitingCall,
     pub moved: Option<Move>,
@@ -65,7 +65,7 @@ pub struct Open {
 
 /// The row of a living client: its priority, its open call, the place of its latest call, with the
 /// answer if it has one, and the robust mutexes that it owns.
-#[derive(Clone, Copy, PartialEq, Eq)]
+#[derive(Clone, Copy)]
 pub struct Caller {
     pub priority: Priority,
     pub open: Option<Open>,

@@ -13,7 +13,7 @@ use pt_types::{Clock, Moment};
 use std::alloc::Allocator;
 
 /// The greatest moment so far of each clock; before its first there is none.
-#[derive(Clone, Copy, PartialEq, Eq)]
+#[derive(Clone, Copy)]
 pub struct Clocks {
     pub real: Option<Moment>,
     pub mono: Option<Moment>,

@@ -25,7 +25,7 @@ use std::alloc::Allocator;
 
 /// What must follow: a call is served, a dead owner's mutex is taken from it, or a deadline ends a
 /// call.  [XSH pthread_mutex_unlock, pthread_mutex_lock EOWNERDEAD, pthread_mutex_timedlock]
-#[derive(Clone, Copy, PartialEq, Eq)]
+#[derive(Clone, Copy)]
 pub enum Forced {
     Serve(Open),
     Yield(ObjectId),

@@ -40,7 +40,7 @@ use pt_types::{Call, ClientId, Consistency, ObjectId, Outcome, Refusal};
 use std::alloc::Allocator;
 
 /// What a call for a mutex gets that is granted.
-#[derive(Clone, Copy, PartialEq, Eq)]
+#[derive(Clone, Copy)]
 pub struct Had {
     /// Whether the mutex was a robust one that nobody owned.
     pub robust: bool,

@@ -14,7 +14,7 @@ use pt_types::{Name, ObjectId};
 use std::alloc::Allocator;
 
 /// The objects that the names of a call mean when it is made.  [XSH, the call's page]
-#[derive(Clone, Copy, PartialEq, Eq)]
+#[derive(Clone, Copy)]
 pub struct Request {
     /// The object that its first name means; None if it means none, and for a call that makes one.
     pub object: Option<ObjectId>,
