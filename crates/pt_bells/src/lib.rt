@@ -2,7 +2,7 @@
 #![tactic(auto)]
 
 mod attendance;
-mod bells;
+mod bell;
 
 pub use attendance::Attendance;
-pub use bells::{Bell, bells};
+pub use bell::{Bell, bells};

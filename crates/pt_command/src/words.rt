@@ -110,19 +110,27 @@ fn serve<'a>(alloc: Global) -> Result<Command<'a>, Error> {
     )
 }
 
-/// The command line: `script`, `serve`, `--help` and `--version`.
-pub fn command<'a>(alloc: Global) -> Result<Command<'a>, Error> {
-    let script = Command::new(alloc, "script")
+// The word `script`.
+fn script<'a>(alloc: Global) -> Command<'a> {
+    Command::new(alloc, "script")
         .about(SCRIPT)
-        .after_help(LINES);
+        .after_help(LINES)
+}
+
+// The program without its words.
+fn program<'a>(alloc: Global) -> Result<Command<'a>, Error> {
+    let program = Command::new(alloc, "ptserver").bin_name("ptserver")?;
     Ok(
-        Command::new(alloc, "ptserver")
-            .bin_name("ptserver")?
+        program
             .version("0.1.0")
             .about(ABOUT)
             .after_help(LINES)
-            .subcommand_required(true)
-            .subcommand(script)?
-            .subcommand(serve(alloc)?)?,
+            .subcommand_required(true),
     )
+}
+
+/// The command line: `script`, `serve`, `--help` and `--version`.
+pub fn command<'a>(alloc: Global) -> Result<Command<'a>, Error> {
+    let program = program(alloc)?.subcommand(script(alloc))?;
+    Ok(program.subcommand(serve(alloc)?)?)
 }
