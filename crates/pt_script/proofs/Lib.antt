@@ -1,37 +1,9 @@
--- Counted: counts of lines, and look-ups, after one row more
-mod Counted
--- Rows: rows of names, after one that was written
-mod Rows
--- Places: where the rows of names are
-mod Places
--- Texts: texts of answers, and how they are written
-mod Texts
--- Opened: the core to which an event's entries are added
-mod Opened
--- Accepted: what is answered of an event: it is refused, or accepted
-mod Accepted
--- Lines: what is answered of a line, once it is counted
-mod Lines
--- Runs: lines one after the other: what is said of them, and how many they are
-mod Runs
+-- Stops: what the writer took of a text, and what came of the lines whose answers were written
+mod Stops
 -- Wholes: A whole script, as its pieces come
 mod Wholes
--- Answered: what holds of each answer that an entry gives
-mod Answered
--- Callers: who made the call of each answer
-mod Callers
 -- Noted: the line that made a call is noted at its place, and is the line of the call's client
 mod Noted
--- Later: what holds of the calls that are open after an event's entry holds of those answered later
-mod Later
--- Waiting: the line of a call that is open is the event's own, or is stored
-mod Waiting
--- Stored: the lines that are stored, once one of them is written
-mod Stored
--- Asked: each answer is under the event's own line, or under the one that is stored for its client
-mod Asked
--- Alone: an event that no entry follows answers its own call, or none
-mod Alone
 -- Settled: A history goes on by forced entries until nothing is forced
 mod Settled
 -- Unrefused: an event that is not refused where a seal makes room is not refused after it

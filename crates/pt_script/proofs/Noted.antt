@@ -1,10 +1,7 @@
 -- The line that made a call is noted at its place, and is the line of the call's client.
-use Rattle.std.proofs.Common.{◌≡◌, ℕ, ◌<◌, ◌==◌, Bool, true, false, cond, List, [], ◌∷◌, ◌++◌}
-use Rattle.std.proofs.Common.{length, drop, Option, Some, None, Result, Ok, Err, nat_eq, refl, sym}
-use Rattle.std.proofs.Common.{ap, ◌∙◌, subst, arith}
+use Rattle.std.proofs.Common.{◌≡◌, ℕ, ◌<◌, ◌==◌, Bool, true, false, cond, List, [], ◌∷◌, Option}
+use Rattle.std.proofs.Common.{Some, None, Result, Ok, Err, refl, sym, ap, ◌∙◌, subst, arith}
 use Rattle.std.proofs.lemmas.Bool.Decides.{nat_tests}
-use Rattle.std.proofs.Math.Seq.{drop-append_seam}
-use Rattle.std.specs.List.{cons_option}
 use Rattle.std.specs.Option.{option_or}
 use Rattle.std.specs.Str.{bytes_eq}
 use Rattle.pt_types.specs.declared.outcome.Refusal.{Refusal}
@@ -21,28 +18,29 @@ use Rattle.pt_model.specs.declared.entry.Event.TheVariants as event
 use Rattle.pt_model.specs.Starts.{Start}
 use Rattle.pt_model.specs.Histories.{History, Begin, ◌▷◌, onto, behind, place}
 use Rattle.pt_model.specs.Queries.{caller}
-use Rattle.pt_model.specs.Legal.{LegalBehind, event_of, events_of}
+use Rattle.pt_model.specs.Legal.{event_of, events_of}
 use Rattle.pt_model.specs.Room.{entry_for}
 use Rattle.pt_model.specs.Answers.{replies_behind}
 use Rattle.pt_model.specs.Steps.{begins}
-use Rattle.pt_model.proofs.Legality.{events_of-legal}
 use Rattle.pt_model.proofs.Lists.{Each-weaker}
 use Rattle.pt_told.proofs.EventTallies.{place-more}
 use Rattle.pt_core.specs.Cores.{Kept, past}
 use Rattle.pt_core.specs.Applying.{Writes, opened}
-use Rattle.pt_script.specs.declared.line_id.LineId.{LineId}
-use Rattle.pt_script.specs.Scripts.{Script, begun, core_of, line_id, calls_with, clients_with}
-use Rattle.pt_script.specs.Scripts.{event_for, event_of_body, event_of_line, join_for, line_at}
-use Rattle.pt_script.specs.Scripts.{number_named, number_of, of_client}
-use Rattle.pt_script.specs.Says.{SaysAll, SaysOf, SaysTo, IsAccepted, counted, opened_for, refuses}
-use Rattle.pt_script.specs.Says.{lacks, accepts}
-use Rattle.pt_script.specs.Engines.{IsFresh, IsLegal, mark_of}
+use Rattle.pt_engine.specs.declared.line_id.LineId.{LineId}
+use Rattle.pt_engine.specs.Scripts.{Script, begun, core_of, line_id, calls_with, clients_with}
+use Rattle.pt_engine.specs.Scripts.{event_for, event_of_body, event_of_line, join_for, line_at}
+use Rattle.pt_engine.specs.Scripts.{number_named, number_of, of_client}
+use Rattle.pt_engine.specs.Says.{SaysAll, SaysOf, SaysTo, IsAccepted, counted, opened_for, refuses}
+use Rattle.pt_engine.specs.Says.{lacks, accepts}
+use Rattle.pt_engine.specs.Engines.{IsFresh, IsLegal, mark_of}
 use Rattle.pt_script.specs.Laws.{AnswersHaveLines, HasLine}
-use Rattle.pt_script.proofs.Accepted.{calls_as, fresh_noted}
-use Rattle.pt_script.proofs.Callers.{IsOwn, caller_sealed, replies_own}
-use Rattle.pt_script.proofs.Counted.{lookup_push}
-use Rattle.pt_script.proofs.Opened.{goes_on, legal_follow, legal_next, legal_sealed, longer}
-use Rattle.pt_script.proofs.Opened.{opened_by, place_opened, same_start}
+use Rattle.pt_engine.proofs.Accepted.{calls_as, fresh_noted}
+use Rattle.pt_engine.proofs.CallLines.{line_here, line_on}
+use Rattle.pt_engine.proofs.Callers.{IsOwn, caller_sealed, replies_own}
+use Rattle.pt_engine.proofs.Counted.{lookup_push}
+use Rattle.pt_engine.proofs.Followers.{cons_none, none_forced}
+use Rattle.pt_engine.proofs.Opened.{goes_on, legal_follow, legal_next, legal_sealed, longer}
+use Rattle.pt_engine.proofs.Opened.{opened_by, place_opened, same_start}
 
 -- the line of the call at a place is noted, and is this client's
 abbrev pub IsNoted : List (ℕ × LineId) → List (List ℕ × ℕ) → ℕ → ℕ → Type 0
@@ -61,24 +59,6 @@ number_on (event.Join p) Star other place c clients is = is
 number_on (event.Join p) Unknown other place c clients is = is
 number_on _ who other place c clients is = is
 
--- a line is found, once more are noted
-pub line_on : (v : Event) (line found : LineId) (place j : ℕ) (calls : List (ℕ × LineId))
-    → line_at calls j ≡ Some found → line_at (calls_with v line place calls) j ≡ Some found
-line_on (event.Call c call) line found place j calls is =
-    lookup_push (nat_eq j) calls place line
-    ∙ ap (λ o. option_or o (cond (nat_eq j place) (Some line) None)) is
-line_on _ line found place j calls is = is
-
--- the line that is noted now
-pub line_here : (c : ℕ) (call : Asked) (line : LineId) (place : ℕ) (calls : List (ℕ × LineId))
-    → line_at calls place ≡ None
-    → line_at (calls_with (event.Call c call) line place calls) place ≡ Some line
-line_here c call line place calls none =
-    let same : nat_eq place place ≡ true = grind (arith, nat_tests) in
-    lookup_push (nat_eq place) calls place line
-    ∙ ap (λ o. option_or o (cond (nat_eq place place) (Some line) None)) none
-    ∙ ap (λ b. cond b (Some line) None) same
-
 noted_on : (v : Event) (line : LineId) (place j c : ℕ) (calls : List (ℕ × LineId))
     (clients : List (List ℕ × ℕ)) → IsNoted calls clients j c
     → IsNoted (calls_with v line place calls) (clients_with v line.who place clients) j c
@@ -89,11 +69,6 @@ noted_on v line place j c calls clients is = (
     number_on v line.who is.0.who place c clients is.1.1,
   ),
 )
-
--- no call comes by entries of no event
-pub cons_none : (o : Option Event) (vs : List Event) → cons_option o vs ≡ [] → vs ≡ []
-cons_none None vs e = e
-cons_none (Some v) vs e = absurd cc
 
 callers_kept : (h : History) (es : List Entry) (j : ℕ) → events_of es ≡ []
     → caller (onto h es) j ≡ caller h j
@@ -136,38 +111,6 @@ asked_of : (s : Script) (who : Who) (body : Result ScriptBody Refusal) (v : Even
 asked_of s who (Err why) v e = absurd cc
 asked_of s who (Ok body) (event.Call c call) e = event_asked s who body c call e
 asked_of s who (Ok body) _ e = tt
-
--- the event of what an event becomes is that event
-event_back : (h : History) (v : Event) → event_of (entry_for h v) ≡ Some v
-event_back h (event.Call c call) = refl
-event_back h _ = refl
-
-events_apart : (xs ys : List Entry) → events_of (xs ++ ys) ≡ events_of xs ++ events_of ys
-events_apart [] ys = refl
-events_apart (x ∷ xs) ys =
-    ap (cons_option (event_of x)) (events_apart xs ys)
-    ∙ joins (event_of x) (events_of xs) (events_of ys)
-  where
-    joins : (o : Option Event) (us vs : List Event)
-        → cons_option o (us ++ vs) ≡ cons_option o us ++ vs
-    joins None us vs = refl
-    joins (Some v) us vs = refl
-
--- what follows the entry of an event has no event
-pub none_forced : (s : Start) (old new fs : List Entry) (v : Event)
-    → new ≡ old ++ entry_for (behind s old) v ∷ fs → LegalBehind s new (events_of old ++ v ∷ [])
-    → events_of fs ≡ []
-none_forced s old new fs v extends legal =
-    let all : events_of old ++ (v ∷ events_of fs) ≡ events_of old ++ v ∷ [] =
-    ap (λ o. events_of old ++ cons_option o (events_of fs)) (sym (event_back (behind s old) v))
-    ∙ sym (events_apart old (entry_for (behind s old) v ∷ fs))
-    ∙ sym (ap events_of extends)
-    ∙ events_of-legal (Begin s) new (events_of old ++ v ∷ []) legal in
-    let rest : v ∷ events_of fs ≡ v ∷ [] =
-    sym (drop-append_seam (events_of old) (v ∷ events_of fs))
-    ∙ ap (drop (length (events_of old))) all
-    ∙ drop-append_seam (events_of old) (v ∷ []) in
-    cc
 
 -- each call of a legal history is noted, and none that comes
 pub record AreNoted (core : Kept) (clients : List (List ℕ × ℕ)) (calls : List (ℕ × LineId)) :

@@ -23,18 +23,18 @@ use Rattle.pt_model.proofs.OneList.{one_list}
 use Rattle.pt_model.proofs.Steps.{step-event}
 use Rattle.pt_core.specs.Cores.{Kept, past}
 use Rattle.pt_core.specs.Applying.{Writes, is_death}
-use Rattle.pt_script.specs.declared.line_id.LineId.{LineId}
-use Rattle.pt_script.specs.Scripts.{Script, begun, core_of, line_id, calls_with, clients_with}
-use Rattle.pt_script.specs.Scripts.{event_of_line, greeting, refusal_text, told_text}
-use Rattle.pt_script.specs.Says.{SaysAll, SaysOf, SaysTo, IsRefused, IsAccepted, counted}
-use Rattle.pt_script.specs.Says.{opened_for, refusal_of_event, refuses, lacks, accepts}
+use Rattle.pt_engine.specs.declared.line_id.LineId.{LineId}
+use Rattle.pt_engine.specs.Scripts.{Script, begun, core_of, line_id, calls_with, clients_with}
+use Rattle.pt_engine.specs.Scripts.{event_of_line, greeting, refusal_text, told_text}
+use Rattle.pt_engine.specs.Says.{SaysAll, SaysOf, SaysTo, IsRefused, IsAccepted, counted}
+use Rattle.pt_engine.specs.Says.{opened_for, refusal_of_event, refuses, lacks, accepts}
 use Rattle.pt_script.specs.Ends.{lines_of}
-use Rattle.pt_script.specs.Engines.{IsLegal}
+use Rattle.pt_engine.specs.Engines.{IsLegal}
 use Rattle.pt_script.specs.Laws.{BeginningsOfAll, EachText, OneText, SaysAllMet, SaysMet, SaysToMet}
 use Rattle.pt_script.specs.Laws.{accepted, refused, unmet}
-use Rattle.pt_script.proofs.Opened.{legal_follow, legal_next, legal_opened, legal_settle}
-use Rattle.pt_script.proofs.Opened.{limit_opened, same_start}
-use Rattle.pt_script.proofs.Runs.{says_join}
+use Rattle.pt_engine.proofs.Opened.{legal_follow, legal_next, legal_opened, legal_settle}
+use Rattle.pt_engine.proofs.Opened.{limit_opened, same_start}
+use Rattle.pt_engine.proofs.Runs.{says_join}
 use Rattle.pt_script.proofs.Settled.{settles}
 use Rattle.pt_script.proofs.Unrefused.{not_refused, unrefused_opened}
 

@@ -20,8 +20,8 @@ use Rattle.pt_model.proofs.Steps.{step-event}
 use Rattle.pt_core.specs.Cores.{Kept, past}
 use Rattle.pt_core.specs.Applying.{opened}
 use Rattle.pt_core.proofs.SealNeeds.{needs-parts, refused-without}
-use Rattle.pt_script.specs.Engines.{IsLegal}
-use Rattle.pt_script.proofs.Opened.{legal_follow, legal_settle, opened_by, sealed_alike}
+use Rattle.pt_engine.specs.Engines.{IsLegal}
+use Rattle.pt_engine.proofs.Opened.{legal_follow, legal_settle, opened_by, sealed_alike}
 
 -- what is not refused for room either is not refused
 pub not_refused : (a b : Option Refusal) → option_or a b ≡ None → a ≡ None

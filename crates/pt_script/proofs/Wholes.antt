@@ -13,15 +13,16 @@ use Rattle.pt_lines.specs.declared.cutter.Cut.{Cut}
 use Rattle.pt_lines.specs.Cuts.{cut_of}
 use Rattle.pt_lines.specs.Lines.{Held, IsBegun, lines, lines_after, lines_past_newline, to_come}
 use Rattle.pt_lines.specs.Script.{script_of}
-use Rattle.pt_script.specs.Scripts.{Script, begun}
-use Rattle.pt_script.specs.Says.{SaysAll}
-use Rattle.pt_script.specs.declared.fault.ScriptFault.{ScriptFault}
-use Rattle.pt_script.specs.declared.fault.ScriptFault.TheVariants.{Read, Write, Memory}
+use Rattle.pt_engine.specs.Scripts.{Script, begun}
+use Rattle.pt_engine.specs.Says.{SaysAll}
+use Rattle.pt_engine.specs.declared.fault.ScriptFault.{ScriptFault}
+use Rattle.pt_engine.specs.declared.fault.ScriptFault.TheVariants.{Read, Write, Memory}
 use Rattle.pt_script.specs.Ends.{AnswersWhole, BeginsScriptText, Course, IsBehind, IsFaultOf}
 use Rattle.pt_script.specs.Ends.{IsScriptText, IsWantOfMemory, lines_of}
-use Rattle.pt_script.specs.Engines.{Answers, IsCutOff, IsEnd, IsStopped}
+use Rattle.pt_engine.specs.Engines.{Answers}
+use Rattle.pt_script.specs.Stops.{IsCutOff, IsEnd, IsStopped}
 use Rattle.pt_script.specs.Texts.{Writing}
-use Rattle.pt_script.proofs.Runs.{says_join, says_all_seen}
+use Rattle.pt_engine.proofs.Runs.{says_join, says_all_seen}
 
 -- each line has a byte of its own, but a begun one
 few_after : (text bytes : List ℕ) → length (lines_after text bytes) ≤ length bytes + length text

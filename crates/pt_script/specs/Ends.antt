@@ -6,12 +6,12 @@ use Rattle.pt_lines.specs.declared.script_line.ScriptLine.{ScriptLine}
 use Rattle.pt_lines.specs.declared.cutter.Cut.{Cut}
 use Rattle.pt_lines.specs.Lines.{Held, IsBegun, lines, to_come}
 use Rattle.pt_lines.specs.Script.{script_of}
-use Rattle.pt_script.specs.declared.fault.ScriptFault.{ScriptFault}
-use Rattle.pt_script.specs.declared.fault.ScriptFault.TheVariants.{Read, Write, Memory}
+use Rattle.pt_engine.specs.declared.fault.ScriptFault.{ScriptFault}
+use Rattle.pt_engine.specs.declared.fault.ScriptFault.TheVariants.{Read, Write, Memory}
 use Rattle.pt_model.specs.Histories.{place}
 use Rattle.pt_core.specs.Cores.{past}
-use Rattle.pt_script.specs.Scripts.{Script, begun, core_of}
-use Rattle.pt_script.specs.Says.{SaysAll}
+use Rattle.pt_engine.specs.Scripts.{Script, begun, core_of}
+use Rattle.pt_engine.specs.Says.{SaysAll}
 use Rattle.pt_script.specs.Texts.{IsBroken, Writing}
 
 -- the lines of a script's bytes, as they are read

@@ -9,10 +9,10 @@ use Rattle.pt_model.specs.Searches.{Each}
 use Rattle.pt_model.specs.Records.{Told}
 use Rattle.pt_model.specs.Answers.{replies_behind}
 use Rattle.pt_core.specs.Applying.{is_death}
-use Rattle.pt_script.specs.declared.line_id.LineId.{LineId}
-use Rattle.pt_script.specs.Scripts.{Script, begun, line_id, event_of_line, line_at, number_of}
-use Rattle.pt_script.specs.Scripts.{refusal_text}
-use Rattle.pt_script.specs.Says.{SaysAll, IsRefused, IsUnmet, IsAccepted, counted}
+use Rattle.pt_engine.specs.declared.line_id.LineId.{LineId}
+use Rattle.pt_engine.specs.Scripts.{Script, begun, line_id, event_of_line, line_at, number_of}
+use Rattle.pt_engine.specs.Scripts.{refusal_text}
+use Rattle.pt_engine.specs.Says.{SaysAll, IsRefused, IsUnmet, IsAccepted, counted}
 use Rattle.pt_script.specs.Ends.{BeginsScriptText, lines_of}
 
 -- the line that made the call of an answer is noted, and it is the client's own

@@ -1,7 +1,7 @@
 -- Programs: how a program that answers a script ends, and what it reports.
 use Rattle.std.specs.Prelude.{◌≡◌, ℕ, ◌++◌, ◌⊎◌, true, List, [], ◌∷◌, codes}
-use Rattle.pt_script.specs.declared.fault.ScriptFault.{ScriptFault}
-use Rattle.pt_script.specs.declared.fault.ScriptFault.TheVariants.{Read, Write, Memory}
+use Rattle.pt_engine.specs.declared.fault.ScriptFault.{ScriptFault}
+use Rattle.pt_engine.specs.declared.fault.ScriptFault.TheVariants.{Read, Write, Memory}
 use Rattle.pt_script.specs.Texts.{IsBroken, Writing}
 use Rattle.pt_script.specs.Ends.{Course, IsFaultOf, IsScriptText}
 

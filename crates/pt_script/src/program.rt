@@ -3,9 +3,9 @@ ghost use Rattle.pt_script.specs.Ends.{reading};
 ghost use Rattle.pt_script.specs.Texts.{writing};
 ghost use Rattle.pt_script.specs.Programs.{EndsWith, Reports, report_of, status_of};
 
-use crate::fault::ScriptFault;
-use crate::text::put;
 use crate::whole::script;
+use crate::writing::put;
+use pt_engine::ScriptFault;
 use pt_io::{Sink, Source};
 use std::alloc::Allocator;
 

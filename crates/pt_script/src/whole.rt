@@ -1,14 +1,14 @@
 ghost use Rattle.std.specs.Prelude.{◌≡◌, ◌≤◌, ◌<◌, ◌+◌, ◌^◌, ◌++◌, [], length, true, false, OnOk};
 ghost use Rattle.std.specs.Prelude.{OnErr, IfOk, IfErr};
 ghost use Rattle.pt_lines.specs.Lines.{to_come, IsBegun};
-ghost use Rattle.pt_script.specs.Ends.{IsScriptText, BeginsScriptText, IsFaultOf, reading};
+ghost use Rattle.pt_engine.specs.Scripts.{begun};
+ghost use Rattle.pt_engine.specs.Engines.{Answers, known_by};
 ghost use Rattle.pt_script.specs.Texts.{writing};
-ghost use Rattle.pt_script.specs.Engines.{Answers, IsStopped, IsEnd, known_by};
-ghost use Rattle.pt_script.specs.Scripts.{begun};
+ghost use Rattle.pt_script.specs.Stops.{IsStopped, IsEnd};
+ghost use Rattle.pt_script.specs.Ends.{IsScriptText, BeginsScriptText, IsFaultOf, reading};
 
-use crate::engine::Engine;
-use crate::fault::ScriptFault;
-use crate::text::deliver;
+use crate::writing::deliver;
+use pt_engine::{Engine, ScriptFault};
 use pt_io::{Sink, Source};
 use pt_lines::Cutter;
 use std::alloc::Allocator;

@@ -1,9 +1,10 @@
 use Rattle.std.proofs.Common.{◌-◌, [], refl, sym, subst, arith}
 use Rattle.pt_lines.specs.Lines.{to_come}
-use Rattle.pt_script.specs.declared.fault.ScriptFault.TheVariants.{Write, Memory}
+use Rattle.pt_engine.specs.declared.fault.ScriptFault.TheVariants.{Write, Memory}
 use Rattle.pt_script.specs.Texts.{Writing}
-use Rattle.pt_script.specs.Engines.{IsAnswered, IsStopped, known_by}
-use Rattle.pt_script.proofs.Runs.{onto_taken, last_cut_off, told_fault}
+use Rattle.pt_engine.specs.Engines.{IsAnswered, known_by}
+use Rattle.pt_script.specs.Stops.{IsStopped}
+use Rattle.pt_script.proofs.Stops.{onto_taken, last_cut_off, told_fault}
 use Rattle.pt_script.proofs.whole.finish.Goals as goal
 
 pub returns-in_err-answer_last-clause-err : goal.returns-in_err-answer_last-clause-err

@@ -4,8 +4,9 @@ use Rattle.pt_lines.specs.Lines.{Held}
 use Rattle.pt_script.specs.Texts.{Writing}
 use Rattle.pt_script.specs.Ends.{BeginsScriptText, Course, IsBehind, IsFaultOf, IsReadFault}
 use Rattle.pt_script.specs.Ends.{IsScriptText}
-use Rattle.pt_script.specs.Engines.{IsEnd, IsStopped, known_by}
-use Rattle.pt_script.proofs.Runs.{on_ok, on_err, told_fault}
+use Rattle.pt_engine.specs.Engines.{known_by}
+use Rattle.pt_script.specs.Stops.{IsEnd, IsStopped}
+use Rattle.pt_script.proofs.Stops.{on_ok, on_err, told_fault}
 use Rattle.pt_script.proofs.Wholes.{fed_end, behind_few, behind_fed, behind_end, begins_given}
 use Rattle.pt_script.proofs.Wholes.{stopped_begins, stopped_why, not_ended, behind_begun}
 use Rattle.pt_script.proofs.Wholes.{begun_held, has_ended, done_if, whole_answered, nothing_before}

@@ -1,7 +1,7 @@
 use Rattle.std.proofs.Common.{◌-◌, arith}
-use Rattle.pt_script.specs.declared.fault.ScriptFault.TheVariants.{Memory}
+use Rattle.pt_engine.specs.declared.fault.ScriptFault.TheVariants.{Memory}
 use Rattle.pt_script.specs.Ends.{Course, IsFaultOf}
-use Rattle.pt_script.proofs.Runs.{told_fault}
+use Rattle.pt_script.proofs.Stops.{told_fault}
 use Rattle.pt_script.proofs.Wholes.{wanted_at_once}
 use Rattle.pt_script.proofs.whole.script_within.Goals as goal
 

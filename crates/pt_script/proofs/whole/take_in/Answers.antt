@@ -1,9 +1,10 @@
 use Rattle.std.proofs.Common.{◌-◌, ◌++◌}
 use Rattle.pt_lines.specs.Lines.{Held}
-use Rattle.pt_script.specs.declared.fault.ScriptFault.TheVariants.{Write}
+use Rattle.pt_engine.specs.declared.fault.ScriptFault.TheVariants.{Write}
 use Rattle.pt_script.specs.Texts.{Writing}
-use Rattle.pt_script.specs.Engines.{IsStopped, known_by}
-use Rattle.pt_script.proofs.Runs.{cut_off, told_fault}
+use Rattle.pt_engine.specs.Engines.{known_by}
+use Rattle.pt_script.specs.Stops.{IsStopped}
+use Rattle.pt_script.proofs.Stops.{cut_off, told_fault}
 use Rattle.pt_script.proofs.whole.take_in.Goals as goal
 
 pub returns-in_err-deliver-clause-err : goal.returns-in_err-deliver-clause-err

@@ -1,0 +1,243 @@
+-- What is answered of an event: it is refused, or accepted.
+use Rattle.std.proofs.Common.{◌≡◌, ℕ, suc, ◌-◌, ◌<◌, Bool, true, false, cond, List, [], ◌∷◌, ◌++◌}
+use Rattle.std.proofs.Common.{length, take, drop, Option, Some, None, nat_eq, refl, sym, ap, subst}
+use Rattle.std.proofs.Common.{◌∙◌, append_assoc, arith}
+use Rattle.std.proofs.Math.Seq.{take-append_seam, drop-append_seam}
+use Rattle.std.specs.Option.{option_or, MatchOption}
+use Rattle.std.proofs.lemmas.Bool.Decides.{Decides-eqb}
+use Rattle.std.proofs.lemmas.Slice.Eq.{bytes_eq-Decides}
+use Rattle.pt_types.specs.declared.outcome.Refusal.{Refusal}
+use Rattle.pt_lines.specs.declared.client.Who.{Who}
+use Rattle.pt_lines.specs.declared.client.Who.TheVariants.{Named, Star, Unknown}
+use Rattle.pt_model.specs.declared.entry.Entry.{Entry}
+use Rattle.pt_model.specs.declared.entry.Event.{Event}
+use Rattle.pt_model.specs.declared.entry.Event.TheVariants as event
+use Rattle.pt_model.specs.Starts.{Start}
+use Rattle.pt_model.specs.Histories.{behind, place}
+use Rattle.pt_model.specs.Answers.{replies_from}
+use Rattle.pt_model.specs.Queries.{answers_behind}
+use Rattle.pt_model.specs.Room.{refusal_with_seals, entry_for}
+use Rattle.pt_model.proofs.Histories.{place-behind}
+use Rattle.pt_core.specs.declared.applied.Applied.{Applied}
+use Rattle.pt_core.specs.Cores.{Kept, past}
+use Rattle.pt_core.specs.Applying.{IsApplied, IsRefusal, IsWantOfMemory, IsWritten, opened}
+use Rattle.pt_engine.specs.declared.line_id.LineId.{LineId}
+use Rattle.pt_engine.specs.declared.mark.Mark.{Mark}
+use Rattle.pt_engine.specs.declared.mark.Mark.TheVariants as mark
+use Rattle.pt_engine.specs.Scripts.{Script, line_at, told_text, refusal_text, greeting}
+use Rattle.pt_engine.specs.Scripts.{clients_with, calls_with, same_who, lines_of_who}
+use Rattle.pt_engine.specs.Scripts.{entries_between_seals}
+use Rattle.pt_engine.specs.Says.{SaysOf, refuses, lacks, accepts}
+use Rattle.pt_engine.specs.Names.{Known}
+use Rattle.pt_engine.specs.Engines.{Adds, IsFresh, mark_of, clients_marked, calls_marked}
+use Rattle.pt_engine.specs.Engines.{greeting_marked}
+use Rattle.pt_engine.proofs.Counted.{lookup_push, count_by_push}
+use Rattle.pt_engine.proofs.Opened.{limit_opened, place_opened}
+
+-- what an engine of these parts stands for
+abbrev pub seen_as : Kept → Known → List (ℕ × LineId) → Script
+seen_as core names calls = record {
+  start = core.start;
+  entries = core.entries;
+  seen = names.seen;
+  clients = names.clients;
+  calls = calls;
+}
+
+clients_as : (v : Event) (who : Who) (place : ℕ) (rows : List (List ℕ × ℕ))
+    → clients_marked (mark_of v) who place rows ≡ clients_with v who place rows
+clients_as (event.Join p) who place rows = refl
+clients_as (event.Call c call) who place rows = refl
+clients_as (event.Death c) who place rows = refl
+clients_as (event.Moment clock t) who place rows = refl
+
+pub calls_as : (v : Event) (line : LineId) (place : ℕ) (rows : List (ℕ × LineId))
+    → calls_marked (mark_of v) line place rows ≡ calls_with v line place rows
+calls_as (event.Join p) line place rows = refl
+calls_as (event.Call c call) line place rows = refl
+calls_as (event.Death c) line place rows = refl
+calls_as (event.Moment clock t) line place rows = refl
+
+greeting_as : (v : Event) (line : LineId) → greeting_marked (mark_of v) line ≡ greeting v line
+greeting_as (event.Join p) line = refl
+greeting_as (event.Call c call) line = refl
+greeting_as (event.Death c) line = refl
+greeting_as (event.Moment clock t) line = refl
+
+-- the answers from the first new place on are those of the new entries
+answers_added : (core : Kept) (added : List Entry) (first : ℕ) → first ≡ place (past core)
+    → answers_behind core.start first (core.entries ++ added) ≡ replies_from (past core) added
+answers_added core added first is =
+    ap (λ n. replies_from (behind core.start (take n all)) (drop n all)) gap
+    ∙ ap (λ es. replies_from (behind core.start es) (drop (length core.entries) all))
+    (take-append_seam core.entries added)
+    ∙ ap (replies_from (past core)) (drop-append_seam core.entries added)
+  where
+    all : List Entry
+    all = core.entries ++ added
+
+    gap : first - core.start.at ≡ length core.entries
+    gap = omega (arith, is, place-behind core.start core.entries)
+
+-- the answers of an accepted event are those of its entries
+pub answers_are : (core next : Kept) (v : Event) (a : Applied) (applied : IsWritten core v next a)
+    → answers_behind next.start a.first next.entries
+    ≡ replies_from (past core) (entry_for (past core) v ∷ applied.writes.extends.0)
+answers_are core next v a applied =
+    ap (λ (s : Start). answers_behind s a.first next.entries) applied.writes.starts
+    ∙ ap (answers_behind core.start a.first) applied.writes.extends.1
+    ∙ answers_added core (entry_for (past core) v ∷ applied.writes.extends.0) a.first
+    applied.first
+
+-- the same core, with as many entries as there may be at most
+abbrev pub full : Kept → Kept
+full core = record core { limit = entries_between_seals }
+
+limited : (core : Kept) → core.limit ≡ entries_between_seals → core ≡ full core
+limited core is = ap (λ n. let k : Kept = record core { limit = n } in k) is
+
+-- an event that is applied leaves the limit
+pub limit_next : (core next : Kept) (v : Event) (a : Applied) → core.limit ≡ entries_between_seals
+    → IsApplied core v next a → next.limit ≡ entries_between_seals
+limit_next core next v a is done =
+    done.written.writes.same_limit ∙ limit_opened core v ∙ is
+
+applied_full : (core next : Kept) (v : Event) (a : Applied) → core.limit ≡ entries_between_seals
+    → IsApplied core v next a → IsApplied (full core) v (full next) a
+applied_full core next v a is done =
+    let from = subst (λ k. IsApplied k v next a) (limited core is) done in
+    subst (λ k. IsApplied (full core) v k a)
+    (limited next (limit_next core next v a is done)) from
+
+-- the place of its entry is the next one, sealed or not
+pub place_first : (core next : Kept) (v : Event) (a : Applied)
+    → IsApplied core v next a → a.first ≡ place (past core)
+place_first core next v a done = done.written.first ∙ place_opened core v
+
+-- an accepted event: its parts were noted, and its answers appended
+pub accepted : (s : Script) (core next : Kept) (names known : Known)
+    (calls noted : List (ℕ × LineId)) (v : Event) (line : LineId) (a : Applied) (m : Mark)
+    (out greeted told : List ℕ)
+    → s ≡ seen_as core names calls → core.limit ≡ entries_between_seals → m ≡ mark_of v
+    → IsApplied core v next a
+    → known ≡ record names { clients = clients_marked m line.who a.first names.clients }
+    → noted ≡ calls_marked m line a.first calls
+    → greeted ≡ out ++ greeting_marked m line
+    → told ≡ greeted ++ told_text noted (answers_behind next.start a.first next.entries)
+    → Adds (SaysOf s v line (seen_as next known noted)) out told
+accepted s core next names known calls noted v line a m out greeted told is whole marks applies
+    knows notes greets tells =
+    subst (λ t. Adds (SaysOf t v line (seen_as next known noted)) out told) (sym is) (record {
+      text = greeting_marked m line ++ answers;
+      grows =
+          tells
+          ∙ ap (λ ts. greeted ++ told_text noted ts)
+          (answers_are begins (full next) v a done.written)
+          ∙ ap (λ xs. xs ++ answers) greets
+          ∙ append_assoc out (greeting_marked m line) answers;
+      holds = accepts (record {
+        accepted = done.accepted;
+        writes = done.written.writes;
+        added = added;
+        extends = done.written.writes.extends.1;
+        seen = ap (λ k. k.seen) knows;
+        clients =
+            ap (λ k. k.clients) knows
+            ∙ ap (λ n. clients_marked n line.who a.first names.clients) marks
+            ∙ ap (λ n. clients_marked (mark_of v) line.who n names.clients) here
+            ∙ clients_as v line.who (place (past core)) names.clients;
+        calls =
+            notes
+            ∙ ap (λ n. calls_marked n line a.first calls) marks
+            ∙ ap (λ n. calls_marked (mark_of v) line n calls) here
+            ∙ calls_as v line (place (past core)) calls;
+        written =
+            ap (λ n. greeting_marked n line ++ answers) marks
+            ∙ ap (λ g. g ++ answers) (greeting_as v line);
+      });
+    })
+  where
+    begins : Kept
+    begins = opened (full core) v
+
+    done : IsApplied (full core) v (full next) a
+    done = applied_full core next v a whole applies
+
+    here : a.first ≡ place (past core)
+    here = place_first core next v a applies
+
+    added : List Entry
+    added = entry_for (past begins) v ∷ done.written.writes.extends.0
+
+    answers : List ℕ
+    answers = told_text noted (replies_from (past begins) added)
+
+-- a refused event: its refusal was appended, and nothing else changed
+pub refused : (s : Script) (core next : Kept) (names : Known)
+    (calls noted : List (ℕ × LineId)) (v : Event) (line : LineId) (why : Refusal)
+    (out told : List ℕ)
+    → s ≡ seen_as core names calls → core.limit ≡ entries_between_seals → next ≡ core
+    → noted ≡ calls → IsRefusal core v why → told ≡ out ++ refusal_text line why
+    → Adds (SaysOf s v line (seen_as next names noted)) out told
+refused s core next names calls noted v line why out told is whole stays kept refuses_it tells =
+    subst (λ t. Adds (SaysOf t v line (seen_as next names noted)) out told) (sym is) (record {
+      text = refusal_text line why;
+      grows = tells;
+      holds = by (refusal_with_seals entries_between_seals (past core) v) refl
+          (subst (λ k. IsRefusal k v why) (limited core whole) refuses_it);
+    })
+  where
+    same : seen_as next names noted ≡ seen_as core names calls
+    same = ap (λ k. seen_as k names noted) stays ∙ ap (λ cs. seen_as core names cs) kept
+
+    by : (r : Option Refusal) → refusal_with_seals entries_between_seals (past core) v ≡ r
+        → MatchOption r (IsWantOfMemory v why) (λ x. why ≡ x)
+        → SaysOf (seen_as core names calls) v line (seen_as next names noted)
+        (refusal_text line why)
+    by None none lock_kind = lacks (record {
+      accepted = none;
+      lives = lock_kind.1;
+      same = same;
+      written = ap (refusal_text line) lock_kind.0;
+    })
+    by (Some x) some is_it = refuses (record {
+      why = x;
+      refused = some;
+      same = same;
+      written = ap (refusal_text line) is_it;
+    })
+
+-- no call is noted at a place that comes, also after an accepted event
+pub fresh_noted : (calls noted : List (ℕ × LineId)) (m : Mark) (line : LineId) (place next : ℕ)
+    → IsFresh calls place → place < next → noted ≡ calls_marked m line place calls
+    → IsFresh noted next
+fresh_noted calls noted m line place next fresh below notes = λ j far.
+    ap (λ cs. line_at cs j) notes ∙ by m j (fresh j (omega arith)) (apart j (omega arith))
+  where
+    apart : (j : ℕ) → place < j → nat_eq j place ≡ false
+    apart j above = tells (nat_eq j place) (Decides-eqb j place).0
+      where
+        tells : (b : Bool) → (b ≡ true → j ≡ place) → b ≡ false
+        tells true same = absurd (omega (arith, same refl))
+        tells false same = refl
+
+    by : (n : Mark) (j : ℕ) → line_at calls j ≡ None → nat_eq j place ≡ false
+        → line_at (calls_marked n line place calls) j ≡ None
+    by mark.Client j none other = none
+    by (mark.Call c) j none other =
+        lookup_push (nat_eq j) calls place line
+        ∙ ap (λ o. option_or o (cond (nat_eq j place) (Some line) None)) none
+        ∙ ap (λ b. cond b (Some line) None) other
+    by mark.Nothing j none other = none
+
+same_as_itself : (who : Who) → same_who who who ≡ true
+same_as_itself (Named name) = (bytes_eq-Decides name name).1 refl
+same_as_itself Star = refl
+same_as_itself Unknown = refl
+
+-- a counted line is one
+pub some_seen : (seen : List Who) (who : Who) → 0 < lines_of_who (seen ++ who ∷ []) who
+some_seen seen who =
+    let count = count_by_push (λ w. same_who w who) seen who
+    ∙ ap (λ b. cond b (suc (lines_of_who seen who)) (lines_of_who seen who)) (same_as_itself who) in
+    omega (arith, count)

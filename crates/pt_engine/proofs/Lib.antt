@@ -1,0 +1,34 @@
+-- Counted: counts of lines, and look-ups, after one row more
+pub mod Counted
+-- Rows: rows of names, after one that was written
+mod Rows
+-- Places: where the rows of names are
+mod Places
+-- Texts: texts of answers
+mod Texts
+-- Opened: the core to which an event's entries are added
+pub mod Opened
+-- Accepted: what is answered of an event: it is refused, or accepted
+pub mod Accepted
+-- Lines: what is answered of a line, once it is counted
+mod Lines
+-- Runs: lines one after the other: what is said of them, and how many they are
+pub mod Runs
+-- Answered: what holds of each answer that an entry gives
+mod Answered
+-- Callers: who made the call of each answer
+pub mod Callers
+-- Followers: what follows the entry of an event has no event
+pub mod Followers
+-- CallLines: the line that made a call is found at its place, once it is noted
+pub mod CallLines
+-- Later: what holds of the calls that are open after an event's entry holds of those answered later
+mod Later
+-- Waiting: the line of a call that is open is the event's own, or is stored
+mod Waiting
+-- Stored: the lines that are stored, once one of them is written
+mod Stored
+-- Asked: each answer is under the event's own line, or under the one that is stored for its client
+mod Asked
+-- Alone: an event that no entry follows answers its own call, or none
+mod Alone

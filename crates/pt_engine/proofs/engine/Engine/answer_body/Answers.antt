@@ -1,0 +1,51 @@
+use Rattle.std.proofs.Common.{rules, OnOk, sym, ap, ◌∙◌, subst}
+use Rattle.pt_types.specs.declared.outcome.Refusal.TheVariants.{Syntax}
+use Rattle.pt_lines.specs.declared.client.Who.TheVariants.{Named, Star}
+use Rattle.pt_model.specs.declared.entry.Event.TheVariants as event
+use Rattle.pt_engine.specs.Scripts.{event_for, number_of, of_client}
+use Rattle.pt_engine.specs.Says.{SaysTo}
+use Rattle.pt_engine.specs.Engines.{Adds, known_by}
+use Rattle.pt_engine.proofs.Lines.{refused_as}
+use Rattle.pt_engine.proofs.engine.Engine.answer_body.Goals as goal
+
+pub returns-in-Named-Ask-clause-ok : goal.returns-in-Named-Ask-clause-ok
+returns-in-Named-Ask-clause-ok g c =
+    let s = known_by c.args.self.now in
+    let i = c.in-Named-Ask in
+    let asks = ap (λ w. event_for s w c.args.body) i.is-0
+    ∙ ap (event_for s (Named i.field-0-0)) i.is-1
+    ∙ ap (of_client (λ d. event.Call d i.call))
+    (sym (c.requires.client ∙ ap (number_of s.clients) i.is-0)) in
+    subst
+    (λ v. OnOk c.ask.result (Adds (SaysTo s c.args.line.now v (known_by c.ask.new.self))
+    c.args.out.now.items c.ask.new.out.items))
+    (sym asks) c.ask.ensures.ok
+
+pub returns-in-Named-Die-clause-ok : goal.returns-in-Named-Die-clause-ok
+returns-in-Named-Die-clause-ok g c =
+    let s = known_by c.args.self.now in
+    let i = c.in-Named-Die in
+    let asks = ap (λ w. event_for s w c.args.body) i.is-0
+    ∙ ap (event_for s (Named i.field-0-0)) i.is-1
+    ∙ ap (of_client (λ d. event.Death d))
+    (sym (c.requires.client ∙ ap (number_of s.clients) i.is-0)) in
+    subst
+    (λ v. OnOk c.die.result (Adds (SaysTo s c.args.line.now v (known_by c.die.new.self))
+    c.args.out.now.items c.die.new.out.items))
+    (sym asks) c.die.ensures.ok
+
+pub returns-in-Star-Tick-clause-ok : goal.returns-in-Star-Tick-clause-ok
+returns-in-Star-Tick-clause-ok g c =
+    let s = known_by c.args.self.now in
+    let i = c.in-Star-Tick in
+    let asks = ap (λ w. event_for s w c.args.body) i.is-0 ∙ ap (event_for s Star) i.is-1 in
+    subst
+    (λ v. OnOk c.run.result (Adds (SaysTo s c.args.line.now v (known_by c.run.new.self))
+    c.args.out.now.items c.run.new.out.items))
+    (sym asks) c.run.ensures.ok
+
+pub returns-in_default-clause-ok : goal.returns-in_default-clause-ok
+returns-in_default-clause-ok g c =
+    let s = known_by c.args.self.now in
+    refused_as c.refuse.result s c.args.line.now (event_for s c.args.line.now.who c.args.body)
+    Syntax c.args.out.now.items c.refuse.new.out.items (search rules) c.refuse.ensures.ok

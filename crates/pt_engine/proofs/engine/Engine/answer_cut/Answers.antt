@@ -1,0 +1,12 @@
+use Rattle.pt_engine.specs.Engines.{known_by}
+use Rattle.pt_engine.proofs.Runs.{answers_none, answers_next}
+use Rattle.pt_engine.proofs.engine.Engine.answer_cut.Goals as goal
+
+pub returns-in_ok-answer-in-Some-clause-ok : goal.returns-in_ok-answer-in-Some-clause-ok
+returns-in_ok-answer-in-Some-clause-ok g c =
+    let s = known_by c.args.self.now in
+    let held = c.args.cutter.now in
+    let out = c.args.out.now.items in
+    answers_next held s out held s out c.next_script_line.new.self (known_by c.answer.new.self)
+    c.answer.new.out.items c.in-Some.line (answers_none held s out) c.in-Some.ensures.some
+    c.in_ok-answer-in-Some.ensures.ok

@@ -1,0 +1,15 @@
+use Rattle.std.proofs.Common.{sym, ap, ◌∙◌}
+use Rattle.pt_lines.specs.Script.{body_read}
+use Rattle.pt_engine.specs.Scripts.{event_of_body}
+use Rattle.pt_engine.specs.Engines.{known_by}
+use Rattle.pt_engine.proofs.Lines.{refused_as}
+use Rattle.pt_engine.proofs.engine.Engine.answer_rare.Goals as goal
+
+pub returns-in-Err-clause-ok : goal.returns-in-Err-clause-ok
+returns-in-Err-clause-ok g c =
+    let s = known_by c.args.self.now in
+    let who = c.args.line.now.who in
+    refused_as c.refuse.result s c.args.line.now
+    (event_of_body s who (body_read who c.args.rest.now)) c.in-Err.refusal c.args.out.now.items
+    c.refuse.new.out.items
+    (ap (event_of_body s who) (sym c.read_said.ensures ∙ c.in-Err.is)) c.refuse.ensures.ok

@@ -1,0 +1,84 @@
+use Rattle.std.proofs.Common.{refl, sym, ap, subst}
+use Rattle.pt_core.specs.Cores.{shown}
+use Rattle.pt_engine.specs.Engines.{IsAsked, known_by}
+use Rattle.pt_engine.proofs.Accepted.{accepted, refused}
+use Rattle.pt_engine.proofs.Alone.{answers_alone, answers_only}
+use Rattle.pt_engine.proofs.Asked.{kept_lines, told_alike}
+use Rattle.pt_engine.proofs.engine.Engine.run_marked.Goals as goal
+
+pub invariant_of-self-in_err-greet-in-Ok : goal.invariant_of-self-in_err-greet-in-Ok
+invariant_of-self-in_err-greet-in-Ok g c =
+    kept_lines (shown c.self.inside.core) _ c.args.event.now c.in-Ok.done c.self.invariant.0
+    c.in-Ok.ensures.ok c.self.inside.asked.entries c.note.new.asked.entries
+    c.self.inside.calls.items c.note.new.calls.items c.args.line.now c.args.mark.now
+    c.self.invariant.1 c.requires.mark
+    (subst
+    (λ rows. IsAsked c.in-Ok.done.outcome c.args.mark.now c.args.line.now rows
+    c.note.new.asked.entries)
+    c.reserve.ensures.entries c.note.ensures.asked)
+    c.note.ensures.calls
+
+pub invariant_of-self-in_err-tell_from-in-Ok : goal.invariant_of-self-in_err-tell_from-in-Ok
+invariant_of-self-in_err-tell_from-in-Ok g c =
+    kept_lines (shown c.self.inside.core) _ c.args.event.now c.in-Ok.done c.self.invariant.0
+    c.in-Ok.ensures.ok c.self.inside.asked.entries c.note.new.asked.entries
+    c.self.inside.calls.items c.note.new.calls.items c.args.line.now c.args.mark.now
+    c.self.invariant.1 c.requires.mark
+    (subst
+    (λ rows. IsAsked c.in-Ok.done.outcome c.args.mark.now c.args.line.now rows
+    c.note.new.asked.entries)
+    c.reserve.ensures.entries c.note.ensures.asked)
+    c.note.ensures.calls
+
+pub invariant_of-self-in-Ok : goal.invariant_of-self-in-Ok
+invariant_of-self-in-Ok g c =
+    kept_lines (shown c.self.inside.core) _ c.args.event.now c.in-Ok.done c.self.invariant.0
+    c.in-Ok.ensures.ok c.self.inside.asked.entries c.note.new.asked.entries
+    c.self.inside.calls.items c.note.new.calls.items c.args.line.now c.args.mark.now
+    c.self.invariant.1 c.requires.mark
+    (subst
+    (λ rows. IsAsked c.in-Ok.done.outcome c.args.mark.now c.args.line.now rows
+    c.note.new.asked.entries)
+    c.reserve.ensures.entries c.note.ensures.asked)
+    c.note.ensures.calls
+
+pub tell_from-requires : goal.tell_from-requires
+tell_from-requires g c = record {
+  only = λ same.
+      answers_only (shown c.self.inside.core) _ c.args.event.now c.in-Ok.done
+      c.args.mark.now c.in-Ok.ensures.ok c.requires.mark same;
+  alone = λ same.
+      answers_alone (shown c.self.inside.core) _ c.args.event.now c.in-Ok.done
+      c.args.mark.now c.self.invariant.0 c.in-Ok.ensures.ok c.requires.mark same;
+}
+
+pub returns-in_ok-tell_from-in-Ok-clause-ok : goal.returns-in_ok-tell_from-in-Ok-clause-ok
+returns-in_ok-tell_from-in-Ok-clause-ok g c =
+    let sets =
+    subst
+    (λ rows. IsAsked c.in-Ok.done.outcome c.args.mark.now c.args.line.now rows
+    c.note.new.asked.entries)
+    c.reserve.ensures.entries c.note.ensures.asked in
+    accepted (known_by c.args.self.now) (shown c.self.inside.core)
+    _ c.self.inside.names
+    c.note.new.names c.self.inside.calls.items c.note.new.calls.items c.args.event.now
+    c.args.line.now c.in-Ok.done c.args.mark.now c.args.out.now.items
+    c.greet.new.out.items c.tell_from.new.out.items (ap known_by (sym c.self.view_is))
+    c.self.invariant.0.limit
+    c.requires.mark c.in-Ok.ensures.ok c.note.ensures.names c.note.ensures.calls
+    c.in_ok-greet-in-Ok.ensures.ok
+    (told_alike (shown c.self.inside.core) _ c.args.event.now c.in-Ok.done
+    c.self.invariant.0 c.in-Ok.ensures.ok c.self.inside.asked.entries
+    c.note.new.asked.entries c.self.inside.calls.items c.note.new.calls.items
+    c.args.line.now c.args.mark.now c.self.invariant.1 c.requires.mark
+    sets c.note.ensures.calls c.greet.new.out.items c.tell_from.new.out.items
+    c.in_ok-tell_from-in-Ok.ensures.ok)
+
+pub returns-in_ok-refuse-in-Err-clause-ok : goal.returns-in_ok-refuse-in-Err-clause-ok
+returns-in_ok-refuse-in-Err-clause-ok g c =
+    refused (known_by c.args.self.now) (shown c.self.inside.core)
+    _ c.self.inside.names
+    c.self.inside.calls.items c.self.inside.calls.items c.args.event.now c.args.line.now
+    c.in-Err.refusal c.args.out.now.items c.refuse.new.out.items (ap known_by (sym c.self.view_is))
+    c.self.invariant.0.limit (ap shown c.in-Err.ensures.unchanged) refl c.in-Err.ensures.err
+    c.in_ok-refuse-in-Err.ensures.ok

@@ -1,0 +1,20 @@
+use Rattle.std.proofs.Common.{◌<◌, ◌∙◌, ◌^◌, suc, sym, ap, subst}
+use Rattle.pt_lines.specs.declared.client.Who.TheVariants.{Named}
+use Rattle.pt_engine.specs.Names.{Counted, lines_in, row_of}
+use Rattle.pt_engine.proofs.names.Counts.raise_named.Goals as goal
+
+pub count_at-requires-clause-few : goal.count_at-requires-clause-few
+count_at-requires-clause-few g c =
+    let name = c.args.name.now in
+    let same =
+    ap (λ (k : Counted). lines_in (row_of k.rows name)) c.self.view_is
+    ∙ c.in_ok-index.ensures.alike.lines (Named name) in
+    subst (λ n. n < 2 ^ 53) (sym same) c.requires
+
+pub returns-clause-number : goal.returns-clause-number
+returns-clause-number g c =
+    let name = c.args.name.now in
+    let same =
+    ap (λ (k : Counted). lines_in (row_of k.rows name)) c.self.view_is
+    ∙ c.in_ok-index.ensures.alike.lines (Named name) in
+    c.count_at.ensures.number ∙ ap suc same

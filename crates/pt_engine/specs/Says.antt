@@ -1,0 +1,90 @@
+-- Says: what is written for each line of a script, and for all of them.
+use Rattle.std.specs.Prelude.{◌≡◌, ℕ, ◌++◌, false, List, [], ◌∷◌, Option, Some, None, Result, Ok}
+use Rattle.std.specs.Prelude.{Err}
+use Rattle.pt_types.specs.declared.outcome.Refusal.{Refusal}
+use Rattle.pt_types.specs.declared.outcome.Refusal.TheVariants.{Enomem}
+use Rattle.pt_lines.specs.declared.client.Who.{Who}
+use Rattle.pt_lines.specs.declared.script_line.ScriptLine.{ScriptLine}
+use Rattle.pt_model.specs.declared.entry.Entry.{Entry}
+use Rattle.pt_model.specs.declared.entry.Event.{Event}
+use Rattle.pt_model.specs.Histories.{place}
+use Rattle.pt_model.specs.Answers.{replies_from}
+use Rattle.pt_model.specs.Room.{refusal_with_seals}
+use Rattle.pt_core.specs.Cores.{Kept, past}
+use Rattle.pt_core.specs.Applying.{Writes, is_death, opened}
+use Rattle.pt_engine.specs.declared.line_id.LineId.{LineId}
+use Rattle.pt_engine.specs.Scripts.{Script, core_of, line_id, event_of_line, told_text}
+use Rattle.pt_engine.specs.Scripts.{refusal_text, clients_with, calls_with, greeting}
+use Rattle.pt_engine.specs.Scripts.{entries_between_seals}
+
+-- the core to which an accepted event's entries are added: its history is sealed before, if the
+-- event needs that room  [profile]
+abbrev pub opened_for : Script → Event → Kept
+opened_for s event = opened (core_of s) event
+
+-- why an event of a line is refused, or none; the line may have a refusal of its own before
+-- [profile]
+abbrev pub refusal_of_event : Script → Event → Option Refusal
+refusal_of_event s event = refusal_with_seals entries_between_seals (past (core_of s)) event
+
+-- one line more was seen, and nothing else came of it yet
+abbrev pub counted : Script → Who → Script
+counted s who = record s { seen = s.seen ++ who ∷ [] }
+
+-- the event is refused: its refusal is written, and it leaves no entry  [profile]
+pub record IsRefused (s : Script) (event : Event) (line : LineId) (next : Script)
+    (text : List ℕ) : Type 0 where
+  pub why : Refusal
+  pub refused : refusal_of_event s event ≡ Some why
+  pub same : next ≡ s
+  pub written : text ≡ refusal_text line why
+
+-- a growth was refused: ENOMEM is written if there is no other refusal, and for no `die`
+-- [profile]
+pub record IsUnmet (s : Script) (event : Event) (line : LineId) (next : Script)
+    (text : List ℕ) : Type 0 where
+  pub accepted : refusal_of_event s event ≡ None
+  pub lives : is_death event ≡ false
+  pub same : next ≡ s
+  pub written : text ≡ refusal_text line Enomem
+
+-- the event is accepted: its entries are added to the history, or to its seal, and their answers
+-- are written
+pub record IsAccepted (s : Script) (event : Event) (line : LineId) (next : Script)
+    (text : List ℕ) : Type 0 where
+  pub accepted : refusal_of_event s event ≡ None
+  pub writes : Writes (opened_for s event) event (core_of next)
+  pub added : List Entry
+  pub extends : next.entries ≡ (opened_for s event).entries ++ added
+  pub seen : next.seen ≡ s.seen
+  pub clients : next.clients ≡ clients_with event line.who (place (past (core_of s))) s.clients
+  pub calls : next.calls ≡ calls_with event line (place (past (core_of s))) s.calls
+  pub written :
+      text
+      ≡ greeting event line
+      ++ told_text next.calls (replies_from (past (opened_for s event)) added)
+
+-- what may be written for the event that a line asks for
+pub data SaysOf (s : Script) (event : Event) (line : LineId) (next : Script)
+    (text : List ℕ) : Type 0 where
+  refuses : IsRefused s event line next text → SaysOf s event line next text
+  lacks : IsUnmet s event line next text → SaysOf s event line next text
+  accepts : IsAccepted s event line next text → SaysOf s event line next text
+
+-- the same, if the line may ask for none: its own refusal is written then, and it leaves no
+-- entry  [profile]
+abbrev pub SaysTo : Script → LineId → Result Event Refusal → Script → List ℕ → Type 0
+SaysTo s line (Err why) next text = (next ≡ s) × (text ≡ refusal_text line why)
+SaysTo s line (Ok event) next text = SaysOf s event line next text
+
+-- what may be written for a line: it is counted, and then what it asks for is done
+abbrev pub Says : Script → ScriptLine → Script → List ℕ → Type 0
+Says s line next text =
+    SaysTo (counted s line.who) (line_id s line.who) (event_of_line s line) next text
+
+-- what may be written for these lines, one after the other
+abbrev pub SaysAll : Script → List ScriptLine → Script → List ℕ → Type 0
+SaysAll s [] last text = (last ≡ s) × (text ≡ [])
+SaysAll s (line ∷ more) last text =
+    (next : Script) × (first : List ℕ) × (rest : List ℕ)
+    × Says s line next first × SaysAll next more last rest × (text ≡ first ++ rest)

@@ -1,0 +1,103 @@
+//! What is stored and written for an accepted line.
+
+ghost use Rattle.std.specs.Prelude.{◌≡◌, ◌<◌, ◌++◌, None, true, OnOk, IfErr};
+ghost use Rattle.pt_model.specs.Queries.{answers_behind};
+ghost use Rattle.pt_core.specs.Cores.{shown};
+ghost use Rattle.pt_engine.specs.Scripts.{lines_of_who, number_of};
+ghost use Rattle.pt_engine.specs.Engines.{clients_marked, calls_marked, greeting_marked};
+ghost use Rattle.pt_engine.specs.Engines.{latest_text, own_answers, own_first, IsAsked};
+
+use crate::asked_lines::Asked;
+use crate::fault::ScriptFault;
+use crate::line_id::LineId;
+use crate::mark::Mark;
+use crate::names::Names;
+use crate::telling::{tell, tell_all, tell_own};
+use http_server::Log;
+use pt_core::{Applied, Core};
+use pt_lines::Word;
+use pt_types::{ClientId, Outcome};
+use std::alloc::Allocator;
+
+/// The line that made the call at each place. It is for proofs alone and takes no memory.
+pub type Calls = Log<u64, LineId>;
+
+/// Notes an accepted line, whose event was applied. It is stored for its client if its call waits,
+/// since all later answers are to calls that wait.
+#[inline(always)]
+pub fn note<A: Allocator + Copy>(
+    names: &mut Names<A>,
+    asked: &mut Asked<A>,
+    calls: &mut Calls,
+    mark: &Mark,
+    line: &LineId,
+    done: &Applied,
+)
+    requires room { 0 < asked.old.room }
+    requires counted { 0 < lines_of_who names.old.seen line.now.who }
+    requires first { mark.now ≡ Mark.Client → number_of names.old.clients line.now.who ≡ None }
+    ensures names { names.new ≡ record names.old {
+      clients = clients_marked mark.now line.now.who done.now.first names.old.clients;
+    } }
+    ensures asked { IsAsked done.now.outcome mark.now line.now
+        asked.old.entries asked.new.entries }
+    ensures calls { calls.new.items
+        ≡ calls_marked mark.now line.now done.now.first calls.old.items }
+{
+    match mark {
+        Mark::Client => names.join(&line.who, ClientId(done.first)),
+        Mark::Call(client) => {
+            if done.outcome.is_none() {
+                asked.store(*client, line);
+            }
+            *calls = calls.and(&done.first, line);
+        }
+        Mark::Nothing => {}
+    }
+}
+
+/// An accepted hello is answered 0.
+#[inline(always)]
+pub fn greet<A: Allocator + Copy>(
+    out: &mut Vec<u8, A>,
+    mark: &Mark,
+    line: &LineId,
+) -> Result<(), ScriptFault>
+    ensures ok { OnOk result (out.new.items ≡ out.old.items ++ greeting_marked mark.now line.now) }
+    ensures why { IfErr result (λ fault. fault ≡ ScriptFault.Memory) }
+{
+    match mark {
+        Mark::Client => tell(out, line, Word::Outcome(Outcome::Done)),
+        Mark::Call(_) | Mark::Nothing => Ok(()),
+    }
+}
+
+/// Appends the answers that an event gave, whose mark and line these are. If it is known that it
+/// answered its own call alone, or none, as if no entry followed its own, its answers need not be
+/// looked for.
+#[inline(always)]
+#[tactic(auto, using(crate::proofs::Alone::alone_text))]
+pub fn tell_from<'a, A: Allocator + Copy>(
+    out: &mut Vec<u8, A>,
+    core: &'a Core<A>,
+    asked: &'a Asked<A>,
+    mark: &'a Mark,
+    line: &'a LineId,
+    done: &'a Applied,
+) -> Result<(), ScriptFault>
+    requires only { done.now.alone ≡ true
+        → answers_behind (shown core.now).start done.now.first core.now.entries
+        ≡ own_answers mark.now done.now.first done.now.outcome }
+    requires alone { done.now.last ≡ done.now.first
+        → answers_behind (shown core.now).start done.now.first core.now.entries
+        ≡ own_answers mark.now done.now.first done.now.outcome }
+    ensures ok { OnOk result (out.new.items ≡ out.old.items
+        ++ latest_text (own_first mark.now line.now asked.now.entries)
+        (answers_behind (shown core.now).start done.now.first core.now.entries)) }
+    ensures why { IfErr result (λ fault. fault ≡ ScriptFault.Memory) }
+{
+    if done.alone || done.last == done.first {
+        return tell_own(out, mark, line, done.outcome);
+    }
+    tell_all(out, asked, mark, line, core.answers_since(done.first))
+}

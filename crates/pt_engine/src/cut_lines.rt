@@ -1,0 +1,110 @@
+//! The lines of a cutter, answered one after the other.
+
+ghost use Rattle.std.specs.Prelude.{◌≡◌, ◌<◌, ◌+◌, ◌^◌, [], length, OnOk, IfOk, IfErr};
+
+use crate::engine::Engine;
+use crate::fault::ScriptFault;
+use pt_lines::{Cutter, ScriptLine};
+use std::alloc::Allocator;
+
+impl<A: Allocator + Copy> Engine<A> {
+    ghost use Rattle.std.specs.Bool.{OnTrue, OnFalse};
+    ghost use Rattle.pt_lines.specs.Lines.{to_come, IsBegun};
+    ghost use Rattle.pt_engine.specs.Engines.{Answers, IsAnswered, known_by};
+
+    // Answers the next line as the cutter reads it, and returns true, if it has the line whole. It
+    // isn't inlined, so that other lines have no room to clear for it.
+    #[inline(never)]
+    #[tactic(auto, using(crate::proofs::Runs::answers_none, crate::proofs::Runs::answers_same))]
+    fn answer_cut(
+        &mut self,
+        cutter: &mut Cutter<A>,
+        out: &mut Vec<u8, A>,
+    ) -> Result<bool, ScriptFault>
+        requires { length self.old.seen < 2 ^ 53 }
+        ensures ok { OnOk result
+            (Answers cutter.old (known_by self.old) out.old.items
+            cutter.new (known_by self.new) out.new.items) }
+        ensures fewer { IfOk result (λ more.
+            OnTrue more (length cutter.new.rest < length cutter.old.rest)) }
+        ensures begun { IfOk result (λ more. OnFalse more (IsBegun cutter.new)) }
+        ensures why { IfErr result (λ fault. fault ≡ ScriptFault.Memory) }
+    {
+        match cutter.next_script_line() {
+            Some(line) => {
+                self.answer(line, out)?;
+                Ok(true)
+            }
+            None => Ok(false),
+        }
+    }
+
+    // Answers the next line, and returns true, if the cutter has it whole.
+    #[inline(always)]
+    #[tactic(auto, using(crate::proofs::Runs::answers_none, crate::proofs::Runs::answers_same))]
+    fn answer_next(
+        &mut self,
+        cutter: &mut Cutter<A>,
+        out: &mut Vec<u8, A>,
+    ) -> Result<bool, ScriptFault>
+        requires { length self.old.seen < 2 ^ 53 }
+        ensures ok { OnOk result
+            (Answers cutter.old (known_by self.old) out.old.items
+            cutter.new (known_by self.new) out.new.items) }
+        ensures fewer { IfOk result (λ more.
+            OnTrue more (length cutter.new.rest < length cutter.old.rest)) }
+        ensures begun { IfOk result (λ more. OnFalse more (IsBegun cutter.new)) }
+        ensures why { IfErr result (λ fault. fault ≡ ScriptFault.Memory) }
+    {
+        if let Some(text) = cutter.front_text() {
+            let len = text.len();
+            self.answer_text(text, out)?;
+            cutter.drop_front(len);
+            return Ok(true);
+        }
+        self.answer_cut(cutter, out)
+    }
+
+    /// Answers all lines that the cutter has whole, and appends their answers. A refused growth
+    /// that no line is answered ENOMEM for is a fault; the engine is of no use after it.
+    #[tactic(auto, using(crate::proofs::Runs::answers_none, crate::proofs::Runs::answers_join))]
+    pub fn answer_all(
+        &mut self,
+        cutter: &mut Cutter<A>,
+        out: &mut Vec<u8, A>,
+    ) -> Result<(), ScriptFault>
+        requires { length self.old.seen + length (to_come cutter.old []) < 2 ^ 53 }
+        ensures ok { OnOk result
+            (Answers cutter.old (known_by self.old) out.old.items
+            cutter.new (known_by self.new) out.new.items) }
+        ensures begun { OnOk result (IsBegun cutter.new) }
+        ensures why { IfErr result (λ fault. fault ≡ ScriptFault.Memory) }
+    {
+        while self.answer_next(cutter, out)? {}
+        Ok(())
+    }
+
+    /// Answers the last line, which no newline ended, if there is one. A fault comes as in
+    /// `answer_all`.
+    #[tactic(auto, using(crate::proofs::Runs::last_none))]
+    pub fn answer_last(
+        &mut self,
+        cutter: Cutter<A>,
+        out: &mut Vec<u8, A>,
+    ) -> Result<(), ScriptFault>
+        requires begun { IsBegun cutter }
+        requires few { length self.old.seen < 2 ^ 53 }
+        ensures ok { OnOk result
+            (IsAnswered (known_by self.old) (to_come cutter []) out.old.items
+            (known_by self.new) out.new.items) }
+        ensures why { IfErr result (λ fault. fault ≡ ScriptFault.Memory) }
+    {
+        match cutter.finish() {
+            Some(cut) => {
+                self.answer(ScriptLine::of(&cut), out)?;
+                Ok(())
+            }
+            None => Ok(()),
+        }
+    }
+}

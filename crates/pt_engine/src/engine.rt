@@ -1,0 +1,351 @@
+ghost use Rattle.std.specs.Prelude.{◌≡◌, ◌<◌, ◌+◌, ◌^◌, [], length, None, OnOk, IfOk, IfErr};
+ghost use Rattle.pt_engine.specs.declared.mark.Mark.{Mark};
+
+use crate::accepting::{Calls, greet, note, tell_from};
+use crate::asked_lines::Asked;
+use crate::fault::ScriptFault;
+use crate::line_id::LineId;
+use crate::mark::{Mark, mark_of};
+use crate::names::{CountedLine, Names};
+use crate::telling::refuse;
+use http_server::Log;
+use pt_core::Core;
+use pt_lines::{ScriptBody, ScriptLine, Who, read_client};
+use pt_model::Event;
+use pt_types::{Call, ClientId, Clock, Moment, Priority, Refusal};
+use std::alloc::{Allocator, Global};
+use std::marker::Model;
+
+/// Entries of a script's history between two seals, with the room reserved for what must follow:
+/// more than any event may need. A script shows no entry, so it needs no more of them, and so many
+/// fit into the caches of a processor.  [profile]
+const ENTRIES_BETWEEN_SEALS: u32 = 65_536;
+
+/// All clients of a script, the lines that they sent, and the core that these asked.
+///
+/// Of each client one line is stored: that of its latest call that had to wait, since no other can
+/// still be answered. Contracts see what is known after the lines so far, the lines of all calls
+/// too. The history is sealed for an event that needs the room, so the core has never more than
+/// 65,536 entries, however many lines come.
+#[derive(Drop)]
+pub struct Engine<A: Allocator + Copy = Global> {
+    core: Core<A>,
+    names: Names<A>,
+    asked: Asked<A>,
+    calls: Calls,
+}
+
+impl<A: Allocator + Copy> Model for Engine<A> {
+    ghost use Rattle.pt_core.specs.Cores.{past, shown};
+    ghost use Rattle.pt_engine.specs.Engines.{AreLines, Heard, IsSound};
+
+    ghost Value = { Heard };
+
+    ghost view = { λ e. record {
+      core = e.core;
+      seen = e.names.seen;
+      clients = e.names.clients;
+      calls = e.calls.items;
+    } };
+
+    ghost invariant = { λ e.
+        IsSound (shown e.core) × AreLines e.asked.entries e.calls.items (past (shown e.core)) };
+}
+
+impl<A: Allocator + Copy> Engine<A> {
+    ghost use Rattle.pt_model.specs.Histories.{place};
+    ghost use Rattle.pt_model.specs.Clients.{is_alive};
+    ghost use Rattle.pt_lines.specs.Script.{short_read};
+    ghost use Rattle.pt_core.specs.Cores.{past};
+    ghost use Rattle.pt_engine.specs.Scripts.{begun, core_of, event_for, join_for};
+    ghost use Rattle.pt_engine.specs.Scripts.{lines_of_who, number_of, of_client, refusal_of_hello};
+    ghost use Rattle.pt_engine.specs.Says.{Says, SaysOf, SaysTo};
+    ghost use Rattle.pt_engine.specs.Engines.{Adds, known_by, mark_of};
+
+    /// An engine that has read no line. A refused growth is a fault.
+    #[tactic(auto, using(crate::proofs::Asked::begun_sound, crate::proofs::Asked::begun_lines))]
+    pub fn new(alloc: A) -> Result<Engine<A>, ScriptFault>
+        ensures ok { IfOk result (λ engine. known_by engine ≡ begun) }
+        ensures why { IfErr result (λ fault. fault ≡ ScriptFault.Memory) }
+    {
+        match Core::with_limit(alloc, ENTRIES_BETWEEN_SEALS) {
+            Ok(core) => Ok(Engine {
+                core,
+                names: Names::new(alloc),
+                asked: Asked::new(alloc),
+                calls: Log::new(),
+            }),
+            Err(_) => Err(ScriptFault::Memory),
+        }
+    }
+
+    /// How many lines came.
+    pub fn lines(&self) -> u64
+        ensures { result ≡ length self.now.seen }
+    {
+        self.names.total()
+    }
+
+    /// The place of the next entry.
+    pub fn entries(&self) -> u64
+        ensures { result ≡ place (past (core_of (known_by self.now))) }
+    {
+        self.core.len()
+    }
+
+    // Whether this client lives. The Death of one that doesn't is refused for that alone.
+    fn lives(&self, client: ClientId) -> bool
+        ensures { result ≡ is_alive (past (core_of (known_by self.now))) client }
+    {
+        match self.core.would_refuse(&Event::Death(client)) {
+            Some(Refusal::Dead | Refusal::Nohello) => false,
+            _ => true,
+        }
+    }
+
+    // Why a hello is refused under a name with which this client joined.
+    fn refusal_of_hello(&self, client: ClientId) -> Refusal
+        ensures { result ≡ refusal_of_hello (past (core_of (known_by self.now))) client }
+    {
+        if self.lives(client) {
+            Refusal::Nohello
+        } else {
+            Refusal::Dead
+        }
+    }
+
+    // Does what a counted line asks for, and appends its answer. The mark is that of the event.
+    #[inline(always)]
+    fn run_marked(
+        &mut self,
+        event: &Event,
+        mark: &Mark,
+        line: &LineId,
+        out: &mut Vec<u8, A>,
+    ) -> Result<(), ScriptFault>
+        requires mark { mark.now ≡ mark_of event.now }
+        requires counted { 0 < lines_of_who self.old.seen line.now.who }
+        requires first { mark.now ≡ Mark.Client → number_of self.old.clients line.now.who ≡ None }
+        ensures ok { OnOk result
+            (Adds (SaysOf (known_by self.old) event.now line.now (known_by self.new))
+            out.old.items out.new.items) }
+        ensures why { IfErr result (λ fault. fault ≡ ScriptFault.Memory) }
+    {
+        self.asked.reserve()?;
+        match self.core.apply_event(event) {
+            Ok(done) => {
+                note(
+                    &mut self.names,
+                    &mut self.asked,
+                    &mut self.calls,
+                    mark,
+                    line,
+                    &done,
+                );
+                greet(out, mark, line)?;
+                tell_from(out, &self.core, &self.asked, mark, line, &done)?;
+                Ok(())
+            }
+            Err(refusal) => {
+                refuse(out, line, refusal)?;
+                Ok(())
+            }
+        }
+    }
+
+    // Does what a counted line asks for, and appends its answer.
+    #[inline(never)]
+    pub(crate) fn run(
+        &mut self,
+        event: &Event,
+        line: &LineId,
+        out: &mut Vec<u8, A>,
+    ) -> Result<(), ScriptFault>
+        requires counted { 0 < lines_of_who self.old.seen line.now.who }
+        requires first { mark_of event.now ≡ Mark.Client
+            → number_of self.old.clients line.now.who ≡ None }
+        ensures ok { OnOk result
+            (Adds (SaysOf (known_by self.old) event.now line.now (known_by self.new))
+            out.old.items out.new.items) }
+        ensures why { IfErr result (λ fault. fault ≡ ScriptFault.Memory) }
+    {
+        self.run_marked(event, &mark_of(event), line, out)
+    }
+
+    // Does what a counted line of this client asks for, which is a call, and appends its answer.
+    // Most lines are such.
+    #[inline(always)]
+    fn run_call(
+        &mut self,
+        event: &Event,
+        client: ClientId,
+        line: &LineId,
+        out: &mut Vec<u8, A>,
+    ) -> Result<(), ScriptFault>
+        requires mark { mark_of event.now ≡ Mark.Call client }
+        requires counted { 0 < lines_of_who self.old.seen line.now.who }
+        ensures ok { OnOk result
+            (Adds (SaysOf (known_by self.old) event.now line.now (known_by self.new))
+            out.old.items out.new.items) }
+        ensures why { IfErr result (λ fault. fault ≡ ScriptFault.Memory) }
+    {
+        self.run_marked(event, &Mark::Call(client), line, out)
+    }
+
+    // Does what a counted line of the clocks says, which is what a clock reads, and appends its
+    // answers.
+    #[inline(always)]
+    pub(crate) fn tick(
+        &mut self,
+        clock: Clock,
+        moment: Moment,
+        line: &LineId,
+        out: &mut Vec<u8, A>,
+    ) -> Result<(), ScriptFault>
+        requires counted { 0 < lines_of_who self.old.seen line.now.who }
+        ensures ok { OnOk result
+            (Adds (SaysOf (known_by self.old) (Event.Moment clock moment) line.now
+            (known_by self.new)) out.old.items out.new.items) }
+        ensures why { IfErr result (λ fault. fault ≡ ScriptFault.Memory) }
+    {
+        self.run_marked(&Event::Moment(clock, moment), &Mark::Nothing, line, out)
+    }
+
+    // Answers a hello under a name with which this client joined, if one did.
+    #[tactic(auto, using(crate::proofs::Lines::says_refused))]
+    fn hello(
+        &mut self,
+        line: &LineId,
+        client: Option<ClientId>,
+        priority: Priority,
+        out: &mut Vec<u8, A>,
+    ) -> Result<(), ScriptFault>
+        requires counted { 0 < lines_of_who self.old.seen line.now.who }
+        requires client { client ≡ number_of self.old.clients line.now.who }
+        ensures ok { OnOk result (Adds (SaysTo (known_by self.old) line.now
+            (join_for (past (core_of (known_by self.old))) priority client)
+            (known_by self.new)) out.old.items out.new.items) }
+        ensures why { IfErr result (λ fault. fault ≡ ScriptFault.Memory) }
+    {
+        match client {
+            None => self.run(&Event::Join(priority), line, out),
+            Some(client) => refuse(out, line, self.refusal_of_hello(client)),
+        }
+    }
+
+    // Answers a call of the client that joined under the line's name, if one did.
+    #[inline(always)]
+    #[tactic(auto, using(crate::proofs::Lines::says_refused))]
+    pub(crate) fn ask(
+        &mut self,
+        line: &LineId,
+        client: Option<ClientId>,
+        call: Call,
+        out: &mut Vec<u8, A>,
+    ) -> Result<(), ScriptFault>
+        requires counted { 0 < lines_of_who self.old.seen line.now.who }
+        ensures ok { OnOk result (Adds (SaysTo (known_by self.old) line.now
+            (of_client (λ c. Event.Call c call) client)
+            (known_by self.new)) out.old.items out.new.items) }
+        ensures why { IfErr result (λ fault. fault ≡ ScriptFault.Memory) }
+    {
+        match client {
+            Some(client) => self.run_call(&Event::Call(client, call), client, line, out),
+            None => refuse(out, line, Refusal::Nohello),
+        }
+    }
+
+    // Answers the end of the client's process.
+    #[tactic(auto, using(crate::proofs::Lines::says_refused))]
+    fn die(
+        &mut self,
+        line: &LineId,
+        client: Option<ClientId>,
+        out: &mut Vec<u8, A>,
+    ) -> Result<(), ScriptFault>
+        requires counted { 0 < lines_of_who self.old.seen line.now.who }
+        ensures ok { OnOk result (Adds (SaysTo (known_by self.old) line.now
+            (of_client (λ c. Event.Death c) client)
+            (known_by self.new)) out.old.items out.new.items) }
+        ensures why { IfErr result (λ fault. fault ≡ ScriptFault.Memory) }
+    {
+        match client {
+            Some(client) => self.run(&Event::Death(client), line, out),
+            None => refuse(out, line, Refusal::Nohello),
+        }
+    }
+
+    // Does what a counted line says, and appends its answer. The client is the one that joined
+    // under the line's name.
+    #[tactic(auto, using(crate::proofs::Lines::says_refused))]
+    pub(crate) fn answer_body(
+        &mut self,
+        line: &LineId,
+        client: Option<ClientId>,
+        body: ScriptBody,
+        out: &mut Vec<u8, A>,
+    ) -> Result<(), ScriptFault>
+        requires counted { 0 < lines_of_who self.old.seen line.now.who }
+        requires client { client ≡ number_of self.old.clients line.now.who }
+        ensures ok { OnOk result (Adds (SaysTo (known_by self.old) line.now
+            (event_for (known_by self.old) line.now.who body)
+            (known_by self.new)) out.old.items out.new.items) }
+        ensures why { IfErr result (λ fault. fault ≡ ScriptFault.Memory) }
+    {
+        match (&line.who, body) {
+            (Who::Named(_), ScriptBody::Hello(priority)) => self.hello(line, client, priority, out),
+            (Who::Named(_), ScriptBody::Ask(call)) => self.ask(line, client, call, out),
+            (Who::Named(_), ScriptBody::Die) => self.die(line, client, out),
+            (Who::Star, ScriptBody::Tick(clock, moment)) => {
+                self.run(&Event::Moment(clock, moment), line, out)
+            }
+            _ => refuse(out, line, Refusal::Syntax),
+        }
+    }
+
+    /// Counts a line, does what it asks for, and appends its answer. A refused growth that
+    /// the line is not answered ENOMEM for is a fault.
+    #[inline(never)]
+    pub(crate) fn answer(
+        &mut self,
+        line: ScriptLine,
+        out: &mut Vec<u8, A>,
+    ) -> Result<(), ScriptFault>
+        requires { length self.old.seen < 2 ^ 53 }
+        ensures ok { OnOk result
+            (Adds (Says (known_by self.old) line (known_by self.new))
+            out.old.items out.new.items) }
+        ensures why { IfErr result (λ fault. fault ≡ ScriptFault.Memory) }
+    {
+        let CountedLine { number, client } = self.names.count(&line.who)?;
+        let ScriptLine { who, body } = line;
+        let line = LineId { who, number };
+        match body {
+            Ok(body) => self.answer_body(&line, client, body, out),
+            Err(refusal) => refuse(out, &line, refusal),
+        }
+    }
+
+    // Answers the line of a text that is not too long, as `answer` does.
+    #[inline(always)]
+    pub(crate) fn answer_text(
+        &mut self,
+        text: &[u8],
+        out: &mut Vec<u8, A>,
+    ) -> Result<(), ScriptFault>
+        requires { length self.old.seen < 2 ^ 53 }
+        ensures ok { OnOk result
+            (Adds (Says (known_by self.old) (short_read text.now) (known_by self.new))
+            out.old.items out.new.items) }
+        ensures why { IfErr result (λ fault. fault ≡ ScriptFault.Memory) }
+    {
+        let (who, rest) = read_client(text);
+        let mut line = LineId { who, number: 0 };
+        let CountedLine { number, client } = self.names.count(&line.who)?;
+        line.number = number;
+        match rest {
+            Some(rest) => self.answer_rest(&line, client, rest, out),
+            None => refuse(out, &line, Refusal::Syntax),
+        }
+    }
+}

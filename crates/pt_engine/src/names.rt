@@ -1,0 +1,303 @@
+ghost use Rattle.std.specs.Prelude.{◌≡◌, ◌<◌, ◌++◌, ◌^◌, ◌∷◌, [], suc, length, Some, None};
+ghost use Rattle.std.specs.Prelude.{OnOk, OnErr, IfOk, IfErr, IsSome};
+ghost use Rattle.std.specs.Bool.{OnTrue};
+ghost use Rattle.pt_engine.specs.Names.{client_in, lines_in, row_of, IsAt, IsRowRaised};
+ghost use Rattle.pt_engine.specs.Names.{IsRowGiven, AreRowsAlike};
+
+use crate::fault::ScriptFault;
+use http_server::Log;
+use indexmap::IndexMap;
+use pt_hints::{Hints, are_same};
+use pt_lines::{ClientName, Who};
+use pt_types::{ClientId, key_of};
+use std::alloc::{Allocator, Global};
+use std::hash::{BuildHasherDefault, FoldHasher};
+use std::marker::Model;
+
+/// What is stored of a client's name: how many of its lines came, and its number once it joined.
+#[derive(Drop)]
+pub struct Row {
+    pub lines: u64,
+    pub client: Option<ClientId>,
+}
+
+/// A line that was counted.
+#[derive(Clone, Copy, PartialEq, Eq)]
+pub struct CountedLine {
+    /// Its number among the lines of its client, from 1.
+    pub number: u64,
+    /// The client that joined under its name, if one did.
+    pub client: Option<ClientId>,
+}
+
+type Rows<A> = IndexMap<ClientName, Row, BuildHasherDefault<FoldHasher>, A>;
+
+// How many lines came of each client, with the number of each that joined. A row is found by a
+// hint, if no other name with that hint came since, or else by the hash of its name.
+#[derive(Drop)]
+struct Counts<A: Allocator + Copy> {
+    rows: Rows<A>,
+    hints: Hints<A>,
+    star: u64,
+    unknown: u64,
+}
+
+impl<A: Allocator + Copy> Model for Counts<A> {
+    ghost use Rattle.pt_engine.specs.Names.{Counted};
+
+    ghost Value = { Counted };
+
+    ghost view = { λ k. record { rows = k.rows.entries; star = k.star; unknown = k.unknown } };
+}
+
+/// The clients of a script: how many lines of each came, and the number of each that joined.
+///
+/// Contracts see whose the lines were, and the clients in the order of their joins. These two
+/// lists are for proofs alone and take no memory.
+#[derive(Drop)]
+pub struct Names<A: Allocator + Copy = Global> {
+    counts: Counts<A>,
+    total: u64,
+    seen: Log<Who, ()>,
+    joined: Log<ClientName, ClientId>,
+}
+
+impl<A: Allocator + Copy> Model for Names<A> {
+    ghost use Rattle.std.specs.Prelude.{map};
+    ghost use Rattle.pt_engine.specs.Names.{Known, AreCounted};
+
+    ghost Value = { Known };
+
+    ghost view = { λ n. record { seen = map (λ p. p.0) n.seen.items; clients = n.joined.items } };
+
+    ghost invariant = { λ n. AreCounted n.counts n.total
+        (record { seen = map (λ p. p.0) n.seen.items; clients = n.joined.items }) };
+}
+
+// The key of the name whose row is at an index, and the index.
+fn keyed<A: Allocator + Copy>(rows: &Rows<A>, index: usize) -> Option<(u64, usize)> {
+    let (name, _) = rows.get_index(index)?;
+    Some((key_of(name.as_bytes()), index))
+}
+
+// Makes more hints if there are too few for the rows.
+fn grow<A: Allocator + Copy>(hints: &mut Hints<A>, rows: &Rows<A>) -> Result<(), ScriptFault>
+    ensures why { IfErr result (λ fault. fault ≡ ScriptFault.Memory) }
+{
+    match hints.grow_for(rows.len(), |index| keyed(rows, index)) {
+        Ok(()) => Ok(()),
+        Err(_) => Err(ScriptFault::Memory),
+    }
+}
+
+// Whether the row at an index is a name's.
+#[inline(always)]
+fn is_at<A: Allocator + Copy>(rows: &Rows<A>, index: usize, name: &ClientName) -> bool
+    ensures { OnTrue result (IsAt rows.now.entries index name.now) }
+{
+    match rows.get_index(index) {
+        Some((key, _)) => are_same(key.as_bytes(), name.as_bytes()),
+        None => false,
+    }
+}
+
+// Counts a line of this name, whose row is at an index.
+#[inline(always)]
+fn count_at<A: Allocator + Copy>(rows: &mut Rows<A>, index: usize, name: &ClientName) -> CountedLine
+    requires at { IsAt rows.old.entries index name.now }
+    requires few { lines_in (row_of rows.old.entries name.now) < 2 ^ 53 }
+    ensures number { result.number ≡ suc (lines_in (row_of rows.old.entries name.now)) }
+    ensures client { result.client ≡ client_in (row_of rows.old.entries name.now) }
+    ensures raised { IsRowRaised rows.old.entries name.now rows.new.entries }
+{
+    let row = rows.get_index_mut(index).unwrap();
+    row.lines += 1;
+    CountedLine {
+        number: row.lines,
+        client: row.client,
+    }
+}
+
+// Makes the row of a name of which no line is counted, and returns its index.
+fn begin<A: Allocator + Copy>(rows: &mut Rows<A>, name: &ClientName) -> Result<usize, ScriptFault>
+    requires { row_of rows.old.entries name.now ≡ None }
+    ensures at { IfOk result (λ index. IsAt rows.new.entries index name.now) }
+    ensures alike { AreRowsAlike rows.old.entries rows.new.entries }
+    ensures why { IfErr result (λ fault. fault ≡ ScriptFault.Memory) }
+{
+    let row = Row {
+        lines: 0,
+        client: None,
+    };
+    match rows.insert_full(name.copied(), row) {
+        Ok((index, _)) => Ok(index),
+        Err(_) => Err(ScriptFault::Memory),
+    }
+}
+
+// A line of the clocks, or of no client that can be read, by its number.
+fn unnamed(number: u64) -> CountedLine
+    ensures number { result.number ≡ number }
+    ensures client { result.client ≡ None }
+{
+    CountedLine {
+        number,
+        client: None,
+    }
+}
+
+// Gives the client of this name its number.
+fn give<A: Allocator + Copy>(rows: &mut Rows<A>, name: &ClientName, client: ClientId)
+    requires { IsSome (row_of rows.old.entries name.now) }
+    ensures { IsRowGiven rows.old.entries name.now client rows.new.entries }
+{
+    if let Some(row) = rows.get_mut(name) {
+        row.client = Some(client);
+    }
+}
+
+impl<A: Allocator + Copy> Counts<A> {
+    ghost use Rattle.pt_engine.specs.Names.{client_counted, lines_counted, IsRaised, IsGiven};
+    ghost use Rattle.pt_engine.specs.Names.{AreAlike};
+
+    // The index of the row of a name to which no hint leads. The row is found by the hash of the
+    // name, or made. It isn't inlined: the rows of most lines are found by their hints.
+    #[cold]
+    #[inline(never)]
+    fn look_up(&mut self, name: &ClientName) -> Result<usize, ScriptFault>
+        ensures at { IfOk result (λ index. IsAt self.new.rows index name.now) }
+        ensures alike { AreAlike self.old self.new }
+        ensures why { IfErr result (λ fault. fault ≡ ScriptFault.Memory) }
+    {
+        let key = key_of(name.as_bytes());
+        if let Some(index) = self.rows.get_index_of(name) {
+            self.hints.set(key, index);
+            return Ok(index);
+        }
+        grow(&mut self.hints, &self.rows)?;
+        let index = begin(&mut self.rows, name)?;
+        self.hints.set(key, index);
+        Ok(index)
+    }
+
+    // The index of a name's row, which is made if there is none.
+    #[inline(always)]
+    fn index_of(&mut self, name: &ClientName) -> Result<usize, ScriptFault>
+        ensures at { IfOk result (λ index. IsAt self.new.rows index name.now) }
+        ensures alike { AreAlike self.old self.new }
+        ensures why { IfErr result (λ fault. fault ≡ ScriptFault.Memory) }
+    {
+        let index = self.hints.get(key_of(name.as_bytes())).unwrap_or(0);
+        if is_at(&self.rows, index, name) {
+            return Ok(index);
+        }
+        self.look_up(name)
+    }
+
+    // Counts a line of this name.
+    #[inline(always)]
+    fn raise_named(&mut self, name: &ClientName) -> Result<CountedLine, ScriptFault>
+        requires { lines_in (row_of self.old.rows name.now) < 2 ^ 53 }
+        ensures number { IfOk result (λ n.
+            n.number ≡ suc (lines_in (row_of self.old.rows name.now))) }
+        ensures client { IfOk result (λ n. n.client ≡ client_in (row_of self.old.rows name.now)) }
+        ensures ok { OnOk result (IsRaised self.old (Who.Named name.now) self.new) }
+        ensures err { OnErr result (AreAlike self.old self.new) }
+        ensures why { IfErr result (λ fault. fault ≡ ScriptFault.Memory) }
+    {
+        let index = self.index_of(name)?;
+        Ok(count_at(&mut self.rows, index, name))
+    }
+
+    // Counts a line.
+    #[inline(always)]
+    fn raise(&mut self, who: &Who) -> Result<CountedLine, ScriptFault>
+        requires { lines_counted self.old who.now < 2 ^ 53 }
+        ensures number { IfOk result (λ n. n.number ≡ suc (lines_counted self.old who.now)) }
+        ensures client { IfOk result (λ n. n.client ≡ client_counted self.old who.now) }
+        ensures ok { OnOk result (IsRaised self.old who.now self.new) }
+        ensures err { OnErr result (AreAlike self.old self.new) }
+        ensures why { IfErr result (λ fault. fault ≡ ScriptFault.Memory) }
+    {
+        match who {
+            Who::Named(name) => self.raise_named(name),
+            Who::Star => {
+                self.star += 1;
+                Ok(unnamed(self.star))
+            }
+            Who::Unknown => {
+                self.unknown += 1;
+                Ok(unnamed(self.unknown))
+            }
+        }
+    }
+
+    // Gives the client of this name its number.
+    fn give(&mut self, name: &ClientName, client: ClientId)
+        requires { IsSome (row_of self.old.rows name.now) }
+        ensures { IsGiven self.old name.now client self.new }
+    {
+        give(&mut self.rows, name, client);
+    }
+}
+
+impl<A: Allocator + Copy> Names<A> {
+    ghost use Rattle.pt_engine.specs.Scripts.{lines_of_who, number_of};
+    ghost use Rattle.pt_engine.specs.Scripts.{clients_joined};
+
+    /// No client, and no line. It takes no memory.
+    pub fn new(alloc: A) -> Names<A>
+        ensures { result ≡ record { seen = []; clients = [] } }
+    {
+        let counts = Counts {
+            rows: IndexMap::new(alloc),
+            hints: Hints::new(alloc),
+            star: 0,
+            unknown: 0,
+        };
+        Names {
+            counts,
+            total: 0,
+            seen: Log::new(),
+            joined: Log::new(),
+        }
+    }
+
+    /// How many lines came.
+    pub fn total(&self) -> u64
+        ensures { result ≡ length self.now.seen }
+    {
+        self.total
+    }
+
+    /// Counts a line. A refused growth is a fault, and changes nothing.
+    #[inline(always)]
+    pub fn count(&mut self, who: &Who) -> Result<CountedLine, ScriptFault>
+        requires { length self.old.seen < 2 ^ 53 }
+        ensures number { IfOk result (λ n. n.number ≡ suc (lines_of_who self.old.seen who.now)) }
+        ensures client { IfOk result (λ n. n.client ≡ number_of self.old.clients who.now) }
+        ensures ok { OnOk result
+            (self.new ≡ record self.old { seen = self.old.seen ++ who.now ∷ [] }) }
+        ensures err { OnErr result (self.new ≡ self.old) }
+        ensures why { IfErr result (λ fault. fault ≡ ScriptFault.Memory) }
+    {
+        let counted = self.counts.raise(who)?;
+        self.total += 1;
+        self.seen = self.seen.and(who, &());
+        Ok(counted)
+    }
+
+    /// A client of which a line came joins under its name, with this number; `*` and `?` never do.
+    #[tactic(auto, using(crate::proofs::Rows::has_row, crate::proofs::Rows::joined_counted))]
+    pub fn join(&mut self, who: &Who, client: ClientId)
+        requires counted { 0 < lines_of_who self.old.seen who.now }
+        requires first { number_of self.old.clients who.now ≡ None }
+        ensures { self.new
+            ≡ record self.old { clients = clients_joined who.now client self.old.clients } }
+    {
+        if let Who::Named(name) = who {
+            self.counts.give(name, client);
+            self.joined = self.joined.and(name, &client);
+        }
+    }
+}

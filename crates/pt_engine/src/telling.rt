@@ -1,0 +1,124 @@
+ghost use Rattle.std.specs.Prelude.{◌≡◌, ◌≤◌, ◌+◌, ◌++◌, length, vec_len, vec_capacity, IsOk, OnOk};
+ghost use Rattle.std.specs.Prelude.{IfErr, Some};
+ghost use Rattle.std.specs.Option.{option_copied};
+ghost use Rattle.pt_lines.specs.Replies.{reply_line};
+ghost use Rattle.pt_engine.specs.Engines.{latest_line, latest_text, own_first, own_text};
+ghost use Rattle.pt_engine.specs.Scripts.{refusal_text, told_line};
+
+use crate::asked_lines::Asked;
+use crate::fault::ScriptFault;
+use crate::line_id::LineId;
+use crate::mark::Mark;
+use pt_core::{Answers, Reply};
+use pt_lines::{Word, write_reply};
+use pt_types::{ClientId, Outcome, Refusal};
+use std::alloc::Allocator;
+
+/// Appends the answer to a line.
+#[inline(always)]
+pub fn tell<A: Allocator + Copy>(
+    out: &mut Vec<u8, A>,
+    line: &LineId,
+    word: Word,
+) -> Result<(), ScriptFault>
+    ensures ok { OnOk result (out.new.items
+        ≡ out.old.items ++ reply_line (Some line.now.who) line.now.number word) }
+    ensures why { IfErr result (λ fault. fault ≡ ScriptFault.Memory) }
+
+    // An answer for which there is room is never refused.
+    ensures enough { vec_len out.old + length (reply_line (Some line.now.who) line.now.number word)
+        ≤ vec_capacity out.old → IsOk result }
+{
+    match write_reply(out, Some(&line.who), line.number, word) {
+        Ok(()) => Ok(()),
+        Err(_) => Err(ScriptFault::Memory),
+    }
+}
+
+/// Appends the refusal of a line.
+pub fn refuse<A: Allocator + Copy>(
+    out: &mut Vec<u8, A>,
+    line: &LineId,
+    refusal: Refusal,
+) -> Result<(), ScriptFault>
+    ensures ok { OnOk result (out.new.items ≡ out.old.items ++ refusal_text line.now refusal) }
+    ensures why { IfErr result (λ fault. fault ≡ ScriptFault.Memory) }
+{
+    tell(out, line, Word::Refusal(refusal))
+}
+
+// The line that is stored for a client. That of a call that is noted just now is at hand.
+#[inline(always)]
+fn line_of<'a, A: Allocator + Copy>(
+    asked: &'a Asked<A>,
+    mark: &Mark,
+    line: &'a LineId,
+    client: ClientId,
+) -> Option<&'a LineId>
+    ensures { option_copied result
+        ≡ latest_line (own_first mark.now line.now asked.now.entries) client }
+{
+    match mark {
+        Mark::Call(caller) if *caller == client => Some(line),
+        _ => asked.get(client),
+    }
+}
+
+// Appends an answer of the core under the line that made the call.
+#[inline(always)]
+fn tell_reply<A: Allocator + Copy>(
+    out: &mut Vec<u8, A>,
+    asked: &Asked<A>,
+    mark: &Mark,
+    line: &LineId,
+    reply: &Reply,
+) -> Result<(), ScriptFault>
+    ensures ok { OnOk result (out.new.items ≡ out.old.items
+        ++ told_line (latest_line (own_first mark.now line.now asked.now.entries)
+        reply.now.client) reply.now.outcome) }
+    ensures why { IfErr result (λ fault. fault ≡ ScriptFault.Memory) }
+{
+    match line_of(asked, mark, line, reply.client) {
+        Some(line) => tell(out, line, Word::Outcome(reply.outcome)),
+        None => Ok(()),
+    }
+}
+
+/// Appends the answer of the event's own call, if it has one.
+#[inline(always)]
+pub fn tell_own<A: Allocator + Copy>(
+    out: &mut Vec<u8, A>,
+    mark: &Mark,
+    line: &LineId,
+    outcome: Option<Outcome>,
+) -> Result<(), ScriptFault>
+    ensures ok { OnOk result
+        (out.new.items ≡ out.old.items ++ own_text mark.now line.now outcome) }
+    ensures why { IfErr result (λ fault. fault ≡ ScriptFault.Memory) }
+{
+    match (mark, outcome) {
+        (Mark::Call(_), Some(outcome)) => tell(out, line, Word::Outcome(outcome)),
+        _ => Ok(()),
+    }
+}
+
+/// Appends answers of the core, each under the line that made the call. The line of a call that is
+/// noted just now is at hand, and is not looked up.
+#[inline(always)]
+#[tactic(auto, using(crate::proofs::Texts::latest_next))]
+pub fn tell_all<'a, A: Allocator + Copy>(
+    out: &mut Vec<u8, A>,
+    asked: &'a Asked<A>,
+    mark: &'a Mark,
+    line: &'a LineId,
+    mut answers: Answers<'a>,
+) -> Result<(), ScriptFault>
+    ensures ok { OnOk result (out.new.items ≡ out.old.items
+        ++ latest_text (own_first mark.now line.now asked.now.entries) answers.entry) }
+    ensures why { IfErr result (λ fault. fault ≡ ScriptFault.Memory) }
+{
+    while let Some(reply) = answers.next() {
+        tell_reply(out, asked, mark, line, &reply)?;
+    }
+    Ok(())
+}
