@@ -6,7 +6,8 @@ use Rattle.std.specs.List.{list_all}
 use Rattle.std.proofs.lemmas.Bool.{cases_lt}
 use Rattle.std.proofs.lemmas.List.{length-take-le, length-drop}
 use Rattle.std.proofs.lemmas.List.{take-append-le, take-append-drop, take_all}
-use Rattle.std.proofs.lemmas.List.{take-take, take_rest}
+use Rattle.std.proofs.lemmas.List.{take-take, take_rest, take_at, drop_all}
+use Rattle.std.proofs.Math.Seq.{drop-cons}
 use Rattle.pt_types.specs.Names.{is_name_byte}
 use Rattle.pt_types.specs.declared.name.TheConstants.{MAY_STAND}
 
@@ -53,21 +54,37 @@ right_at (suc n) byte h lt =
 pub may_stand_at : (byte : ℕ) → byte < 2 ^ 8 → get_or MAY_STAND byte false ≡ is_name_byte byte
 may_stand_at byte fits = right_at 256 byte refl fits
 
--- eight bytes, one by one
-pub eight_bytes :
-    (xs : List ℕ) → length xs ≡ 8
-    → get_or xs 0 0 ∷ get_or xs 1 0 ∷ get_or xs 2 0 ∷ get_or xs 3 0 ∷ get_or xs 4 0
-    ∷ get_or xs 5 0 ∷ get_or xs 6 0 ∷ get_or xs 7 0 ∷ [] ≡ xs
-eight_bytes [] e = absurd (omega (arith, e))
-eight_bytes (a ∷ []) e = absurd (omega (arith, e))
-eight_bytes (a ∷ b ∷ []) e = absurd (omega (arith, e))
-eight_bytes (a ∷ b ∷ c ∷ []) e = absurd (omega (arith, e))
-eight_bytes (a ∷ b ∷ c ∷ d ∷ []) e = absurd (omega (arith, e))
-eight_bytes (a ∷ b ∷ c ∷ d ∷ f ∷ []) e = absurd (omega (arith, e))
-eight_bytes (a ∷ b ∷ c ∷ d ∷ f ∷ g ∷ []) e = absurd (omega (arith, e))
-eight_bytes (a ∷ b ∷ c ∷ d ∷ f ∷ g ∷ h ∷ []) e = absurd (omega (arith, e))
-eight_bytes (a ∷ b ∷ c ∷ d ∷ f ∷ g ∷ h ∷ i ∷ []) e = refl
-eight_bytes (a ∷ b ∷ c ∷ d ∷ f ∷ g ∷ h ∷ i ∷ j ∷ xs) e = absurd (omega (arith, e))
+-- so many bytes from a place on, one by one, and what follows them
+abbrev one_by_one : List ℕ → ℕ → ℕ → List ℕ → List ℕ
+one_by_one xs i zero fill = fill
+one_by_one xs i (suc n) fill = get_or xs i 0 ∷ one_by_one xs (suc i) n fill
+
+all_one_by_one :
+    (xs fill : List ℕ) (i n : ℕ) → length xs ≡ i + n → one_by_one xs i n fill ≡ drop i xs ++ fill
+all_one_by_one xs fill i zero e = ap (λ ys. ys ++ fill) (sym (drop_all i xs (omega (arith, e))))
+all_one_by_one xs fill i (suc n) e =
+    ap (λ ys. get_or xs i 0 ∷ ys) (all_one_by_one xs fill (suc i) n (omega (arith, e)))
+    ∙ ap (λ ys. ys ++ fill) (sym (drop-cons xs i 0 (omega (arith, e))))
+
+pub filled_front :
+    (xs fill word : List ℕ) (n : ℕ) → n ≤ length xs → length xs < suc n
+    → word ≡ one_by_one xs 0 n fill → take (length xs) word ≡ xs
+filled_front xs fill word n least below e =
+    ap (take (length xs)) (e ∙ all_one_by_one xs fill 0 n (omega (arith, least, below)))
+    ∙ take_at xs fill (length xs) refl
+
+-- whether all bytes may stand, with bytes after them that may
+pub filled_stand :
+    (xs fill word : List ℕ) (n : ℕ) → n ≤ length xs → length xs < suc n
+    → word ≡ one_by_one xs 0 n fill → list_all is_name_byte fill ≡ true
+    → list_all is_name_byte word ≡ list_all is_name_byte xs
+filled_stand xs fill word n least below e all =
+    ap (list_all is_name_byte) (e ∙ all_one_by_one xs fill 0 n (omega (arith, least, below)))
+    ∙ stand_before xs
+  where
+    stand_before : (ys : List ℕ) → list_all is_name_byte (ys ++ fill) ≡ list_all is_name_byte ys
+    stand_before [] = all
+    stand_before (y ∷ ys) = ap (λ b. is_name_byte y && b) (stand_before ys)
 
 -- bytes by their first sixteen and a word that begins with the others
 pub longer_front :
