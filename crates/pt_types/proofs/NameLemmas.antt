@@ -2,9 +2,10 @@
 use Rattle.std.proofs.Common.{◌≡◌, ◌<◌, ◌≤◌, ◌+◌, ◌-◌, ◌^◌, ◌&&◌, ◌⊎◌, ◌∙◌, ℕ, zero, suc, Bool}
 use Rattle.std.proofs.Common.{true, false, not, List, [], ◌∷◌, ◌++◌, length, take, drop, get_or}
 use Rattle.std.proofs.Common.{ap, refl, sym, subst, arith, inl, inr}
+use Rattle.std.specs.Prelude.{Option, IfSome, IsSome, IsTrue, ◌↔◌}
 use Rattle.std.specs.List.{list_all}
 use Rattle.std.proofs.lemmas.Bool.{cases_lt}
-use Rattle.std.proofs.lemmas.List.{length-take-le, length-drop}
+use Rattle.std.proofs.lemmas.List.{length-take-le, length-drop, length-append}
 use Rattle.std.proofs.lemmas.List.{take-append-le, take-append-drop, take_all}
 use Rattle.std.proofs.lemmas.List.{take-take, take_rest, take_at, drop_all}
 use Rattle.std.proofs.Math.Seq.{drop-cons}
@@ -15,7 +16,7 @@ and_parts : (a b : Bool) → (a && b) ≡ true → (a ≡ true) × (b ≡ true)
 and_parts true b h = (refl, h)
 and_parts false b h = cc
 
-and_true : (a b : Bool) → a ≡ true → b ≡ true → (a && b) ≡ true
+pub and_true : (a b : Bool) → a ≡ true → b ≡ true → (a && b) ≡ true
 and_true true b e f = f
 and_true false b e f = cc
 
@@ -86,6 +87,25 @@ filled_stand xs fill word n least below e all =
     stand_before [] = all
     stand_before (y ∷ ys) = ap (λ b. is_name_byte y && b) (stand_before ys)
 
+-- the block of one byte
+pub one_front :
+    (xs : List ℕ) (o : Option (List ℕ)) → 1 ≤ length xs → length xs < 2
+    → IfSome o (λ block. take 1 block ≡ get_or xs 0 0 ∷ [])
+    → IfSome o (λ block. take (length xs) block ≡ xs)
+one_front [] o least below front = absurd (omega (arith, least))
+one_front (x ∷ []) o least below front = front
+one_front (x ∷ y ∷ xs) o least below front = absurd (omega (arith, below))
+
+pub one_stand :
+    (xs : List ℕ) (o : Option (List ℕ)) → 1 ≤ length xs → length xs < 2
+    → IsSome o ↔ IsTrue (is_name_byte (get_or xs 0 0))
+    → IsSome o ↔ IsTrue (list_all is_name_byte xs)
+one_stand [] o least below stand = absurd (omega (arith, least))
+one_stand (x ∷ []) o least below stand =
+    (λ some. and_true (is_name_byte x) true (stand.0 some) refl,
+    λ all. stand.1 (and_parts (is_name_byte x) true all).0)
+one_stand (x ∷ y ∷ xs) o least below stand = absurd (omega (arith, below))
+
 -- bytes by their first sixteen and a word that begins with the others
 pub longer_front :
     (bytes word zeros : List ℕ) → 16 ≤ length bytes → length bytes - 16 ≤ length word
@@ -122,6 +142,20 @@ pub word_all :
     → list_all is_name_byte (take 8 word) ≡ true → list_all is_name_byte bytes ≡ true
 word_all word bytes long same all =
     sym same ∙ (ap (list_all is_name_byte) (sym (take_all 8 word (omega (arith, long)))) ∙ all)
+
+-- the bytes of a name, in a block that begins with a word that begins with them
+pub short_front :
+    (bytes block pair word zeros more : List ℕ) → block ≡ pair ++ more → pair ≡ word ++ zeros
+    → length word ≡ 8 → length bytes ≤ 8 → take (length bytes) word ≡ bytes
+    → take (length bytes) block ≡ bytes
+short_front bytes block pair word zeros more e first long few front =
+    let fits : length bytes ≤ length word = omega (arith, long, few) in
+    let both : length bytes ≤ length (word ++ zeros) =
+    omega (arith, length-append word zeros, fits) in
+    ap (take (length bytes)) (e ∙ ap (λ xs. xs ++ more) first)
+    ∙ take-append-le (length bytes) (word ++ zeros) more both
+    ∙ take-append-le (length bytes) word zeros fits
+    ∙ front
 
 -- a block by its halves
 pub halves :
