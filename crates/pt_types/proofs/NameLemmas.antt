@@ -2,11 +2,13 @@
 use Rattle.std.proofs.Common.{◌≡◌, ◌<◌, ◌≤◌, ◌+◌, ◌-◌, ◌^◌, ◌&&◌, ◌⊎◌, ◌∙◌, ℕ, zero, suc, Bool}
 use Rattle.std.proofs.Common.{true, false, not, List, [], ◌∷◌, ◌++◌, length, take, drop, get_or}
 use Rattle.std.proofs.Common.{ap, refl, sym, subst, arith, inl, inr}
+use Rattle.std.specs.Prelude.{Option, IfSome, IsSome, IsTrue, ◌↔◌}
 use Rattle.std.specs.List.{list_all}
 use Rattle.std.proofs.lemmas.Bool.{cases_lt}
-use Rattle.std.proofs.lemmas.List.{length-take-le, length-drop}
+use Rattle.std.proofs.lemmas.List.{length-take-le, length-drop, length-append}
 use Rattle.std.proofs.lemmas.List.{take-append-le, take-append-drop, take_all}
-use Rattle.std.proofs.lemmas.List.{take-take, take_rest}
+use Rattle.std.proofs.lemmas.List.{take-take, take_rest, take_at, drop_all}
+use Rattle.std.proofs.Math.Seq.{drop-cons}
 use Rattle.pt_types.specs.Names.{is_name_byte}
 use Rattle.pt_types.specs.declared.name.TheConstants.{MAY_STAND}
 
@@ -14,7 +16,7 @@ and_parts : (a b : Bool) → (a && b) ≡ true → (a ≡ true) × (b ≡ true)
 and_parts true b h = (refl, h)
 and_parts false b h = cc
 
-and_true : (a b : Bool) → a ≡ true → b ≡ true → (a && b) ≡ true
+pub and_true : (a b : Bool) → a ≡ true → b ≡ true → (a && b) ≡ true
 and_true true b e f = f
 and_true false b e f = cc
 
@@ -53,21 +55,56 @@ right_at (suc n) byte h lt =
 pub may_stand_at : (byte : ℕ) → byte < 2 ^ 8 → get_or MAY_STAND byte false ≡ is_name_byte byte
 may_stand_at byte fits = right_at 256 byte refl fits
 
--- eight bytes, one by one
-pub eight_bytes :
-    (xs : List ℕ) → length xs ≡ 8
-    → get_or xs 0 0 ∷ get_or xs 1 0 ∷ get_or xs 2 0 ∷ get_or xs 3 0 ∷ get_or xs 4 0
-    ∷ get_or xs 5 0 ∷ get_or xs 6 0 ∷ get_or xs 7 0 ∷ [] ≡ xs
-eight_bytes [] e = absurd (omega (arith, e))
-eight_bytes (a ∷ []) e = absurd (omega (arith, e))
-eight_bytes (a ∷ b ∷ []) e = absurd (omega (arith, e))
-eight_bytes (a ∷ b ∷ c ∷ []) e = absurd (omega (arith, e))
-eight_bytes (a ∷ b ∷ c ∷ d ∷ []) e = absurd (omega (arith, e))
-eight_bytes (a ∷ b ∷ c ∷ d ∷ f ∷ []) e = absurd (omega (arith, e))
-eight_bytes (a ∷ b ∷ c ∷ d ∷ f ∷ g ∷ []) e = absurd (omega (arith, e))
-eight_bytes (a ∷ b ∷ c ∷ d ∷ f ∷ g ∷ h ∷ []) e = absurd (omega (arith, e))
-eight_bytes (a ∷ b ∷ c ∷ d ∷ f ∷ g ∷ h ∷ i ∷ []) e = refl
-eight_bytes (a ∷ b ∷ c ∷ d ∷ f ∷ g ∷ h ∷ i ∷ j ∷ xs) e = absurd (omega (arith, e))
+-- so many bytes from a place on, one by one, and what follows them
+abbrev one_by_one : List ℕ → ℕ → ℕ → List ℕ → List ℕ
+one_by_one xs i zero fill = fill
+one_by_one xs i (suc n) fill = get_or xs i 0 ∷ one_by_one xs (suc i) n fill
+
+all_one_by_one :
+    (xs fill : List ℕ) (i n : ℕ) → length xs ≡ i + n → one_by_one xs i n fill ≡ drop i xs ++ fill
+all_one_by_one xs fill i zero e = ap (λ ys. ys ++ fill) (sym (drop_all i xs (omega (arith, e))))
+all_one_by_one xs fill i (suc n) e =
+    ap (λ ys. get_or xs i 0 ∷ ys) (all_one_by_one xs fill (suc i) n (omega (arith, e)))
+    ∙ ap (λ ys. ys ++ fill) (sym (drop-cons xs i 0 (omega (arith, e))))
+
+pub filled_front :
+    (xs fill word : List ℕ) (n : ℕ) → n ≤ length xs → length xs < suc n
+    → word ≡ one_by_one xs 0 n fill → take (length xs) word ≡ xs
+filled_front xs fill word n least below e =
+    ap (take (length xs)) (e ∙ all_one_by_one xs fill 0 n (omega (arith, least, below)))
+    ∙ take_at xs fill (length xs) refl
+
+-- whether all bytes may stand, with bytes after them that may
+pub filled_stand :
+    (xs fill word : List ℕ) (n : ℕ) → n ≤ length xs → length xs < suc n
+    → word ≡ one_by_one xs 0 n fill → list_all is_name_byte fill ≡ true
+    → list_all is_name_byte word ≡ list_all is_name_byte xs
+filled_stand xs fill word n least below e all =
+    ap (list_all is_name_byte) (e ∙ all_one_by_one xs fill 0 n (omega (arith, least, below)))
+    ∙ stand_before xs
+  where
+    stand_before : (ys : List ℕ) → list_all is_name_byte (ys ++ fill) ≡ list_all is_name_byte ys
+    stand_before [] = all
+    stand_before (y ∷ ys) = ap (λ b. is_name_byte y && b) (stand_before ys)
+
+-- the block of one byte
+pub one_front :
+    (xs : List ℕ) (o : Option (List ℕ)) → 1 ≤ length xs → length xs < 2
+    → IfSome o (λ block. take 1 block ≡ get_or xs 0 0 ∷ [])
+    → IfSome o (λ block. take (length xs) block ≡ xs)
+one_front [] o least below front = absurd (omega (arith, least))
+one_front (x ∷ []) o least below front = front
+one_front (x ∷ y ∷ xs) o least below front = absurd (omega (arith, below))
+
+pub one_stand :
+    (xs : List ℕ) (o : Option (List ℕ)) → 1 ≤ length xs → length xs < 2
+    → IsSome o ↔ IsTrue (is_name_byte (get_or xs 0 0))
+    → IsSome o ↔ IsTrue (list_all is_name_byte xs)
+one_stand [] o least below stand = absurd (omega (arith, least))
+one_stand (x ∷ []) o least below stand =
+    (λ some. and_true (is_name_byte x) true (stand.0 some) refl,
+    λ all. stand.1 (and_parts (is_name_byte x) true all).0)
+one_stand (x ∷ y ∷ xs) o least below stand = absurd (omega (arith, below))
 
 -- bytes by their first sixteen and a word that begins with the others
 pub longer_front :
@@ -105,6 +142,20 @@ pub word_all :
     → list_all is_name_byte (take 8 word) ≡ true → list_all is_name_byte bytes ≡ true
 word_all word bytes long same all =
     sym same ∙ (ap (list_all is_name_byte) (sym (take_all 8 word (omega (arith, long)))) ∙ all)
+
+-- the bytes of a name, in a block that begins with a word that begins with them
+pub short_front :
+    (bytes block pair word zeros more : List ℕ) → block ≡ pair ++ more → pair ≡ word ++ zeros
+    → length word ≡ 8 → length bytes ≤ 8 → take (length bytes) word ≡ bytes
+    → take (length bytes) block ≡ bytes
+short_front bytes block pair word zeros more e first long few front =
+    let fits : length bytes ≤ length word = omega (arith, long, few) in
+    let both : length bytes ≤ length (word ++ zeros) =
+    omega (arith, length-append word zeros, fits) in
+    ap (take (length bytes)) (e ∙ ap (λ xs. xs ++ more) first)
+    ∙ take-append-le (length bytes) (word ++ zeros) more both
+    ∙ take-append-le (length bytes) word zeros fits
+    ∙ front
 
 -- a block by its halves
 pub halves :
