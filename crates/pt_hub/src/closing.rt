@@ -16,7 +16,7 @@ pub struct Closed {
 }
 
 /// Why a hub doesn't close, in the order of the checks.
-#[derive(Clone, Copy, PartialEq, Eq)]
+#[derive(Clone, Copy, Debug, PartialEq, Eq)]
 pub enum CloseFault {
     /// The history has so many events, and so many were handed in.
     Missing { expected: u64, found: u128 },
