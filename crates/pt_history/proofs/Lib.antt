@@ -8,3 +8,5 @@ pub mod Kept
 pub mod Growing
 -- Stable: stored entries stay the same while the records grow
 pub mod Stable
+-- Names: where the texts of names lie
+pub mod Names
