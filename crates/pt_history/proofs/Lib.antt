@@ -10,3 +10,5 @@ pub mod Growing
 pub mod Stable
 -- Names: where the texts of names lie
 pub mod Names
+-- Room: the room of a stored history
+pub mod Room
