@@ -12,3 +12,5 @@ pub mod Stable
 pub mod Names
 -- Room: the room of a stored history
 pub mod Room
+-- Found: what is read of a stored history
+pub mod Found
