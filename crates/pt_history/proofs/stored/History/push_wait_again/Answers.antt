@@ -3,7 +3,7 @@ use Rattle.pt_model.specs.declared.entry.Entry.TheVariants.{Call as CallEntry}
 use Rattle.pt_history.specs.Stored.{Stored, entries_of}
 use Rattle.pt_model.specs.StartRows.{rows_of}
 use Rattle.pt_history.proofs.Counts.{one_most, outer-most}
-use Rattle.pt_history.proofs.Kept.{length-entries, entries-more, counted-more}
+use Rattle.pt_history.proofs.Kept.{length-entries, entries-more, seen-more, counted-more}
 use Rattle.pt_history.proofs.Kept.{recorded-more}
 use Rattle.pt_history.proofs.stored.History.push_wait_again.Goals as goal
 
@@ -41,3 +41,14 @@ invariant_of-self g c =
           c.in-Some.ensures c.self.invariant.2,
       c.self.invariant.3,
     )
+
+pub returns : goal.returns
+returns g c =
+    let i = c.self.inside in
+    let e = CallEntry c.args.client c.args.call.now c.args.outcome in
+    let all = entries-more i.start.at _ i.records i.records i.entries.items
+    c.push_reserved.new.self.items _ e i.memory c.self.invariant.3 c.push_reserved.ensures.items
+    c.in-Some.ensures c.self.invariant.2 in
+    seen-more c.args.self.now (rows_of i.start) (entries_of i.start.at i.records i.entries.items)
+    (entries_of i.start.at i.records c.push_reserved.new.self.items)
+    i.limit i.room e all c.self.view_is
