@@ -14,3 +14,5 @@ pub mod Names
 pub mod Room
 -- Found: what is read of a stored history
 pub mod Found
+-- Absent: entries that aren't stored
+pub mod Absent

@@ -1,6 +1,7 @@
-use Rattle.std.proofs.Common.{List, ℕ, subst}
+use Rattle.std.proofs.Common.{List, ℕ, subst, refl}
 use Rattle.pt_history.specs.Records.{LiesAt}
 use Rattle.pt_history.proofs.Growing.{shows-read}
+use Rattle.pt_history.proofs.Absent.{shows-none}
 use Rattle.pt_history.proofs.records.Records.barrier_again.Goals as goal
 
 pub returns : goal.returns
@@ -18,3 +19,14 @@ returns g c =
       c.answer_of.ensures,
     ))
     (rw name.bytes (record { within = lies.within; name = rw (lies.same, ← name.bytes) name.name }))
+
+pub returns-in_err-name : goal.returns-in_err-name
+returns-in_err-name g c = shows-none _ _ _ _ _ c.from_residual.ensures refl
+
+pub returns-in_err-from : goal.returns-in_err-from
+returns-in_err-from g c =
+    shows-none _ _ _ _ _ c.from_residual-in_err-from.ensures refl
+
+pub returns-in_err-client : goal.returns-in_err-client
+returns-in_err-client g c =
+    shows-none _ _ _ _ _ c.from_residual-in_err-client.ensures refl

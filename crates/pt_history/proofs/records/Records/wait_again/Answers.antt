@@ -1,6 +1,7 @@
-use Rattle.std.proofs.Common.{List, ℕ, subst}
+use Rattle.std.proofs.Common.{List, ℕ, subst, refl}
 use Rattle.pt_history.specs.Records.{LieAt}
 use Rattle.pt_history.proofs.Growing.{shows-read}
+use Rattle.pt_history.proofs.Absent.{shows-none}
 use Rattle.pt_history.proofs.records.Records.wait_again.Goals as goal
 
 pub returns : goal.returns
@@ -19,3 +20,10 @@ returns g c =
       c.client.view_is,
       c.answer_of.ensures,
     )) lie.both
+
+pub returns-in_err-first : goal.returns-in_err-first
+returns-in_err-first g c = shows-none _ _ _ _ _ c.from_residual.ensures refl
+
+pub returns-in_err-client : goal.returns-in_err-client
+returns-in_err-client g c =
+    shows-none _ _ _ _ _ c.from_residual-in_err-client.ensures refl
