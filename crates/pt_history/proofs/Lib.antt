@@ -16,3 +16,5 @@ pub mod Room
 pub mod Found
 -- Absent: entries that aren't stored
 pub mod Absent
+-- Pushed: the room and the memory of a stored history with one entry more
+pub mod Pushed

@@ -19,6 +19,13 @@ wide n h = omega arith
 pub as-wide : (n m : ℕ) → n ≡ m → m < 18446744073709551616 → Fits w64 n
 as-wide n m e h = omega arith
 
+pub near-start : (n : ℕ) → n < 4294967296 → n ≤ 4294967327
+near-start n h = omega arith
+
+-- the bytes of one name are no more than those of two
+pub for-two : (new old : ℕ) → new ≤ old + 32 → new ≤ old + 64
+for-two new old h = omega arith
+
 -- an index after a name that begins at one of 32 bits
 pub next-wide : (n : ℕ) (name : List ℕ) → n < 4294967296 → IsName name
     → Fits w64 (n + length name)

@@ -1,5 +1,5 @@
-use Rattle.std.proofs.Common.{arith}
-use Rattle.pt_history.proofs.Names.{short-name, wide, as-wide, room-one, found-there}
+use Rattle.std.proofs.Common.{◌∙◌, arith}
+use Rattle.pt_history.proofs.Names.{short-name, wide, as-wide, near-start, room-one, found-there}
 use Rattle.pt_history.proofs.Names.{text-there, text-appended}
 use Rattle.pt_history.proofs.texts.one_text.Goals as goal
 
@@ -7,7 +7,7 @@ pub overflow_cast-hint : goal.overflow_cast-hint
 overflow_cast-hint g c = wide c.hint_of-hint.result c.hint_of-hint.type_inv
 
 pub lies_at-requires : goal.lies_at-requires
-lies_at-requires g c = omega (arith, c.hint_of-hint.type_inv)
+lies_at-requires g c = near-start c.hint_of-hint.result c.hint_of-hint.type_inv
 
 pub overflow_cast-result : goal.overflow_cast-result
 overflow_cast-result g c = short-name _ c.as_bytes-length.ensures.name
@@ -35,4 +35,4 @@ returns-clause-some g c =
     let name = c.as_bytes-length.ensures in
     let e = c.append.ensures in
     text-appended old c.append.new.texts _ _ _ name.bytes name.name
-    (omega (arith, c.in_ok-from.ensures, c.len.ensures, old.ok.0)) e.items e.len e.capacity
+    (c.in_ok-from.ensures ∙ c.len.ensures ∙ old.ok.0) e.items e.len e.capacity

@@ -1,5 +1,5 @@
-use Rattle.std.proofs.Common.{◌+◌, length, arith}
-use Rattle.pt_history.proofs.Names.{short-name, wide, as-wide, next-wide, next-near}
+use Rattle.std.proofs.Common.{◌∙◌, arith}
+use Rattle.pt_history.proofs.Names.{short-name, wide, as-wide, near-start, next-wide, next-near}
 use Rattle.pt_history.proofs.Names.{room-one, room-two, found-there, texts-there, texts-appended}
 use Rattle.pt_history.proofs.texts.two_texts.Goals as goal
 
@@ -7,7 +7,7 @@ pub overflow_cast-hint : goal.overflow_cast-hint
 overflow_cast-hint g c = wide c.hint_of-hint.result c.hint_of-hint.type_inv
 
 pub lies_at-requires : goal.lies_at-requires
-lies_at-requires g c = omega (arith, c.hint_of-hint.type_inv)
+lies_at-requires g c = near-start c.hint_of-hint.result c.hint_of-hint.type_inv
 
 pub overflow_cast-hint-then-lies_at : goal.overflow_cast-hint-then-lies_at
 overflow_cast-hint-then-lies_at g c = wide c.hint_of-hint.result c.hint_of-hint.type_inv
@@ -65,5 +65,5 @@ returns-clause-some g c =
     let e = c.append.ensures in
     let f = c.append-2.ensures in
     texts-appended old c.append.new.texts c.append-2.new.texts _ _ _ _ _ one.bytes one.name
-    other.bytes other.name (omega (arith, c.in_ok-from.ensures, c.len.ensures, old.ok.0))
+    other.bytes other.name (c.in_ok-from.ensures ∙ c.len.ensures ∙ old.ok.0)
     e.items e.len e.capacity f.items f.len f.capacity

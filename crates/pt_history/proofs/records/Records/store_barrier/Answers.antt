@@ -1,6 +1,7 @@
-use Rattle.std.proofs.Common.{arith, refl}
+use Rattle.std.proofs.Common.{refl}
 use Rattle.pt_history.proofs.Growing.{shows-appended, append-texts}
 use Rattle.pt_history.proofs.Absent.{shows-none, texts-kept}
+use Rattle.pt_history.proofs.Names.{for-two}
 use Rattle.pt_history.proofs.records.Records.store_barrier.Goals as goal
 
 pub returns : goal.returns
@@ -8,7 +9,7 @@ returns g c =
     let t = c.in_ok-length.ensures.some in
     shows-appended _ _ _ _ _ _
     (append-texts c.args.self.now c.one_text.new.texts c.one_text.new.hints _ t.items
-    (omega (arith, t.len)) t.capacity)
+    (for-two _ _ t.len) t.capacity)
     (rw (t.same, c.in_ok-name.ensures)) t.text
 
 pub returns-in_err-name : goal.returns-in_err-name

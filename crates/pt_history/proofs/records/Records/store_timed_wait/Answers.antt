@@ -1,4 +1,4 @@
-use Rattle.std.proofs.Common.{◌≡◌, length, arith, refl}
+use Rattle.std.proofs.Common.{◌≡◌, length, ◌∙◌, refl}
 use Rattle.pt_history.proofs.Growing.{shows-appended, at_end, within_end, append-limit}
 use Rattle.pt_history.proofs.Absent.{shows-none, texts-kept}
 use Rattle.pt_history.proofs.records.Records.store_timed_wait.Goals as goal
@@ -6,12 +6,13 @@ use Rattle.pt_history.proofs.records.Records.store_timed_wait.Goals as goal
 pub returns : goal.returns
 returns g c =
     let old = c.args.self.now in
-    let n : c.in_ok-index.index ≡ length old.limits.items = omega (arith, old.limits.ok.0) in
+    let n : c.in_ok-index.index ≡ length old.limits.items =
+    c.in_ok-index.ensures ∙ c.len.ensures ∙ old.limits.ok.0 in
     let t = c.in_ok-first.ensures.some in
     let e = c.push_reserved.ensures.items in
     shows-appended _ _ _ _ _ _
     (append-limit old c.two_texts.new.texts c.two_texts.new.hints c.push_reserved.new.self _ _
-    t.items (omega (arith, t.len)) t.capacity e c.push_reserved.ensures.len
+    t.items t.len t.capacity e c.push_reserved.ensures.len
     c.push_reserved.ensures.capacity)
     (rw (t.same, t.next, at_end _ _ _ _ _ e n, c.in-Some.ensures))
     (record { texts = t.texts; limit = within_end _ _ _ _ e n })

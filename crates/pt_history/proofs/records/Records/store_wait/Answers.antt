@@ -1,4 +1,3 @@
-use Rattle.std.proofs.Common.{arith}
 use Rattle.pt_history.proofs.Growing.{shows-appended, append-texts}
 use Rattle.pt_history.proofs.Absent.{shows-none, texts-kept}
 use Rattle.pt_history.proofs.records.Records.store_wait.Goals as goal
@@ -8,7 +7,7 @@ returns g c =
     let t = c.in_ok-first.ensures.some in
     shows-appended _ _ _ _ _ _
     (append-texts c.args.self.now c.two_texts.new.texts c.two_texts.new.hints _ t.items
-    (omega (arith, t.len)) t.capacity)
+    t.len t.capacity)
     (rw (t.same, t.next, c.in-Wait.is)) t.texts
 
 pub returns-in_err-first : goal.returns-in_err-first
