@@ -18,3 +18,5 @@ pub mod Found
 pub mod Absent
 -- Pushed: the room and the memory of a stored history with one entry more
 pub mod Pushed
+-- Calls: calls as they are stored
+pub mod Calls

@@ -1,16 +1,14 @@
 use Rattle.std.proofs.Common.{refl}
-use Rattle.pt_history.proofs.Growing.{shows-appended, append-texts}
 use Rattle.pt_history.proofs.Absent.{shows-none, texts-kept}
-use Rattle.pt_history.proofs.Names.{for-two}
+use Rattle.pt_history.proofs.Calls.{shows-named}
 use Rattle.pt_history.proofs.records.Records.store_named.Goals as goal
 
 pub returns : goal.returns
 returns g c =
-    let t = c.in_ok-length.ensures.some in
-    shows-appended _ _ _ _ _ _
-    (append-texts c.args.self.now c.one_text.new.texts c.one_text.new.hints _ t.items
-    (for-two _ _ t.len) t.capacity)
-    (rw (t.same, c.in_ok-word.ensures)) t.text
+    let t = c.in_ok-length in
+    shows-named c.args.base c.args.self.now c.one_text.new.texts c.one_text.new.hints
+    c.in_ok-word.name.now c.in_ok-word.word c.args.answer t.length c.args.client t.from
+    c.args.call.now t.ensures.some c.in_ok-word.ensures
 
 pub returns-in_err-word : goal.returns-in_err-word
 returns-in_err-word g c = shows-none _ _ _ _ _ c.from_residual.ensures refl
