@@ -20,3 +20,5 @@ pub mod Absent
 pub mod Pushed
 -- Calls: calls as they are stored
 pub mod Calls
+-- Wholes: entries that are stored whole
+pub mod Wholes

@@ -17,3 +17,9 @@ within-more at len room memory limit capacity more other w h e f = record {
 
 pub room-left : (room seen : ℕ) → room ≡ seen → 0 < seen → 0 < room
 room-left room seen e h = omega arith
+
+pub some-room : (room seen : ℕ) → room ≡ seen → 0 < seen → 1 ≤ room
+some-room room seen e h = omega arith
+
+pub some-memory : (room seen memory : ℕ) → room ≡ seen → 0 < seen → room ≤ memory → 1 ≤ memory
+some-memory room seen memory e h l = omega arith

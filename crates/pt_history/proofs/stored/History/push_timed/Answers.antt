@@ -5,7 +5,8 @@ use Rattle.pt_model.specs.StartRows.{rows_of}
 use Rattle.pt_history.proofs.Counts.{one_most, outer-most}
 use Rattle.pt_history.proofs.Kept.{length-entries, entries-more, seen-more, counted-more}
 use Rattle.pt_history.proofs.Kept.{recorded-more}
-use Rattle.pt_history.proofs.Pushed.{memory-left, room-left, within-more}
+use Rattle.pt_history.proofs.Pushed.{memory-left, room-left, within-more, some-room}
+use Rattle.pt_history.proofs.Pushed.{some-memory}
 use Rattle.pt_history.proofs.stored.History.push_timed.Goals as goal
 
 pub overflow_add-self : goal.overflow_add-self
@@ -52,3 +53,13 @@ returns g c =
     seen-more c.args.self.now (rows_of i.start) (entries_of i.start.at i.records i.entries.items)
     (entries_of i.start.at c.store_short_timed-stored.new.self c.push_reserved.new.self.items)
     i.limit i.room e all c.self.view_is
+
+pub overflow_sub-self : goal.overflow_sub-self
+overflow_sub-self g c =
+    some-room c.self.inside.room c.args.self.now.room (ap (λ (s : Stored). s.room) c.self.view_is)
+    c.requires
+
+pub overflow_sub-self-2 : goal.overflow_sub-self-2
+overflow_sub-self-2 g c =
+    some-memory c.self.inside.room c.args.self.now.room c.self.inside.memory
+    (ap (λ (s : Stored). s.room) c.self.view_is) c.requires c.self.invariant.0.enough
