@@ -22,3 +22,5 @@ pub mod Pushed
 pub mod Calls
 -- Wholes: entries that are stored whole
 pub mod Wholes
+-- Widened: records whose lists stay, with as much memory or more
+pub mod Widened
