@@ -1,7 +1,7 @@
 -- Records whose lists stay, with as much memory or more.
-use Rattle.std.proofs.Common.{ℕ, ◌≡◌, ◌+◌, ◌*◌, ◌≤◌, List, refl, ap, sym, subst, arith}
+use Rattle.std.proofs.Common.{ℕ, ◌≡◌, ◌+◌, ◌-◌, ◌*◌, ◌<◌, ◌≤◌, refl, ap, sym, subst, arith}
 use Rattle.std.proofs.Common.{vec_len, vec_capacity}
-use Rattle.std.specs.Prelude.{Vec, Result, Ok, Err, IsOk}
+use Rattle.std.specs.Prelude.{Vec}
 use Rattle.pt_hints.specs.declared.hints.Hints.{Hints}
 use Rattle.pt_history.specs.declared.records.Records.{Records}
 use Rattle.pt_history.specs.Records.{parts_of, HasRoom, KeepsParts}
@@ -64,3 +64,20 @@ pub room-for : {A : Type 0} (r : Records A) (n : ℕ)
     → vec_len r.moments + n ≤ vec_capacity r.moments
     → vec_len r.wholes + n ≤ vec_capacity r.wholes → HasRoom r n
 room-for r n t l m w = record { texts = t; limits = l; moments = m; wholes = w }
+
+-- growth that there is room for isn't needed, and isn't refused
+pub no-need : (capacity len a b n : ℕ) (P : Type 0) → a ≡ capacity → b ≡ len → a - b < n
+    → len + n ≤ capacity → P
+no-need capacity len a b n P e f l h = absurd (omega arith)
+
+pub not-refused : {X A : Type 0} (old mid : Vec X A) (n : ℕ) (P : Type 0) → mid ≡ old
+    → vec_len old + n ≤ vec_capacity old → vec_capacity mid < vec_len mid + n → P
+not-refused {X} {A} old mid n P e h l =
+    let full : vec_capacity old < vec_len old + n =
+    subst (λ (v : Vec X A). vec_capacity v < vec_len v + n) e l in
+    absurd (omega arith)
+
+pub still-room : {X A : Type 0} (old mid : Vec X A) (n : ℕ) → mid ≡ old
+    → vec_len old + n ≤ vec_capacity old → vec_len mid + n ≤ vec_capacity mid
+still-room {X} {A} old mid n e h =
+    subst (λ (v : Vec X A). vec_len v + n ≤ vec_capacity v) (sym e) h
