@@ -1,5 +1,5 @@
 -- Calls as they are stored, and readings of clocks.
-use Rattle.std.proofs.Common.{ℕ, ◌≡◌, ◌+◌, ◌≤◌, List, [], ◌∷◌, ◌++◌, length, vec_len, vec_capacity}
+use Rattle.std.proofs.Common.{ℕ, ◌≡◌, ◌+◌, List, [], ◌∷◌, ◌++◌, length, vec_len, vec_capacity}
 use Rattle.std.proofs.Common.{Option, subst}
 use Rattle.std.specs.Prelude.{Vec}
 use Rattle.pt_types.specs.Names.{IsName}

@@ -5,7 +5,7 @@ use Rattle.std.proofs.Common.{Fits, w8, w64}
 use Rattle.std.specs.Prelude.{Vec}
 use Rattle.std.proofs.lemmas.List.{append-nil, take_all, drop_at}
 use Rattle.pt_types.specs.Names.{IsName}
-use Rattle.pt_history.specs.Compact.{IsText, AreTexts, text_at}
+use Rattle.pt_history.specs.Compact.{IsText}
 use Rattle.pt_history.specs.Records.{HasText, HasTexts, LiesAt}
 use Rattle.pt_history.proofs.Stable.{text-stable}
 

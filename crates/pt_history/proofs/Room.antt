@@ -1,5 +1,5 @@
 -- The room of a stored history, as it is made and used.
-use Rattle.std.proofs.Common.{ℕ, ◌≡◌, ◌+◌, ◌-◌, ◌<◌, ◌≤◌, List, length, map, ap, sym, subst, ◌∙◌}
+use Rattle.std.proofs.Common.{ℕ, ◌≡◌, List, length, map, ap, sym, subst, ◌∙◌}
 use Rattle.std.proofs.Common.{false, arith}
 use Rattle.std.specs.Prelude.{Result, Ok, Err, OnOk, IfErr, ◌≢◌}
 use Rattle.std.specs.Result.{is_err}

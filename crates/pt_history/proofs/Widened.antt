@@ -4,7 +4,7 @@ use Rattle.std.proofs.Common.{vec_len, vec_capacity}
 use Rattle.std.specs.Prelude.{Vec}
 use Rattle.pt_hints.specs.declared.hints.Hints.{Hints}
 use Rattle.pt_history.specs.declared.records.Records.{Records}
-use Rattle.pt_history.specs.Records.{parts_of, HasRoom, KeepsParts}
+use Rattle.pt_history.specs.Records.{HasRoom, KeepsParts}
 
 -- the same elements, in as much memory or more
 pub record Widened {X A : Type 0} (old new : Vec X A) : Type 0 where

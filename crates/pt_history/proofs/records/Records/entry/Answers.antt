@@ -1,7 +1,6 @@
-use Rattle.std.proofs.Common.{◌∙◌, ◌+◌, sym, ap, subst}
-use Rattle.pt_model.specs.declared.entry.Entry.TheVariants.{Call as CallEntry}
+use Rattle.std.proofs.Common.{subst}
 use Rattle.pt_history.specs.declared.compact.Compact.{Compact}
-use Rattle.pt_history.specs.Compact.{IsStored, decoded, spelled, answered}
+use Rattle.pt_history.specs.Compact.{IsStored}
 use Rattle.pt_history.specs.Records.{parts_of}
 use Rattle.pt_history.proofs.records.Records.entry.Goals as goal
 

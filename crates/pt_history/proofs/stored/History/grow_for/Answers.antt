@@ -1,4 +1,4 @@
-use Rattle.std.proofs.Common.{◌≡◌, ◌+◌, ◌≤◌, length, ap, vec_len, vec_capacity, arith}
+use Rattle.std.proofs.Common.{◌≡◌, ◌+◌, ◌≤◌, ap, vec_len, vec_capacity, arith}
 use Rattle.pt_model.specs.StartRows.{rows_of}
 use Rattle.pt_history.proofs.Kept.{counted-same, recorded-same}
 use Rattle.pt_history.specs.Records.{HasRoom}
