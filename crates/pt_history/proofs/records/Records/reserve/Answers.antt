@@ -12,7 +12,7 @@ pub returns-in_err-reserve-clause-parts : goal.returns-in_err-reserve-clause-par
 returns-in_err-reserve-clause-parts g c =
     let mid = c.if-capacity-len.self in
     let same : SameLists c.args.self.now mid = elim c.if-capacity-len.branch [
-      then-capacity-len+in_ok-grow_to_most w ↦ other-hints c.args.self.now mid _ w.self-is
+      | then-capacity-len+in_ok-grow_to_most w ↦ other-hints c.args.self.now mid _ w.self-is
       | else-capacity-len w ↦ other-hints c.args.self.now mid c.args.self.now.hints w.self-is
     ] in
     keeps-after c.args.self.now mid _ same
@@ -29,7 +29,7 @@ pub returns-in_err-reserve-2-clause-parts : goal.returns-in_err-reserve-2-clause
 returns-in_err-reserve-2-clause-parts g c =
     let mid = c.if-capacity-len.self in
     let same : SameLists c.args.self.now mid = elim c.if-capacity-len.branch [
-      then-capacity-len+in_ok-grow_to_most w ↦ other-hints c.args.self.now mid _ w.self-is
+      | then-capacity-len+in_ok-grow_to_most w ↦ other-hints c.args.self.now mid _ w.self-is
       | else-capacity-len w ↦ other-hints c.args.self.now mid c.args.self.now.hints w.self-is
     ] in
     keeps-after c.args.self.now mid _ same
@@ -50,7 +50,7 @@ pub returns-in_err-reserve-3-clause-parts : goal.returns-in_err-reserve-3-clause
 returns-in_err-reserve-3-clause-parts g c =
     let mid = c.if-capacity-len.self in
     let same : SameLists c.args.self.now mid = elim c.if-capacity-len.branch [
-      then-capacity-len+in_ok-grow_to_most w ↦ other-hints c.args.self.now mid _ w.self-is
+      | then-capacity-len+in_ok-grow_to_most w ↦ other-hints c.args.self.now mid _ w.self-is
       | else-capacity-len w ↦ other-hints c.args.self.now mid c.args.self.now.hints w.self-is
     ] in
     keeps-after c.args.self.now mid _ same
@@ -75,7 +75,7 @@ pub returns-clause-parts : goal.returns-clause-parts
 returns-clause-parts g c =
     let mid = c.if-capacity-len.self in
     let same : SameLists c.args.self.now mid = elim c.if-capacity-len.branch [
-      then-capacity-len+in_ok-grow_to_most w ↦ other-hints c.args.self.now mid _ w.self-is
+      | then-capacity-len+in_ok-grow_to_most w ↦ other-hints c.args.self.now mid _ w.self-is
       | else-capacity-len w ↦ other-hints c.args.self.now mid c.args.self.now.hints w.self-is
     ] in
     keeps-after c.args.self.now mid _ same
@@ -110,7 +110,7 @@ pub returns-in_err-reserve-clause-enough : goal.returns-in_err-reserve-clause-en
 returns-in_err-reserve-clause-enough g c =
     let mid = c.if-capacity-len.self in
     let same : SameLists c.args.self.now mid = elim c.if-capacity-len.branch [
-      then-capacity-len+in_ok-grow_to_most w ↦ other-hints c.args.self.now mid _ w.self-is
+      | then-capacity-len+in_ok-grow_to_most w ↦ other-hints c.args.self.now mid _ w.self-is
       | else-capacity-len w ↦ other-hints c.args.self.now mid c.args.self.now.hints w.self-is
     ] in
     λ h. not-refused c.args.self.now.texts mid.texts (64 * c.args.room) _ same.texts h.texts
@@ -120,7 +120,7 @@ pub returns-in_err-reserve-2-clause-enough : goal.returns-in_err-reserve-2-claus
 returns-in_err-reserve-2-clause-enough g c =
     let mid = c.if-capacity-len.self in
     let same : SameLists c.args.self.now mid = elim c.if-capacity-len.branch [
-      then-capacity-len+in_ok-grow_to_most w ↦ other-hints c.args.self.now mid _ w.self-is
+      | then-capacity-len+in_ok-grow_to_most w ↦ other-hints c.args.self.now mid _ w.self-is
       | else-capacity-len w ↦ other-hints c.args.self.now mid c.args.self.now.hints w.self-is
     ] in
     λ h. not-refused c.args.self.now.limits mid.limits c.args.room _ same.limits h.limits
@@ -130,7 +130,7 @@ pub returns-in_err-reserve-3-clause-enough : goal.returns-in_err-reserve-3-claus
 returns-in_err-reserve-3-clause-enough g c =
     let mid = c.if-capacity-len.self in
     let same : SameLists c.args.self.now mid = elim c.if-capacity-len.branch [
-      then-capacity-len+in_ok-grow_to_most w ↦ other-hints c.args.self.now mid _ w.self-is
+      | then-capacity-len+in_ok-grow_to_most w ↦ other-hints c.args.self.now mid _ w.self-is
       | else-capacity-len w ↦ other-hints c.args.self.now mid c.args.self.now.hints w.self-is
     ] in
     λ h. not-refused c.args.self.now.moments mid.moments c.args.room _ same.moments h.moments
@@ -140,7 +140,7 @@ pub returns-clause-enough : goal.returns-clause-enough
 returns-clause-enough g c =
     let mid = c.if-capacity-len.self in
     let same : SameLists c.args.self.now mid = elim c.if-capacity-len.branch [
-      then-capacity-len+in_ok-grow_to_most w ↦ other-hints c.args.self.now mid _ w.self-is
+      | then-capacity-len+in_ok-grow_to_most w ↦ other-hints c.args.self.now mid _ w.self-is
       | else-capacity-len w ↦ other-hints c.args.self.now mid c.args.self.now.hints w.self-is
     ] in
     λ h. c.reserve-4.ensures.succeeds

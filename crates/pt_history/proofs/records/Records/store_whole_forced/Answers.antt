@@ -12,4 +12,4 @@ store_whole-requires-clause-few g c = c.requires.few
 pub returns : goal.returns
 returns g c =
     subst (λ (e : Entry). Shows c.args.base e c.args.self.now c.store_whole.new.self
-        c.store_whole.result) c.entry_of.ensures c.store_whole.ensures
+    c.store_whole.result) c.entry_of.ensures c.store_whole.ensures

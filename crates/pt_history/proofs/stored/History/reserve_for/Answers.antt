@@ -33,8 +33,15 @@ grow_for-requires-clause-within g c =
     let many = seen-length c.args.self.now (rows_of i.start) i.start.at i.limit i.room i.records
     i.entries.items c.self.view_is in
     let most : i.limit ≡ c.args.self.now.limit = ap (λ (s : Stored). s.limit) c.self.view_is in
-    omega (arith, many, most, i.entries.ok.0, c.len.ensures, c.self.invariant.0.fits,
-    c.if-room-self.false)
+    omega (
+      arith,
+      many,
+      most,
+      i.entries.ok.0,
+      c.len.ensures,
+      c.self.invariant.0.fits,
+      c.if-room-self.false,
+    )
 
 pub returns-then-room-self-2-clause-ok : goal.returns-then-room-self-2-clause-ok
 returns-then-room-self-2-clause-ok g c = c.grow_for.ensures.ok
@@ -46,8 +53,16 @@ returns-then-room-self-2-clause-full g c =
     i.entries.items c.self.view_is in
     let most : i.limit ≡ c.args.self.now.limit = ap (λ (s : Stored). s.limit) c.self.view_is in (
       λ e. not-full c.grow_for.result _ c.grow_for.ensures.memory e,
-      λ h. absurd (omega (arith, h, many, most, i.entries.ok.0, c.len.ensures,
-      c.self.invariant.0.fits, c.if-room-self.false)),
+      λ h. absurd (omega (
+        arith,
+        h,
+        many,
+        most,
+        i.entries.ok.0,
+        c.len.ensures,
+        c.self.invariant.0.fits,
+        c.if-room-self.false,
+      )),
     )
 
 pub returns-then-room-self-2-clause-err : goal.returns-then-room-self-2-clause-err
@@ -90,6 +105,14 @@ returns-clause-full g c =
     i.entries.items c.self.view_is in
     let most : i.limit ≡ c.args.self.now.limit = ap (λ (s : Stored). s.limit) c.self.view_is in (
       λ e. not-full _ _ tt e,
-      λ h. absurd (omega (arith, h, many, most, i.entries.ok.0, c.len.ensures,
-      c.self.invariant.0.fits, c.if-room-self.false)),
+      λ h. absurd (omega (
+        arith,
+        h,
+        many,
+        most,
+        i.entries.ok.0,
+        c.len.ensures,
+        c.self.invariant.0.fits,
+        c.if-room-self.false,
+      )),
     )
