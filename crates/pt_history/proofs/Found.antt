@@ -12,10 +12,7 @@ use Rattle.pt_history.specs.declared.records.Records.{Records}
 use Rattle.pt_history.specs.Compact.{Parts, IsStored, base_of, decoded, text_at}
 use Rattle.pt_history.specs.Records.{parts_of}
 use Rattle.pt_history.specs.Stored.{Stored, entries_of}
-use Rattle.pt_history.proofs.Kept.{length-entries}
-
-abbrev viewed : StartRows → List Entry → ℕ → ℕ → Stored
-viewed start es limit room = record { start = start; entries = es; limit = limit; room = room }
+use Rattle.pt_history.proofs.Kept.{length-entries, viewed}
 
 -- the part of the texts that is a text
 pub part-text : (seen texts : List ℕ) (from n : ℕ) → seen ≡ texts

@@ -13,10 +13,7 @@ use Rattle.pt_history.specs.declared.records.Records.{Records}
 use Rattle.pt_history.specs.Compact.{Parts, base_of, decoded}
 use Rattle.pt_history.specs.Records.{parts_of, HasRoom, KeepsParts}
 use Rattle.pt_history.specs.Stored.{Stored, IsRecorded, entries_of}
-use Rattle.pt_history.proofs.Kept.{length-entries}
-
-abbrev viewed : StartRows → List Entry → ℕ → ℕ → Stored
-viewed start es limit room = record { start = start; entries = es; limit = limit; room = room }
+use Rattle.pt_history.proofs.Kept.{length-entries, viewed}
 
 -- the entries, while the parts stay
 pub entries-same : {A : Type 0} (at : ℕ) (old new : Records A) (cs ds : List Compact)

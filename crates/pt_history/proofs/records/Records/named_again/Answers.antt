@@ -8,7 +8,8 @@ pub returns : goal.returns
 returns g c =
     let name = c.as_bytes in
     named-again c.args.base c.args.self.now c.deref.result.now name.result.now
-    c.in_ok-verb.name.now (NamedWord c.in_ok-verb.verb) c.answer_of.result c.in_ok-client.client c.args.client
+    c.in_ok-verb.name.now (NamedWord c.in_ok-verb.verb) c.answer_of.result
+    c.in_ok-client.client c.args.client
     c.in_ok-from.from c.args.call.now c.args.outcome c.deref.ensures.value c.in_ok-from.ensures
     name.ensures.bytes name.ensures.name c.in_ok-verb.ensures.found
     (c.in_ok-client.ensures ∙ c.client.view_is) c.answer_of.ensures

@@ -17,5 +17,6 @@ returns-in-Some g c = c.in-Some.ensures
 
 pub returns-in-None : goal.returns-in-None
 returns-in-None g c =
-    shows-after _ _ c.args.self.now c.store_short_forced.new.self c.store_whole_forced.new.self c.store_whole_forced.result
+    shows-after _ _ c.args.self.now c.store_short_forced.new.self
+    c.store_whole_forced.new.self c.store_whole_forced.result
     c.in-None.ensures c.store_whole_forced.ensures
