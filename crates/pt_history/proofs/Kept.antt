@@ -13,7 +13,8 @@ use Rattle.pt_history.specs.Stored.{Stored, IsCounted, IsRecorded, entries_of}
 use Rattle.pt_history.proofs.Counts.{counted-push}
 use Rattle.pt_history.proofs.Stable.{decoded-push, stored-push, fewer}
 
-abbrev viewed : StartRows → List Entry → ℕ → ℕ → Stored
+-- what is seen of these
+abbrev pub viewed : StartRows → List Entry → ℕ → ℕ → Stored
 viewed start es limit room = record { start = start; entries = es; limit = limit; room = room }
 
 -- as many entries as stored ones

@@ -8,3 +8,19 @@ pub mod Kept
 pub mod Growing
 -- Stable: stored entries stay the same while the records grow
 pub mod Stable
+-- Names: where the texts of names lie
+pub mod Names
+-- Room: the room of a stored history
+pub mod Room
+-- Found: what is read of a stored history
+pub mod Found
+-- Absent: entries that aren't stored
+pub mod Absent
+-- Pushed: the room and the memory of a stored history with one entry more
+pub mod Pushed
+-- Calls: calls as they are stored
+pub mod Calls
+-- Wholes: entries that are stored whole
+pub mod Wholes
+-- Widened: records whose lists stay, with as much memory or more
+pub mod Widened

@@ -1,13 +1,11 @@
-use Rattle.std.proofs.Common.{◌≡◌, length, arith}
-use Rattle.pt_history.proofs.Growing.{shows-appended, at_end, within_end, append-moment}
+use Rattle.std.proofs.Common.{◌∙◌}
+use Rattle.pt_history.proofs.Calls.{shows-moment}
 use Rattle.pt_history.proofs.records.Records.store_moment.Goals as goal
 
 pub returns : goal.returns
 returns g c =
     let old = c.args.self.now in
-    let n : c.in_ok-index.index ≡ length old.moments.items = omega (arith, old.moments.ok.0) in
-    let e = c.push_reserved.ensures.items in
-    shows-appended _ _ _ _ _ _
-    (append-moment old c.push_reserved.new.self c.args.moment e c.push_reserved.ensures.len
-    c.push_reserved.ensures.capacity)
-    (rw (at_end _ _ _ 0 _ e n)) (within_end _ _ _ _ e n)
+    let e = c.push_reserved.ensures in
+    shows-moment c.args.base old c.push_reserved.new.self c.args.clock c.args.moment
+    c.in_ok-index.index (c.in_ok-index.ensures ∙ c.len.ensures ∙ old.moments.ok.0) e.items e.len
+    e.capacity

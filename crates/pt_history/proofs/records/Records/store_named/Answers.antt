@@ -1,11 +1,21 @@
-use Rattle.std.proofs.Common.{arith}
-use Rattle.pt_history.proofs.Growing.{shows-appended, append-texts}
+use Rattle.std.proofs.Common.{refl}
+use Rattle.pt_history.proofs.Absent.{shows-none, texts-kept}
+use Rattle.pt_history.proofs.Calls.{shows-named}
 use Rattle.pt_history.proofs.records.Records.store_named.Goals as goal
 
 pub returns : goal.returns
 returns g c =
-    let t = c.in_ok-length.ensures.some in
-    shows-appended _ _ _ _ _ _
-    (append-texts c.args.self.now c.one_text.new.texts c.one_text.new.hints _ t.items
-    (omega (arith, t.len)) t.capacity)
-    (rw (t.same, c.in_ok-word.ensures)) t.text
+    let t = c.in_ok-length in
+    shows-named c.args.base c.args.self.now c.one_text.new.texts c.one_text.new.hints
+    c.in_ok-word.name.now c.in_ok-word.word c.args.answer t.length c.args.client t.from
+    c.args.call.now t.ensures.some c.in_ok-word.ensures
+
+pub returns-in_err-word : goal.returns-in_err-word
+returns-in_err-word g c = shows-none _ _ _ _ _ c.from_residual.ensures refl
+
+pub returns-in_err-length : goal.returns-in_err-length
+returns-in_err-length g c =
+    let t = c.one_text.ensures in
+    shows-none _ _ _ _ _ c.from_residual-in_err-length.ensures
+    (texts-kept c.args.self.now c.one_text.new.texts c.one_text.new.hints
+    (t.none c.in_err-length.was) (t.same c.in_err-length.was))

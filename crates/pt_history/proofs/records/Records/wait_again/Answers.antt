@@ -1,21 +1,19 @@
-use Rattle.std.proofs.Common.{List, ℕ, subst}
-use Rattle.pt_history.specs.Records.{LieAt}
-use Rattle.pt_history.proofs.Growing.{shows-read}
+use Rattle.std.proofs.Common.{◌∙◌, refl}
+use Rattle.pt_history.proofs.Absent.{shows-none}
+use Rattle.pt_history.proofs.Calls.{wait-again}
 use Rattle.pt_history.proofs.records.Records.wait_again.Goals as goal
 
 pub returns : goal.returns
 returns g c =
-    let found = c.in_ok-first in
-    let lie = subst
-    (λ (t : List ℕ). LieAt t c.in-Wait.cond c.in-Wait.mutex found.first found.second
-    found.from)
-    c.deref.ensures.value found.ensures in
-    shows-read _ _ _ _
-    (rw (
-      lie.same,
-      lie.next,
-      c.in-Wait.is,
-      c.in_ok-client.ensures,
-      c.client.view_is,
-      c.answer_of.ensures,
-    )) lie.both
+    let t = c.in_ok-first in
+    wait-again c.args.base c.args.self.now c.deref.result.now c.in-Wait.cond c.in-Wait.mutex
+    c.answer_of.result t.first t.second c.in_ok-client.client c.args.client t.from
+    c.args.call.now c.args.outcome c.deref.ensures.value t.ensures c.in-Wait.is
+    (c.in_ok-client.ensures ∙ c.client.view_is) c.answer_of.ensures
+
+pub returns-in_err-first : goal.returns-in_err-first
+returns-in_err-first g c = shows-none _ _ _ _ _ c.from_residual.ensures refl
+
+pub returns-in_err-client : goal.returns-in_err-client
+returns-in_err-client g c =
+    shows-none _ _ _ _ _ c.from_residual-in_err-client.ensures refl

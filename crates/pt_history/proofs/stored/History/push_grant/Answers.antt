@@ -1,10 +1,12 @@
-use Rattle.std.proofs.Common.{◌≡◌, ◌<◌, ◌+◌, Some, ap, refl, subst, arith}
+use Rattle.std.proofs.Common.{◌≡◌, ◌+◌, Some, ap, refl, subst, arith}
 use Rattle.pt_model.specs.declared.entry.Entry.TheVariants.{Grant as GrantEntry}
 use Rattle.pt_model.specs.StartRows.{rows_of}
 use Rattle.pt_history.specs.Records.{Shows}
 use Rattle.pt_history.specs.Stored.{Stored, IsCounted, entries_of}
 use Rattle.pt_history.proofs.Growing.{shows-alone}
 use Rattle.pt_history.proofs.Kept.{counted-more, entries-more, recorded-more, seen-more}
+use Rattle.pt_history.proofs.Pushed.{memory-left, room-left, within-more, some-room}
+use Rattle.pt_history.proofs.Pushed.{some-memory}
 use Rattle.pt_history.proofs.stored.History.push_grant.Goals as goal
 
 pub invariant_of-self : goal.invariant_of-self
@@ -12,7 +14,9 @@ invariant_of-self g c =
     let i = c.self.inside in
     let e = GrantEntry c.args.place c.args.outcome in
     let room : i.room ≡ c.args.self.now.room = ap (λ (s : Stored). s.room) c.self.view_is in
-    let some : 0 < i.memory = omega (arith, room, c.requires, c.self.invariant.0.enough) in
+    let left = room-left i.room c.args.self.now.room room c.requires in
+    let some = memory-left i.room c.args.self.now.room i.memory room c.requires
+    c.self.invariant.0.enough in
     let more = c.push_reserved.ensures.items in
     let none : i.outer + 0 ≡ i.outer = omega arith in
     let shows : Shows i.base e i.records i.records c.in-Some.compact =
@@ -20,12 +24,8 @@ invariant_of-self g c =
     let all = entries-more i.start.at _ i.records i.records i.entries.items
     c.push_reserved.new.self.items _ e i.memory c.self.invariant.3 more shows
     c.self.invariant.2 in (
-      record {
-        fits = omega (arith, c.self.invariant.0.fits, c.push_reserved.ensures.len);
-        enough = omega (arith, c.self.invariant.0.enough);
-        held = omega (arith, some, c.self.invariant.0.held, c.push_reserved.ensures.len);
-        places = c.self.invariant.0.places;
-      },
+      within-more _ _ _ _ _ _ _ _ c.self.invariant.0 left c.push_reserved.ensures.len
+          c.push_reserved.ensures.capacity,
       subst (IsCounted (rows_of i.start)
           (entries_of i.start.at i.records c.push_reserved.new.self.items)) none
           (counted-more (rows_of i.start) i.start.at i.records i.records i.entries.items
@@ -47,3 +47,13 @@ returns g c =
     seen-more c.args.self.now (rows_of i.start) (entries_of i.start.at i.records i.entries.items)
     (entries_of i.start.at i.records c.push_reserved.new.self.items)
     i.limit i.room e all c.self.view_is
+
+pub overflow_sub-self : goal.overflow_sub-self
+overflow_sub-self g c =
+    some-room c.self.inside.room c.args.self.now.room (ap (λ (s : Stored). s.room) c.self.view_is)
+    c.requires
+
+pub overflow_sub-self-2 : goal.overflow_sub-self-2
+overflow_sub-self-2 g c =
+    some-memory c.self.inside.room c.args.self.now.room c.self.inside.memory
+    (ap (λ (s : Stored). s.room) c.self.view_is) c.requires c.self.invariant.0.enough

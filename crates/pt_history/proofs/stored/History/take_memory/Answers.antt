@@ -1,6 +1,8 @@
 use Rattle.std.proofs.Common.{arith}
 use Rattle.pt_model.specs.StartRows.{rows_of}
+use Rattle.pt_history.specs.Stored.{entries_of}
 use Rattle.pt_history.proofs.Kept.{counted-same, recorded-same}
+use Rattle.pt_history.proofs.Room.{entries-same, seen-same}
 use Rattle.pt_history.proofs.stored.History.take_memory.Goals as goal
 
 pub invariant_of-self : goal.invariant_of-self
@@ -25,3 +27,13 @@ invariant_of-self g c =
           i.memory c.take_memory.ensures.items k c.self.invariant.2,
       c.self.invariant.3,
     )
+
+pub returns : goal.returns
+returns g c =
+    let i = c.self.inside in
+    let new = c.take_memory-2.new.self in
+    let items = c.take_memory.new.list.items in
+    seen-same c.args.self.now (rows_of i.start) (entries_of i.start.at i.records i.entries.items)
+    (entries_of i.start.at new items) i.limit i.room
+    (entries-same i.start.at i.records new i.entries.items items c.take_memory.ensures.items
+    c.take_memory-2.ensures.same) c.self.view_is
