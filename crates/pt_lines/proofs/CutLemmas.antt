@@ -322,6 +322,6 @@ front_dropped inside old rest end same front past =
     let now : rest ≡ drop (end + 1) old.rest =
     past ∙ ap (λ (h : Held). drop (end + 1) h.rest) same in (
       ap (λ xs. held_of xs inside.dropping) now
-        ∙ ap (λ (h : Held). held_of (drop (end + 1) old.rest) h.dropping) same,
+          ∙ ap (λ (h : Held). held_of (drop (end + 1) old.rest) h.dropping) same,
       omega (arith, ap length now, length-drop (end + 1) old.rest, front.within),
     )

@@ -11,4 +11,3 @@ loop-place-preserved g c = record {
   len = omega arith;
   capacity = c.push_reserved.ensures.capacity ∙ c.loop-place.invariant.capacity;
 }
-

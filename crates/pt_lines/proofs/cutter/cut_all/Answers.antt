@@ -70,7 +70,7 @@ given-empty :
     → Given [] cuts held × IsBegun held
 given-empty cuts held none new = (
   λ more. ap (λ h. to_come h more) (sym new)
-    ∙ ap (λ cs. cs ++ to_come held more) (sym none),
+      ∙ ap (λ cs. cs ++ to_come held more) (sym none),
   begun held (ap (λ (h : Held). h.rest) new),
 )
   where
@@ -104,9 +104,9 @@ loop-cut-smaller g c = c.in-Some.ensures.fewer
 pub loop-piece-preserved : goal.loop-piece-preserved
 loop-piece-preserved g c = (
   given-none
-    (flat_map (λ piece. piece.now) (take (c.loop-piece.piece-index + 1) c.args.pieces.now))
-    c.loop-cut.cuts.items c.loop-cut.cutter c.next_line.new.self c.loop-cut.invariant
-    c.in_default.ensures.given,
+      (flat_map (λ piece. piece.now) (take (c.loop-piece.piece-index + 1) c.args.pieces.now))
+      c.loop-cut.cuts.items c.loop-cut.cutter c.next_line.new.self c.loop-cut.invariant
+      c.in_default.ensures.given,
   c.in_default.ensures.none,
 )
 
@@ -123,7 +123,7 @@ returns g c =
     c.loop-piece.cutter c.loop-piece-test.false c.loop-piece.invariant.0 c.finish.ensures in
     record {
       ok = elim c.match-finish.branch [
-          in-Some-finish+else-is_err-2 w ↦ ap (λ v. v.items) w.cuts-is
+        | in-Some-finish+else-is_err-2 w ↦ ap (λ v. v.items) w.cuts-is
             ∙ pushed _ cuts w.push-in-Some-finish.new.self.items w.in-Some-finish.cut
             w.push-in-Some-finish.ensures.items w.if-is_err-2.ensures.negation
             ∙ ap (λ ls. cuts ++ ls) (sym w.in-Some-finish.ensures ∙ c.finish.ensures)
@@ -132,6 +132,6 @@ returns g c =
             ∙ sym (append-nil cuts)
             ∙ ap (λ ls. cuts ++ ls) (sym w.in_default-finish.ensures ∙ c.finish.ensures)
             ∙ all
-        ];
+      ];
       why = tt;
     }

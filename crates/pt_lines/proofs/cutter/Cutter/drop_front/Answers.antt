@@ -1,4 +1,4 @@
-use Rattle.std.proofs.Common.{◌≡◌, ap, length, arith}
+use Rattle.std.proofs.Common.{ap, length, arith}
 use Rattle.pt_lines.specs.Lines.{Held}
 use Rattle.pt_lines.proofs.CutLemmas.{front_dropped}
 use Rattle.pt_lines.proofs.cutter.Cutter.drop_front.Goals as goal
@@ -13,4 +13,4 @@ returns g c =
     let left =
     front_dropped _ c.args.self.now c.advance.new.self.items c.args.len c.self.view_is
     c.requires c.advance.ensures.items in
-    record { line = left.0; fewer = left.1; }
+    record { line = left.0; fewer = left.1 }
