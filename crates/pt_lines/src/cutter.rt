@@ -26,7 +26,7 @@ const LONG_LINE: usize = 64;
 
 /// What is given of a line: its text without the newline, or that it has more than 128 bytes.
 /// [profile]
-#[derive(Debug, PartialEq, Eq, Drop)]
+#[derive(PartialEq, Eq, Drop)]
 pub enum Cut {
     Line(ArrayVec<u8, MOST_IN_LINE>),
     Long,
