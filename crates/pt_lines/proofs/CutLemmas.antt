@@ -3,7 +3,7 @@ use Rattle.std.proofs.Common.{◌≡◌, ◌≢◌, ◌<◌, ◌≤◌, ◌+◌,
 use Rattle.std.proofs.Common.{nat_le, nat_lt, List, [], ◌∷◌, ◌++◌, length, take, drop, get_or, refl}
 use Rattle.std.proofs.Common.{map, Result}
 use Rattle.std.proofs.Common.{Option, None, Some, length-append, ap, sym, drop-cons, add-one, arith}
-use Rattle.std.proofs.Common.{append_assoc}
+use Rattle.std.proofs.Common.{append_assoc, length-drop}
 use Rattle.std.proofs.lemmas.Grind.{common_steps}
 use Rattle.std.proofs.lemmas.List.{take-append-drop, append-nil, get_or-take}
 use Rattle.std.proofs.lemmas.Bool.{eq-eqb, eqb-true}
@@ -312,3 +312,16 @@ lines-joined [] (b ∷ rest) all none =
 lines-joined (text ∷ texts) rest all none =
     lines_after-newline [] text (joined texts rest) all.0
     ∙ ap (λ ls. cut_of text ∷ ls) (lines-joined texts rest all.1 none)
+
+-- what is left where a line and its newline are dropped
+pub front_dropped :
+    (inside old : Held) (rest : List ℕ) (end : ℕ) → inside ≡ old → IsFront old end
+    → rest ≡ drop (end + 1) inside.rest
+    → (held_of rest inside.dropping ≡ past_line old end) × (length rest < length old.rest)
+front_dropped inside old rest end same front past =
+    let now : rest ≡ drop (end + 1) old.rest =
+    past ∙ ap (λ (h : Held). drop (end + 1) h.rest) same in (
+      ap (λ xs. held_of xs inside.dropping) now
+          ∙ ap (λ (h : Held). held_of (drop (end + 1) old.rest) h.dropping) same,
+      omega (arith, ap length now, length-drop (end + 1) old.rest, front.within),
+    )

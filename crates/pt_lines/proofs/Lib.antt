@@ -26,6 +26,8 @@ pub mod ClientLemmas
 pub mod StartLemmas
 -- DigitLemmas: a number's digits, two at a time
 pub mod DigitLemmas
+-- AppendLemmas: bytes that are appended one piece after another
+pub mod AppendLemmas
 -- ScriptLemmas: a line of a script is read as just what it spells
 pub mod ScriptLemmas
 -- WordLemmas: a verb's word, a space and fields are read as what the verb and the fields are

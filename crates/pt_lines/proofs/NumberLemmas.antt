@@ -2,8 +2,9 @@
 use Rattle.std.proofs.Common.{◌≡◌, ◌<◌, ◌≤◌, ◌+◌, ◌-◌, ◌*◌, ◌^◌, ◌∙◌, ◌==◌, ◌&&◌, ◌||◌, not, ℕ}
 use Rattle.std.proofs.Common.{zero, suc, Bool, true, false, cond, List, [], ◌∷◌, length, take}
 use Rattle.std.proofs.Common.{get_or, nat_le, add-one, refl, ap, sym, arith, rules, None, Some}
-use Rattle.std.proofs.Common.{decimal, subst}
-use Rattle.std.proofs.lemmas.Bool.{eqb-true}
+use Rattle.std.proofs.Common.{decimal, subst, ◌⊎◌, inl, inr, ◌≢◌}
+use Rattle.std.proofs.lemmas.Bool.{eqb-true, false≢true}
+use Rattle.std.proofs.lemmas.List.{take_all}
 use Rattle.std.specs.List.{list_all}
 use Rattle.std.specs.Char.{digit_value}
 use Rattle.std.specs.Str.Parse.{digits_value}
@@ -105,6 +106,95 @@ number_of-decimal n h =
     ap (λ b. cond b (Some (digits_value 10 (decimal n))) None) (is_number-decimal n h)
     ∙ ap Some (digits_value-decimal own n (big n h))
 
+-- what a field that is a number has
+record IsNumberField (field : List ℕ) : Type 0 where
+  some : 0 < length field
+  short : length field ≤ 10
+  digits : list_all is_digit field ≡ true
+  zero_alone : get_or field 0 0 ≡ 48 → length field ≡ 1
+
+number_parts : (field : List ℕ) → is_number field ≡ true → IsNumberField field
+number_parts field e =
+    let one = length field == 1 in
+    let least = nat_le 1 (length field) in
+    let most = nat_le (length field) 10 in
+    let outer =
+    and_parts (least && most && list_all is_digit field)
+    (one || not (get_or field 0 0 == 48)) e in
+    let inner = and_parts (least && most) (list_all is_digit field) outer.0 in
+    let lens = and_parts least most inner.0 in
+    let low : nat_le 1 (length field) ≡ true = lens.0 in
+    let high : nat_le (length field) 10 ≡ true = lens.1 in
+    record {
+      some = grind arith;
+      short = grind arith;
+      digits = inner.1;
+      zero_alone = λ z. eqb-true (length field) 1 (or_parts one (get_or field 0 0) outer.1 z);
+    }
+
+not_number : (field : List ℕ) → (IsNumberField field → ⊥) → None ≡ number_of field
+not_number field never =
+    by (is_number field) (digits_value 10 field) (λ e. never (number_parts field e))
+  where
+    by : (t : Bool) (n : ℕ) → (t ≡ true → ⊥) → None ≡ cond t (Some n) None
+    by true n never = absurd (never refl)
+    by false n never = refl
+
+-- no byte and more than ten bytes are no number
+pub not_number-length :
+    (field : List ℕ) (empty : Bool) → empty ≡ (length field == 0)
+    → (empty ≡ true) ⊎ ((empty ≡ false) × (10 < length field)) → None ≡ number_of field
+not_number-length field empty is (inl none) =
+    let none = eqb-true (length field) 0 (sym is ∙ none) in
+    not_number field (λ parts. omega (arith, none, parts.some))
+not_number-length field empty is (inr long) =
+    not_number field (λ parts. omega (arith, long.1, parts.short))
+
+-- nor is more than one byte, of which the first is a zero
+pub not_number-zero :
+    (field : List ℕ) → 1 < length field → get_or field 0 0 ≡ 48 → None ≡ number_of field
+not_number-zero field more first =
+    not_number field (λ parts. let one = parts.zero_alone first in omega (arith, one, more))
+
+digit_at :
+    (ds : List ℕ) (i : ℕ) → i < length ds → list_all is_digit ds ≡ true
+    → is_digit (get_or ds i 0) ≡ true
+digit_at [] i lt h = absurd (omega arith)
+digit_at (d ∷ ds) zero lt h = (and_parts (is_digit d) (list_all is_digit ds) h).0
+digit_at (d ∷ ds) (suc i) lt h =
+    digit_at ds i (omega arith) (and_parts (is_digit d) (list_all is_digit ds) h).1
+
+-- nor is a field with a byte that is no digit
+pub not_number-digit :
+    (field : List ℕ) (i : ℕ) → i < length field → false ≡ is_digit (get_or field i 0)
+    → None ≡ number_of field
+not_number-digit field i lt other =
+    not_number field (λ parts. false≢true (other ∙ digit_at field i lt parts.digits))
+
+-- the digits of a field are its number
+pub number_of-digits :
+    (field : List ℕ) (n i : ℕ) → length field ≤ i → false ≡ (length field == 0)
+    → length field ≤ 10
+    → (length field ≤ 1) ⊎ (get_or field 0 0 ≢ 48) → list_all is_digit (take i field) ≡ true
+    → n ≡ digits_value 10 (take i field) → Some n ≡ number_of field
+number_of-digits field n i le some short alone digits value =
+    let all = take_all i field le in
+    let pos : 0 < length field = grind arith in
+    let low : nat_le 1 (length field) ≡ true = grind arith in
+    let high : nat_le (length field) 10 ≡ true = grind arith in
+    let number : is_number field ≡ true =
+    and_true _ _
+    (and_true _ _ (and_true _ _ low high) (sym (ap (list_all is_digit) all) ∙ digits))
+    (test pos alone) in
+    ap Some (value ∙ ap (digits_value 10) all)
+    ∙ sym (ap (λ b. cond b (Some (digits_value 10 field)) None) number)
+  where
+    test :
+        0 < length field → (length field ≤ 1) ⊎ (get_or field 0 0 ≢ 48)
+        → (length field == 1 || not (get_or field 0 0 == 48)) ≡ true
+    test pos (inl one) = grind arith
+    test pos (inr other) = grind arith
+
 -- a field that is a number is what is printed of it
 pub decimal-number_of :
     (field : List ℕ) (n : ℕ) → number_of field ≡ Some n → (field ≡ decimal n) × IsNumber n
@@ -114,22 +204,9 @@ decimal-number_of field n h = by (is_number field) refl h
         is_number field ≡ true
         → (decimal (digits_value 10 field) ≡ field) × IsNumber (digits_value 10 field)
     printed e =
-        let one = length field == 1 in
-        let least = nat_le 1 (length field) in
-        let most = nat_le (length field) 10 in
-        let outer =
-        and_parts (least && most && list_all is_digit field)
-        (one || not (get_or field 0 0 == 48)) e in
-        let inner = and_parts (least && most) (list_all is_digit field) outer.0 in
-        let lens = and_parts least most inner.0 in
-        let some : nat_le 1 (length field) ≡ true = lens.0 in
-        let short : nat_le (length field) 10 ≡ true = lens.1 in
-        let low : 0 < length field = grind arith in
-        let high : length field ≤ 10 = grind arith in
-        let small = digits_value_short own field 10 inner.1 high in
-        let zero_alone : get_or field 0 0 ≡ 48 → length field ≡ 1 =
-        λ z. eqb-true (length field) 1 (or_parts one (get_or field 0 0) outer.1 z) in (
-          decimal-digits_value own field inner.1 low zero_alone
+        let parts = number_parts field e in
+        let small = digits_value_short own field 10 parts.digits parts.short in (
+          decimal-digits_value own field parts.digits parts.some parts.zero_alone
               (big (digits_value 10 field) small),
           small,
         )

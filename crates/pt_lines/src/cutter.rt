@@ -324,11 +324,15 @@ pub fn cut_all<A: Allocator + Copy>(alloc: A, pieces: &[&[u8]]) -> Result<Vec<Cu
     for piece in pieces {
         cutter.feed(piece)?;
         while let Some(cut) = cutter.next_line() {
-            cuts.push(cut).map_err(|_| Refusal::Enomem)?;
+            if cuts.push(cut).is_err() {
+                return Err(Refusal::Enomem);
+            }
         }
     }
     if let Some(cut) = cutter.finish() {
-        cuts.push(cut).map_err(|_| Refusal::Enomem)?;
+        if cuts.push(cut).is_err() {
+            return Err(Refusal::Enomem);
+        }
     }
     Ok(cuts)
 }

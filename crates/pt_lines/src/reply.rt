@@ -20,7 +20,7 @@ const MOST_OF_FEW: usize = 32;
 const MOST_OF_WORD: usize = 16;
 
 /// What a line is answered: the outcome of an accepted call, or why it is not accepted.
-#[derive(Clone, Copy, PartialEq, Eq)]
+#[derive(Clone, Copy)]
 pub enum Word {
     Outcome(Outcome),
     Refusal(Refusal),

@@ -1,7 +1,7 @@
 use Rattle.std.proofs.Common.{◌≡◌, ◌+◌, ◌∙◌, ap, take, drop}
 use Rattle.pt_lines.specs.Lines.{Held}
 use Rattle.pt_lines.specs.Reading.{call_read}
-use Rattle.pt_lines.proofs.CutLemmas.{called_in_place}
+use Rattle.pt_lines.proofs.CutLemmas.{called_in_place, front_dropped}
 use Rattle.pt_lines.proofs.cutter.Cutter.next_call_line.Goals as goal
 
 pub returns-clause-some : goal.returns-clause-some
@@ -15,3 +15,30 @@ returns-clause-some g c =
     (c.read_call-reading.ensures.value ∙ ap (λ xs. call_read (take end xs)) text)
     (c.advance.ensures.items ∙ ap (λ xs. drop (end + 1) xs) rest)
     (ap (λ (h : Held). h.dropping) c.self.view_is)
+
+pub returns-clause-fewer : goal.returns-clause-fewer
+returns-clause-fewer g c =
+    (front_dropped _ c.args.self.now c.advance.new.self.items c.in-Some.end c.self.view_is
+    c.in-Some.ensures c.advance.ensures.items).1
+
+pub returns-in_default : goal.returns-in_default
+returns-in_default g c = record {
+  some = record {
+    cut = c.in_ok-cut.cut;
+    read = c.of.ensures.value;
+    given = c.in_ok-cut.ensures.given;
+  };
+  none = tt;
+  same = tt;
+  fewer = c.in_ok-cut.ensures.fewer;
+}
+
+pub returns-in_err-cut : goal.returns-in_err-cut
+returns-in_err-cut g c =
+    rw c.from_residual.ensures
+    (record {
+      some = tt;
+      none = c.in_err-cut.ensures.none;
+      same = c.in_err-cut.ensures.given;
+      fewer = tt;
+    })

@@ -1,0 +1,137 @@
+use Rattle.std.proofs.Common.{◌≡◌, ◌<◌, ◌≤◌, ◌+◌, ◌∙◌, ℕ, List, [], ◌∷◌, ◌++◌, length, take, get_or}
+use Rattle.std.proofs.Common.{Bool, true, false, cond, ap, sym, append_assoc, arith}
+use Rattle.std.proofs.lemmas.List.{append-nil, take_more, take_all, flat_map_more}
+use Rattle.std.specs.List.{flat_map}
+use Rattle.pt_lines.specs.declared.cutter.Cut.{Cut}
+use Rattle.pt_lines.specs.Lines.{lines, lines_past_newline, to_come, Held, IsBegun}
+use Rattle.pt_lines.proofs.cutter.cut_all.Goals as goal
+use Rattle.pt_lines.proofs.cutter.cut_all.Goals.{in-Some-finish+else-is_err-2, in_default-finish}
+
+-- these lines were given of these bytes, and a cutter that holds this gives the others
+abbrev Given : List ℕ → List Cut → Held → Type 0
+Given bytes cuts held = (more : List ℕ) → lines (bytes ++ more) ≡ cuts ++ to_come held more
+
+-- one more piece is fed
+given-fed :
+    {X : Type 0} (text : X → List ℕ) (pieces : List X) (i : ℕ) (d : X) (cuts : List Cut)
+    (old new : Held) → i < length pieces → Given (flat_map text (take i pieces)) cuts old
+    → new ≡ record { rest = old.rest ++ text (get_or pieces i d); dropping = old.dropping }
+    → Given (flat_map text (take (i + 1) pieces)) cuts new
+given-fed text pieces i d cuts old new lt given fed more =
+    let piece = text (get_or pieces i d) in
+    let before = flat_map text (take i pieces) in
+    ap (λ ps. lines (flat_map text ps ++ more)) (take_more pieces i d lt)
+    ∙ ap (λ bytes. lines (bytes ++ more))
+    (sym (flat_map_more text [] (take i pieces) (get_or pieces i d)))
+    ∙ ap lines (append_assoc before piece more)
+    ∙ given (piece ++ more)
+    ∙ ap (λ bytes. cuts ++ cond old.dropping (lines_past_newline bytes) (lines bytes))
+    (sym (append_assoc old.rest piece more))
+    ∙ ap (λ held. cuts ++ to_come held more) (sym fed)
+
+-- what a push that was not refused leaves
+pushed :
+    (done : Bool) (cuts all : List Cut) (cut : Cut)
+    → all ≡ cond done (cuts ++ cut ∷ []) cuts → done ≡ true → all ≡ cuts ++ cut ∷ []
+pushed done cuts all cut is held = is ∙ ap (λ b. cond b (cuts ++ cut ∷ []) cuts) held
+
+-- one more line is given
+given-line :
+    (bytes : List ℕ) (cuts all : List Cut) (cut : Cut) (old new : Held) → Given bytes cuts old
+    → ((more : List ℕ) → to_come old more ≡ cut ∷ to_come new more)
+    → all ≡ cuts ++ cut ∷ [] → Given bytes all new
+given-line bytes cuts all cut old new given next is more =
+    given more
+    ∙ ap (λ rest. cuts ++ rest) (next more)
+    ∙ sym (append_assoc cuts (cut ∷ []) (to_come new more))
+    ∙ ap (λ ls. ls ++ to_come new more) (sym is)
+
+-- no line is given
+given-none :
+    (bytes : List ℕ) (cuts : List Cut) (old new : Held) → Given bytes cuts old
+    → ((more : List ℕ) → to_come old more ≡ to_come new more) → Given bytes cuts new
+given-none bytes cuts old new given same more =
+    given more ∙ ap (λ rest. cuts ++ rest) (same more)
+
+-- all pieces were fed, and these are the last lines
+given-all :
+    {X : Type 0} (text : X → List ℕ) (pieces : List X) (i : ℕ) (cuts rest : List Cut)
+    (held : Held) → length pieces ≤ i → Given (flat_map text (take i pieces)) cuts held
+    → to_come held [] ≡ rest → cuts ++ rest ≡ lines (flat_map text pieces)
+given-all text pieces i cuts rest held le given last =
+    ap (λ ls. cuts ++ ls) (sym last)
+    ∙ sym (given [])
+    ∙ ap lines (append-nil (flat_map text (take i pieces)))
+    ∙ ap (λ ps. lines (flat_map text ps)) (take_all i pieces le)
+
+-- nothing was fed
+given-empty :
+    (cuts : List Cut) (held : Held) → cuts ≡ [] → held ≡ record { rest = []; dropping = false }
+    → Given [] cuts held × IsBegun held
+given-empty cuts held none new = (
+  λ more. ap (λ h. to_come h more) (sym new)
+      ∙ ap (λ cs. cs ++ to_come held more) (sym none),
+  begun held (ap (λ (h : Held). h.rest) new),
+)
+  where
+    begun : (held : Held) → held.rest ≡ [] → IsBegun held
+    begun held empty =
+        let none : length held.rest ≡ 0 = ap length empty in
+        record {
+          no_newline = λ i lt. absurd (omega arith);
+          short = omega arith;
+          dropped = λ _. empty;
+        }
+
+pub loop-cut-preserved : goal.loop-cut-preserved
+loop-cut-preserved g c =
+    given-line
+    (flat_map (λ piece. piece.now) (take (c.loop-piece.piece-index + 1) c.args.pieces.now))
+    c.loop-cut.cuts.items c.push.new.self.items c.in-Some.cut c.loop-cut.cutter
+    c.next_line.new.self c.loop-cut.invariant c.in-Some.ensures.given
+    (pushed _ c.loop-cut.cuts.items c.push.new.self.items c.in-Some.cut c.push.ensures.items
+    c.if-is_err.ensures.negation)
+
+pub loop-cut-init : goal.loop-cut-init
+loop-cut-init g c =
+    given-fed (λ piece. piece.now) c.args.pieces.now c.loop-piece.piece-index _
+    c.loop-piece.cuts.items c.loop-piece.cutter c.feed.new.self c.loop-piece-test.true
+    c.loop-piece.invariant.0 c.in_ok-feed.ensures.ok
+
+pub loop-cut-smaller : goal.loop-cut-smaller
+loop-cut-smaller g c = c.in-Some.ensures.fewer
+
+pub loop-piece-preserved : goal.loop-piece-preserved
+loop-piece-preserved g c = (
+  given-none
+      (flat_map (λ piece. piece.now) (take (c.loop-piece.piece-index + 1) c.args.pieces.now))
+      c.loop-cut.cuts.items c.loop-cut.cutter c.next_line.new.self c.loop-cut.invariant
+      c.in_default.ensures.given,
+  c.in_default.ensures.none,
+)
+
+pub loop-piece-init : goal.loop-piece-init
+loop-piece-init g c =
+    given-empty c.new-cuts.result.items c.new-cutter.result c.new-cuts.ensures.items
+    c.new-cutter.ensures
+
+pub returns : goal.returns
+returns g c =
+    let cuts = c.loop-piece.cuts.items in
+    let all =
+    given-all (λ piece. piece.now) c.args.pieces.now c.loop-piece.piece-index cuts _
+    c.loop-piece.cutter c.loop-piece-test.false c.loop-piece.invariant.0 c.finish.ensures in
+    record {
+      ok = elim c.match-finish.branch [
+        | in-Some-finish+else-is_err-2 w ↦ ap (λ v. v.items) w.cuts-is
+            ∙ pushed _ cuts w.push-in-Some-finish.new.self.items w.in-Some-finish.cut
+            w.push-in-Some-finish.ensures.items w.if-is_err-2.ensures.negation
+            ∙ ap (λ ls. cuts ++ ls) (sym w.in-Some-finish.ensures ∙ c.finish.ensures)
+            ∙ all
+        | in_default-finish w ↦ ap (λ v. v.items) w.cuts-is
+            ∙ sym (append-nil cuts)
+            ∙ ap (λ ls. cuts ++ ls) (sym w.in_default-finish.ensures ∙ c.finish.ensures)
+            ∙ all
+      ];
+      why = tt;
+    }
