@@ -101,9 +101,10 @@ pub one_stand :
     → IsSome o ↔ IsTrue (is_name_byte (get_or xs 0 0))
     → IsSome o ↔ IsTrue (list_all is_name_byte xs)
 one_stand [] o least below stand = absurd (omega (arith, least))
-one_stand (x ∷ []) o least below stand =
-    (λ some. and_true (is_name_byte x) true (stand.0 some) refl,
-    λ all. stand.1 (and_parts (is_name_byte x) true all).0)
+one_stand (x ∷ []) o least below stand = (
+  λ some. and_true (is_name_byte x) true (stand.0 some) refl,
+  λ all. stand.1 (and_parts (is_name_byte x) true all).0,
+)
 one_stand (x ∷ y ∷ xs) o least below stand = absurd (omega (arith, below))
 
 -- bytes by their first sixteen and a word that begins with the others

@@ -105,5 +105,3 @@ pub returns-in-len8-clause-stand : goal.returns-in-len8-clause-stand
 returns-in-len8-clause-stand c =
     filled_stand c.args.bytes.now [] _ 8 c.in-len8.len_at_least
     c.in-len8.len_below c.at_once-word-in-len8.ensures refl
-
-

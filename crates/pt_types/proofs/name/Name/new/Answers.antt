@@ -8,14 +8,15 @@ is_name : (c : goal.After-key_of) → IsName c.args.bytes.now
 is_name c = record {
   some = search rules;
   fits = c.if-bytes-gt-MOST.false;
-  bytes = c.in_ok-block.ensures.stand.0 refl
+  bytes = c.in_ok-block.ensures.stand.0 refl;
 }
 
 pub invariant_of-result : goal.invariant_of-result
 invariant_of-result c =
-    let front = sym c.in_ok-block.ensures.front in
-    (c.if-bytes-gt-MOST.false,
-    (subst IsName front (is_name c), c.key_of.ensures.value ∙ ap key front))
+    let front = sym c.in_ok-block.ensures.front in (
+      c.if-bytes-gt-MOST.false,
+      (subst IsName front (is_name c), c.key_of.ensures.value ∙ ap key front),
+    )
 
 pub returns-in_err-block-clause-valid : goal.returns-in_err-block-clause-valid
 returns-in_err-block-clause-valid c =
