@@ -1,18 +1,11 @@
-use Rattle.std.proofs.Common.{◌≡◌, ◌<◌, ◌∙◌, ℕ, List, Option, refl, ap, sym, subst, arith, length}
+use Rattle.std.proofs.Common.{◌≡◌, ◌<◌, ◌∙◌, refl, ap, sym, arith, length}
 use Rattle.std.proofs.lemmas.Bool.{false≢true}
 use Rattle.pt_types.specs.Limits.{most_clients}
-use Rattle.pt_table.specs.declared.clients.ClientRow.{ClientRow}
-use Rattle.pt_table.specs.ClientRows.{client_at, AreClients}
+use Rattle.pt_table.specs.ClientRows.{client_at}
 use Rattle.pt_table.specs.Slots.{rows_listed}
 use Rattle.pt_table.proofs.Lookups.{none_of}
-use Rattle.pt_table.proofs.Added.{new_number, numbered_added, view_added}
+use Rattle.pt_table.proofs.Added.{still, new_number, numbered_added, view_added}
 use Rattle.pt_table.proofs.clients.Clients.add.Goals as goal
-
--- the numbers list each client once still as room was made
-kept : {T : Type 0} (slots roomy : List (Option (ClientRow T))) (numbers left : List (ℕ × ℕ))
-    → roomy ≡ slots → left ≡ numbers → AreClients slots numbers → AreClients roomy left
-kept slots roomy numbers left same same_numbers h =
-    subst (λ s. AreClients s left) (sym same) (subst (AreClients slots) (sym same_numbers) h)
 
 pub returns-then-has : goal.returns-then-has
 returns-then-has g c =
@@ -39,9 +32,8 @@ returns-then-len-ge-MOST_CLIENTS g c =
 
 pub invariant_of-self : goal.invariant_of-self
 invariant_of-self g c =
-    kept c.self.inside.rows.slots c.make_room.new.rows.slots c.self.inside.numbers.entries
+    still c.self.invariant c.args.self.now c.self.view_is c.make_room.new.rows.slots
     c.make_room.new.numbers.entries c.make_room.ensures.rows c.make_room.ensures.numbers
-    c.self.invariant
 
 pub returns-then-is_err : goal.returns-then-is_err
 returns-then-is_err g c =

@@ -1,18 +1,13 @@
-use Rattle.std.proofs.Common.{◌≡◌, ◌∙◌, ◌<◌, ◌≤◌, ◌*◌, ◌%◌, ◌⊎◌, ℕ, Bool, true, false, not, ap, sym}
-use Rattle.std.proofs.Common.{Option, None, Some, is_some, inl, inr, subst, arith, Fits, w16, w64}
+use Rattle.std.proofs.Common.{◌≡◌, ◌∙◌, ◌<◌, ◌≤◌, ◌⊎◌, ℕ, Bool, true, false, not, ap, sym}
+use Rattle.std.proofs.Common.{Option, None, Some, is_some, inl, inr, subst, arith, Fits, w16}
 use Rattle.std.proofs.Common.{true≢false, get_or-set_same}
 use Rattle.std.proofs.Math.ListN.{set}
 use Rattle.std.specs.Prelude.{slice_index_or}
 use Rattle.pt_types.specs.Keys.{key}
 use Rattle.pt_table.specs.NameSlots.{first_of, Cells, IsFiled, Naming}
 use Rattle.pt_table.proofs.Filed.{filed_first}
+use Rattle.pt_table.proofs.Places.{within, fits}
 use Rattle.pt_table.proofs.names.Names.insert.Goals as goal
-
-within : (place k : ℕ) → place ≡ k % 16384 → place < 16384
-within place k e = omega arith
-
-fits : (place k : ℕ) → place ≡ k % 16384 → Fits w64 (place * 4)
-fits place k e = omega arith
 
 fits_cell : (slot : ℕ) → slot < 65536 → Fits w16 slot
 fits_cell slot below = omega arith
@@ -49,8 +44,8 @@ bounds-self-inside-place-then-slot-lt-MOST_SLOTS g c =
 pub insert_other-requires : goal.insert_other-requires
 insert_other-requires g c =
     let first =
-        ap (λ (v : Naming). first_of v.cells c.args.name.now) (sym c.self.view_is)
-        ∙ ap (λ p. slice_index_or c.self.inside.firsts p None) (sym c.requires.place) in
+    ap (λ (v : Naming). first_of v.cells c.args.name.now) (sym c.self.view_is)
+    ∙ ap (λ p. slice_index_or c.self.inside.firsts p None) (sym c.requires.place) in
     has_room (first_of c.args.self.now.cells c.args.name.now) c.is_none.result c.args.slot
     c.args.self.now.room (ap is_some first ∙ c.is_none.ensures) c.else-is_none.either
     c.requires.room

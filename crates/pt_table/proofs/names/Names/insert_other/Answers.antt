@@ -1,4 +1,4 @@
-use Rattle.std.proofs.Common.{◌≡◌, ◌∙◌, ◌<◌, ◌%◌, ℕ, Some, true, false, cond, ap, sym, refl, subst}
+use Rattle.std.proofs.Common.{◌∙◌, Some, true, false, cond, ap, sym, refl, subst}
 use Rattle.std.proofs.Common.{arith, get_or-set_same}
 use Rattle.std.proofs.Math.ListN.{set}
 use Rattle.std.specs.Prelude.{slice_index_or}
@@ -8,10 +8,8 @@ use Rattle.pt_types.specs.Keys.{key}
 use Rattle.pt_types.specs.Names.{same_name}
 use Rattle.pt_table.specs.NameSlots.{Cells, IsFiled}
 use Rattle.pt_table.proofs.Filed.{filed_shared}
+use Rattle.pt_table.proofs.Places.{within}
 use Rattle.pt_table.proofs.names.Names.insert_other.Goals as goal
-
-within : (place k : ℕ) → place ≡ k % 16384 → place < 16384
-within place k e = omega arith
 
 pub bounds-self-inside-place_of : goal.bounds-self-inside-place_of
 bounds-self-inside-place_of g c =

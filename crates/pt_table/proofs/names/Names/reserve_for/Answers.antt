@@ -1,16 +1,10 @@
-use Rattle.std.proofs.Common.{◌≡◌, ◌∙◌, ◌<◌, ◌*◌, ◌%◌, ℕ, None, inl, inr, not, refl, ap, sym}
-use Rattle.std.proofs.Common.{arith, Fits, w64}
+use Rattle.std.proofs.Common.{◌∙◌, None, inl, inr, not, refl, ap, sym}
 use Rattle.std.specs.Prelude.{Result, Ok, Err, OnOk, slice_index_or}
 use Rattle.pt_types.specs.Keys.{key}
 use Rattle.pt_table.specs.NameSlots.{first_of, Naming}
 use Rattle.pt_table.proofs.Lookups.{none_of}
+use Rattle.pt_table.proofs.Places.{within, fits}
 use Rattle.pt_table.proofs.names.Names.reserve_for.Goals as goal
-
-within : (place k : ℕ) → place ≡ k % 16384 → place < 16384
-within place k e = omega arith
-
-fits : (place k : ℕ) → place ≡ k % 16384 → Fits w64 (place * 4)
-fits place k e = omega arith
 
 on_ok : {T E P Q : Type 0} (r : Result T E) → (P → Q) → OnOk r P → OnOk r Q
 on_ok (Ok _) then p = then p
