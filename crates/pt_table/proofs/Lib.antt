@@ -12,6 +12,8 @@ mod Removed
 mod Named
 -- Vacated: a row that is taken out of the slot of its number: what is known of the answer
 mod Vacated
+-- Refused: a row that was handed back: for which fault, and how many rows there are
+mod Refused
 -- Places: the index of a name's cell is within the cells
 mod Places
 -- Filed: cells that are written: which names still have theirs

@@ -1,10 +1,12 @@
-use Rattle.std.proofs.Common.{◌≡◌, ◌<◌, ◌∙◌, refl, ap, sym, arith, length}
+use Rattle.std.proofs.Common.{◌≡◌, ◌<◌, ◌∙◌, refl, ap, sym, length}
 use Rattle.std.proofs.lemmas.Bool.{false≢true}
 use Rattle.pt_types.specs.Limits.{most_clients}
 use Rattle.pt_table.specs.ClientRows.{client_at}
 use Rattle.pt_table.specs.Slots.{rows_listed}
-use Rattle.pt_table.proofs.Lookups.{none_of}
+use Rattle.pt_table.proofs.Lookups.{none_of, none_some}
 use Rattle.pt_table.proofs.Added.{still, new_number, numbered_added, view_added}
+use Rattle.pt_table.proofs.Refused.{limit_taken, memory_taken, taken_limit, memory_limit}
+use Rattle.pt_table.proofs.Refused.{is_full, is_below, not_full}
 use Rattle.pt_table.proofs.clients.Clients.add.Goals as goal
 
 pub returns-then-has : goal.returns-then-has
@@ -13,7 +15,7 @@ returns-then-has g c =
     record {
       ok = tt;
       taken = (λ _. there, λ _. refl);
-      at_limit = (λ e. cc, λ full. absurd (false≢true (sym full.0 ∙ there)));
+      at_limit = (λ e. absurd (taken_limit e), λ full. absurd (false≢true (sym full.0 ∙ there)));
       err = refl;
       handed = refl;
     }
@@ -21,10 +23,12 @@ returns-then-has g c =
 pub returns-then-len-ge-MOST_CLIENTS : goal.returns-then-len-ge-MOST_CLIENTS
 returns-then-len-ge-MOST_CLIENTS g c =
     let absent = sym c.has.ensures ∙ c.if-has.false in
-    let full : length c.args.self.now ≡ most_clients = omega (arith, c.len.ensures.len) in
+    let full : length c.args.self.now ≡ most_clients =
+    is_full c.len.result (length c.args.self.now) most_clients c.len.ensures.len
+    c.if-len-ge-MOST_CLIENTS.true c.len.ensures.within in
     record {
       ok = tt;
-      taken = (λ e. cc, λ there. absurd (false≢true (sym absent ∙ there)));
+      taken = (λ e. absurd (limit_taken e), λ there. absurd (false≢true (sym absent ∙ there)));
       at_limit = (λ _. (absent, full), λ _. refl);
       err = refl;
       handed = refl;
@@ -38,11 +42,13 @@ invariant_of-self g c =
 pub returns-then-is_err : goal.returns-then-is_err
 returns-then-is_err g c =
     let absent = sym c.has.ensures ∙ c.if-has.false in
-    let below : length c.args.self.now < most_clients = omega (arith, c.len.ensures.len) in
+    let below : length c.args.self.now < most_clients =
+    is_below c.len.result (length c.args.self.now) most_clients c.len.ensures.len
+    c.if-len-ge-MOST_CLIENTS.false in
     record {
       ok = tt;
-      taken = (λ e. cc, λ there. absurd (false≢true (sym absent ∙ there)));
-      at_limit = (λ e. cc, λ full. absurd (omega (arith, below, full.1)));
+      taken = (λ e. absurd (memory_taken e), λ there. absurd (false≢true (sym absent ∙ there)));
+      at_limit = (λ e. absurd (memory_limit e), λ full. absurd (not_full (length c.args.self.now) most_clients below full.1));
       err =
           ap (λ s. rows_listed s c.make_room.new.numbers.entries) c.make_room.ensures.rows
           ∙ ap (rows_listed c.self.inside.rows.slots) c.make_room.ensures.numbers
@@ -59,7 +65,9 @@ put-requires-clause-number_new g c =
 
 pub invariant_of-self-2 : goal.invariant_of-self-2
 invariant_of-self-2 g c =
-    let below : length c.args.self.now < most_clients = omega (arith, c.len.ensures.len) in
+    let below : length c.args.self.now < most_clients =
+    is_below c.len.result (length c.args.self.now) most_clients c.len.ensures.len
+    c.if-len-ge-MOST_CLIENTS.false in
     numbered_added c.self.invariant c.args.self.now c.self.view_is c.make_room.new.rows.slots
     c.make_room.new.numbers.entries c.make_room.ensures.rows c.make_room.ensures.numbers
     c.put.new.rows.slots c.put.new.numbers.entries _ c.put.result c.put.ensures.vacant
@@ -68,7 +76,9 @@ invariant_of-self-2 g c =
 
 pub returns-clause-ok : goal.returns-clause-ok
 returns-clause-ok g c =
-    let below : length c.args.self.now < most_clients = omega (arith, c.len.ensures.len) in
+    let below : length c.args.self.now < most_clients =
+    is_below c.len.result (length c.args.self.now) most_clients c.len.ensures.len
+    c.if-len-ge-MOST_CLIENTS.false in
     view_added c.self.invariant c.args.self.now c.self.view_is c.make_room.new.rows.slots
     c.make_room.new.numbers.entries c.make_room.ensures.rows c.make_room.ensures.numbers
     c.put.new.rows.slots c.put.new.numbers.entries _ c.put.result c.put.ensures.vacant
@@ -78,12 +88,14 @@ returns-clause-ok g c =
 pub returns-clause-taken : goal.returns-clause-taken
 returns-clause-taken g c =
     let absent = sym c.has.ensures ∙ c.if-has.false in
-    (λ e. cc, λ there. absurd (false≢true (sym absent ∙ there)))
+    (λ e. absurd (none_some e), λ there. absurd (false≢true (sym absent ∙ there)))
 
 pub returns-clause-at_limit : goal.returns-clause-at_limit
 returns-clause-at_limit g c =
-    let below : length c.args.self.now < most_clients = omega (arith, c.len.ensures.len) in
-    (λ e. cc, λ full. absurd (omega (arith, below, full.1)))
+    let below : length c.args.self.now < most_clients =
+    is_below c.len.result (length c.args.self.now) most_clients c.len.ensures.len
+    c.if-len-ge-MOST_CLIENTS.false in
+    (λ e. absurd (none_some e), λ full. absurd (not_full (length c.args.self.now) most_clients below full.1))
 
 pub returns-clause-err : goal.returns-clause-err
 returns-clause-err g c = tt
