@@ -81,7 +81,7 @@ module _ {R : Type 0} {number : R → ℕ} {slots : List (Option R)} {numbers : 
     (rows : List R) (view : rows_listed slots numbers ≡ rows)
     (roomy : List (Option R)) (roomy_numbers : List (ℕ × ℕ))
     (same : roomy ≡ slots) (same_numbers : roomy_numbers ≡ numbers) where
-  still : IsNumbered number roomy roomy_numbers most
+  pub still : IsNumbered number roomy roomy_numbers most
   still = rw (same, same_numbers) h
 
   -- a number with no row has no slot

@@ -1,5 +1,5 @@
 -- Cells that are written: which names still have theirs.
-use Rattle.std.proofs.Common.{◌≡◌, ◌<◌, ◌∙◌, ℕ, true, false, List, Option, Some, None, length}
+use Rattle.std.proofs.Common.{◌≡◌, ◌≢◌, ◌<◌, ◌∙◌, ℕ, true, false, List, Option, Some, None, length}
 use Rattle.std.proofs.Common.{ap, sym, inl, inr, get_or-set_same, get_or-set_other}
 use Rattle.std.proofs.Math.ListN.{set}
 use Rattle.std.specs.Prelude.{is_some, slice_index_or}
@@ -7,6 +7,7 @@ use Rattle.std.specs.Map.{lookup}
 use Rattle.std.proofs.lemmas.Bool.Decides.{eqb_tells}
 use Rattle.pt_types.specs.Names.{same_name}
 use Rattle.pt_table.specs.NameSlots.{place_of, Cells, IsFiled}
+use Rattle.pt_table.proofs.Lookups.{some_inj}
 
 no_slot : (o : Option ℕ) (s : ℕ) → is_some o ≡ false → o ≡ Some s → ⊥
 no_slot None s none some = cc
@@ -26,6 +27,22 @@ filed_first cells p v within others t s free (inl f) =
           (no_slot (slice_index_or cells.firsts p None) s free
           (ap (λ q. slice_index_or cells.firsts q None) (sym is.1) ∙ f))
       | inr apart ↦ inl (get_or-set_other cells.firsts p (place_of t) v None apart.1 ∙ f)
+    ]
+
+-- a name is filed still as the cell that has another's slot is cleared
+pub filed_cleared :
+    (cells : Cells) (p slot first : ℕ) → slice_index_or cells.firsts p None ≡ Some first
+    → first ≡ slot → (others : List (List ℕ × ℕ)) (t : List ℕ) (s : ℕ) → s ≢ slot
+    → IsFiled cells others t s
+    → IsFiled (record cells { firsts = set cells.firsts p None }) others t s
+filed_cleared cells p slot first here same others t s apart (inr f) = inr f
+filed_cleared cells p slot first here same others t s apart (inl f) =
+    elim (eqb_tells (place_of t) p) [
+      | inl is ↦
+          absurd
+          (apart (some_inj (sym f ∙ ap (λ q. slice_index_or cells.firsts q None) is.1 ∙ here)
+          ∙ same))
+      | inr off ↦ inl (get_or-set_other cells.firsts p (place_of t) None None off.1 ∙ f)
     ]
 
 -- a name is filed still as its cell is marked as shared

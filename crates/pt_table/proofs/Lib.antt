@@ -10,6 +10,12 @@ mod Written
 mod Removed
 -- Named: the names of the listed rows: a look-up by name goes through the cells of the names
 mod Named
+-- Vacated: a row that is taken out of the slot of its number: what is known of the answer
+mod Vacated
+-- Refused: a row that was handed back: for which fault, and how many rows there are
+mod Refused
+-- Places: the index of a name's cell is within the cells
+mod Places
 -- Filed: cells that are written: which names still have theirs
 mod Filed
 -- Links: what a written link leaves of the rows, and of what each leads to
