@@ -1,0 +1,27 @@
+//! The grammar: which text is which line of a connection, or of a script.
+//!
+//! Contracts see a call as the text that spells it (two texts, as `default` means `normal`), and
+//! a text that spells no line as SYNTAX, or as LONG if it has more than 128 bytes. Where lines end
+//! is for `pt_lines`.
+#![tactic(auto)]
+
+mod arguments;
+mod call_line;
+mod client;
+mod cut;
+mod named_start;
+mod script_line;
+mod verb;
+mod verbs;
+
+pub use call_line::{CallLine, read_call};
+pub use client::{ClientName, Who};
+pub use cut::Cut;
+pub use named_start::{
+    barrier_init_at_start, moment_at_start, mutex_init_at_start, named_at_start, timed_at_start,
+    timedwait_at_start, wait_at_start,
+};
+pub use script_line::{
+    ScriptBody, ScriptLine, read_client, read_said, read_script_line, read_short,
+};
+pub use verb::TimedVerb;
