@@ -1,6 +1,6 @@
 //! The fields of a text, which spaces part, and the numbers that fields are.
 //!
-//! Contracts see what is left of a text as its list of fields, and a number as that of its digits.
+//! Contracts see what is left of a text as the list of its fields, each with its bytes.
 #![tactic(auto)]
 
 mod fields;

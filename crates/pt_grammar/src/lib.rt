@@ -1,8 +1,7 @@
-//! The grammar: which text is which line of a connection, or of a script.
+//! Lines to calls: which text is which line of a connection, and of a script.
 //!
-//! Contracts see a call as the text that spells it (two texts, as `default` means `normal`), and
-//! a text that spells no line as SYNTAX, or as LONG if it has more than 128 bytes. Where lines end
-//! is for `pt_lines`.
+//! Contracts see a call as the text that spells it (two texts, as `default` means `normal`). A text
+//! that spells no line is SYNTAX, or LONG if it has more than 128 bytes.
 #![tactic(auto)]
 
 mod arguments;

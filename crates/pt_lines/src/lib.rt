@@ -1,10 +1,10 @@
-//! Bytes to lines, lines to calls, and answers to bytes.
+//! Bytes to lines, and answers to bytes. What lines say is read by `pt_grammar`, which is exported
+//! here too.
 //!
 //! Contracts see a cutter as the bytes that it has not given yet, and a line as the bytes between
-//! two newlines. `pt_grammar` says what a line says; who uses lines finds it here.
-//! Once it has no line to give, a cutter holds at most 128 bytes, and none of a line that was too
-//! long. Only tests show that its buffer stays small too, and that a call succeeds if memory
-//! is left.
+//! two newlines. Once it has no line to give, a cutter holds at most 128 bytes, and none of a line
+//! that was too long. Only tests show that its buffer stays small too, and that a call succeeds if
+//! memory is left.
 #![tactic(auto)]
 
 mod appending;
