@@ -7,8 +7,8 @@ use Rattle.std.specs.Option.{option_or, MatchOption}
 use Rattle.std.proofs.lemmas.Bool.Decides.{Decides-eqb}
 use Rattle.std.proofs.lemmas.Slice.Eq.{bytes_eq-Decides}
 use Rattle.pt_types.specs.declared.outcome.Refusal.{Refusal}
-use Rattle.pt_lines.specs.declared.client.Who.{Who}
-use Rattle.pt_lines.specs.declared.client.Who.TheVariants.{Named, Star, Unknown}
+use Rattle.pt_grammar.specs.declared.client.Who.{Who}
+use Rattle.pt_grammar.specs.declared.client.Who.TheVariants.{Named, Star, Unknown}
 use Rattle.pt_model.specs.declared.entry.Entry.{Entry}
 use Rattle.pt_model.specs.declared.entry.Event.{Event}
 use Rattle.pt_model.specs.declared.entry.Event.TheVariants as event

@@ -2,13 +2,13 @@
 use Rattle.std.proofs.Common.{◌≡◌, ℕ, suc, ◌++◌, List, Option, Result, Ok, Err, OnOk, refl, sym}
 use Rattle.std.proofs.Common.{ap, ◌∙◌, subst}
 use Rattle.pt_types.specs.declared.outcome.Refusal.{Refusal}
-use Rattle.pt_lines.specs.declared.client.Who.{Who}
-use Rattle.pt_lines.specs.declared.client.Who.TheVariants.{Named, Star, Unknown}
-use Rattle.pt_lines.specs.declared.script_line.ScriptLine.{ScriptLine}
-use Rattle.pt_lines.specs.Clients.{before_space, behind_space, who_named}
-use Rattle.pt_lines.specs.Script.{body_behind, short_read}
-use Rattle.pt_lines.specs.declared.script_line.ScriptBody.{ScriptBody}
-use Rattle.pt_lines.specs.declared.script_line.ScriptBody.TheVariants.{Hello, Ask, Die, Tick}
+use Rattle.pt_grammar.specs.declared.client.Who.{Who}
+use Rattle.pt_grammar.specs.declared.client.Who.TheVariants.{Named, Star, Unknown}
+use Rattle.pt_grammar.specs.declared.script_line.ScriptLine.{ScriptLine}
+use Rattle.pt_grammar.specs.Clients.{before_space, behind_space, who_named}
+use Rattle.pt_grammar.specs.Script.{body_behind, short_read}
+use Rattle.pt_grammar.specs.declared.script_line.ScriptBody.{ScriptBody}
+use Rattle.pt_grammar.specs.declared.script_line.ScriptBody.TheVariants.{Hello, Ask, Die, Tick}
 use Rattle.pt_model.specs.declared.entry.Event.{Event}
 use Rattle.pt_engine.specs.declared.line_id.LineId.{LineId}
 use Rattle.pt_engine.specs.Scripts.{Script, event_of_body, line_id, lines_of_who, refusal_text}

@@ -12,8 +12,8 @@ use Rattle.std.proofs.lemmas.Bool.Decides.{same_from_decides, Decides-like}
 use Rattle.std.specs.Str.{bytes_eq}
 use Rattle.std.proofs.lemmas.Slice.Eq.{bytes_eq-Decides}
 use Rattle.pt_engine.specs.declared.names.Row.{Row}
-use Rattle.pt_lines.specs.declared.client.Who.{Who}
-use Rattle.pt_lines.specs.declared.client.Who.TheVariants.{Named, Star, Unknown}
+use Rattle.pt_grammar.specs.declared.client.Who.{Who}
+use Rattle.pt_grammar.specs.declared.client.Who.TheVariants.{Named, Star, Unknown}
 use Rattle.pt_engine.specs.Scripts.{number_named, number_of}
 use Rattle.pt_engine.specs.Names.{Known, Counted, lines_in, client_in, client_counted, row_of}
 use Rattle.pt_engine.specs.Names.{IsAt, IsRowRaised, AreRowsAlike}

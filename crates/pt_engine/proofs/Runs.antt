@@ -3,10 +3,10 @@ use Rattle.std.proofs.Common.{◌≡◌, ℕ, ◌+◌, List, [], ◌∷◌, ◌+
 use Rattle.std.proofs.Common.{sym, ap, subst, ◌∙◌, append_assoc, append-nil, length-append, arith}
 use Rattle.std.proofs.lemmas.List.{map-append}
 use Rattle.std.proofs.Math.ListN.{length-map}
-use Rattle.pt_lines.specs.declared.cutter.Cut.{Cut}
-use Rattle.pt_lines.specs.declared.script_line.ScriptLine.{ScriptLine}
-use Rattle.pt_lines.specs.Lines.{Held, to_come}
-use Rattle.pt_lines.specs.Script.{script_of, IsNextScriptLine}
+use Rattle.pt_grammar.specs.declared.cut.Cut.{Cut}
+use Rattle.pt_grammar.specs.declared.script_line.ScriptLine.{ScriptLine}
+use Rattle.pt_grammar.specs.Lines.{Held, to_come}
+use Rattle.pt_grammar.specs.Script.{script_of, IsNextScriptLine}
 use Rattle.pt_types.specs.declared.outcome.Refusal.{Refusal}
 use Rattle.pt_model.specs.declared.entry.Event.{Event}
 use Rattle.pt_engine.specs.declared.line_id.LineId.{LineId}

@@ -5,12 +5,12 @@ use Rattle.std.specs.List.{flat_map}
 use Rattle.std.specs.Map.{lookup}
 use Rattle.pt_types.specs.declared.outcome.Outcome.{Outcome}
 use Rattle.pt_types.specs.declared.outcome.Outcome.TheVariants.{Done}
-use Rattle.pt_lines.specs.declared.client.Who.{Who}
-use Rattle.pt_lines.specs.declared.cutter.Cut.{Cut}
+use Rattle.pt_grammar.specs.declared.client.Who.{Who}
+use Rattle.pt_grammar.specs.declared.cut.Cut.{Cut}
 use Rattle.pt_lines.specs.declared.reply.Word.TheVariants as word
 use Rattle.pt_lines.specs.Replies.{reply_line}
-use Rattle.pt_lines.specs.Lines.{Held, to_come}
-use Rattle.pt_lines.specs.Script.{script_of}
+use Rattle.pt_grammar.specs.Lines.{Held, to_come}
+use Rattle.pt_grammar.specs.Script.{script_of}
 use Rattle.pt_model.specs.declared.entry.Event.{Event}
 use Rattle.pt_model.specs.declared.entry.Event.TheVariants as event
 use Rattle.pt_model.specs.Histories.{History, place}

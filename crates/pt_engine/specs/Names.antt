@@ -3,8 +3,8 @@ use Rattle.std.specs.Prelude.{◌≡◌, ℕ, suc, List, length, Option, Some, N
 use Rattle.std.specs.Prelude.{slice_get}
 use Rattle.std.specs.Map.{lookup}
 use Rattle.std.specs.Str.{bytes_eq}
-use Rattle.pt_lines.specs.declared.client.Who.{Who}
-use Rattle.pt_lines.specs.declared.client.Who.TheVariants.{Named, Star, Unknown}
+use Rattle.pt_grammar.specs.declared.client.Who.{Who}
+use Rattle.pt_grammar.specs.declared.client.Who.TheVariants.{Named, Star, Unknown}
 use Rattle.pt_engine.specs.declared.names.Row.{Row}
 use Rattle.pt_engine.specs.Scripts.{same_who, lines_of_who, number_named}
 

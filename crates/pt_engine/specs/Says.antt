@@ -3,8 +3,8 @@ use Rattle.std.specs.Prelude.{◌≡◌, ℕ, ◌++◌, false, List, [], ◌∷�
 use Rattle.std.specs.Prelude.{Err}
 use Rattle.pt_types.specs.declared.outcome.Refusal.{Refusal}
 use Rattle.pt_types.specs.declared.outcome.Refusal.TheVariants.{Enomem}
-use Rattle.pt_lines.specs.declared.client.Who.{Who}
-use Rattle.pt_lines.specs.declared.script_line.ScriptLine.{ScriptLine}
+use Rattle.pt_grammar.specs.declared.client.Who.{Who}
+use Rattle.pt_grammar.specs.declared.script_line.ScriptLine.{ScriptLine}
 use Rattle.pt_model.specs.declared.entry.Entry.{Entry}
 use Rattle.pt_model.specs.declared.entry.Event.{Event}
 use Rattle.pt_model.specs.Histories.{place}

@@ -8,11 +8,11 @@ use Rattle.pt_types.specs.declared.outcome.Outcome.{Outcome}
 use Rattle.pt_types.specs.declared.outcome.Outcome.TheVariants.{Done}
 use Rattle.pt_types.specs.declared.outcome.Refusal.{Refusal}
 use Rattle.pt_types.specs.declared.outcome.Refusal.TheVariants.{Syntax, Dead, Nohello}
-use Rattle.pt_lines.specs.declared.client.Who.{Who}
-use Rattle.pt_lines.specs.declared.client.Who.TheVariants.{Named, Star, Unknown}
-use Rattle.pt_lines.specs.declared.script_line.ScriptBody.{ScriptBody}
-use Rattle.pt_lines.specs.declared.script_line.ScriptBody.TheVariants.{Hello, Ask, Die, Tick}
-use Rattle.pt_lines.specs.declared.script_line.ScriptLine.{ScriptLine}
+use Rattle.pt_grammar.specs.declared.client.Who.{Who}
+use Rattle.pt_grammar.specs.declared.client.Who.TheVariants.{Named, Star, Unknown}
+use Rattle.pt_grammar.specs.declared.script_line.ScriptBody.{ScriptBody}
+use Rattle.pt_grammar.specs.declared.script_line.ScriptBody.TheVariants.{Hello, Ask, Die, Tick}
+use Rattle.pt_grammar.specs.declared.script_line.ScriptLine.{ScriptLine}
 use Rattle.pt_lines.specs.declared.reply.Word.TheVariants as word
 use Rattle.pt_lines.specs.Replies.{reply_line}
 use Rattle.pt_model.specs.declared.entry.Entry.{Entry}

@@ -9,7 +9,7 @@ use std::alloc::Allocator;
 
 impl<A: Allocator + Copy> Engine<A> {
     ghost use Rattle.std.specs.Bool.{OnTrue, OnFalse};
-    ghost use Rattle.pt_lines.specs.Lines.{to_come, IsBegun};
+    ghost use Rattle.pt_grammar.specs.Lines.{to_come, IsBegun};
     ghost use Rattle.pt_engine.specs.Engines.{Answers, IsAnswered, known_by};
 
     // Answers the next line as the cutter reads it, and returns true, if it has the line whole. It

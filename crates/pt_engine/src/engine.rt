@@ -55,7 +55,7 @@ impl<A: Allocator + Copy> Model for Engine<A> {
 impl<A: Allocator + Copy> Engine<A> {
     ghost use Rattle.pt_model.specs.Histories.{place};
     ghost use Rattle.pt_model.specs.Clients.{is_alive};
-    ghost use Rattle.pt_lines.specs.Script.{short_read};
+    ghost use Rattle.pt_grammar.specs.Script.{short_read};
     ghost use Rattle.pt_core.specs.Cores.{past};
     ghost use Rattle.pt_engine.specs.Scripts.{begun, core_of, event_for, join_for};
     ghost use Rattle.pt_engine.specs.Scripts.{lines_of_who, number_of, of_client, refusal_of_hello};

@@ -14,7 +14,7 @@ use pt_types::{Call, ClientId, Clock, MOST_IN_LINE, Name, Refusal};
 use std::alloc::Allocator;
 
 impl<A: Allocator + Copy> Engine<A> {
-    ghost use Rattle.pt_lines.specs.Script.{asked_or_refused, body_read};
+    ghost use Rattle.pt_grammar.specs.Script.{asked_or_refused, body_read};
     ghost use Rattle.pt_engine.specs.Scripts.{event_of_body, lines_of_who, number_of};
     ghost use Rattle.pt_engine.specs.Says.{SaysTo};
     ghost use Rattle.pt_engine.specs.Engines.{Adds, known_by};

@@ -10,15 +10,15 @@ use Rattle.std.proofs.lemmas.Bool.{eq-eqb, eqb-true}
 use Rattle.std.specs.Option.{IfSome}
 use Rattle.memchr.specs.Find.{IsFirstByte, is_byte}
 use Rattle.pt_types.specs.declared.outcome.Refusal.{Refusal}
-use Rattle.pt_lines.specs.declared.call_line.CallLine.{CallLine}
-use Rattle.pt_lines.specs.declared.cutter.Cut.{Cut}
-use Rattle.pt_lines.specs.declared.cutter.Cut.TheVariants.{Line, Long}
-use Rattle.pt_lines.specs.Cuts.{cut_of}
-use Rattle.pt_lines.specs.Lines.{lines_after, lines, lines_past_newline, NoNewline, Held, IsBegun}
-use Rattle.pt_lines.specs.Lines.{to_come, last_of, joined, AllTexts, IsFront, past_line}
-use Rattle.pt_lines.specs.Reading.{call_of, call_read, IsNextCallLine}
-use Rattle.pt_lines.specs.declared.script_line.ScriptLine.{ScriptLine}
-use Rattle.pt_lines.specs.Script.{script_of, script_read, short_read, long_line, IsNextScriptLine}
+use Rattle.pt_grammar.specs.declared.call_line.CallLine.{CallLine}
+use Rattle.pt_grammar.specs.declared.cut.Cut.{Cut}
+use Rattle.pt_grammar.specs.declared.cut.Cut.TheVariants.{Line, Long}
+use Rattle.pt_grammar.specs.Cuts.{cut_of}
+use Rattle.pt_grammar.specs.Lines.{lines_after, lines, lines_past_newline, NoNewline, Held, IsBegun}
+use Rattle.pt_grammar.specs.Lines.{to_come, last_of, joined, AllTexts, IsFront, past_line}
+use Rattle.pt_grammar.specs.Reading.{call_of, call_read, IsNextCallLine}
+use Rattle.pt_grammar.specs.declared.script_line.ScriptLine.{ScriptLine}
+use Rattle.pt_grammar.specs.Script.{script_of, script_read, short_read, long_line, IsNextScriptLine}
 
 not_newline : (x : ℕ) → x ≢ 10 → (x == 10) ≡ false
 not_newline x ne = grind arith

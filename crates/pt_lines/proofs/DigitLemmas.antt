@@ -7,7 +7,7 @@ use Rattle.std.proofs.lemmas.Bool.{cases_lt, eqb-true}
 use Rattle.std.proofs.lemmas.Fmt.{decimal_digit, length-decimal-le}
 use Rattle.itoa.proofs.Decimal.{decimal_two, decimal_pair}
 use Rattle.pt_lines.specs.declared.appending.TheConstants.{PAIRS}
-use Rattle.pt_lines.proofs.TestLemmas.{and_parts}
+use Rattle.pt_fields.proofs.TestLemmas.{and_parts}
 
 -- the two digits of a number below 100
 abbrev pub pair : ℕ → List ℕ

@@ -1,36 +1,6 @@
 -- CutLemmas: lines by the bytes that they begin with
 pub mod CutLemmas
--- TestLemmas: tests, and options that are some
-pub mod TestLemmas
--- FieldLemmas: a text and its fields
-pub mod FieldLemmas
--- NumberLemmas: numbers and their decimals
-pub mod NumberLemmas
--- VerbLemmas: each verb is found by its word, and its word is short and has no space
-pub mod VerbLemmas
--- ArgumentLemmas: what fields are read as, and what is read again from its fields
-pub mod ArgumentLemmas
--- AskedLemmas: a client's line that begins with the word of a call is that call, or refused
-pub mod AskedLemmas
--- WholeLemmas: one name or number alone is the whole text
-pub mod WholeLemmas
--- SpelledLemmas: the text of a line is the word of a verb and the fields that it is read from
-pub mod SpelledLemmas
--- CallLemmas: each call is spelled by its verb
-pub mod CallLemmas
--- GrammarLemmas: a text is read as just the line that it spells
-pub mod GrammarLemmas
--- ClientLemmas: a line's client, and what is after it
-pub mod ClientLemmas
--- StartLemmas: the bytes of a client by the table, and the client that a line begins with
-pub mod StartLemmas
 -- DigitLemmas: a number's digits, two at a time
 pub mod DigitLemmas
 -- AppendLemmas: bytes that are appended one piece after another
 pub mod AppendLemmas
--- ScriptLemmas: a line of a script is read as just what it spells
-pub mod ScriptLemmas
--- WordLemmas: a verb's word, a space and fields are read as what the verb and the fields are
-pub mod WordLemmas
--- LaneLemmas: a byte among lanes, and among the first of more bytes
-pub mod LaneLemmas

@@ -1,12 +1,1 @@
-pub mod Cuts
-pub mod Lines
-pub mod Fields
-pub mod Numbers
-pub mod Verbs
-pub mod Arguments
-pub mod Grammar
-pub mod Reading
-pub mod ClientNames
-pub mod Clients
-pub mod Script
 pub mod Replies

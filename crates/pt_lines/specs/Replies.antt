@@ -1,10 +1,10 @@
 -- Replies: the text of an answer line.
 use Rattle.std.specs.Prelude.{ℕ, ◌++◌, List, [], ◌∷◌, Option, None, Some, decimal}
 use Rattle.pt_types.specs.Words.{outcome_word, refusal_word}
-use Rattle.pt_lines.specs.declared.client.Who.{Who}
+use Rattle.pt_grammar.specs.declared.client.Who.{Who}
 use Rattle.pt_lines.specs.declared.reply.Word.{Word}
 use Rattle.pt_lines.specs.declared.reply.Word.TheVariants.{Outcome, Refusal}
-use Rattle.pt_lines.specs.Clients.{who_text}
+use Rattle.pt_grammar.specs.Clients.{who_text}
 
 -- the word of an answer
 abbrev pub answer_word : Word → List ℕ

@@ -4,15 +4,14 @@ ghost use Rattle.std.specs.Prelude.{option_to_list, if◌then◌else◌};
 ghost use Rattle.std.specs.Bool.{OnTrue, OnFalse};
 ghost use Rattle.std.specs.List.{flat_map};
 ghost use Rattle.memchr.specs.Find.{IsFirstByte, is_byte};
-ghost use Rattle.pt_lines.specs.Cuts.{is_long};
-ghost use Rattle.pt_lines.specs.Lines.{lines, lines_past_newline, to_come, NoNewline, IsBegun};
-ghost use Rattle.pt_lines.specs.Lines.{LinesOfTexts};
+ghost use Rattle.pt_grammar.specs.Cuts.{is_long};
+ghost use Rattle.pt_grammar.specs.Lines.{lines, lines_past_newline, to_come, NoNewline, IsBegun};
+ghost use Rattle.pt_grammar.specs.Lines.{LinesOfTexts};
 
-use crate::call_line::{CallLine, read_call};
-use crate::script_line::{ScriptLine, read_short};
 use arrayvec::ArrayVec;
 use bytes::BytesMut;
 use memchr::memchr;
+use pt_grammar::{CallLine, Cut, ScriptLine, read_call, read_short};
 use pt_types::{MOST_IN_LINE, Refusal};
 use std::alloc::{Allocator, Global};
 use std::marker::Model;
@@ -23,14 +22,6 @@ const SHORT_LINE: usize = 32;
 
 // How many are searched then.
 const LONG_LINE: usize = 64;
-
-/// What is given of a line: its text without the newline, or that it has more than 128 bytes.
-/// [profile]
-#[derive(PartialEq, Eq, Drop)]
-pub enum Cut {
-    Line(ArrayVec<u8, MOST_IN_LINE>),
-    Long,
-}
 
 /// Cuts a stream of bytes into lines, in whatever pieces the bytes come.
 ///
@@ -44,7 +35,7 @@ pub struct Cutter<A: Allocator + Copy = Global> {
 }
 
 impl<A: Allocator + Copy> Model for Cutter<A> {
-    ghost use Rattle.pt_lines.specs.Lines.{Held};
+    ghost use Rattle.pt_grammar.specs.Lines.{Held};
 
     ghost Value = { Held };
 
@@ -131,9 +122,9 @@ fn newline_in_long(block: &[u8; LONG_LINE]) -> Option<usize>
 }
 
 impl<A: Allocator + Copy> Cutter<A> {
-    ghost use Rattle.pt_lines.specs.Lines.{IsFront, past_line};
-    ghost use Rattle.pt_lines.specs.Reading.{IsNextCallLine};
-    ghost use Rattle.pt_lines.specs.Script.{IsNextScriptLine, short_read};
+    ghost use Rattle.pt_grammar.specs.Lines.{IsFront, past_line};
+    ghost use Rattle.pt_grammar.specs.Reading.{IsNextCallLine};
+    ghost use Rattle.pt_grammar.specs.Script.{IsNextScriptLine, short_read};
 
     /// A cutter that was fed nothing. It takes no memory.
     pub fn new(alloc: A) -> Self

@@ -5,8 +5,8 @@ ghost use Rattle.pt_types.specs.Words.{outcome_word, refusal_word};
 ghost use Rattle.pt_lines.specs.Replies.{answer_word, reply_line, sender};
 
 use crate::appending::{append_filled, append_number, put_back, taken};
-use crate::client::{ClientName, Who};
 use itoa::Buffer;
+use pt_grammar::{ClientName, Who};
 use pt_types::{Outcome, Refusal};
 use std::alloc::Allocator;
 

@@ -9,10 +9,10 @@ use Rattle.std.proofs.lemmas.Bool.Decides.{Decides-eqb}
 use mathlib.Core.List.{IsPrefix}
 use Rattle.std.specs.Prelude.{Result, Ok, Err, OnOk}
 use Rattle.pt_io.specs.Devices.{moves_none}
-use Rattle.pt_lines.specs.declared.cutter.Cut.{Cut}
-use Rattle.pt_lines.specs.Cuts.{cut_of}
-use Rattle.pt_lines.specs.Lines.{Held, IsBegun, lines, lines_after, lines_past_newline, to_come}
-use Rattle.pt_lines.specs.Script.{script_of}
+use Rattle.pt_grammar.specs.declared.cut.Cut.{Cut}
+use Rattle.pt_grammar.specs.Cuts.{cut_of}
+use Rattle.pt_grammar.specs.Lines.{Held, IsBegun, lines, lines_after, lines_past_newline, to_come}
+use Rattle.pt_grammar.specs.Script.{script_of}
 use Rattle.pt_engine.specs.Scripts.{Script, begun}
 use Rattle.pt_engine.specs.Says.{SaysAll}
 use Rattle.pt_engine.specs.declared.fault.ScriptFault.{ScriptFault}

@@ -2,10 +2,10 @@
 use Rattle.std.specs.Prelude.{◌≡◌, ℕ, ◌-◌, ◌≤◌, ◌<◌, ◌⊎◌, ◌++◌, List, length, take, map, Bool}
 use Rattle.std.specs.Prelude.{false}
 use mathlib.Core.List.{IsPrefix}
-use Rattle.pt_lines.specs.declared.script_line.ScriptLine.{ScriptLine}
-use Rattle.pt_lines.specs.declared.cutter.Cut.{Cut}
-use Rattle.pt_lines.specs.Lines.{Held, IsBegun, lines, to_come}
-use Rattle.pt_lines.specs.Script.{script_of}
+use Rattle.pt_grammar.specs.declared.script_line.ScriptLine.{ScriptLine}
+use Rattle.pt_grammar.specs.declared.cut.Cut.{Cut}
+use Rattle.pt_grammar.specs.Lines.{Held, IsBegun, lines, to_come}
+use Rattle.pt_grammar.specs.Script.{script_of}
 use Rattle.pt_engine.specs.declared.fault.ScriptFault.{ScriptFault}
 use Rattle.pt_engine.specs.declared.fault.ScriptFault.TheVariants.{Read, Write, Memory}
 use Rattle.pt_model.specs.Histories.{place}

@@ -1,8 +1,8 @@
 -- Stops: what came of the lines to come: the writer broke, memory lacked, or all were answered.
 use Rattle.std.specs.Prelude.{◌≡◌, ℕ, ◌++◌, List, [], length, map}
-use Rattle.pt_lines.specs.declared.cutter.Cut.{Cut}
-use Rattle.pt_lines.specs.Lines.{Held, to_come}
-use Rattle.pt_lines.specs.Script.{script_of}
+use Rattle.pt_grammar.specs.declared.cut.Cut.{Cut}
+use Rattle.pt_grammar.specs.Lines.{Held, to_come}
+use Rattle.pt_grammar.specs.Script.{script_of}
 use Rattle.pt_model.specs.Histories.{place}
 use Rattle.pt_core.specs.Cores.{past}
 use Rattle.pt_engine.specs.declared.fault.ScriptFault.{ScriptFault}

@@ -1,6 +1,6 @@
 ghost use Rattle.std.specs.Prelude.{◌≡◌, ◌≤◌, ◌<◌, ◌+◌, ◌^◌, ◌++◌, [], length, true, false, OnOk};
 ghost use Rattle.std.specs.Prelude.{OnErr, IfOk, IfErr};
-ghost use Rattle.pt_lines.specs.Lines.{to_come, IsBegun};
+ghost use Rattle.pt_grammar.specs.Lines.{to_come, IsBegun};
 ghost use Rattle.pt_engine.specs.Scripts.{begun};
 ghost use Rattle.pt_engine.specs.Engines.{Answers, known_by};
 ghost use Rattle.pt_script.specs.Texts.{writing};

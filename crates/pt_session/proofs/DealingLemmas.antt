@@ -3,7 +3,7 @@ use Rattle.std.proofs.Common.{◌≡◌, ℕ, Bool, true, false, List, [], ◌�
 use Rattle.std.proofs.Common.{Result, Ok, Err, refl, sym, ap, ◌∙◌, subst, append_assoc, append-nil}
 use Rattle.std.specs.List.{flat_map}
 use Rattle.std.proofs.lemmas.Grind.{flat_map-append}
-use Rattle.pt_lines.specs.declared.call_line.CallLine.TheVariants.{Hello, Ask, Tick}
+use Rattle.pt_grammar.specs.declared.call_line.CallLine.TheVariants.{Hello, Ask, Tick}
 use Rattle.pt_lines.specs.declared.reply.Word.{Word}
 use Rattle.pt_lines.specs.declared.reply.Word.TheVariants.{Outcome, Refusal}
 use Rattle.pt_hub.specs.Passes.{PassView, ClockView}

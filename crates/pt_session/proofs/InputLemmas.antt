@@ -4,10 +4,10 @@ use Rattle.std.proofs.Common.{length-append, map, refl, sym, ap, ◌∙◌, subs
 use Rattle.std.proofs.Common.{append-nil, ◌||◌, nat_lt, arith}
 use Rattle.std.specs.Prelude.{if◌then◌else◌}
 use mathlib.Core.List.{IsPrefix}
-use Rattle.pt_lines.specs.declared.cutter.Cut.{Cut}
+use Rattle.pt_grammar.specs.declared.cut.Cut.{Cut}
 use Rattle.pt_io.specs.Devices.{moves_none}
-use Rattle.pt_lines.specs.Lines.{Held, IsBegun, lines, lines_past_newline, to_come}
-use Rattle.pt_lines.specs.Reading.{IsNextCallLine}
+use Rattle.pt_grammar.specs.Lines.{Held, IsBegun, lines, lines_past_newline, to_come}
+use Rattle.pt_grammar.specs.Reading.{IsNextCallLine}
 use Rattle.pt_session.specs.declared.kinds.ClockMode.{ClockMode}
 use Rattle.pt_session.specs.declared.kinds.EndCause.{EndCause}
 use Rattle.pt_session.specs.declared.kinds.EndCause.TheVariants.{InputEnded, InputFailed, RingFull}

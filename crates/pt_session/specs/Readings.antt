@@ -3,11 +3,11 @@ use Rattle.std.specs.Prelude.{ℕ, ◌≡◌, ◌⊎◌, ◌+◌, ◌<◌, ◌^�
 use Rattle.std.specs.Prelude.{map, Result, Ok, Err}
 use Rattle.pt_types.specs.declared.outcome.Refusal.{Refusal}
 use Rattle.pt_types.specs.declared.outcome.Refusal.TheVariants.{Syntax}
-use Rattle.pt_lines.specs.declared.call_line.CallLine.{CallLine}
-use Rattle.pt_lines.specs.declared.call_line.CallLine.TheVariants.{Hello, Ask, Tick}
-use Rattle.pt_lines.specs.declared.cutter.Cut.{Cut}
-use Rattle.pt_lines.specs.Lines.{Held, lines, to_come}
-use Rattle.pt_lines.specs.Reading.{call_of}
+use Rattle.pt_grammar.specs.declared.call_line.CallLine.{CallLine}
+use Rattle.pt_grammar.specs.declared.call_line.CallLine.TheVariants.{Hello, Ask, Tick}
+use Rattle.pt_grammar.specs.declared.cut.Cut.{Cut}
+use Rattle.pt_grammar.specs.Lines.{Held, lines, to_come}
+use Rattle.pt_grammar.specs.Reading.{call_of}
 use Rattle.pt_session.specs.declared.kinds.ClockMode.{ClockMode}
 use Rattle.pt_session.specs.declared.kinds.ClockMode.TheVariants.{Lines, System}
 use Rattle.pt_session.specs.declared.kinds.EndCause.{EndCause}

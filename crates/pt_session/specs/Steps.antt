@@ -7,7 +7,7 @@ use Rattle.pt_types.specs.declared.time.Clock.{Clock}
 use Rattle.pt_types.specs.declared.outcome.Outcome.TheVariants.{Done}
 use Rattle.pt_types.specs.declared.outcome.Outcome.{Outcome as Answer}
 use Rattle.pt_types.specs.declared.outcome.Refusal.TheVariants.{Nohello}
-use Rattle.pt_lines.specs.declared.call_line.CallLine.TheVariants.{Hello, Ask, Tick}
+use Rattle.pt_grammar.specs.declared.call_line.CallLine.TheVariants.{Hello, Ask, Tick}
 use Rattle.pt_lines.specs.declared.reply.Word.{Word}
 use Rattle.pt_lines.specs.declared.reply.Word.TheVariants.{Outcome, Refusal}
 use Rattle.pt_hub.specs.declared.pass.Tick.{Tick as Reported}
@@ -16,7 +16,7 @@ use Rattle.pt_session.specs.declared.kinds.ClockMode.{ClockMode}
 use Rattle.pt_session.specs.declared.kinds.EndCause.{EndCause}
 use Rattle.pt_session.specs.declared.kinds.EndCause.TheVariants.{InputEnded, InputFailed, RingFull}
 use Rattle.pt_session.specs.declared.kinds.EndCause.TheVariants.{WriteFailed, GateShut, Memory}
-use Rattle.pt_lines.specs.Lines.{Held}
+use Rattle.pt_grammar.specs.Lines.{Held}
 use Rattle.pt_session.specs.Readings.{Reading, Input, EndsBy, IsBehind, intake, most_reads}
 use Rattle.pt_session.specs.Readings.{readings_of}
 use Rattle.pt_session.specs.Transcripts.{IsOfEvent, calls_of}

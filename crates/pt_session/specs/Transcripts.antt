@@ -10,7 +10,7 @@ use Rattle.pt_types.specs.declared.outcome.Outcome.{Outcome as Answer}
 use Rattle.pt_types.specs.declared.outcome.Outcome.TheVariants.{Done}
 use Rattle.pt_types.specs.declared.outcome.Refusal.{Refusal as Reason}
 use Rattle.pt_types.specs.declared.outcome.Refusal.TheVariants.{Syntax, Long, Nohello}
-use Rattle.pt_lines.specs.declared.call_line.CallLine.TheVariants.{Hello, Ask, Tick}
+use Rattle.pt_grammar.specs.declared.call_line.CallLine.TheVariants.{Hello, Ask, Tick}
 use Rattle.pt_lines.specs.declared.reply.Word.{Word}
 use Rattle.pt_lines.specs.declared.reply.Word.TheVariants.{Outcome, Refusal}
 use Rattle.pt_lines.specs.Replies.{reply_line}

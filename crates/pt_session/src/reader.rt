@@ -2,7 +2,7 @@
 
 ghost use Rattle.std.specs.Prelude.{◌≡◌, ◌++◌, ℕ, List, None};
 ghost use Rattle.rtrb.specs.Ring.{sent, SameProducer};
-ghost use Rattle.pt_lines.specs.Lines.{IsBegun};
+ghost use Rattle.pt_grammar.specs.Lines.{IsBegun};
 ghost use Rattle.pt_session.specs.Readings.{IsBehind, input, reading_by, reading_of};
 ghost use Rattle.pt_session.specs.Steps.{HasRead, StopsPushing};
 

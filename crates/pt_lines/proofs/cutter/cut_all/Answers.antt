@@ -2,8 +2,8 @@ use Rattle.std.proofs.Common.{◌≡◌, ◌<◌, ◌≤◌, ◌+◌, ◌∙◌,
 use Rattle.std.proofs.Common.{Bool, true, false, cond, ap, sym, append_assoc, arith}
 use Rattle.std.proofs.lemmas.List.{append-nil, take_more, take_all, flat_map_more}
 use Rattle.std.specs.List.{flat_map}
-use Rattle.pt_lines.specs.declared.cutter.Cut.{Cut}
-use Rattle.pt_lines.specs.Lines.{lines, lines_past_newline, to_come, Held, IsBegun}
+use Rattle.pt_grammar.specs.declared.cut.Cut.{Cut}
+use Rattle.pt_grammar.specs.Lines.{lines, lines_past_newline, to_come, Held, IsBegun}
 use Rattle.pt_lines.proofs.cutter.cut_all.Goals as goal
 use Rattle.pt_lines.proofs.cutter.cut_all.Goals.{in-Some-finish+else-is_err-2, in_default-finish}
 

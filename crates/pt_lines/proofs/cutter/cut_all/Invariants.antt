@@ -1,6 +1,6 @@
 use Rattle.std.proofs.Common.{◌≡◌, ◌+◌, ◌++◌, ℕ, List, length, take}
 use Rattle.std.specs.List.{flat_map}
-use Rattle.pt_lines.specs.Lines.{lines, to_come, IsBegun}
+use Rattle.pt_grammar.specs.Lines.{lines, to_come, IsBegun}
 use Rattle.pt_lines.proofs.cutter.cut_all.Given as goal
 
 abbrev pub invariant-loop-cut : goal.invariant-loop-cut

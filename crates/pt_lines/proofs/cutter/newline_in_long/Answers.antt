@@ -2,7 +2,7 @@ use Rattle.std.proofs.Common.{◌∙◌, refl, sym, subst, arith, eqb, w8, w64, 
 use Rattle.std.proofs.lemmas.Simd.{bitmask_splat}
 use Rattle.std.specs.Int.{trailing_zeros}
 use Rattle.memchr.specs.Find.{IsFirstByte, is_byte}
-use Rattle.pt_lines.proofs.LaneLemmas.{byte_nowhere, byte_first}
+use Rattle.pt_fields.proofs.LaneLemmas.{byte_nowhere, byte_first}
 use Rattle.pt_lines.proofs.cutter.newline_in_long.Goals as goal
 
 pub returns-then-mask-eq0 : goal.returns-then-mask-eq0

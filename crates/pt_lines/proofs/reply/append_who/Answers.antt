@@ -1,6 +1,6 @@
 use Rattle.std.proofs.Common.{◌∙◌, [], ◌∷◌, ◌++◌, ap, sym, arith, refl}
 use Rattle.std.specs.Option.{option_copied}
-use Rattle.pt_lines.specs.Clients.{who_text}
+use Rattle.pt_grammar.specs.Clients.{who_text}
 use Rattle.pt_lines.specs.Replies.{sender}
 use Rattle.pt_lines.proofs.AppendLemmas.{append-same, append-two}
 use Rattle.pt_lines.proofs.reply.append_who.Goals as goal

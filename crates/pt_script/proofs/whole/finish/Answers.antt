@@ -1,5 +1,5 @@
 use Rattle.std.proofs.Common.{◌-◌, [], refl, sym, subst, arith}
-use Rattle.pt_lines.specs.Lines.{to_come}
+use Rattle.pt_grammar.specs.Lines.{to_come}
 use Rattle.pt_engine.specs.declared.fault.ScriptFault.TheVariants.{Write, Memory}
 use Rattle.pt_script.specs.Texts.{Writing}
 use Rattle.pt_engine.specs.Engines.{IsAnswered, known_by}

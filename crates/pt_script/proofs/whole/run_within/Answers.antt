@@ -1,6 +1,6 @@
 use Rattle.std.proofs.Common.{◌≡◌, ◌-◌, ◌++◌, [], true, ◌∙◌, sym, ap, subst, refl, take, length}
 use Rattle.std.proofs.Common.{inl, inr, append-nil, length-append, arith}
-use Rattle.pt_lines.specs.Lines.{Held}
+use Rattle.pt_grammar.specs.Lines.{Held}
 use Rattle.pt_script.specs.Texts.{Writing}
 use Rattle.pt_script.specs.Ends.{BeginsScriptText, Course, IsBehind, IsFaultOf, IsReadFault}
 use Rattle.pt_script.specs.Ends.{IsScriptText}

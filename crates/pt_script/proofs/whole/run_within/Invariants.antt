@@ -1,5 +1,5 @@
 use Rattle.std.proofs.Common.{◌≡◌, ◌+◌, ◌*◌, ◌≤◌, false, length}
-use Rattle.pt_lines.specs.Lines.{IsBegun}
+use Rattle.pt_grammar.specs.Lines.{IsBegun}
 use Rattle.pt_script.specs.Ends.{IsBehind}
 use Rattle.pt_engine.specs.Engines.{known_by}
 use Rattle.pt_script.proofs.whole.run_within.Given as goal

@@ -1,5 +1,5 @@
 use Rattle.std.proofs.Common.{◌-◌, ◌++◌}
-use Rattle.pt_lines.specs.Lines.{Held}
+use Rattle.pt_grammar.specs.Lines.{Held}
 use Rattle.pt_engine.specs.declared.fault.ScriptFault.TheVariants.{Write}
 use Rattle.pt_script.specs.Texts.{Writing}
 use Rattle.pt_engine.specs.Engines.{known_by}

@@ -1,6 +1,6 @@
 use Rattle.std.proofs.Common.{[], refl, subst, sym}
 use Rattle.rtrb.specs.Ring.{sent}
-use Rattle.pt_lines.specs.Lines.{to_come}
+use Rattle.pt_grammar.specs.Lines.{to_come}
 use Rattle.pt_session.specs.declared.kinds.EndCause.TheVariants.{RingFull}
 use Rattle.pt_session.specs.Steps.{StopsPushing}
 use Rattle.pt_session.proofs.InputLemmas.{behind_full}

@@ -1,6 +1,6 @@
 use Rattle.std.proofs.Common.{rules, OnOk, sym, ap, ◌∙◌, subst}
 use Rattle.pt_types.specs.declared.outcome.Refusal.TheVariants.{Syntax}
-use Rattle.pt_lines.specs.declared.client.Who.TheVariants.{Named, Star}
+use Rattle.pt_grammar.specs.declared.client.Who.TheVariants.{Named, Star}
 use Rattle.pt_model.specs.declared.entry.Event.TheVariants as event
 use Rattle.pt_engine.specs.Scripts.{event_for, number_of, of_client}
 use Rattle.pt_engine.specs.Says.{SaysTo}

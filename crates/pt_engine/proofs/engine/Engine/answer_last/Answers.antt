@@ -1,6 +1,6 @@
 use Rattle.std.proofs.Common.{[], subst}
-use Rattle.pt_lines.specs.Lines.{to_come}
-use Rattle.pt_lines.specs.declared.script_line.ScriptLine.{ScriptLine}
+use Rattle.pt_grammar.specs.Lines.{to_come}
+use Rattle.pt_grammar.specs.declared.script_line.ScriptLine.{ScriptLine}
 use Rattle.pt_engine.specs.Says.{Says}
 use Rattle.pt_engine.specs.Engines.{Adds, known_by}
 use Rattle.pt_engine.proofs.Runs.{last_some}

@@ -1,6 +1,6 @@
 use Rattle.std.proofs.Common.{OnOk, sym, ap, ◌∙◌, subst}
-use Rattle.pt_lines.specs.declared.client.Who.TheVariants.{Star}
-use Rattle.pt_lines.specs.Script.{body_read}
+use Rattle.pt_grammar.specs.declared.client.Who.TheVariants.{Star}
+use Rattle.pt_grammar.specs.Script.{body_read}
 use Rattle.pt_engine.specs.Scripts.{event_of_body}
 use Rattle.pt_engine.specs.Says.{SaysTo}
 use Rattle.pt_engine.specs.Engines.{Adds, known_by}

@@ -1,5 +1,5 @@
 use Rattle.std.proofs.Common.{sym, subst}
-use Rattle.pt_lines.specs.Script.{IsNextScriptLine, short_read}
+use Rattle.pt_grammar.specs.Script.{IsNextScriptLine, short_read}
 use Rattle.pt_engine.specs.Engines.{known_by}
 use Rattle.pt_engine.proofs.Runs.{answers_none, answers_next}
 use Rattle.pt_engine.proofs.engine.Engine.answer_next.Goals as goal

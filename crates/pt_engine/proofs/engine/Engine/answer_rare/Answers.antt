@@ -1,5 +1,5 @@
 use Rattle.std.proofs.Common.{sym, ap, ◌∙◌}
-use Rattle.pt_lines.specs.Script.{body_read}
+use Rattle.pt_grammar.specs.Script.{body_read}
 use Rattle.pt_engine.specs.Scripts.{event_of_body}
 use Rattle.pt_engine.specs.Engines.{known_by}
 use Rattle.pt_engine.proofs.Lines.{refused_as}

@@ -3,8 +3,8 @@ use Rattle.pt_types.specs.declared.outcome.Refusal.TheVariants.{Syntax}
 use Rattle.pt_engine.proofs.Lines.{refused_as}
 use Rattle.pt_types.specs.NamedVerbs.{call_on}
 use Rattle.pt_model.specs.declared.entry.Event.TheVariants as event
-use Rattle.pt_lines.specs.declared.client.Who.TheVariants.{Named}
-use Rattle.pt_lines.specs.Script.{body_read}
+use Rattle.pt_grammar.specs.declared.client.Who.TheVariants.{Named}
+use Rattle.pt_grammar.specs.Script.{body_read}
 use Rattle.pt_engine.specs.Scripts.{event_of_body, number_of, of_client}
 use Rattle.pt_engine.specs.Says.{SaysTo}
 use Rattle.pt_engine.specs.Engines.{Adds, known_by}

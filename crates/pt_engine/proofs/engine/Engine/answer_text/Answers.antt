@@ -1,7 +1,7 @@
 use Rattle.std.proofs.Common.{◌≡◌, ◌<◌, ◌∙◌, OnOk, Some, suc, refl, sym, ap, subst}
 use Rattle.std.specs.Option.{option_copied}
-use Rattle.pt_lines.specs.declared.script_line.ScriptLine.{ScriptLine}
-use Rattle.pt_lines.specs.Script.{body_read}
+use Rattle.pt_grammar.specs.declared.script_line.ScriptLine.{ScriptLine}
+use Rattle.pt_grammar.specs.Script.{body_read}
 use Rattle.pt_engine.specs.Scripts.{event_of_body, lines_of_who}
 use Rattle.pt_engine.specs.Names.{Known}
 use Rattle.pt_engine.specs.Says.{Says, counted}

@@ -1,7 +1,7 @@
 use Rattle.std.proofs.Common.{OnOk, sym, ap, ◌∙◌, subst}
 use Rattle.pt_model.specs.declared.entry.Event.TheVariants as event
-use Rattle.pt_lines.specs.declared.client.Who.TheVariants.{Named}
-use Rattle.pt_lines.specs.Script.{asked_or_refused}
+use Rattle.pt_grammar.specs.declared.client.Who.TheVariants.{Named}
+use Rattle.pt_grammar.specs.Script.{asked_or_refused}
 use Rattle.pt_types.specs.declared.outcome.Refusal.TheVariants.{Syntax}
 use Rattle.pt_engine.specs.Scripts.{event_of_body, number_of, of_client}
 use Rattle.pt_engine.specs.Says.{SaysTo}

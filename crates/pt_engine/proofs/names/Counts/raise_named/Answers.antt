@@ -1,5 +1,5 @@
 use Rattle.std.proofs.Common.{◌<◌, ◌∙◌, ◌^◌, suc, sym, ap, subst}
-use Rattle.pt_lines.specs.declared.client.Who.TheVariants.{Named}
+use Rattle.pt_grammar.specs.declared.client.Who.TheVariants.{Named}
 use Rattle.pt_engine.specs.Names.{Counted, lines_in, row_of}
 use Rattle.pt_engine.proofs.names.Counts.raise_named.Goals as goal
 

@@ -1,5 +1,5 @@
 use Rattle.std.proofs.Common.{ℕ, ◌<◌, List, ◌∙◌, sym, ap, subst, map}
-use Rattle.pt_lines.specs.declared.client.Who.TheVariants.{Named}
+use Rattle.pt_grammar.specs.declared.client.Who.TheVariants.{Named}
 use Rattle.pt_engine.specs.Scripts.{lines_of_who, number_named}
 use Rattle.pt_engine.specs.Names.{Known, row_of, AreCounted}
 use Rattle.pt_engine.proofs.Rows.{has_row, joined_counted}

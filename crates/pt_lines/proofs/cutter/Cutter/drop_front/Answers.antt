@@ -1,5 +1,5 @@
 use Rattle.std.proofs.Common.{ap, length, arith}
-use Rattle.pt_lines.specs.Lines.{Held}
+use Rattle.pt_grammar.specs.Lines.{Held}
 use Rattle.pt_lines.proofs.CutLemmas.{front_dropped}
 use Rattle.pt_lines.proofs.cutter.Cutter.drop_front.Goals as goal
 

@@ -1,6 +1,6 @@
 use Rattle.std.proofs.Common.{◌≡◌, ◌<◌, ◌∙◌, ap, length, arith}
 use Rattle.std.proofs.lemmas.Grind.{common_steps}
-use Rattle.pt_lines.specs.Lines.{Held}
+use Rattle.pt_grammar.specs.Lines.{Held}
 use Rattle.pt_lines.proofs.CutLemmas.{at_end}
 use Rattle.pt_lines.proofs.cutter.Cutter.finish.Goals as goal
 

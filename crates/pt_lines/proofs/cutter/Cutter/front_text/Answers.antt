@@ -1,8 +1,8 @@
 use Rattle.std.proofs.Common.{◌≡◌, ◌∙◌, ◌+◌, ℕ, List, length, take, drop, ap, sym, subst, refl}
 use Rattle.std.proofs.Common.{arith}
 use Rattle.std.proofs.lemmas.List.{length-take-le}
-use Rattle.pt_lines.specs.Lines.{Held, past_line}
-use Rattle.pt_lines.specs.Script.{IsNextScriptLine, short_read}
+use Rattle.pt_grammar.specs.Lines.{Held, past_line}
+use Rattle.pt_grammar.specs.Script.{IsNextScriptLine, short_read}
 use Rattle.pt_lines.proofs.CutLemmas.{read_in_place, short_is_read}
 use Rattle.pt_lines.proofs.cutter.Cutter.front_text.Goals as goal
 

@@ -1,6 +1,6 @@
 use Rattle.std.proofs.Common.{◌≡◌, ◌∙◌, ap, subst, take, arith}
 use Rattle.memchr.specs.Find.{IsFirstByte, is_byte}
-use Rattle.pt_lines.specs.Lines.{Held}
+use Rattle.pt_grammar.specs.Lines.{Held}
 use Rattle.pt_lines.proofs.CutLemmas.{front_of}
 use Rattle.pt_lines.proofs.cutter.Cutter.newline_near.Goals as goal
 

@@ -1,6 +1,6 @@
 use Rattle.std.proofs.Common.{◌≡◌, ◌+◌, ◌∙◌, ap, take, drop}
-use Rattle.pt_lines.specs.Lines.{Held}
-use Rattle.pt_lines.specs.Reading.{call_read}
+use Rattle.pt_grammar.specs.Lines.{Held}
+use Rattle.pt_grammar.specs.Reading.{call_read}
 use Rattle.pt_lines.proofs.CutLemmas.{called_in_place, front_dropped}
 use Rattle.pt_lines.proofs.cutter.Cutter.next_call_line.Goals as goal
 

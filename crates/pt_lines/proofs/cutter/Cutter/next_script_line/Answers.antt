@@ -1,6 +1,6 @@
 use Rattle.std.proofs.Common.{◌≡◌, ◌+◌, ◌∙◌, ap, take, drop}
-use Rattle.pt_lines.specs.Lines.{Held}
-use Rattle.pt_lines.specs.Script.{short_read}
+use Rattle.pt_grammar.specs.Lines.{Held}
+use Rattle.pt_grammar.specs.Script.{short_read}
 use Rattle.pt_lines.proofs.CutLemmas.{front_dropped, read_in_place, short_is_read}
 use Rattle.pt_lines.proofs.cutter.Cutter.next_script_line.Goals as goal
 

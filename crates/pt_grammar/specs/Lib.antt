@@ -1,0 +1,9 @@
+pub mod Cuts
+pub mod Lines
+pub mod Verbs
+pub mod Arguments
+pub mod Grammar
+pub mod Reading
+pub mod ClientNames
+pub mod Clients
+pub mod Script

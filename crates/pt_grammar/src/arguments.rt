@@ -1,0 +1,209 @@
+ghost use Rattle.std.specs.Prelude.{◌≡◌, IfSome, Some};
+ghost use Rattle.std.specs.Option.{option_and_then, option_copied};
+ghost use Rattle.pt_grammar.specs.Arguments.{name_of, kind_of, robust_of, clock_named, alone};
+ghost use Rattle.pt_grammar.specs.Arguments.{first_then, priority_of, moment_of, two_numbers};
+ghost use Rattle.pt_grammar.specs.Arguments.{one_deadline, name_and_deadline, clock_and_deadline};
+ghost use Rattle.pt_grammar.specs.Arguments.{name_clock_and_deadline};
+ghost use Rattle.pt_fields.specs.Numbers.{number_of, IsNumber};
+
+use crate::verbs::is_same;
+use pt_fields::{Fields, read_number};
+use pt_types::{Clock, Deadline, Moment, MutexKind, Name, Priority};
+
+// A name.
+#[inline(always)]
+fn read_name(field: &[u8]) -> Option<Name>
+    ensures { result ≡ name_of field.now }
+{
+    Name::new(field)
+}
+
+// The kind of a mutex.
+fn read_kind(field: &[u8]) -> Option<MutexKind>
+    ensures { result ≡ kind_of field.now }
+{
+    if is_same(field, b"normal") || is_same(field, b"default") {
+        Some(MutexKind::Normal)
+    } else if is_same(field, b"errorcheck") {
+        Some(MutexKind::Errorcheck)
+    } else if is_same(field, b"recursive") {
+        Some(MutexKind::Recursive)
+    } else {
+        None
+    }
+}
+
+// Whether a mutex is robust.
+fn read_robust(field: &[u8]) -> Option<bool>
+    ensures { result ≡ robust_of field.now }
+{
+    if is_same(field, b"robust") {
+        Some(true)
+    } else if is_same(field, b"stalled") {
+        Some(false)
+    } else {
+        None
+    }
+}
+
+// The clock that a field names.
+fn read_clock(field: &[u8]) -> Option<Clock>
+    ensures { result ≡ clock_named field.now }
+{
+    if is_same(field, b"real") {
+        Some(Clock::Real)
+    } else if is_same(field, b"mono") {
+        Some(Clock::Mono)
+    } else {
+        None
+    }
+}
+
+// The only field that is left.
+fn only_field<'a>(mut args: Fields<'a>) -> Option<&'a [u8]>
+    ensures { option_copied result ≡ alone Some args.entry }
+{
+    let field = args.next()?;
+    if args.next().is_some() {
+        return None;
+    }
+    Some(field)
+}
+
+/// A name, and no more. No name has a space, so what is left is one field or no name.
+#[inline(always)]
+#[tactic(auto, using(crate::proofs::WholeLemmas::whole_name))]
+pub fn only_name(args: Fields) -> Option<Name>
+    ensures { result ≡ alone name_of args.entry }
+{
+    read_name(args.rest()?)
+}
+
+/// A number, and no more. No number has a space either.
+#[tactic(auto, using(crate::proofs::WholeLemmas::whole_number))]
+#[inline(always)]
+pub fn only_number(args: Fields) -> Option<u64>
+    ensures value { result ≡ alone number_of args.entry }
+    ensures fits { IfSome result IsNumber }
+{
+    read_number(args.rest()?)
+}
+
+/// A priority, and no more.
+pub fn only_priority(args: Fields) -> Option<Priority>
+    ensures { result ≡ option_and_then priority_of (alone number_of args.entry) }
+{
+    Priority::new(only_number(args)?)
+}
+
+// Seconds and nanoseconds, and no more.
+#[inline(always)]
+fn only_time(mut args: Fields) -> Option<(u64, u64)>
+    ensures value { result ≡ two_numbers args.entry }
+    ensures fits { IfSome result (λ time. IsNumber time.0 × IsNumber time.1) }
+{
+    let sec = read_number(args.next()?)?;
+    let nsec = only_number(args)?;
+    Some((sec, nsec))
+}
+
+/// A moment, and no more.
+#[inline(always)]
+pub fn only_moment(args: Fields) -> Option<Moment>
+    ensures { result ≡ option_and_then moment_of (two_numbers args.entry) }
+{
+    let (sec, nsec) = only_time(args)?;
+    Moment::new(sec, nsec)
+}
+
+/// A deadline, and no more.
+#[inline(always)]
+pub fn only_deadline(args: Fields) -> Option<Deadline>
+    ensures { result ≡ one_deadline args.entry }
+{
+    let (sec, nsec) = only_time(args)?;
+    Deadline::new(sec, nsec)
+}
+
+/// A name and a deadline.
+#[inline(always)]
+pub fn name_and_deadline(mut args: Fields) -> Option<(Name, Deadline)>
+    ensures { result ≡ name_and_deadline args.entry }
+{
+    let name = read_name(args.next()?)?;
+    let deadline = only_deadline(args)?;
+    Some((name, deadline))
+}
+
+// A clock and a deadline.
+fn clock_and_deadline(mut args: Fields) -> Option<(Clock, Deadline)>
+    ensures { result ≡ clock_and_deadline args.entry }
+{
+    let clock = read_clock(args.next()?)?;
+    let deadline = only_deadline(args)?;
+    Some((clock, deadline))
+}
+
+/// A name, a clock and a deadline.
+pub fn name_clock_and_deadline(mut args: Fields) -> Option<(Name, (Clock, Deadline))>
+    ensures { result ≡ name_clock_and_deadline args.entry }
+{
+    let name = read_name(args.next()?)?;
+    let due = clock_and_deadline(args)?;
+    Some((name, due))
+}
+
+/// Two names.
+#[inline(always)]
+pub fn two_names(mut args: Fields) -> Option<(Name, Name)>
+    ensures { result ≡ first_then name_of (alone name_of) args.entry }
+{
+    let first = read_name(args.next()?)?;
+    let second = only_name(args)?;
+    Some((first, second))
+}
+
+/// Two names and a deadline.
+pub fn two_names_and_deadline(mut args: Fields) -> Option<(Name, (Name, Deadline))>
+    ensures { result ≡ first_then name_of name_and_deadline args.entry }
+{
+    let first = read_name(args.next()?)?;
+    let rest = name_and_deadline(args)?;
+    Some((first, rest))
+}
+
+/// Two names, a clock and a deadline.
+pub fn two_names_clock_and_deadline(mut args: Fields) -> Option<(Name, (Name, (Clock, Deadline)))>
+    ensures { result ≡ first_then name_of name_clock_and_deadline args.entry }
+{
+    let first = read_name(args.next()?)?;
+    let rest = name_clock_and_deadline(args)?;
+    Some((first, rest))
+}
+
+/// A name and a count.
+pub fn name_and_count(mut args: Fields) -> Option<(Name, u64)>
+    ensures { result ≡ first_then name_of (alone number_of) args.entry }
+{
+    let name = read_name(args.next()?)?;
+    let count = only_number(args)?;
+    Some((name, count))
+}
+
+/// A kind, and whether the mutex is robust.
+pub fn kind_and_robust(mut args: Fields) -> Option<(MutexKind, bool)>
+    ensures { result ≡ first_then kind_of (alone robust_of) args.entry }
+{
+    let kind = read_kind(args.next()?)?;
+    let robust = read_robust(only_field(args)?)?;
+    Some((kind, robust))
+}
+
+/// A name, a kind, and whether the mutex is robust.
+pub fn name_and_kind(mut args: Fields) -> Option<(Name, (MutexKind, bool))>
+    ensures { result ≡ first_then name_of (first_then kind_of (alone robust_of)) args.entry }
+{
+    let name = read_name(args.next()?)?;
+    let kind = kind_and_robust(args)?;
+    Some((name, kind))
+}

@@ -1,0 +1,321 @@
+ghost use Rattle.std.specs.Prelude.{◌≡◌, ◌↔◌, ◌≤◌, ◌<◌, ◌++◌, ◌∷◌, IsTrue, IfSome, length, take};
+ghost use Rattle.std.specs.Cmp.{partial_equiv_from_equiv};
+ghost use Rattle.std.specs.Cmp.Lexicographic.{nat_list_eq_equiv};
+ghost use Rattle.std.specs.List.{list_all};
+ghost use Rattle.std.specs.Str.{bytes_eq};
+ghost use Rattle.pt_grammar.specs.ClientNames.{is_client_byte, IsClientName};
+
+use std::hash::{Hash, Hasher};
+use std::marker::Model;
+use std::simd::prelude::*;
+
+// How many bytes a client's name has at most.
+const MOST: usize = 8;
+
+/// The name of a client in a script: 1 to 8 ASCII letters or digits.
+///
+/// Contracts see it as its bytes. What fills its block up has no meaning.
+#[derive(Clone, Drop)]
+pub struct ClientName {
+    block: [u8; MOST],
+    len: u8,
+}
+
+impl Model for ClientName {
+    ghost use Rattle.std.specs.Prelude.{◌≤◌, List, ℕ, take};
+    ghost use Rattle.pt_grammar.specs.ClientNames.{IsClientName};
+
+    ghost Value = { List ℕ };
+
+    ghost view = { λ n. take n.len n.block };
+
+    ghost invariant = { λ n. (n.len ≤ 8) × IsClientName (take n.len n.block) };
+}
+
+// Which bytes a client's name may have.
+const MAY_STAND: [bool; 256] = [
+    false, false, false, false, false, false, false, false, false, false, false, false, false,
+    false, false, false, false, false, false, false, false, false, false, false, false, false,
+    false, false, false, false, false, false, false, false, false, false, false, false, false,
+    false, false, false, false, false, false, false, false, false, true, true, true, true, true,
+    true, true, true, true, true, false, false, false, false, false, false, false, true, true,
+    true, true, true, true, true, true, true, true, true, true, true, true, true, true, true, true,
+    true, true, true, true, true, true, true, true, false, false, false, false, false, false, true,
+    true, true, true, true, true, true, true, true, true, true, true, true, true, true, true, true,
+    true, true, true, true, true, true, true, true, true, false, false, false, false, false, false,
+    false, false, false, false, false, false, false, false, false, false, false, false, false,
+    false, false, false, false, false, false, false, false, false, false, false, false, false,
+    false, false, false, false, false, false, false, false, false, false, false, false, false,
+    false, false, false, false, false, false, false, false, false, false, false, false, false,
+    false, false, false, false, false, false, false, false, false, false, false, false, false,
+    false, false, false, false, false, false, false, false, false, false, false, false, false,
+    false, false, false, false, false, false, false, false, false, false, false, false, false,
+    false, false, false, false, false, false, false, false, false, false, false, false, false,
+    false, false, false, false, false, false, false, false, false, false, false, false, false,
+    false, false, false, false, false, false, false, false, false, false,
+];
+
+fn may_stand(byte: u8) -> bool
+    ensures { result ≡ is_client_byte byte }
+{
+    MAY_STAND[byte as usize]
+}
+
+fn may_all_stand(bytes: &[u8]) -> bool
+    ensures { result ≡ list_all is_client_byte bytes.now }
+{
+    for byte in bytes {
+        if !may_stand(*byte) {
+            return false;
+        }
+    }
+    true
+}
+
+// Whether these bytes are a client's name.
+fn is_name(bytes: &[u8]) -> bool
+    ensures { IsTrue result ↔ IsClientName bytes.now }
+{
+    !bytes.is_empty() && bytes.len() <= 8 && may_all_stand(bytes)
+}
+
+// Few bytes, with what fills their block up. It isn't inlined, since few texts are so short.
+#[cold]
+#[inline(never)]
+fn filled_up(bytes: &[u8]) -> [u8; MOST]
+    requires { length bytes.now ≤ 8 }
+    ensures { take (length bytes.now) result ≡ bytes.now }
+{
+    let mut block = [0; MOST];
+    block[..bytes.len()].copy_from_slice(bytes);
+    block
+}
+
+// A block that begins with this many bytes of a text.
+#[inline(always)]
+#[tactic(auto, using(crate::proofs::StartLemmas::front_of))]
+fn block_of(text: &[u8], len: usize) -> [u8; MOST]
+    requires within { len ≤ length text.now }
+    requires short { len ≤ 8 }
+    ensures { take len result ≡ take len text.now }
+{
+    match text.first_chunk::<MOST>() {
+        Some(block) => *block,
+        None => filled_up(&text[..len]),
+    }
+}
+
+// The place of the first byte that a client's name can't have, of the first eight bytes of a text,
+// and eight if there is none. All are tested at once.
+#[inline(always)]
+fn block_len(text: &[u8]) -> usize
+    requires { MOST ≤ length text.now }
+    ensures short { result ≤ 8 }
+    ensures stand { IsTrue (list_all is_client_byte (take result text.now)) }
+{
+    let bytes = u8x8::from_slice(text);
+    let from_zero = bytes - u8x8::splat(b'0');
+    let from_a = (bytes | u8x8::splat(0x20)) - u8x8::splat(b'a');
+    let stops = from_zero.simd_ge(u8x8::splat(10)) & from_a.simd_ge(u8x8::splat(26));
+    let mask = stops.to_bitmask();
+    if mask == 0 {
+        return MOST;
+    }
+    mask.trailing_zeros() as usize
+}
+
+// The same of a text of fewer bytes, which few lines are.
+#[cold]
+#[inline(never)]
+fn short_len(text: &[u8]) -> usize
+    requires { length text.now < 8 }
+    ensures within { result ≤ length text.now }
+    ensures stand { IsTrue (list_all is_client_byte (take result text.now)) }
+{
+    for place in 0..text.len() {
+        if !may_stand(text[place]) {
+            return place;
+        }
+    }
+    text.len()
+}
+
+// How many bytes are before the first that a client's name can't have, but at most eight.
+#[inline(always)]
+fn name_len(text: &[u8]) -> usize
+    ensures within { result ≤ length text.now }
+    ensures short { result ≤ 8 }
+    ensures stand { IsTrue (list_all is_client_byte (take result text.now)) }
+{
+    if text.len() < MOST {
+        return short_len(text);
+    }
+    block_len(text)
+}
+
+/// The client at the start of a text and what is after it and a space, if a client's name and a
+/// space are there. The name is tested as the space is searched for.
+#[inline(always)]
+#[tactic(auto, using(crate::proofs::StartLemmas::named_by))]
+pub(crate) fn client_at_start(text: &[u8]) -> Option<(ClientName, &[u8])>
+    ensures text { IfSome result (λ start. text.now ≡ start.0 ++ 32 ∷ start.1.now) }
+    ensures name { IfSome result (λ start. IsClientName start.0) }
+{
+    let len = name_len(text);
+    if len == 0 || len >= text.len() || text[len] != b' ' {
+        return None;
+    }
+    let name = ClientName {
+        block: block_of(text, len),
+        len: len as u8,
+    };
+    Some((name, &text[len + 1..]))
+}
+
+// The name of these bytes, which are one.
+#[tactic(auto, using(crate::proofs::StartLemmas::whole, crate::proofs::StartLemmas::whole_name))]
+fn name_of(bytes: &[u8]) -> ClientName
+    requires { IsClientName bytes.now }
+    ensures { result ≡ bytes.now }
+{
+    ClientName {
+        block: block_of(bytes, bytes.len()),
+        len: bytes.len() as u8,
+    }
+}
+
+impl ClientName {
+    ghost use Rattle.std.specs.Prelude.{IsSome, IfSome};
+
+    /// The name of these bytes; None if they are no name.
+    pub fn new(bytes: &[u8]) -> Option<ClientName>
+        ensures valid { IsSome result ↔ IsClientName bytes.now }
+        ensures value { IfSome result (λ name. name ≡ bytes.now) }
+    {
+        if !is_name(bytes) {
+            return None;
+        }
+        Some(name_of(bytes))
+    }
+
+    /// The bytes of the name.
+    pub fn as_bytes(&self) -> &[u8]
+        ensures bytes { result.now ≡ self.now }
+        ensures name { IsClientName result.now }
+    {
+        // There are no more than eight, as the compiler then knows: a copy of them needs no loop.
+        &self.block[..MOST.min(self.len as usize)]
+    }
+
+    /// The block that begins with the bytes of the name, and how many they are.
+    #[inline(always)]
+    pub fn filled(&self) -> ([u8; MOST], usize)
+        ensures short { result.1 ≤ 8 }
+        ensures bytes { take result.1 result.0 ≡ self.now }
+    {
+        (self.block, MOST.min(self.len as usize))
+    }
+
+    /// A second name of the same bytes. It takes no memory.
+    pub fn copied(&self) -> ClientName
+        ensures { result ≡ self.now }
+    {
+        ClientName {
+            block: self.block,
+            len: self.len,
+        }
+    }
+}
+
+impl PartialEq for ClientName {
+    ghost eq = { bytes_eq };
+
+    ghost laws = { partial_equiv_from_equiv nat_list_eq_equiv };
+
+    fn eq(&self, other: &Self) -> bool {
+        self.as_bytes() == other.as_bytes()
+    }
+}
+
+impl Eq for ClientName {
+    ghost laws = { nat_list_eq_equiv };
+}
+
+// The bytes are hashed at once, and not one after the other.
+impl Hash for ClientName {
+    ghost use Rattle.std.specs.Prelude.{[], ◌∷◌};
+    ghost use Rattle.std.proofs.Common.{rules};
+
+    ghost hash_input = { λ n. n ∷ [] };
+
+    ghost respects_eq = { Prim.search rules };
+
+    fn hash<H: Hasher>(&self, state: &mut H) {
+        state.write(self.as_bytes());
+    }
+}
+
+/// Whose a line of a script is.
+#[derive(Clone, PartialEq, Eq, Hash, Drop)]
+pub enum Who {
+    /// A client's.
+    Named(ClientName),
+    /// The clocks', written `*`.
+    Star,
+    /// That of no client that can be read, written `?`.
+    Unknown,
+}
+
+impl Who {
+    ghost use Rattle.std.specs.Prelude.{◌≤◌, length};
+    ghost use Rattle.pt_grammar.specs.Clients.{who_text, who_named};
+
+    /// Whose this name is: `*`, a client's name, or neither.
+    pub fn named(name: &[u8]) -> Who
+        ensures { result ≡ who_named name.now }
+    {
+        if is_name(name) {
+            return Who::Named(name_of(name));
+        }
+        if name == b"*".as_slice() {
+            return Who::Star;
+        }
+        Who::Unknown
+    }
+
+    /// The bytes that are printed for it.
+    pub fn as_bytes(&self) -> &[u8]
+        ensures bytes { result.now ≡ who_text self.now }
+        ensures short { length result.now ≤ 8 }
+    {
+        match self {
+            Who::Named(name) => name.as_bytes(),
+            Who::Star => b"*",
+            Who::Unknown => b"?",
+        }
+    }
+
+    /// A block that begins with the bytes that are printed for it, and how many they are.
+    #[inline(always)]
+    pub fn filled(&self) -> ([u8; MOST], usize)
+        ensures short { result.1 ≤ 8 }
+        ensures bytes { take result.1 result.0 ≡ who_text self.now }
+    {
+        match self {
+            Who::Named(name) => name.filled(),
+            Who::Star => (*b"*.......", 1),
+            Who::Unknown => (*b"?.......", 1),
+        }
+    }
+
+    /// A copy of the client. It takes no memory.
+    pub fn copied(&self) -> Who
+        ensures { result ≡ self.now }
+    {
+        match self {
+            Who::Named(name) => Who::Named(name.copied()),
+            Who::Star => Who::Star,
+            Who::Unknown => Who::Unknown,
+        }
+    }
+}

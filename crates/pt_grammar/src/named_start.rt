@@ -1,0 +1,278 @@
+//! Calls that are often made, and moments, by the bytes that a line begins with.
+
+ghost use Rattle.std.specs.Prelude.{◌≡◌, ◌≤◌, ◌++◌, [], ◌∷◌, IfSome, List, Option, Ok, Err, ℕ};
+ghost use Rattle.std.specs.Prelude.{length, take};
+ghost use Rattle.std.specs.Bool.{OnTrue};
+ghost use Rattle.std.specs.Option.{option_map};
+ghost use Rattle.pt_types.specs.declared.call.Call.{Call};
+ghost use Rattle.pt_types.specs.declared.outcome.Refusal.TheVariants as refusal;
+ghost use Rattle.pt_types.specs.declared.call.Call.TheVariants as call;
+ghost use Rattle.pt_types.specs.Names.{IsName};
+ghost use Rattle.pt_types.specs.declared.time.Clock.TheVariants as clock;
+ghost use Rattle.pt_types.specs.NamedVerbs.{call_on};
+ghost use Rattle.pt_grammar.specs.declared.call_line.CallLine.TheVariants as line;
+ghost use Rattle.pt_grammar.specs.declared.client.Who.TheVariants as who;
+ghost use Rattle.pt_grammar.specs.declared.script_line.ScriptBody.TheVariants as body;
+ghost use Rattle.pt_grammar.specs.Reading.{line_of, IsAsked};
+ghost use Rattle.pt_grammar.specs.Script.{asked_or_refused, body_read};
+ghost use Rattle.pt_grammar.specs.Verbs.{call_until, named_word, timed_word, word_of};
+
+use crate::arguments::{kind_and_robust, only_deadline, only_moment, only_number};
+use crate::call_line::read_asked;
+use crate::verb::{TimedVerb, Verb};
+use pt_fields::Fields;
+use pt_types::{Call, Deadline, Moment, MutexKind, NamedVerb};
+
+// Whether two blocks are the same, which are compared as numbers.
+#[inline(always)]
+fn are_same(one: &[u8; 4], other: &[u8; 4]) -> bool
+    ensures { OnTrue result (one.now ≡ other.now) }
+{
+    u32::from_le_bytes(*one) == u32::from_le_bytes(*other)
+}
+
+// Whether two texts begin with the same four bytes.
+#[inline(always)]
+fn begin_alike(one: &[u8], other: &[u8]) -> bool
+    ensures { OnTrue result (take 4 one.now ≡ take 4 other.now) }
+{
+    match (one.first_chunk::<4>(), other.first_chunk::<4>()) {
+        (Some(one), Some(other)) => are_same(one, other),
+        _ => false,
+    }
+}
+
+// What is after these bytes, of which there are at least four, if a text begins with them.
+#[inline(always)]
+fn after<'a>(text: &'a [u8], start: &[u8]) -> Option<&'a [u8]>
+    requires { 4 ≤ length start.now }
+    ensures { IfSome result (λ rest. text.now ≡ start.now ++ rest.now) }
+{
+    if text.len() < start.len() || !begin_alike(text, start) {
+        return None;
+    }
+    for place in 4..start.len() {
+        if text[place] != start[place] {
+            return None;
+        }
+    }
+    Some(&text[start.len()..])
+}
+
+// This word and what is after it and a space, if a text begins with them.
+#[inline(always)]
+fn said<'a>(text: &'a [u8], verb: NamedVerb, start: &[u8]) -> Option<(NamedVerb, &'a [u8])>
+    requires is { start.now ≡ named_word verb ++ 32 ∷ [] }
+    requires long { 4 ≤ length start.now }
+    ensures { IfSome result (λ said. text.now ≡ named_word said.0 ++ 32 ∷ said.1.now) }
+{
+    let rest = after(text, start)?;
+    Some((verb, rest))
+}
+
+// The same of the words that begin with `b`.
+fn said_by_b(text: &[u8]) -> Option<(NamedVerb, &[u8])>
+    ensures { IfSome result (λ said. text.now ≡ named_word said.0 ++ 32 ∷ said.1.now) }
+{
+    if let Some(said) = said(text, NamedVerb::Bwait, b"bwait ") {
+        return Some(said);
+    }
+    if let Some(said) = said(text, NamedVerb::Broadcast, b"broadcast ") {
+        return Some(said);
+    }
+    said(text, NamedVerb::BarrierDestroy, b"barrier-destroy ")
+}
+
+// The same of the words that begin with `c`.
+fn said_by_c(text: &[u8]) -> Option<(NamedVerb, &[u8])>
+    ensures { IfSome result (λ said. text.now ≡ named_word said.0 ++ 32 ∷ said.1.now) }
+{
+    if let Some(said) = said(text, NamedVerb::Consistent, b"consistent ") {
+        return Some(said);
+    }
+    if let Some(said) = said(text, NamedVerb::CondInit, b"cond-init ") {
+        return Some(said);
+    }
+    said(text, NamedVerb::CondDestroy, b"cond-destroy ")
+}
+
+// The same of the words that begin with `r`.
+fn said_by_r(text: &[u8]) -> Option<(NamedVerb, &[u8])>
+    ensures { IfSome result (λ said. text.now ≡ named_word said.0 ++ 32 ∷ said.1.now) }
+{
+    if let Some(said) = said(text, NamedVerb::Rdlock, b"rdlock ") {
+        return Some(said);
+    }
+    if let Some(said) = said(text, NamedVerb::Rwunlock, b"rwunlock ") {
+        return Some(said);
+    }
+    if let Some(said) = said(text, NamedVerb::RwlockInit, b"rwlock-init ") {
+        return Some(said);
+    }
+    said(text, NamedVerb::RwlockDestroy, b"rwlock-destroy ")
+}
+
+// The same of the words that begin with `t`.
+fn said_by_t(text: &[u8]) -> Option<(NamedVerb, &[u8])>
+    ensures { IfSome result (λ said. text.now ≡ named_word said.0 ++ 32 ∷ said.1.now) }
+{
+    if let Some(said) = said(text, NamedVerb::Trylock, b"trylock ") {
+        return Some(said);
+    }
+    if let Some(said) = said(text, NamedVerb::Tryrdlock, b"tryrdlock ") {
+        return Some(said);
+    }
+    said(text, NamedVerb::Trywrlock, b"trywrlock ")
+}
+
+// The word that a text begins with, and what is after it and a space. Few words have one first
+// letter, so few are compared.
+fn said_at_start(text: &[u8]) -> Option<(NamedVerb, &[u8])>
+    ensures { IfSome result (λ said. text.now ≡ named_word said.0 ++ 32 ∷ said.1.now) }
+{
+    match text.first() {
+        Some(b'l') => said(text, NamedVerb::Lock, b"lock "),
+        Some(b'u') => said(text, NamedVerb::Unlock, b"unlock "),
+        Some(b'w') => said(text, NamedVerb::Wrlock, b"wrlock "),
+        Some(b's') => said(text, NamedVerb::Signal, b"signal "),
+        Some(b'm') => said(text, NamedVerb::MutexDestroy, b"mutex-destroy "),
+        Some(b'b') => said_by_b(text),
+        Some(b'c') => said_by_c(text),
+        Some(b'r') => said_by_r(text),
+        Some(b't') => said_by_t(text),
+        _ => None,
+    }
+}
+
+/// The word of a call of one name and what is after it and a space, if a text begins with them. A
+/// client that says this calls the word on that, if it is a name. Most lines are such calls, and
+/// these are read without a search for spaces.
+#[inline(always)]
+pub fn named_at_start(text: &[u8]) -> Option<(NamedVerb, &[u8])>
+    ensures called { IfSome result (λ said. (client : List ℕ) → IsName said.1.now
+        → body_read (who.Named client) text.now
+        ≡ Ok (body.Ask (call_on said.0 said.1.now))) }
+    ensures refused { IfSome result (λ said. (client : List ℕ) → (IsName said.1.now → ⊥)
+        → length text.now ≤ 128
+        → body_read (who.Named client) text.now ≡ Err refusal.Syntax) }
+{
+    said_at_start(text)
+}
+
+/// What is after `wait` up to the next space, and what is after that, if a text begins with these.
+/// A client that says this waits at the first with the second, if both are names.
+#[inline(always)]
+pub fn wait_at_start(text: &[u8]) -> Option<(&[u8], &[u8])>
+    ensures { IfSome result (λ said. (client : List ℕ) → IsName said.0.now → IsName said.1.now
+        → body_read (who.Named client) text.now
+        ≡ Ok (body.Ask (call.Wait said.0.now said.1.now))) }
+{
+    let args = after(text, b"wait ")?;
+    let mut fields = Fields::new(args);
+    let cond = fields.next()?;
+    let mutex = fields.rest()?;
+    Some((cond, mutex))
+}
+
+// The word of a call of one name and a deadline that a text begins with, and what is after it and
+// a space.
+#[inline(always)]
+fn timed_word_at_start(text: &[u8]) -> Option<(TimedVerb, &[u8])>
+    ensures { IfSome result (λ said. text.now ≡ timed_word said.0 ++ 32 ∷ said.1.now) }
+{
+    if let Some(rest) = after(text, b"timedlock ") {
+        return Some((TimedVerb::Timedlock, rest));
+    }
+    if let Some(rest) = after(text, b"timedrdlock ") {
+        return Some((TimedVerb::Timedrdlock, rest));
+    }
+    let rest = after(text, b"timedwrlock ")?;
+    Some((TimedVerb::Timedwrlock, rest))
+}
+
+/// The word of a call of one name and a deadline, what is after it up to the next space, and the
+/// deadline after that, if a text begins with the word and goes on so. A client that says this
+/// makes this call, if the second is a name.
+#[inline(always)]
+pub fn timed_at_start(text: &[u8]) -> Option<(TimedVerb, &[u8], Deadline)>
+    ensures { IfSome result (λ said. (client : List ℕ) → IsName said.1.now
+        → body_read (who.Named client) text.now
+        ≡ Ok (body.Ask (call_until said.0 said.1.now said.2))) }
+{
+    let (verb, args) = timed_word_at_start(text)?;
+    let mut fields = Fields::new(args);
+    let name = fields.next()?;
+    let deadline = only_deadline(fields)?;
+    Some((verb, name, deadline))
+}
+
+// The call that this verb makes of what is after its word and a space, if a text begins with them.
+#[inline(always)]
+fn asked_by(text: &[u8], verb: Verb, start: &[u8]) -> Option<Option<Call>>
+    requires is { start.now ≡ word_of verb ++ 32 ∷ [] }
+    requires long { 4 ≤ length start.now }
+    requires asks { (args : List (List ℕ)) (asked : Option Call) → IsAsked verb args asked
+        → option_map line.Ask asked ≡ line_of verb args }
+    ensures called { IfSome result (λ asked. IfSome asked (λ call. (client : List ℕ)
+        → body_read (who.Named client) text.now ≡ Ok (body.Ask call))) }
+    ensures read { IfSome result (λ asked. (client : List ℕ) → length text.now ≤ 128
+        → body_read (who.Named client) text.now ≡ asked_or_refused asked) }
+{
+    let args = after(text, start)?;
+    Some(read_asked(verb, Fields::new(args)))
+}
+
+/// The wait with a deadline, if a text begins with the word of one. A client's line that says this
+/// asks for it, or is refused as SYNTAX if there is none.
+#[inline(always)]
+pub fn timedwait_at_start(text: &[u8]) -> Option<Option<Call>>
+    ensures called { IfSome result (λ asked. IfSome asked (λ call. (client : List ℕ)
+        → body_read (who.Named client) text.now ≡ Ok (body.Ask call))) }
+    ensures read { IfSome result (λ asked. (client : List ℕ) → length text.now ≤ 128
+        → body_read (who.Named client) text.now ≡ asked_or_refused asked) }
+{
+    asked_by(text, Verb::Timedwait, b"timedwait ")
+}
+
+/// What is after `mutex-init` up to the next space, and the kind and whether the mutex is robust
+/// after that, if a text begins with the word and goes on so. A client that says this makes this
+/// mutex, if the first is a name.
+#[inline(always)]
+pub fn mutex_init_at_start(text: &[u8]) -> Option<(&[u8], MutexKind, bool)>
+    ensures { IfSome result (λ said. (client : List ℕ) → IsName said.0.now
+        → body_read (who.Named client) text.now
+        ≡ Ok (body.Ask (call.MutexInit said.0.now said.1 said.2))) }
+{
+    let args = after(text, b"mutex-init ")?;
+    let mut fields = Fields::new(args);
+    let name = fields.next()?;
+    let (kind, robust) = kind_and_robust(fields)?;
+    Some((name, kind, robust))
+}
+
+/// What is after `barrier-init` up to the next space, and the count after that, if a text begins
+/// with the word and goes on so. A client that says this makes this barrier, if the first is a
+/// name.
+#[inline(always)]
+pub fn barrier_init_at_start(text: &[u8]) -> Option<(&[u8], u64)>
+    ensures { IfSome result (λ said. (client : List ℕ) → IsName said.0.now
+        → body_read (who.Named client) text.now
+        ≡ Ok (body.Ask (call.BarrierInit said.0.now said.1))) }
+{
+    let args = after(text, b"barrier-init ")?;
+    let mut fields = Fields::new(args);
+    let name = fields.next()?;
+    let count = only_number(fields)?;
+    Some((name, count))
+}
+
+/// The moment of the real clock, if a text begins with the word of one and a line of the clocks
+/// that says this gives it.
+#[inline(always)]
+pub fn moment_at_start(text: &[u8]) -> Option<Moment>
+    ensures { IfSome result (λ moment. body_read who.Star text.now
+        ≡ Ok (body.Tick clock.Real moment)) }
+{
+    let args = after(text, b"moment ")?;
+    only_moment(Fields::new(args))
+}

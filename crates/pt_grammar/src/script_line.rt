@@ -1,0 +1,144 @@
+ghost use Rattle.std.specs.Prelude.{◌≡◌};
+ghost use Rattle.std.specs.Option.{option_copied};
+ghost use Rattle.pt_grammar.specs.Clients.{before_space, behind_space, who_named};
+ghost use Rattle.pt_grammar.specs.Script.{body_of, body_read, IsReadAs, short_read, script_read};
+
+use crate::call_line::{CallLine, read_call};
+use crate::client::{Who, client_at_start};
+use crate::cut::Cut;
+use crate::verbs::is_same;
+use pt_fields::first_space;
+use pt_types::{Call, Clock, MOST_IN_LINE, Moment, Priority, Refusal};
+
+/// What a line of a script says.
+#[derive(PartialEq, Eq, Drop)]
+pub enum ScriptBody {
+    Hello(Priority),
+    Ask(Call),
+    /// The client's process ends.
+    Die,
+    Tick(Clock, Moment),
+}
+
+/// A line of a script: whose it is, and what it says, or SYNTAX or LONG.  [profile]
+#[derive(PartialEq, Eq, Drop)]
+pub struct ScriptLine {
+    pub who: Who,
+    pub body: Result<ScriptBody, Refusal>,
+}
+
+// What is before the first space, and what is after it.
+fn split_at_space(text: &[u8]) -> (&[u8], Option<&[u8]>)
+    ensures before { result.0.now ≡ before_space text.now }
+    ensures behind { option_copied result.1 ≡ behind_space text.now }
+{
+    match first_space(text) {
+        Some(end) => (&text[..end], Some(&text[end + 1..])),
+        None => (text, None),
+    }
+}
+
+// A connection's line as a line of a script, if this client may send it there.
+fn body_of(who: &Who, line: CallLine) -> Result<ScriptBody, Refusal>
+    ensures { result ≡ body_of who.now line }
+{
+    match (who, line) {
+        (Who::Named(_), CallLine::Hello(priority)) => Ok(ScriptBody::Hello(priority)),
+        (Who::Named(_), CallLine::Ask(call)) => Ok(ScriptBody::Ask(call)),
+        (Who::Star, CallLine::Tick(clock, moment)) => Ok(ScriptBody::Tick(clock, moment)),
+        _ => Err(Refusal::Syntax),
+    }
+}
+
+/// What is said after a client and a space. It isn't inlined, so that what is said more often has
+/// no room to clear for it.
+#[inline(never)]
+pub fn read_said(who: &Who, text: &[u8]) -> Result<ScriptBody, Refusal>
+    ensures { result ≡ body_read who.now text.now }
+{
+    match who {
+        Who::Unknown => return Err(Refusal::Syntax),
+        Who::Named(_) if is_same(text, b"die") => return Ok(ScriptBody::Die),
+        _ => {}
+    }
+    let line = read_call(text)?;
+    body_of(who, line)
+}
+
+/// Whose a line of a script is, and what comes after its client and a space, if a space does.
+#[inline(always)]
+pub fn read_client(text: &[u8]) -> (Who, Option<&[u8]>)
+    ensures who { result.0 ≡ who_named (before_space text.now) }
+    ensures behind { option_copied result.1 ≡ behind_space text.now }
+{
+    match client_at_start(text) {
+        Some((name, rest)) => (Who::Named(name), Some(rest)),
+        None => match text {
+            [b'*', b' ', rest @ ..] => (Who::Star, Some(rest)),
+            _ => read_other_client(text),
+        },
+    }
+}
+
+// The same, of any text. It isn't inlined, since few lines are no client's and no clock's.
+#[inline(never)]
+fn read_other_client(text: &[u8]) -> (Who, Option<&[u8]>)
+    ensures who { result.0 ≡ who_named (before_space text.now) }
+    ensures behind { option_copied result.1 ≡ behind_space text.now }
+{
+    let (name, rest) = split_at_space(text);
+    (Who::named(name), rest)
+}
+
+/// Reads a line that is not too long.
+pub fn read_short(text: &[u8]) -> ScriptLine
+    ensures { result ≡ short_read text.now }
+{
+    let (who, rest) = read_client(text);
+    match rest {
+        Some(rest) => {
+            let body = read_said(&who, rest);
+            ScriptLine { who, body }
+        }
+        None => ScriptLine {
+            who,
+            body: Err(Refusal::Syntax),
+        },
+    }
+}
+
+/// Reads a line of a script. It takes no memory.
+pub fn read_script_line(text: &[u8]) -> ScriptLine
+    ensures value { result ≡ script_read text.now }
+    ensures read { IsReadAs text.now result }
+{
+    if text.len() > MOST_IN_LINE {
+        return ScriptLine::long();
+    }
+    read_short(text)
+}
+
+impl ScriptLine {
+    ghost use Rattle.pt_grammar.specs.Script.{IsReadOf, script_of, long_line};
+
+    /// A line that is too long: nobody's, and LONG.  [profile]
+    pub fn long() -> ScriptLine
+        ensures { result ≡ long_line }
+    {
+        ScriptLine {
+            who: Who::Unknown,
+            body: Err(Refusal::Long),
+        }
+    }
+
+    /// Reads what a cutter gave. It takes no memory.
+    pub fn of(cut: &Cut) -> ScriptLine
+        ensures value { result ≡ script_of cut.now }
+        ensures read { IsReadOf cut.now result }
+    {
+        match cut {
+            Cut::Line(text) => read_script_line(text.as_slice()),
+            Cut::Long => ScriptLine::long(),
+        }
+    }
+}

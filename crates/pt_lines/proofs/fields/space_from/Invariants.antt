@@ -1,5 +1,0 @@
-use Rattle.memchr.specs.Find.{Nowhere, Passes, is_byte}
-use Rattle.pt_lines.proofs.fields.space_from.Given as goal
-
-abbrev pub invariant-loop-place : goal.invariant-loop-place
-invariant-loop-place l = Nowhere (Passes (is_byte 32) l.text) 0 l.place
