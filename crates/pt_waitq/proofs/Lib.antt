@@ -54,3 +54,5 @@ mod FirstOut
 mod OpenedLemmas
 -- OpenedRows: what is read of a queue that is made, from its row or from none
 mod OpenedRows
+-- GrowthLemmas: what stands as room is made for one more client or queue
+mod GrowthLemmas
