@@ -56,3 +56,5 @@ mod OpenedLemmas
 mod OpenedRows
 -- GrowthLemmas: what stands as room is made for one more client or queue
 mod GrowthLemmas
+-- ForgetLemmas: what is left as elements are taken away from a list's end to its start
+mod ForgetLemmas
