@@ -1,6 +1,9 @@
 -- Growth: what stands as room is made for one more client or queue.
 use Rattle.std.proofs.Common.{◌≡◌, ℕ, ◌==◌, ◌+◌, ◌≤◌, min, Bool, true, false, ◌||◌, List, [], ◌∷◌, ◌++◌}
 use Rattle.std.proofs.Common.{Option, refl, sym, ap, ◌∙◌, subst, arith}
+use Rattle.std.specs.Prelude.{Result, Ok, Err, IfOk, OnErr, IsErr}
+use Rattle.std.specs.List.{AllByRecursion as Each}
+use Rattle.std.proofs.lemmas.Bool.{false≢true}
 use Rattle.pt_waitq.specs.declared.waiter.Waiter.{Waiter}
 use Rattle.pt_waitq.specs.declared.nodes.Node.{Node}
 use Rattle.pt_waitq.specs.declared.sides.Queue.{Queue}
@@ -74,3 +77,22 @@ one-admitted homes hs es k n d e =
     swap true false z = refl
     swap false true z = refl
     swap false false z = refl
+
+-- one more at the end
+pub each-more : {X : Type 0} (P : X → Type 0) (xs ys zs : List X) (x : X) → ys ≡ xs
+    → zs ≡ ys ++ x ∷ [] → Each P xs → P x → Each P zs
+each-more {X} P xs ys zs x same e a b =
+    subst (Each P) (sym (e ∙ ap (λ l. l ++ x ∷ []) same)) (go xs a)
+  where
+    go : (l : List X) → Each P l → Each P (l ++ x ∷ [])
+    go [] h = (b, tt)
+    go (y ∷ l) h = (h.0, go l h.1)
+
+-- what is said of one outcome
+pub if-err : {X E : Type 0} (r : Result X E) (P : X → Type 0) → IsErr r → IfOk r P
+if-err (Ok x) P h = absurd (false≢true h)
+if-err (Err e) P h = tt
+
+pub on-err : {X E : Type 0} (r : Result X E) (P : Type 0) → P → OnErr r P
+on-err (Ok x) P h = tt
+on-err (Err e) P h = h
