@@ -58,3 +58,5 @@ mod OpenedRows
 mod GrowthLemmas
 -- ForgetLemmas: what is left as elements are taken away from a list's end to its start
 mod ForgetLemmas
+-- SlotLemmas: what is read of nodes after one is written
+mod SlotLemmas
