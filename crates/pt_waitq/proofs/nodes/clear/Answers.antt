@@ -19,9 +19,9 @@ returns-clause-there g c = λ n.
     let held : node_in slots c.args.node ≡ Some old =
     slot-held option_copied_mut slots c.args.node c.get.result c.get_mut.result
     (Some c.unwrap-node.result) c.get.ensures c.get_mut.ensures.value c.unwrap-node.ensures in
-    slot-alike (λ s. is_some s) slots c.args.node c.get.result n new
+    slot-alike is_some slots c.args.node c.get.result n new
     c.get.ensures c.requires
-    (ap (λ s. is_some s) (sym held))
+    (ap is_some (sym held))
 
 pub returns-clause-client : goal.returns-clause-client
 returns-clause-client g c = λ n.
@@ -37,9 +37,9 @@ returns-clause-client g c = λ n.
     let held : node_in slots c.args.node ≡ Some old =
     slot-held option_copied_mut slots c.args.node c.get.result c.get_mut.result
     (Some c.unwrap-node.result) c.get.ensures c.get_mut.ensures.value c.unwrap-node.ensures in
-    slot-alike (λ s. option_map (λ (m : Node). m.waiter.client) s) slots c.args.node c.get.result n new
+    slot-alike (option_map (λ (m : Node). m.waiter.client)) slots c.args.node c.get.result n new
     c.get.ensures c.requires
-    (ap (λ s. option_map (λ (m : Node). m.waiter.client) s) (sym held))
+    (ap (option_map (λ (m : Node). m.waiter.client)) (sym held))
 
 pub returns-clause-entry : goal.returns-clause-entry
 returns-clause-entry g c = λ n.
@@ -52,7 +52,7 @@ returns-clause-entry g c = λ n.
       next = c.none-node.result;
       before = c.none-node-2.result;
     } in
-    slot-written (λ s. option_and_then entry_at s) slots c.args.node c.get.result n new
+    slot-written (option_and_then entry_at) slots c.args.node c.get.result n new
     c.get.ensures c.requires
 
 pub returns-clause-next : goal.returns-clause-next
@@ -66,7 +66,7 @@ returns-clause-next g c = λ n.
       next = c.none-node.result;
       before = c.none-node-2.result;
     } in
-    slot-written (λ s. option_and_then (λ (m : Node). m.next) s) slots c.args.node c.get.result n new
+    slot-written (option_and_then (λ (m : Node). m.next)) slots c.args.node c.get.result n new
     c.get.ensures c.requires
     ∙ ap (λ l. cond (c.args.node == n) l (next_in slots n)) c.none-node.ensures
 
@@ -81,6 +81,6 @@ returns-clause-before g c = λ n.
       next = c.none-node.result;
       before = c.none-node-2.result;
     } in
-    slot-written (λ s. option_and_then (λ (m : Node). m.before) s) slots c.args.node c.get.result n new
+    slot-written (option_and_then (λ (m : Node). m.before)) slots c.args.node c.get.result n new
     c.get.ensures c.requires
     ∙ ap (λ l. cond (c.args.node == n) l (before_in slots n)) c.none-node-2.ensures

@@ -14,9 +14,9 @@ returns-clause-there g c = λ n.
     let held : node_in slots c.args.node ≡ Some old =
     slot-held option_copied_mut slots c.args.node c.get.result c.get_mut.result
     (Some c.unwrap.result) c.get.ensures c.get_mut.ensures.value c.unwrap.ensures in
-    slot-alike (λ s. is_some s) slots c.args.node c.get.result n new
+    slot-alike is_some slots c.args.node c.get.result n new
     c.get.ensures c.requires
-    (ap (λ s. is_some s) (sym held))
+    (ap is_some (sym held))
 
 pub returns-clause-next : goal.returns-clause-next
 returns-clause-next g c = λ n.
@@ -27,9 +27,9 @@ returns-clause-next g c = λ n.
     let held : node_in slots c.args.node ≡ Some old =
     slot-held option_copied_mut slots c.args.node c.get.result c.get_mut.result
     (Some c.unwrap.result) c.get.ensures c.get_mut.ensures.value c.unwrap.ensures in
-    slot-alike (λ s. option_and_then (λ (m : Node). m.next) s) slots c.args.node c.get.result n new
+    slot-alike (option_and_then (λ (m : Node). m.next)) slots c.args.node c.get.result n new
     c.get.ensures c.requires
-    (ap (λ s. option_and_then (λ (m : Node). m.next) s) (sym held))
+    (ap (option_and_then (λ (m : Node). m.next)) (sym held))
 
 pub returns-clause-before : goal.returns-clause-before
 returns-clause-before g c = λ n.
@@ -37,7 +37,7 @@ returns-clause-before g c = λ n.
     let old = c.unwrap.result.now in
     let new : Node =
     record { object = old.object; waiter = old.waiter; before = c.args.before; next = old.next } in
-    slot-written (λ s. option_and_then (λ (m : Node). m.before) s) slots c.args.node c.get.result n new
+    slot-written (option_and_then (λ (m : Node). m.before)) slots c.args.node c.get.result n new
     c.get.ensures c.requires
 
 pub returns-clause-entry : goal.returns-clause-entry
@@ -49,9 +49,9 @@ returns-clause-entry g c = λ n.
     let held : node_in slots c.args.node ≡ Some old =
     slot-held option_copied_mut slots c.args.node c.get.result c.get_mut.result
     (Some c.unwrap.result) c.get.ensures c.get_mut.ensures.value c.unwrap.ensures in
-    slot-alike (λ s. option_and_then entry_at s) slots c.args.node c.get.result n new
+    slot-alike (option_and_then entry_at) slots c.args.node c.get.result n new
     c.get.ensures c.requires
-    (ap (λ s. option_and_then entry_at s) (sym held))
+    (ap (option_and_then entry_at) (sym held))
 
 pub returns-clause-client : goal.returns-clause-client
 returns-clause-client g c = λ n.
@@ -62,6 +62,6 @@ returns-clause-client g c = λ n.
     let held : node_in slots c.args.node ≡ Some old =
     slot-held option_copied_mut slots c.args.node c.get.result c.get_mut.result
     (Some c.unwrap.result) c.get.ensures c.get_mut.ensures.value c.unwrap.ensures in
-    slot-alike (λ s. option_map (λ (m : Node). m.waiter.client) s) slots c.args.node c.get.result n new
+    slot-alike (option_map (λ (m : Node). m.waiter.client)) slots c.args.node c.get.result n new
     c.get.ensures c.requires
-    (ap (λ s. option_map (λ (m : Node). m.waiter.client) s) (sym held))
+    (ap (option_map (λ (m : Node). m.waiter.client)) (sym held))
