@@ -54,3 +54,9 @@ mod FirstOut
 mod OpenedLemmas
 -- OpenedRows: what is read of a queue that is made, from its row or from none
 mod OpenedRows
+-- GrowthLemmas: what stands as room is made for one more client or queue
+mod GrowthLemmas
+-- ForgetLemmas: what is left as elements are taken away from a list's end to its start
+mod ForgetLemmas
+-- SlotLemmas: what is read of nodes after one is written
+mod SlotLemmas

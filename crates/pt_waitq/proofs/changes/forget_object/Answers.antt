@@ -1,0 +1,30 @@
+use Rattle.std.proofs.Common.{ℕ, ◌==◌, not, length, sym, ap, ◌∙◌}
+use Rattle.pt_waitq.proofs.ForgetLemmas.{one-less, kept-more, kept-less, kept-last}
+use Rattle.pt_waitq.proofs.changes.forget_object.Goals as goal
+
+pub loop-i-preserved-then-eq : goal.loop-i-preserved-then-eq
+loop-i-preserved-then-eq g c =
+    let old = c.args.objects.now.items in
+    let kept = c.loop-i.invariant in (
+      one-less c.loop-i.i (length old) kept.0,
+      kept-less (λ (x : ℕ). not (x == c.args.object)) old c.loop-i.objects.items
+          c.remove.new.self.items c.loop-i.i c.index.result.now c.loop-i-test.true kept.0 kept.1
+          c.index.ensures (ap not (sym c.eq.ensures ∙ c.if-eq.true)) c.remove.ensures.items,
+      c.remove.ensures.capacity ∙ kept.2,
+    )
+
+pub loop-i-preserved : goal.loop-i-preserved
+loop-i-preserved g c =
+    let old = c.args.objects.now.items in
+    let kept = c.loop-i.invariant in (
+      one-less c.loop-i.i (length old) kept.0,
+      kept-more (λ (x : ℕ). not (x == c.args.object)) old c.loop-i.objects.items c.loop-i.i
+          c.index.result.now c.loop-i-test.true kept.0 kept.1 c.index.ensures
+          (ap not (sym c.eq.ensures ∙ c.if-eq.false)),
+      kept.2,
+    )
+
+pub returns : goal.returns
+returns g c =
+    kept-last (λ (x : ℕ). not (x == c.args.object)) c.args.objects.now.items c.loop-i.objects.items
+    c.loop-i.i c.loop-i-test.false c.loop-i.invariant.1
