@@ -1,9 +1,24 @@
-use Rattle.std.proofs.Common.{ap, sym, ◌∙◌, arith}
+use Rattle.std.proofs.Common.{ap, sym, ◌∙◌, arith, subst}
+use Rattle.std.specs.Option.{option_copied}
+use Rattle.pt_model.specs.declared.entry.Event.TheVariants.{Call}
+use Rattle.pt_model.specs.Steps.{Step}
 use Rattle.pt_state.specs.Adds.{past}
 use Rattle.pt_state.specs.Needed.{added_by, used_by}
 use Rattle.pt_touched.specs.Touched.{touched_by}
-use Rattle.pt_machine.specs.Planned.{entry_with}
+use Rattle.pt_machine.specs.Planned.{HasOperation, HasRequest, entry_with}
 use Rattle.pt_machine.proofs.body.Body.change_by.Goals as goal
+
+pub change_by_call-requires : goal.change_by_call-requires
+change_by_call-requires g c =
+    let h = past c.args.self.now in
+    record {
+      read = c.requires.read;
+      does = subst (HasOperation (Call c.in-Call.c c.in-Call.call))
+          (sym c.as_ref.ensures.value ∙ ap option_copied c.unwrap-operation.ensures)
+          (subst (λ e. HasOperation e c.args.operation.now) c.in-Call.is c.requires.does);
+      step = subst (λ e. Step h (entry_with h e c.args.answer)) c.in-Call.is c.requires.step;
+      asks = subst (λ e. HasRequest h e c.args.request.now) c.in-Call.is c.requires.asks;
+    }
 
 pub returns-in-Join : goal.returns-in-Join
 returns-in-Join g c =

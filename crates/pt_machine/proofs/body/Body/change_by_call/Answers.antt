@@ -1,10 +1,8 @@
-use Rattle.std.proofs.Common.{◌≡◌, ap, ◌∙◌, sym}
-use Rattle.pt_types.specs.Operations.{operation}
-use Rattle.pt_types.specs.Shown.{shown_operation}
+use Rattle.std.proofs.Common.{ap, ◌∙◌, sym}
 use Rattle.pt_model.specs.declared.entry.Entry.TheVariants.{Call}
 use Rattle.pt_state.specs.Adds.{past}
-use Rattle.pt_state.specs.Needed.{added_by, used_by, used_by_operation}
-use Rattle.pt_touched.specs.Touched.{touched_by, touched_by_operation}
+use Rattle.pt_state.specs.Needed.{added_by, used_by}
+use Rattle.pt_touched.specs.Touched.{touched_by}
 use Rattle.pt_machine.proofs.body.Body.change_by_call.Goals as goal
 
 pub returns-in-None : goal.returns-in-None
