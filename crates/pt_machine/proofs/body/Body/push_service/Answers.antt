@@ -68,7 +68,8 @@ returns-in-Some g c = λ w given.
     sym (sym (c.requires.read.callers.look.calls c.args.c) ∙ ap (option_map called) (sym its))
     ∙ given in
     let one : called o ≡ w = cc same in
-    subst (λ (v : WaitingCall). Adds s (service (past s) v) c.push_gained.new.self) one c.push_gained.ensures
+    subst (λ (v : WaitingCall). Adds s (service (past s) v) c.push_gained.new.self) one
+    c.push_gained.ensures
 
 pub returns-in-None : goal.returns-in-None
 returns-in-None g c = λ w given.
@@ -80,4 +81,5 @@ returns-in-None g c = λ w given.
     sym (sym (c.requires.read.callers.look.calls c.args.c) ∙ ap (option_map called) (sym its))
     ∙ given in
     let one : called o ≡ w = cc same in
-    subst (λ (v : WaitingCall). Adds s (service (past s) v) c.push_passed.new.self) one c.push_passed.ensures
+    subst (λ (v : WaitingCall). Adds s (service (past s) v) c.push_passed.new.self) one
+    c.push_passed.ensures
