@@ -15,6 +15,9 @@ use Rattle.pt_machine.proofs.body.Body.mutex_candidate.Goals as goal
 pub first_at-requires-clause-read : goal.first_at-requires-clause-read
 first_at-requires-clause-read g c = c.requires.read
 
+pub open_of-requires : goal.open_of-requires
+open_of-requires g c = rw c.self.view_is c.requires.read
+
 pub returns-then-may_lock : goal.returns-then-may_lock
 returns-then-may_lock g c =
     let s = c.args.self.now in

@@ -24,6 +24,9 @@ mutex_verdict-requires-clause-read g c = rw c.self.view_is c.requires.read
 pub plain_read_verdict-requires-clause-read : goal.plain_read_verdict-requires-clause-read
 plain_read_verdict-requires-clause-read g c = c.requires.read
 
+pub read_verdict-requires-clause-read : goal.read_verdict-requires-clause-read
+read_verdict-requires-clause-read g c = c.requires.read
+
 pub write_verdict-requires-clause-read : goal.write_verdict-requires-clause-read
 write_verdict-requires-clause-read g c = rw c.self.view_is c.requires.read
 
