@@ -252,12 +252,16 @@ module _ (h : History) (f : Follows h) (c : ℕ) (call : Asked)
         go ReadLock q e m l t = absurd (false≢true l)
         go MutexLock None e m l t = absurd (has_lock MutexLock None m)
         go WriteLock None e m l t = absurd (has_lock WriteLock None m)
-        go MutexLock (Some kind_is.Rwlock) e m l t = absurd (has_lock MutexLock (Some kind_is.Rwlock) m)
+        go MutexLock (Some kind_is.Rwlock) e m l t =
+            absurd (has_lock MutexLock (Some kind_is.Rwlock) m)
         go MutexLock (Some kind_is.Cond) e m l t = absurd (has_lock MutexLock (Some kind_is.Cond) m)
-        go MutexLock (Some (kind_is.Barrier z)) e m l t = absurd (has_lock MutexLock (Some (kind_is.Barrier z)) m)
-        go WriteLock (Some (kind_is.Mutex q a)) e m l t = absurd (has_lock WriteLock (Some (kind_is.Mutex q a)) m)
+        go MutexLock (Some (kind_is.Barrier z)) e m l t =
+            absurd (has_lock MutexLock (Some (kind_is.Barrier z)) m)
+        go WriteLock (Some (kind_is.Mutex q a)) e m l t =
+            absurd (has_lock WriteLock (Some (kind_is.Mutex q a)) m)
         go WriteLock (Some kind_is.Cond) e m l t = absurd (has_lock WriteLock (Some kind_is.Cond) m)
-        go WriteLock (Some (kind_is.Barrier z)) e m l t = absurd (has_lock WriteLock (Some (kind_is.Barrier z)) m)
+        go WriteLock (Some (kind_is.Barrier z)) e m l t =
+            absurd (has_lock WriteLock (Some (kind_is.Barrier z)) m)
 
     -- so it is held if the call is not granted as it comes
     held : (b : Bool) → rests_by (Acquires n k Plain) b ≡ true

@@ -293,15 +293,24 @@ module _ (h : History) (f : Follows h) (c : ℕ) (call : Asked) (had : IsGranted
         go MutexLock is free None e m = absurd (has_lock MutexLock None m)
         go ReadLock is free None e m = absurd (has_lock ReadLock None m)
         go WriteLock is free None e m = absurd (has_lock WriteLock None m)
-        go MutexLock is free (Some kind_is.Rwlock) e m = absurd (has_lock MutexLock (Some kind_is.Rwlock) m)
-        go MutexLock is free (Some kind_is.Cond) e m = absurd (has_lock MutexLock (Some kind_is.Cond) m)
-        go MutexLock is free (Some (kind_is.Barrier n)) e m = absurd (has_lock MutexLock (Some (kind_is.Barrier n)) m)
-        go ReadLock is free (Some (kind_is.Mutex q r)) e m = absurd (has_lock ReadLock (Some (kind_is.Mutex q r)) m)
-        go ReadLock is free (Some kind_is.Cond) e m = absurd (has_lock ReadLock (Some kind_is.Cond) m)
-        go ReadLock is free (Some (kind_is.Barrier n)) e m = absurd (has_lock ReadLock (Some (kind_is.Barrier n)) m)
-        go WriteLock is free (Some (kind_is.Mutex q r)) e m = absurd (has_lock WriteLock (Some (kind_is.Mutex q r)) m)
-        go WriteLock is free (Some kind_is.Cond) e m = absurd (has_lock WriteLock (Some kind_is.Cond) m)
-        go WriteLock is free (Some (kind_is.Barrier n)) e m = absurd (has_lock WriteLock (Some (kind_is.Barrier n)) m)
+        go MutexLock is free (Some kind_is.Rwlock) e m =
+            absurd (has_lock MutexLock (Some kind_is.Rwlock) m)
+        go MutexLock is free (Some kind_is.Cond) e m =
+            absurd (has_lock MutexLock (Some kind_is.Cond) m)
+        go MutexLock is free (Some (kind_is.Barrier n)) e m =
+            absurd (has_lock MutexLock (Some (kind_is.Barrier n)) m)
+        go ReadLock is free (Some (kind_is.Mutex q r)) e m =
+            absurd (has_lock ReadLock (Some (kind_is.Mutex q r)) m)
+        go ReadLock is free (Some kind_is.Cond) e m =
+            absurd (has_lock ReadLock (Some kind_is.Cond) m)
+        go ReadLock is free (Some (kind_is.Barrier n)) e m =
+            absurd (has_lock ReadLock (Some (kind_is.Barrier n)) m)
+        go WriteLock is free (Some (kind_is.Mutex q r)) e m =
+            absurd (has_lock WriteLock (Some (kind_is.Mutex q r)) m)
+        go WriteLock is free (Some kind_is.Cond) e m =
+            absurd (has_lock WriteLock (Some kind_is.Cond) m)
+        go WriteLock is free (Some (kind_is.Barrier n)) e m =
+            absurd (has_lock WriteLock (Some (kind_is.Barrier n)) m)
 
     no_service : forced_service t ≡ None
     no_service =

@@ -214,15 +214,21 @@ module _ (h : History) (f : Follows h) (c : ℕ) (call : Asked) (had : IsGranted
       go MutexLock e free None t = absurd (has_lock MutexLock None t)
       go ReadLock e free None t = absurd (has_lock ReadLock None t)
       go WriteLock e free None t = absurd (has_lock WriteLock None t)
-      go MutexLock e free (Some kind_is.Rwlock) t = absurd (has_lock MutexLock (Some kind_is.Rwlock) t)
+      go MutexLock e free (Some kind_is.Rwlock) t =
+          absurd (has_lock MutexLock (Some kind_is.Rwlock) t)
       go MutexLock e free (Some kind_is.Cond) t = absurd (has_lock MutexLock (Some kind_is.Cond) t)
-      go MutexLock e free (Some (kind_is.Barrier n)) t = absurd (has_lock MutexLock (Some (kind_is.Barrier n)) t)
-      go ReadLock e free (Some (kind_is.Mutex q r)) t = absurd (has_lock ReadLock (Some (kind_is.Mutex q r)) t)
+      go MutexLock e free (Some (kind_is.Barrier n)) t =
+          absurd (has_lock MutexLock (Some (kind_is.Barrier n)) t)
+      go ReadLock e free (Some (kind_is.Mutex q r)) t =
+          absurd (has_lock ReadLock (Some (kind_is.Mutex q r)) t)
       go ReadLock e free (Some kind_is.Cond) t = absurd (has_lock ReadLock (Some kind_is.Cond) t)
-      go ReadLock e free (Some (kind_is.Barrier n)) t = absurd (has_lock ReadLock (Some (kind_is.Barrier n)) t)
-      go WriteLock e free (Some (kind_is.Mutex q r)) t = absurd (has_lock WriteLock (Some (kind_is.Mutex q r)) t)
+      go ReadLock e free (Some (kind_is.Barrier n)) t =
+          absurd (has_lock ReadLock (Some (kind_is.Barrier n)) t)
+      go WriteLock e free (Some (kind_is.Mutex q r)) t =
+          absurd (has_lock WriteLock (Some (kind_is.Mutex q r)) t)
       go WriteLock e free (Some kind_is.Cond) t = absurd (has_lock WriteLock (Some kind_is.Cond) t)
-      go WriteLock e free (Some (kind_is.Barrier n)) t = absurd (has_lock WriteLock (Some (kind_is.Barrier n)) t)
+      go WriteLock e free (Some (kind_is.Barrier n)) t =
+          absurd (has_lock WriteLock (Some (kind_is.Barrier n)) t)
 
   -- what is touched is the lock
   pub touches : touched after ≡ Some had.object
