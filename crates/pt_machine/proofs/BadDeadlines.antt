@@ -251,8 +251,8 @@ module _ (h : History) (f : Follows h) (c : ℕ) (call : Asked) (n : forced h �
       ∙ unheld_back (rwlock_view h w.object w.client) (is_blocked h w.object w.priority)
       (is_blocked g w.object w.priority)
       (blocked_before w.object w.priority (ap is_write r)) t
-  may_new ForBarrier r k t = absurd cc
-  may_new (ForCond m) r k t = absurd cc
+  may_new ForBarrier r k t = absurd (false≢true k)
+  may_new (ForCond m) r k t = absurd (false≢true k)
 
   -- nobody may go on where nothing is forced
   none_may : (v : WaitingCall) → In v (open_calls h) → may h v ≡ true → ⊥

@@ -59,6 +59,7 @@ use Rattle.pt_machine.specs.declared.planning.Plan.{Plan}
 use Rattle.pt_machine.specs.AtRest.{IsUnopposed, NoneWaits, rests_after, rests_by}
 use Rattle.pt_machine.specs.GrantedAtOnce.{IsFree}
 use Rattle.pt_machine.specs.Planned.{IsPlanned}
+use Rattle.pt_machine.proofs.LockClasses.{has_lock}
 use Rattle.pt_machine.proofs.CalmCalls.{Calm, answered, calm-rests, due, idle, kind-at, known}
 use Rattle.pt_machine.proofs.CalmCalls.{none-forced, opens, orphan, stays_put}
 
@@ -248,15 +249,19 @@ module _ (h : History) (f : Follows h) (c : ℕ) (call : Asked)
             && is_write_if (first_at h o)) again (first_at h o))) t.0
             ∙ ap (λ b. cond (b && is_write_if (first_at h o)) again (first_at h o)) t.1)
             ∙ (sym (ap (candidate_by h o) e) ∙ unserved)
-        go ReadLock q e m l t = absurd cc
-        go MutexLock None e m l t = absurd cc
-        go WriteLock None e m l t = absurd cc
-        go MutexLock (Some kind_is.Rwlock) e m l t = absurd cc
-        go MutexLock (Some kind_is.Cond) e m l t = absurd cc
-        go MutexLock (Some (kind_is.Barrier z)) e m l t = absurd cc
-        go WriteLock (Some (kind_is.Mutex q a)) e m l t = absurd cc
-        go WriteLock (Some kind_is.Cond) e m l t = absurd cc
-        go WriteLock (Some (kind_is.Barrier z)) e m l t = absurd cc
+        go ReadLock q e m l t = absurd (false≢true l)
+        go MutexLock None e m l t = absurd (has_lock MutexLock None m)
+        go WriteLock None e m l t = absurd (has_lock WriteLock None m)
+        go MutexLock (Some kind_is.Rwlock) e m l t =
+            absurd (has_lock MutexLock (Some kind_is.Rwlock) m)
+        go MutexLock (Some kind_is.Cond) e m l t = absurd (has_lock MutexLock (Some kind_is.Cond) m)
+        go MutexLock (Some (kind_is.Barrier z)) e m l t =
+            absurd (has_lock MutexLock (Some (kind_is.Barrier z)) m)
+        go WriteLock (Some (kind_is.Mutex q a)) e m l t =
+            absurd (has_lock WriteLock (Some (kind_is.Mutex q a)) m)
+        go WriteLock (Some kind_is.Cond) e m l t = absurd (has_lock WriteLock (Some kind_is.Cond) m)
+        go WriteLock (Some (kind_is.Barrier z)) e m l t =
+            absurd (has_lock WriteLock (Some (kind_is.Barrier z)) m)
 
     -- so it is held if the call is not granted as it comes
     held : (b : Bool) → rests_by (Acquires n k Plain) b ≡ true

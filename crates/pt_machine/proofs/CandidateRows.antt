@@ -130,6 +130,12 @@ module _ {A : Type 0} (h : History) (clients : List (ClientRow Caller))
         && (is_recursive (mutex_kind (kind_of h m)) && (is_wait (called o).role && is_some v)))
         ((are-open h clients f a).known o i).1)
 
+    -- the first is served, if it may lock
+    pub mutex-free : may_lock x.seen true ≡ true → first_at h m ≡ mutex_candidate h m
+    mutex-free may =
+        ap (λ b. cond b (first_at h m) (if_passes (comes_back h m) (open_call_if h (owner h m))))
+        (sym may ∙ free)
+
     -- if a relock does not count there, none is served
     pub mutex-plain : may_lock x.seen true ≡ false → is_recursive x.seen.kind ≡ false
         → None ≡ mutex_candidate h m

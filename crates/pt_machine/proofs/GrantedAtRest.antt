@@ -46,6 +46,7 @@ use Rattle.pt_touched.proofs.Candidates.{candidates, serves_touched}
 use Rattle.pt_touched.proofs.ClientCalls.{open_call-found, open_call-is}
 use Rattle.pt_touched.proofs.ServedFirsts.{none_serves}
 use Rattle.pt_machine.specs.GrantedAtOnce.{IsFree, IsGrantedAtOnce}
+use Rattle.pt_machine.proofs.LockClasses.{has_lock}
 use Rattle.pt_machine.proofs.GrantsAtOnce.{after, comes, comes-open, granted, same_open, touches}
 
 -- if the first of two that is there is none, there is neither
@@ -289,18 +290,27 @@ module _ (h : History) (f : Follows h) (c : ℕ) (call : Asked) (had : IsGranted
         go WriteLock is free (Some kind_is.Rwlock) e m =
             ap (λ b. cond b None (cond (is_some (reader t o) && is_write_if (first_at t o)) again
             (first_at t o))) (writes_now is)
-        go MutexLock is free None e m = absurd cc
-        go ReadLock is free None e m = absurd cc
-        go WriteLock is free None e m = absurd cc
-        go MutexLock is free (Some kind_is.Rwlock) e m = absurd cc
-        go MutexLock is free (Some kind_is.Cond) e m = absurd cc
-        go MutexLock is free (Some (kind_is.Barrier n)) e m = absurd cc
-        go ReadLock is free (Some (kind_is.Mutex q r)) e m = absurd cc
-        go ReadLock is free (Some kind_is.Cond) e m = absurd cc
-        go ReadLock is free (Some (kind_is.Barrier n)) e m = absurd cc
-        go WriteLock is free (Some (kind_is.Mutex q r)) e m = absurd cc
-        go WriteLock is free (Some kind_is.Cond) e m = absurd cc
-        go WriteLock is free (Some (kind_is.Barrier n)) e m = absurd cc
+        go MutexLock is free None e m = absurd (has_lock MutexLock None m)
+        go ReadLock is free None e m = absurd (has_lock ReadLock None m)
+        go WriteLock is free None e m = absurd (has_lock WriteLock None m)
+        go MutexLock is free (Some kind_is.Rwlock) e m =
+            absurd (has_lock MutexLock (Some kind_is.Rwlock) m)
+        go MutexLock is free (Some kind_is.Cond) e m =
+            absurd (has_lock MutexLock (Some kind_is.Cond) m)
+        go MutexLock is free (Some (kind_is.Barrier n)) e m =
+            absurd (has_lock MutexLock (Some (kind_is.Barrier n)) m)
+        go ReadLock is free (Some (kind_is.Mutex q r)) e m =
+            absurd (has_lock ReadLock (Some (kind_is.Mutex q r)) m)
+        go ReadLock is free (Some kind_is.Cond) e m =
+            absurd (has_lock ReadLock (Some kind_is.Cond) m)
+        go ReadLock is free (Some (kind_is.Barrier n)) e m =
+            absurd (has_lock ReadLock (Some (kind_is.Barrier n)) m)
+        go WriteLock is free (Some (kind_is.Mutex q r)) e m =
+            absurd (has_lock WriteLock (Some (kind_is.Mutex q r)) m)
+        go WriteLock is free (Some kind_is.Cond) e m =
+            absurd (has_lock WriteLock (Some kind_is.Cond) m)
+        go WriteLock is free (Some (kind_is.Barrier n)) e m =
+            absurd (has_lock WriteLock (Some (kind_is.Barrier n)) m)
 
     no_service : forced_service t ≡ None
     no_service =

@@ -54,10 +54,15 @@ use Rattle.pt_touched.proofs.Unchanged.{reader-same, writer-same}
 use Rattle.pt_machine.specs.GrantedAtOnce.{IsFree, IsGrantedAtOnce}
 use Rattle.pt_machine.specs.Queued.{IsQueued, waiter}
 use Rattle.pt_machine.specs.Timed.{set_at}
+use Rattle.pt_machine.proofs.LockClasses.{has_lock}
 use Rattle.pt_machine.proofs.QueueFirsts.{least-open}
 use Rattle.pt_machine.proofs.TimedCalls.{set-left}
 use Rattle.pt_machine.proofs.TimedStates.{unset}
 use Rattle.pt_machine.proofs.TimedSteps.{set-grant, set-new}
+
+-- a lesser number is another
+apart_below : (a b : ℕ) → a < b → (a == b) ≡ false
+apart_below a b lt = grind (arith, nat_tests)
 
 -- a call of a lower priority goes before none of a higher one
 lower : (a b : Key) → a.priority < b.priority → goes_before a b ≡ false
@@ -206,18 +211,24 @@ module _ (h : History) (f : Follows h) (c : ℕ) (call : Asked) (had : IsGranted
           ∙ (ap (λ b. cond (b && is_write_if (first_at after had.object)) again
           (first_at after had.object)) free.1
           ∙ first)
-      go MutexLock e free None t = absurd cc
-      go ReadLock e free None t = absurd cc
-      go WriteLock e free None t = absurd cc
-      go MutexLock e free (Some kind_is.Rwlock) t = absurd cc
-      go MutexLock e free (Some kind_is.Cond) t = absurd cc
-      go MutexLock e free (Some (kind_is.Barrier n)) t = absurd cc
-      go ReadLock e free (Some (kind_is.Mutex q r)) t = absurd cc
-      go ReadLock e free (Some kind_is.Cond) t = absurd cc
-      go ReadLock e free (Some (kind_is.Barrier n)) t = absurd cc
-      go WriteLock e free (Some (kind_is.Mutex q r)) t = absurd cc
-      go WriteLock e free (Some kind_is.Cond) t = absurd cc
-      go WriteLock e free (Some (kind_is.Barrier n)) t = absurd cc
+      go MutexLock e free None t = absurd (has_lock MutexLock None t)
+      go ReadLock e free None t = absurd (has_lock ReadLock None t)
+      go WriteLock e free None t = absurd (has_lock WriteLock None t)
+      go MutexLock e free (Some kind_is.Rwlock) t =
+          absurd (has_lock MutexLock (Some kind_is.Rwlock) t)
+      go MutexLock e free (Some kind_is.Cond) t = absurd (has_lock MutexLock (Some kind_is.Cond) t)
+      go MutexLock e free (Some (kind_is.Barrier n)) t =
+          absurd (has_lock MutexLock (Some (kind_is.Barrier n)) t)
+      go ReadLock e free (Some (kind_is.Mutex q r)) t =
+          absurd (has_lock ReadLock (Some (kind_is.Mutex q r)) t)
+      go ReadLock e free (Some kind_is.Cond) t = absurd (has_lock ReadLock (Some kind_is.Cond) t)
+      go ReadLock e free (Some (kind_is.Barrier n)) t =
+          absurd (has_lock ReadLock (Some (kind_is.Barrier n)) t)
+      go WriteLock e free (Some (kind_is.Mutex q r)) t =
+          absurd (has_lock WriteLock (Some (kind_is.Mutex q r)) t)
+      go WriteLock e free (Some kind_is.Cond) t = absurd (has_lock WriteLock (Some kind_is.Cond) t)
+      go WriteLock e free (Some (kind_is.Barrier n)) t =
+          absurd (has_lock WriteLock (Some (kind_is.Barrier n)) t)
 
   -- what is touched is the lock
   pub touches : touched after ≡ Some had.object
@@ -260,8 +271,7 @@ module _ (h : History) (f : Follows h) (c : ℕ) (call : Asked) (had : IsGranted
         older : (w : WaitingCall) → In w (open_calls h) → remains w ≡ true
         older w i =
             let lt : w.place < place h = (below_open h w (Fresh-follows h f) i).0 in
-            let apart : (w.place == place h) ≡ false = grind (arith, nat_tests) in
-            ap not apart
+            ap not (apart_below w.place (place h) lt)
 
     -- the queues stay
     pub queued : (v : QueuesView) → IsQueued h v → IsQueued granted v

@@ -14,6 +14,8 @@ pub mod OpenRowCalls
 pub mod CandidateRows
 -- ServiceLemmas: what is served first: a full barrier's calls, or a client's open call
 pub mod ServiceLemmas
+-- LockClasses: which objects have a lock of a kind
+pub mod LockClasses
 -- GrantsAtOnce: a call for a free lock, ahead of those that wait for it, is granted as it comes
 pub mod GrantsAtOnce
 -- GrantedAtRest: nothing must follow the Grant of a call that is granted as it comes

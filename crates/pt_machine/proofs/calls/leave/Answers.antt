@@ -1,3 +1,6 @@
+use Rattle.std.proofs.Common.{subst, sym}
+use Rattle.pt_history.specs.Stored.{past_of}
+use Rattle.pt_machine.specs.Queued.{IsQueued}
 use Rattle.std.proofs.Common.{None}
 use Rattle.pt_model.specs.declared.entry.Entry.TheVariants as entry
 use Rattle.pt_state.specs.Adds.{past}
@@ -28,3 +31,8 @@ returns-in-Ok-clause-queued g c =
     (g.Q.WaitList.seen c.take_place.new.queues).admitted
     (g.Q.WaitList.seen c.take_place.new.queues).made
     c.take_place.ensures.queues c.take_place.ensures.admitted c.take_place.ensures.made
+
+pub returns-in-Err-clause-queued : goal.returns-in-Err-clause-queued
+returns-in-Err-clause-queued g c =
+    subst (λ s. IsQueued (past_of s) (g.Q.WaitList.seen c.args.queues.now))
+    (sym c.in-Err.ensures.err.stored) c.requires.queued

@@ -1,3 +1,7 @@
+use Rattle.std.proofs.Common.{sym, subst}
+use Rattle.std.specs.Prelude.{OnOk}
+use Rattle.pt_state.specs.Adds.{Adds, past}
+use Rattle.pt_machine.specs.Planned.{entry_with}
 use Rattle.pt_machine.proofs.TimedArrivals.{timed-join, timed-moment}
 use Rattle.pt_machine.proofs.clock.push_outer.Goals as goal
 
@@ -14,3 +18,11 @@ returns-in-Moment-clause-timed g c =
     timed-moment c.args.state.now c.push_moment.new.state c.args.timers.now
     c.requires.ready.read c.requires.timed c.in-Moment.clock c.in-Moment.moment
     c.push_moment.ensures.adds
+
+-- a client called
+pub returns-in-Call-clause-ok : goal.returns-in-Call-clause-ok
+returns-in-Call-clause-ok g c =
+    let s = c.args.state.now in
+    subst (λ e. OnOk c.push_call.result (Adds s (entry_with (past s) e c.args.answer)
+        c.push_call.new.state))
+    (sym c.in-Call.is) c.push_call.ensures.ok

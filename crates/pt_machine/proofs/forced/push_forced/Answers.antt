@@ -1,8 +1,53 @@
+use Rattle.std.proofs.Common.{sym, subst}
 use Rattle.pt_model.specs.declared.entry.Entry.TheVariants as entry
-use Rattle.pt_state.specs.Adds.{past}
+use Rattle.pt_records.specs.Callers.{opens_of}
+use Rattle.pt_state.specs.Adds.{Adds, IsReadyFor, past}
+use Rattle.pt_state.specs.Serving.{IsFor, entry_of}
 use Rattle.pt_machine.proofs.QueuedSame.{queued-adds}
 use Rattle.pt_machine.proofs.QueuedArrivals.{queued-yield}
 use Rattle.pt_machine.proofs.forced.push_forced.Goals as goal
+
+pub push_served-requires : goal.push_served-requires
+push_served-requires g c = record {
+  ready = subst (λ f. IsReadyFor c.args.state.now (entry_of (past c.args.state.now) f))
+      c.in-Serve.is c.requires.ready;
+  queued = c.requires.queued;
+  known = subst (IsFor (opens_of c.args.state.now.clients)) c.in-Serve.is c.requires.known;
+}
+
+pub push_yield-requires : goal.push_yield-requires
+push_yield-requires g c =
+    subst (λ f. IsReadyFor c.args.state.now (entry_of (past c.args.state.now) f))
+    c.in-Yield.is c.requires.ready
+
+pub push_expire-requires : goal.push_expire-requires
+push_expire-requires g c = record {
+  ready = subst (λ f. IsReadyFor c.args.state.now (entry_of (past c.args.state.now) f))
+      c.in-Expire.is c.requires.ready;
+  queued = c.requires.queued;
+  known = subst (IsFor (opens_of c.args.state.now.clients)) c.in-Expire.is c.requires.known;
+}
+
+pub returns-in-Serve : goal.returns-in-Serve
+returns-in-Serve g c = record {
+  adds = subst (λ f. Adds c.args.state.now (entry_of (past c.args.state.now) f)
+          c.push_served.new.state)
+      (sym c.in-Serve.is) c.push_served.ensures.adds;
+  queued = c.push_served.ensures.queued;
+}
+
+pub returns-in-Expire : goal.returns-in-Expire
+returns-in-Expire g c = record {
+  adds = subst (λ f. Adds c.args.state.now (entry_of (past c.args.state.now) f)
+          c.push_expire.new.state)
+      (sym c.in-Expire.is) c.push_expire.ensures.adds;
+  queued = c.push_expire.ensures.queued;
+}
+
+pub returns-in-Yield-clause-adds : goal.returns-in-Yield-clause-adds
+returns-in-Yield-clause-adds g c =
+    subst (λ f. Adds c.args.state.now (entry_of (past c.args.state.now) f) c.push_yield.new.self)
+    (sym c.in-Yield.is) c.push_yield.ensures
 
 -- a lock that a dead owner's entry gives up changes no queue
 pub returns-in-Yield-clause-queued : goal.returns-in-Yield-clause-queued

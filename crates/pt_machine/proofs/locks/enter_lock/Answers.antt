@@ -1,3 +1,6 @@
+use Rattle.std.proofs.Common.{subst}
+use Rattle.pt_history.specs.Stored.{past_of}
+use Rattle.pt_machine.specs.Queued.{IsQueued}
 use Rattle.std.proofs.Common.{None, unwrap_or, sym, ap, ◌∙◌}
 use Rattle.pt_history.proofs.Places.{place_of_next}
 use Rattle.pt_types.specs.declared.call.How.TheVariants.{Plain}
@@ -77,3 +80,8 @@ returns-in-Ok-clause-queued g c =
     (take-put new c.args.c c.object_named-o.result c.asking.result (its-place g c.before)
     seen.queue next.queue c.insert.ensures.queues)
     c.insert.ensures.admitted c.insert.ensures.made
+
+pub returns-in-Err-clause-queued : goal.returns-in-Err-clause-queued
+returns-in-Err-clause-queued g c =
+    subst (λ s. IsQueued (past_of s) (g.Q.WaitList.seen c.args.queues.now))
+    (sym c.in-Err.ensures.err.stored) c.requires.queued

@@ -22,6 +22,9 @@ use Rattle.pt_machine.specs.Timed.{asked, good_of}
 use Rattle.pt_machine.proofs.CallsAtRest.{unopposed-free}
 use Rattle.pt_machine.proofs.body.Body.is_granted_at_once.Goals as goal
 
+pub is_free-requires : goal.is_free-requires
+is_free-requires g c = rw c.self.view_is c.requires.read
+
 pub returns-then-not-is_free-clause-unopposed : goal.returns-then-not-is_free-clause-unopposed
 returns-then-not-is_free-clause-unopposed g c = λ known.
     let h = past c.args.self.now in

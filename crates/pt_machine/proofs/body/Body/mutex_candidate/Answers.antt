@@ -9,8 +9,23 @@ use Rattle.pt_records.specs.Objects.{kind_in_row}
 use Rattle.pt_state.specs.Adds.{past}
 use Rattle.pt_state.specs.Serving.{called}
 use Rattle.pt_machine.proofs.CandidateRows.{if_left, if_taken, mutex-served, mutex-idle}
-use Rattle.pt_machine.proofs.CandidateRows.{mutex-plain}
+use Rattle.pt_machine.proofs.CandidateRows.{mutex-free, mutex-plain}
 use Rattle.pt_machine.proofs.body.Body.mutex_candidate.Goals as goal
+
+pub first_at-requires-clause-read : goal.first_at-requires-clause-read
+first_at-requires-clause-read g c = c.requires.read
+
+pub open_of-requires : goal.open_of-requires
+open_of-requires g c = rw c.self.view_is c.requires.read
+
+pub returns-then-may_lock : goal.returns-then-may_lock
+returns-then-may_lock g c =
+    let s = c.args.self.now in
+    let read = c.requires.read in
+    c.first_at.ensures
+    ∙ ap client_at
+    (mutex-free (past s) s.clients s.objects read.follows read.callers read.object_rows.look
+    c.args.m c.args.mutex.now c.requires.stored (sym c.may_lock.ensures ∙ c.if-may_lock.true))
 
 pub first_at-requires-clause-other : goal.first_at-requires-clause-other
 first_at-requires-clause-other g c =

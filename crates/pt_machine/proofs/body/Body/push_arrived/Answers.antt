@@ -1,4 +1,5 @@
-use Rattle.std.proofs.Common.{◌≡◌, unwrap_or, ap, ◌∙◌, subst}
+use Rattle.std.proofs.Common.{◌≡◌, unwrap_or, sym, ap, ◌∙◌, subst}
+use Rattle.std.proofs.lemmas.Bool.{false≢true}
 use Rattle.pt_types.specs.declared.operations.ObjectClass.TheVariants.{Barrier as BarrierClass}
 use Rattle.pt_model.specs.Forced.{service}
 use Rattle.pt_model.specs.WaitingCall.{meant}
@@ -7,6 +8,32 @@ use Rattle.pt_state.specs.Requests.{object_meant}
 use Rattle.pt_machine.specs.Services.{IsService}
 use Rattle.pt_machine.proofs.ArrivalsAtRest.{rests-arrived, serves-arrived}
 use Rattle.pt_machine.proofs.body.Body.push_arrived.Goals as goal
+
+pub push_arrival-requires : goal.push_arrival-requires
+push_arrival-requires g c = record {
+  ready = c.requires.ready;
+  operation = c.requires.operation;
+  planned = c.requires.planned;
+  waits = c.requires.waits;
+}
+
+pub arrival_service-requires : goal.arrival_service-requires
+arrival_service-requires g c = c.push_arrival.ensures.read
+
+pub push_first-requires-clause-read : goal.push_first-requires-clause-read
+push_first-requires-clause-read g c = c.push_arrival.ensures.read
+
+pub returns-in-Some-clause-adds : goal.returns-in-Some-clause-adds
+returns-in-Some-clause-adds g c = λ short. absurd (false≢true short)
+
+pub returns-in-Some-clause-rests : goal.returns-in-Some-clause-rests
+returns-in-Some-clause-rests g c = λ short. absurd (false≢true short)
+
+pub returns-in-None-clause-adds : goal.returns-in-None-clause-adds
+returns-in-None-clause-adds g c = λ short. c.push_arrival.ensures
+
+pub returns-in-None-clause-both : goal.returns-in-None-clause-both
+returns-in-None-clause-both g c = λ full. absurd (false≢true (sym full))
 
 -- what is served there is ready
 pub push_first-requires-clause-ready : goal.push_first-requires-clause-ready

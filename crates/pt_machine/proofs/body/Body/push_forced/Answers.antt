@@ -1,12 +1,40 @@
-use Rattle.std.proofs.Common.{◌≡◌, ◌+◌}
+use Rattle.std.proofs.Common.{◌≡◌, ◌+◌, arith, subst}
 use Rattle.pt_model.specs.Histories.{◌▷◌}
 use Rattle.pt_model.specs.Room.{need}
 use Rattle.pt_touched.specs.Touched.{touched}
-use Rattle.pt_state.specs.Adds.{past}
-use Rattle.pt_state.specs.Serving.{entry_of}
+use Rattle.pt_records.specs.Callers.{opens_of}
+use Rattle.pt_state.specs.Adds.{Adds, IsReadyFor, past}
+use Rattle.pt_state.specs.Serving.{IsFor, entry_of}
 use Rattle.pt_machine.proofs.LastTouches.{touched-forced}
 use Rattle.pt_machine.proofs.NeedSteps.{reserved-forced}
 use Rattle.pt_machine.proofs.body.Body.push_forced.Goals as goal
+
+pub push_forced-requires : goal.push_forced-requires
+push_forced-requires g c =
+    let old = c.self.inside.state in
+    let forced = c.args.forced.now in
+    let ready : IsReadyFor old (entry_of (past old) forced) =
+    rw c.self.view_is c.requires.ready in
+    let known : IsFor (opens_of old.clients) forced = rw c.self.view_is c.requires.known in
+    record {
+      ready = ready;
+      queued = c.self.invariant.0;
+      timed = c.self.invariant.1;
+      known = known;
+    }
+
+pub overflow_sub-self : goal.overflow_sub-self
+overflow_sub-self g c =
+    let old = c.self.inside.state in
+    let used : need (past old ▷ entry_of (past old) c.args.forced.now)
+    + c.used_by_forced-used.result ≡ need (past old) =
+    rw c.self.view_is c.used_by_forced-used.ensures in
+    omega (arith, c.self.invariant.3.needs, used)
+
+pub returns : goal.returns
+returns g c =
+    subst (λ t. Adds t (entry_of (past t) c.args.forced.now) c.push_forced.new.state)
+    c.self.view_is c.push_forced.ensures.adds
 
 pub invariant_of-self : goal.invariant_of-self
 invariant_of-self g c =

@@ -1,16 +1,50 @@
-use Rattle.std.proofs.Common.{arith}
-use Rattle.std.proofs.Common.{None}
+use Rattle.std.proofs.Common.{None, arith, subst, sym}
+use Rattle.pt_history.specs.Stored.{past_of}
 use Rattle.pt_model.specs.declared.entry.Entry.TheVariants.{Call}
 use Rattle.pt_model.specs.declared.entry.Event.TheVariants as event
 use Rattle.pt_model.specs.Forced.{service}
 use Rattle.pt_state.specs.Adds.{IsReadyFor, past}
 use Rattle.pt_machine.specs.GrantedAtOnce.{IsGrantedAtOnce, IsReadyAfter}
+use Rattle.pt_machine.specs.LastTouched.{IsTouched}
 use Rattle.pt_machine.specs.Planned.{IsPlanned}
+use Rattle.pt_machine.specs.Queued.{IsQueued}
+use Rattle.pt_machine.specs.Reserved.{IsReserved}
+use Rattle.pt_machine.specs.Timed.{AreTimed}
 use Rattle.pt_machine.proofs.GrantedStates.{alone-granted, must-follow, uses, reserves}
 use Rattle.pt_machine.proofs.GrantedStates.{queued-granted, rests-granted, timed-granted}
 use Rattle.pt_machine.proofs.GrantedStates.{told-granted, touched-granted}
 use Rattle.pt_machine.proofs.NeedSteps.{reserved-forced}
 use Rattle.pt_machine.proofs.body.Body.push_granted_at_once.Goals as goal
+
+pub push_both-requires-clause-ready : goal.push_both-requires-clause-ready
+push_both-requires-clause-ready g c =
+    let ready : IsReadyFor c.self.inside.state (Call c.args.c c.args.call.now None) =
+    rw c.self.view_is c.requires.ready in
+    ready
+
+pub push_both-requires-clause-granted : goal.push_both-requires-clause-granted
+push_both-requires-clause-granted g c =
+    let granted : IsGrantedAtOnce (past c.self.inside.state) c.args.c c.args.call.now =
+    rw c.self.view_is c.requires.granted in
+    granted
+
+pub push_both-requires-clause-asks : goal.push_both-requires-clause-asks
+push_both-requires-clause-asks g c =
+    let planned : IsPlanned (past c.self.inside.state) (event.Call c.args.c c.args.call.now)
+        c.args.plan.now =
+    rw c.self.view_is c.requires.planned in
+    planned.asks
+
+pub invariant_of-self : goal.invariant_of-self
+invariant_of-self g c =
+    let stored = c.in_err-granted.ensures.err.stored in (
+      subst (λ s. IsQueued (past_of s) (g.Q.WaitList.seen c.self.inside.queues)) (sym stored)
+          c.self.invariant.0,
+      subst (λ s. AreTimed (past_of s) c.self.inside.timers) (sym stored) c.self.invariant.1,
+      subst (λ s. IsTouched (past_of s) c.self.inside.touched c.self.inside.entering) (sym stored)
+          c.self.invariant.2,
+      subst (λ s. IsReserved (past_of s) c.self.inside.need) (sym stored) c.self.invariant.3,
+    )
 
 pub push_both-requires-clause-next : goal.push_both-requires-clause-next
 push_both-requires-clause-next g c =

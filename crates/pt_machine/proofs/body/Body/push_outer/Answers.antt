@@ -1,11 +1,24 @@
-use Rattle.std.proofs.Common.{subst}
+use Rattle.std.proofs.Common.{subst, sym}
+use Rattle.pt_history.specs.Stored.{past_of}
 use Rattle.pt_model.specs.declared.entry.Entry.{Entry}
 use Rattle.pt_model.specs.Room.{entry_for}
+use Rattle.pt_machine.specs.LastTouched.{IsTouched}
 use Rattle.pt_machine.specs.Planned.{IsPlanned}
+use Rattle.pt_machine.specs.Reserved.{IsReserved}
 use Rattle.pt_state.specs.Adds.{Adds, past}
 use Rattle.pt_machine.proofs.LastTouches.{touched-outer}
 use Rattle.pt_machine.proofs.NeedSteps.{event-outer, reserved-outer}
 use Rattle.pt_machine.proofs.body.Body.push_outer.Goals as goal
+
+pub invariant_of-self : goal.invariant_of-self
+invariant_of-self g c =
+    let stored = sym c.in_err-push_outer.ensures.err.stored in (
+      c.push_outer.ensures.queued,
+      c.push_outer.ensures.timed,
+      subst (λ s. IsTouched (past_of s) c.self.inside.touched c.self.inside.entering) stored
+          c.self.invariant.2,
+      subst (λ s. IsReserved (past_of s) c.self.inside.need) stored c.self.invariant.3,
+    )
 
 pub invariant_of-self-2 : goal.invariant_of-self-2
 invariant_of-self-2 g c =

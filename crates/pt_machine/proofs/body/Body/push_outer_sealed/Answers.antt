@@ -1,4 +1,4 @@
-use Rattle.std.proofs.Common.{subst}
+use Rattle.std.proofs.Common.{ap, ◌∙◌, length, subst}
 use Rattle.pt_model.specs.Histories.{History}
 use Rattle.pt_model.specs.Room.{entry_for}
 use Rattle.pt_state.specs.Adds.{Adds}
@@ -16,3 +16,11 @@ returns-in-Ok-clause-ok g c =
           (past-renewed c.args.self.now sealed c.args.room c.in_ok-before.ensures.ok)
           c.in-Ok.ensures.ok;
     }
+
+pub returns-in-Err-clause-err : goal.returns-in-Err-clause-err
+returns-in-Err-clause-err g c = record {
+  stored = c.unseal.ensures.stored ∙ c.in_ok-before.ensures.stored;
+  read = c.unseal.ensures.read;
+  held = ap (λ a. a.capacity) (c.unseal.ensures.answers ∙ c.in_ok-before.ensures.answers);
+  told = ap (λ a. length a.items) (c.unseal.ensures.answers ∙ c.in_ok-before.ensures.answers);
+}

@@ -1,11 +1,11 @@
-use Rattle.std.proofs.Common.{◌≡◌, ◌+◌, ◌∙◌, arith}
+use Rattle.std.proofs.Common.{◌≡◌, ◌+◌, ◌∙◌, arith, subst}
 use Rattle.pt_model.specs.Forced.{service}
 use Rattle.pt_model.specs.Histories.{◌▷◌}
 use Rattle.pt_model.specs.Room.{need}
 use Rattle.pt_model.specs.Searches.{In}
 use Rattle.pt_records.specs.Callers.{opens_of}
 use Rattle.pt_state.specs.declared.forced.Forced.TheVariants.{Serve}
-use Rattle.pt_state.specs.Adds.{IsReadyFor, past}
+use Rattle.pt_state.specs.Adds.{Adds, IsReadyFor, past}
 use Rattle.pt_state.specs.Reads.{AreTables}
 use Rattle.pt_state.specs.Serving.{called}
 use Rattle.pt_state.proofs.ForceCallers.{known-open}
@@ -13,6 +13,32 @@ use Rattle.pt_machine.proofs.LastTouches.{still-touched, touched-forced}
 use Rattle.pt_machine.proofs.NeedSteps.{reserved-forced}
 use Rattle.pt_machine.proofs.NeedUses.{uses-grant}
 use Rattle.pt_machine.proofs.body.Body.push_passed.Goals as goal
+
+pub used_by_grant-used-requires-clause-read : goal.used_by_grant-used-requires-clause-read
+used_by_grant-used-requires-clause-read g c = rw c.self.view_is c.requires.read
+
+pub used_by_grant-used-requires-clause-known : goal.used_by_grant-used-requires-clause-known
+used_by_grant-used-requires-clause-known g c = rw c.self.view_is c.requires.known
+
+pub push_granted-requires : goal.push_granted-requires
+push_granted-requires g c =
+    let old = c.self.inside.state in
+    let o = c.args.found.now in
+    let ready : IsReadyFor old (service (past old) (called o)) =
+    rw c.self.view_is c.requires.ready in
+    let known : In o (opens_of old.clients) = rw c.self.view_is c.requires.known in
+    record {
+      ready = ready;
+      queued = c.self.invariant.0;
+      timed = c.self.invariant.1;
+      known = known;
+      other = c.requires.other;
+    }
+
+pub returns : goal.returns
+returns g c =
+    subst (λ t. Adds t (service (past t) (called c.args.found.now)) c.push_granted.new.state)
+    c.self.view_is c.push_granted.ensures.adds
 
 pub overflow_sub-self : goal.overflow_sub-self
 overflow_sub-self g c =

@@ -1,7 +1,10 @@
-use Rattle.std.proofs.Common.{◌≡◌, Some, option_map, sym, ap, ◌∙◌}
+use Rattle.std.proofs.Common.{◌≡◌, Some, option_map, sym, ap, ◌∙◌, subst}
 use Rattle.std.specs.Option.{option_copied}
 use Rattle.pt_table.specs.ClientRows.{client_value}
 use Rattle.pt_records.specs.Callers.{open_in}
+use Rattle.pt_model.specs.declared.waiting_call.WaitingCall.{WaitingCall}
+use Rattle.pt_model.specs.Forced.{service}
+use Rattle.pt_state.specs.Adds.{Adds, past}
 use Rattle.pt_state.specs.Serving.{called}
 use Rattle.pt_machine.proofs.QueueFirsts.{found-known}
 use Rattle.pt_machine.proofs.body.Body.push_service.Goals as goal
@@ -30,3 +33,53 @@ push_passed-requires-clause-other g c =
     rw (← c.self.view_is) (ap option_copied (sym c.unwrap-open.ensures) ∙ c.open_of.ensures) in
     c.requires.other (called o)
     (sym (c.requires.read.callers.look.calls c.args.c) ∙ ap (option_map called) (sym its))
+
+pub push_gained-requires-clause-read : goal.push_gained-requires-clause-read
+push_gained-requires-clause-read g c = c.requires.read
+
+pub push_gained-requires-clause-ready : goal.push_gained-requires-clause-ready
+push_gained-requires-clause-ready g c =
+    let s = c.args.self.now in
+    let o = c.unwrap-open.result.now in
+    let its : Some o ≡ open_in (client_value s.clients c.args.c) =
+    rw (← c.self.view_is) (ap option_copied (sym c.unwrap-open.ensures) ∙ c.open_of.ensures) in
+    c.requires.ready (called o)
+    (sym (c.requires.read.callers.look.calls c.args.c) ∙ ap (option_map called) (sym its))
+
+pub push_passed-requires-clause-read : goal.push_passed-requires-clause-read
+push_passed-requires-clause-read g c = c.requires.read
+
+pub push_passed-requires-clause-ready : goal.push_passed-requires-clause-ready
+push_passed-requires-clause-ready g c =
+    let s = c.args.self.now in
+    let o = c.unwrap-open.result.now in
+    let its : Some o ≡ open_in (client_value s.clients c.args.c) =
+    rw (← c.self.view_is) (ap option_copied (sym c.unwrap-open.ensures) ∙ c.open_of.ensures) in
+    c.requires.ready (called o)
+    (sym (c.requires.read.callers.look.calls c.args.c) ∙ ap (option_map called) (sym its))
+
+pub returns-in-Some : goal.returns-in-Some
+returns-in-Some g c = λ w given.
+    let s = c.args.self.now in
+    let o = c.unwrap-open.result.now in
+    let its : Some o ≡ open_in (client_value s.clients c.args.c) =
+    rw (← c.self.view_is) (ap option_copied (sym c.unwrap-open.ensures) ∙ c.open_of.ensures) in
+    let same : Some (called o) ≡ Some w =
+    sym (sym (c.requires.read.callers.look.calls c.args.c) ∙ ap (option_map called) (sym its))
+    ∙ given in
+    let one : called o ≡ w = cc same in
+    subst (λ (v : WaitingCall). Adds s (service (past s) v) c.push_gained.new.self) one
+    c.push_gained.ensures
+
+pub returns-in-None : goal.returns-in-None
+returns-in-None g c = λ w given.
+    let s = c.args.self.now in
+    let o = c.unwrap-open.result.now in
+    let its : Some o ≡ open_in (client_value s.clients c.args.c) =
+    rw (← c.self.view_is) (ap option_copied (sym c.unwrap-open.ensures) ∙ c.open_of.ensures) in
+    let same : Some (called o) ≡ Some w =
+    sym (sym (c.requires.read.callers.look.calls c.args.c) ∙ ap (option_map called) (sym its))
+    ∙ given in
+    let one : called o ≡ w = cc same in
+    subst (λ (v : WaitingCall). Adds s (service (past s) v) c.push_passed.new.self) one
+    c.push_passed.ensures

@@ -9,6 +9,9 @@ use Rattle.pt_state.specs.Serving.{called}
 use Rattle.pt_machine.proofs.CandidateRows.{again-served, again-idle, if_left, if_taken}
 use Rattle.pt_machine.proofs.body.Body.reader_again.Goals as goal
 
+pub open_of-requires : goal.open_of-requires
+open_of-requires g c = rw c.self.view_is c.requires.read
+
 pub returns-then-reads_more : goal.returns-then-reads_more
 returns-then-reads_more g c =
     let s = c.args.self.now in

@@ -13,6 +13,17 @@ use Rattle.pt_machine.proofs.SealedQueues.{queued-seal, timed-seal}
 use Rattle.pt_machine.proofs.UnsealedBodies.{past-renewed}
 use Rattle.pt_machine.proofs.body.Body.seal_with_room.Goals as goal
 
+pub invariant_of-self : goal.invariant_of-self
+invariant_of-self g c =
+    let view = g.Q.WaitList.seen c.self.inside.queues in
+    let same = sym c.in_err-unsealed.ensures.err in (
+      subst (λ s. IsQueued (past s) view) same c.self.invariant.0,
+      subst (λ s. AreTimed (past s) c.self.inside.timers) same c.self.invariant.1,
+      subst (λ s. IsTouched (past s) c.self.inside.touched c.self.inside.entering) same
+          c.self.invariant.2,
+      subst (λ s. IsReserved (past s) c.self.inside.need) same c.self.invariant.3,
+    )
+
 pub invariant_of-self-2 : goal.invariant_of-self-2
 invariant_of-self-2 g c =
     let old = c.self.inside.state in

@@ -1,0 +1,31 @@
+use Rattle.std.proofs.Common.{◌≡◌, sym, ap, ◌∙◌, subst}
+use Rattle.std.specs.Option.{option_copied}
+use Rattle.pt_model.specs.declared.entry.Event.TheVariants.{Call}
+use Rattle.pt_model.specs.Room.{entry_for}
+use Rattle.pt_state.specs.Adds.{past}
+use Rattle.pt_machine.specs.Planned.{HasOperation, HasRequest, IsAtOnce, KnowsUnopposed}
+use Rattle.pt_machine.specs.Planned.{entry_with}
+use Rattle.pt_machine.proofs.body.Body.is_at_once.Goals as goal
+
+pub is_granted_at_once-requires : goal.is_granted_at_once-requires
+is_granted_at_once-requires g c =
+    let h = past c.args.self.now in
+    record {
+      read = c.requires.read;
+      does = subst (HasOperation (Call c.in-Call.c c.in-Call.call))
+          (sym c.as_ref.ensures.value ∙ ap option_copied c.unwrap-operation.ensures)
+          (subst (λ e. HasOperation e c.args.operation.now) c.in-Call.is c.requires.does);
+      enters = subst (λ e. entry_with h e c.args.answer ≡ entry_for h e) c.in-Call.is
+          c.requires.enters;
+      asks = subst (λ e. HasRequest h e c.args.request.now) c.in-Call.is c.requires.asks;
+    }
+
+pub returns-in-Call : goal.returns-in-Call
+returns-in-Call g c =
+    let h = past c.args.self.now in
+    record {
+      granted = subst (λ e. IsAtOnce h e c.is_granted_at_once.result) (sym c.in-Call.is)
+          c.is_granted_at_once.ensures.granted;
+      unopposed = subst (λ e. KnowsUnopposed h e c.is_granted_at_once.result) (sym c.in-Call.is)
+          c.is_granted_at_once.ensures.unopposed;
+    }
