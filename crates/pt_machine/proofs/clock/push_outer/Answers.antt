@@ -24,5 +24,5 @@ pub returns-in-Call-clause-ok : goal.returns-in-Call-clause-ok
 returns-in-Call-clause-ok g c =
     let s = c.args.state.now in
     subst (λ e. OnOk c.push_call.result (Adds s (entry_with (past s) e c.args.answer)
-        c.push_call.new.state))
+    c.push_call.new.state))
     (sym c.in-Call.is) c.push_call.ensures.ok

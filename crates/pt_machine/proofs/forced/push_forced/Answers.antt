@@ -31,7 +31,7 @@ push_expire-requires g c = record {
 pub returns-in-Serve : goal.returns-in-Serve
 returns-in-Serve g c = record {
   adds = subst (λ f. Adds c.args.state.now (entry_of (past c.args.state.now) f)
-          c.push_served.new.state)
+      c.push_served.new.state)
       (sym c.in-Serve.is) c.push_served.ensures.adds;
   queued = c.push_served.ensures.queued;
 }
@@ -39,7 +39,7 @@ returns-in-Serve g c = record {
 pub returns-in-Expire : goal.returns-in-Expire
 returns-in-Expire g c = record {
   adds = subst (λ f. Adds c.args.state.now (entry_of (past c.args.state.now) f)
-          c.push_expire.new.state)
+      c.push_expire.new.state)
       (sym c.in-Expire.is) c.push_expire.ensures.adds;
   queued = c.push_expire.ensures.queued;
 }

@@ -31,7 +31,7 @@ push_both-requires-clause-granted g c =
 pub push_both-requires-clause-asks : goal.push_both-requires-clause-asks
 push_both-requires-clause-asks g c =
     let planned : IsPlanned (past c.self.inside.state) (event.Call c.args.c c.args.call.now)
-        c.args.plan.now =
+    c.args.plan.now =
     rw c.self.view_is c.requires.planned in
     planned.asks
 
