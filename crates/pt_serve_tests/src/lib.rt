@@ -1,8 +1,0 @@
-//! Tests of a server over real sockets.
-#![tactic(auto)]
-
-mod client;
-#[cfg(test)]
-mod tests;
-
-pub use client::Client;
