@@ -1,6 +1,6 @@
 //! Tests of the hub, of sessions, and of a server over real sockets.
 //!
-//! There are only tests here, a module for each crate that is tested. They see what is public of it.
+//! There are only tests here, a module for each crate that is tested. They see what is public.
 #![tactic(auto)]
 
 mod client;
