@@ -25,9 +25,9 @@ TOP = os.path.dirname(os.path.dirname(os.path.abspath(__file__)))
 PROCESSORS = len(os.sched_getaffinity(0))
 # A check takes up to this much memory.
 BYTES_A_CHECK = 2_500_000_000
-# The prover's allocator keeps the memory that it frees: by default it returns it to the system at
-# once, and half of the page faults of a check are for memory that it takes back.
-KEEPS_MEMORY = {"MIMALLOC_PURGE_DELAY": "-1"}
+# The prover's allocator keeps the memory that it frees: by default it returns it to the system after
+# a second, and a third to a half of the page faults of a check are for memory that it takes back.
+ALLOCATOR_SETTINGS = {"MIMALLOC_PURGE_DELAY": "-1"}
 # In a crate's folder: rt lets built libraries lie in out/rlib alone, and rt ci puts that back.
 KEPT = "out/rlib/build"
 
@@ -167,7 +167,7 @@ def run(words, name, log, nice=0):
         done = subprocess.run(
             ["nice", "-n", str(nice), *words],
             cwd=f"{TOP}/crates/{name}",
-            env={**KEEPS_MEMORY, **os.environ},
+            env={**ALLOCATOR_SETTINGS, **os.environ},
             stdin=subprocess.DEVNULL,
             stdout=out,
             stderr=subprocess.STDOUT,
