@@ -3,11 +3,12 @@
 
     tools/build.py pt_server
 
-Each crate is proved as soon as those that it uses are, and several at once where none uses another.
-A crate on the longest way to the program shares its check out among all processors, and the others
-yield to it. What is built of a crate is kept beside a stamp, the sum of all that it was made from,
-and is made anew only once that is another. Standard error gets a line for each crate that is
-proved. The toolchain's own output goes to a file, which is named if a crate fails.
+Each crate is proved as soon as those that it uses are, and several at once if none uses another.
+The check of a crate on a long way to the program is shared out among all processors, and the
+shorter the way, the more it yields to the others. What is built of a crate is kept beside a stamp,
+the sum of all that it was made from, and is made anew only once that is another. Standard error
+gets a line for each crate that is proved. The toolchain's own output goes to a file, which is named
+if a crate fails.
 """
 import fcntl
 import functools
@@ -25,8 +26,11 @@ TOP = os.path.dirname(os.path.dirname(os.path.abspath(__file__)))
 PROCESSORS = len(os.sched_getaffinity(0))
 # A check takes up to this much memory.
 BYTES_A_CHECK = 2_500_000_000
-# The prover's allocator keeps the memory that it frees: by default it returns it to the system after
-# a second, and a third to a half of the page faults of a check are for memory that it takes back.
+# Before its first function a check takes as long as for this much code.
+BYTES_TO_BEGIN = 10_000
+# The prover's allocator keeps the memory that it frees: by default it returns it to the system
+# after a second, and a third to a half of the page faults of a check are for memory that it takes
+# back.
 ALLOCATOR_SETTINGS = {"MIMALLOC_PURGE_DELAY": "-1"}
 # In a crate's folder: rt lets built libraries lie in out/rlib alone, and rt ci puts that back.
 KEPT = "out/rlib/build"
@@ -78,12 +82,18 @@ def files_of(name):
     return sorted(f"{at}/{it}" for part in parts for at, _, names in os.walk(part) for it in names)
 
 
+def weight_of(name):
+    """About how long a check takes, in bytes of code: proofs say less of it."""
+    code = f"{TOP}/crates/{name}/src/"
+    return BYTES_TO_BEGIN + sum(os.path.getsize(it) for it in files_of(name) if it.startswith(code))
+
+
 def weights(names):
-    """For each crate the bytes that are proved one after another from it up to the program."""
+    """For each crate the weights of all that is proved one after another up to the program."""
     found = {}
     for name in reversed(names):
         above = [found[it] for it in found if name in crates_of(it)]
-        found[name] = sum(map(os.path.getsize, files_of(name))) + max(above, default=0)
+        found[name] = weight_of(name) + max(above, default=0)
     return found
 
 
@@ -193,10 +203,16 @@ def prove(name, stamps, log, jobs, nice):
     return None
 
 
+def available_bytes():
+    """The memory that checks can have, with what files take of it for now."""
+    with open("/proc/meminfo", encoding="utf-8") as file:
+        kilobytes = dict(line.split()[:2] for line in file)
+    return int(kilobytes["MemAvailable:"]) * 1024
+
+
 def checks_at_once():
     """Some more than half the processors, and no more than memory allows."""
-    free = os.sysconf("SC_AVPHYS_PAGES") * os.sysconf("SC_PAGE_SIZE")
-    return max(1, min((PROCESSORS + 2) // 2, free // BYTES_A_CHECK))
+    return max(1, min((PROCESSORS + 2) // 2, available_bytes() // BYTES_A_CHECK))
 
 
 def choose(waiting, running, at_once):
@@ -207,9 +223,9 @@ def choose(waiting, running, at_once):
 
 
 def share(name, to_do, weight):
-    """The jobs and the niceness of a check: all goes to those on the longest way to the program."""
+    """The jobs and the niceness of a check, by how long its way to the program is."""
     part = weight[name] / max(weight[it] for it in to_do)
-    return PROCESSORS if part > 1 / 2 else 1, round(19 * (1 - part))
+    return PROCESSORS if part > 1 / 3 else 1, min(19, round(30 * (1 - part)))
 
 
 def prove_all(names, stamps, scratch):
