@@ -1,6 +1,6 @@
 //! Which session takes whose answers, and whose calls wait.
 
-use pt_hub::SessionId;
+use crate::session_id::SessionId;
 use pt_types::ClientId;
 use std::alloc::Global;
 

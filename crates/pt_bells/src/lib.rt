@@ -1,8 +1,11 @@
-//! The bells that sessions sleep at, and whose calls wait. No contract speaks of who wakes.
+//! The numbers of sessions, the bells that they sleep at, and whose calls wait. No contract
+//! speaks of who wakes.
 #![tactic(auto)]
 
 mod attendance;
 mod bell;
+mod session_id;
 
 pub use attendance::Attendance;
 pub use bell::{Bell, bells};
+pub use session_id::SessionId;

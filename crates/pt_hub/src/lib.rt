@@ -20,5 +20,6 @@ mod tally;
 pub use account::Account;
 pub use closing::{CloseFault, CloseRefused, Closed};
 pub use hub::Hub;
-pub use pass::{Answer, ClockPass, Left, Pass, Receipt, Sent, SessionId, Tick};
+pub use pass::{Answer, ClockPass, Left, Pass, Receipt, Sent, Tick};
+pub use pt_bells::SessionId;
 pub use pt_core::{Answers, Reply};

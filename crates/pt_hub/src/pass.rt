@@ -34,10 +34,6 @@ pub struct Tick {
     pub moment: Moment,
 }
 
-/// The number of a session: how many were opened before it.
-#[derive(Clone, Copy, PartialEq, Eq)]
-pub struct SessionId(pub u64);
-
 /// A living client. Contracts see its number, its priority and its receipts.
 #[derive(Drop)]
 pub struct Pass<L: Ledger, A: Allocator + Copy = Global> {
