@@ -44,6 +44,15 @@ served_blocked told taken None true e le = let lt : taken < told = omega (arith,
 served_blocked told taken None false e le = let at : taken ≡ told = omega (arith, e) in
     grind (arith, nat_tests)
 
+-- where nothing is known against a call, its client isn't blocked, and nothing else is known
+free : (b : Bool) (o : Option Refusal) → cond b (Some Blocked) o ≡ None → b ≡ false
+free true o e = absurd cc
+free false o e = refl
+
+other : (b : Bool) (o : Option Refusal) → cond b (Some Blocked) o ≡ None → o ≡ None
+other true o e = absurd cc
+other false o e = e
+
 module _ (d : Desk) (k : IsDesk d) (c : ℕ) where
   abbrev h : History
   h = past (kept d)
@@ -64,13 +73,8 @@ module _ (d : Desk) (k : IsDesk d) (c : ℕ) where
 
   -- where a call isn't refused, the client lives and awaits nothing
   pub unblocked : (call : Asked) → call_refusal d c call ≡ None → is_blocked d c ≡ false
-  unblocked call e = go (is_blocked d c) e
-    where
-      go : (b : Bool)
-          → cond b (Some Blocked) (refusal_with_seals (kept d).limit h (event.Call c call)) ≡ None
-          → b ≡ false
-      go true e = absurd cc
-      go false e = refl
+  unblocked call e =
+      free (is_blocked d c) (refusal_with_seals (kept d).limit h (event.Call c call)) e
 
   -- a client that isn't blocked is refused as the core would refuse it
   pub unblocked-refusal : (call : Asked) → is_blocked d c ≡ false
@@ -79,13 +83,8 @@ module _ (d : Desk) (k : IsDesk d) (c : ℕ) where
 
   pub unrefused : (call : Asked) → call_refusal d c call ≡ None
       → refusal_with_seals (kept d).limit h (event.Call c call) ≡ None
-  unrefused call e = go (is_blocked d c) e
-    where
-      go : (b : Bool)
-          → cond b (Some Blocked) (refusal_with_seals (kept d).limit h (event.Call c call)) ≡ None
-          → refusal_with_seals (kept d).limit h (event.Call c call) ≡ None
-      go true e = absurd cc
-      go false e = e
+  unrefused call e =
+      other (is_blocked d c) (refusal_with_seals (kept d).limit h (event.Call c call)) e
 
   pub caller-lives : (call : Asked) → call_refusal d c call ≡ None → is_alive h c ≡ true
   caller-lives call e =
