@@ -30,3 +30,5 @@ pub mod ReceiptLemmas
 pub mod AccountRows
 -- AskedAnswers: the answer that a client may take once it has made a call
 pub mod AskedAnswers
+-- TakenSums: the sum over the first items of a list, with one item more
+pub mod TakenSums
