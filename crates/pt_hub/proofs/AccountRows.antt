@@ -1,7 +1,6 @@
 -- The accounts once one of them is written.
 use Rattle.std.proofs.Common.{◌≡◌, ℕ, nat_eq, Option, Some, None, refl}
 use Rattle.std.specs.Prelude.{option_map, slice_get}
-use Rattle.std.specs.Map.{lookup}
 use Rattle.std.specs.Cmp.{nat_eq_equiv}
 use Rattle.indexmap.specs.IndexMap.{IndexMap, IsUnique, set_value_at}
 use Rattle.indexmap.proofs.CallerLemmas.{updates-with_value_at}

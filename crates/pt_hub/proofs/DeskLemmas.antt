@@ -17,7 +17,7 @@ use Rattle.pt_model.specs.Legal.{LegalBehind, events_of}
 use Rattle.pt_model.specs.Steps.{IsStart, begins}
 use Rattle.pt_model.proofs.Histories.{place-behind}
 use Rattle.pt_core.specs.declared.applied.Applied.{Applied}
-use Rattle.pt_core.specs.Cores.{Kept, past}
+use Rattle.pt_core.specs.Cores.{Kept, Seen, past, shown}
 use Rattle.pt_core.specs.Applying.{IsWritten}
 use Rattle.pt_hub.specs.declared.account.Account.{Account}
 use Rattle.pt_hub.specs.Desks.{Desk, kept, account_of, awaiting, after_taking, fresh, next_answer}
@@ -173,3 +173,16 @@ desk-new k xs e a =
         ap (λ (s : Kept). place (past s)) e,
       );
     }
+
+-- a desk of which nothing has changed
+module _ (d : Desk) (core : Seen) (rows : List (ℕ × Account)) (same : core ≡ d.core)
+    (alike : rows ≡ d.accounts) where
+  pub desk-kept : IsDesk d → IsDeskOf (shown core) rows
+  desk-kept k =
+      subst (λ (s : Seen). IsDeskOf (shown s) rows) (sym same)
+      (subst (λ (xs : List (ℕ × Account)). IsDeskOf (kept d) xs) (sym alike) k)
+
+  pub desk-alike : (e : Desk) → d ≡ e → ◌≡◌ {A = Desk} (record { core = core; accounts = rows }) e
+  desk-alike e is =
+      ap (λ (s : Seen). record { core = s; accounts = rows }) same
+      ∙ (ap (λ (xs : List (ℕ × Account)). record { core = d.core; accounts = xs }) alike ∙ is)

@@ -1,24 +1,28 @@
 -- What a join and a call make of a hub.
 use Rattle.std.proofs.Common.{◌≡◌, ℕ, Bool, List, [], ◌∷◌, ◌++◌, Some, None, is_some, refl, sym, ap}
-use Rattle.std.proofs.Common.{◌∙◌, subst}
+use Rattle.std.proofs.Common.{◌∙◌, subst, cond, Option, false, true}
 use Rattle.pt_types.specs.declared.call.Call.{Call as Asked}
+use Rattle.pt_types.specs.declared.time.Clock.{Clock}
 use Rattle.pt_model.specs.declared.entry.Event.{Event}
 use Rattle.pt_model.specs.declared.entry.Event.TheVariants as event
-use Rattle.pt_model.specs.Histories.{place as place_of}
+use Rattle.pt_model.specs.Records.{Told}
+use Rattle.pt_model.specs.Histories.{History, place as place_of}
+use Rattle.pt_model.specs.Clients.{is_alive}
 use Rattle.pt_model.specs.Answers.{outcome}
-use Rattle.pt_model.specs.Queries.{told_if}
+use Rattle.pt_model.specs.Queries.{latest, told_at, told_if}
 use Rattle.pt_core.specs.declared.applied.Applied.{Applied}
 use Rattle.pt_core.specs.Cores.{Kept, past}
-use Rattle.pt_core.specs.Applying.{Applies, IsApplied}
+use Rattle.pt_core.specs.Applying.{Applies, IsApplied, IsWritten}
 use Rattle.pt_types.specs.declared.outcome.Outcome.{Outcome}
 use Rattle.pt_hub.specs.declared.pass.Answer.{Answer}
 use Rattle.pt_hub.specs.declared.pass.Receipt.{Receipt}
 use Rattle.pt_hub.specs.declared.pass.Sent.{Sent}
 use Rattle.pt_hub.specs.Asking.{SendsAndTakes}
 use Rattle.pt_hub.specs.Desks.{Desk, kept, Wrote, awaiting, fresh, opened_account, opened_accounts}
-use Rattle.pt_hub.specs.Desks.{account_of, after_taking, next_answer}
+use Rattle.pt_hub.specs.Desks.{account_of, after_taking, is_untaken, next_answer}
 use Rattle.pt_hub.specs.Passes.{PassView}
-use Rattle.pt_hub.specs.Hubs.{HubView, Joins, Sends, answered, next_place, takeable, takeable_if}
+use Rattle.pt_hub.specs.Hubs.{Dies, HubView, Joins, Sends, Takes, Ticks, answered, next_place}
+use Rattle.pt_hub.specs.Hubs.{is_pending, takeable, takeable_if}
 use Rattle.pt_hub.proofs.ReceiptLemmas.{pending_push}
 
 -- what was applied
@@ -43,6 +47,76 @@ module _ (old : HubView) (p : ℕ) (desk : Desk) (booked : ℕ) (a : Applied)
               priority = p;
               receipts = xs;
             }) empty;
+        account = wrote;
+        marks = refl;
+        opened = refl;
+      }
+
+-- a moment was handed in
+pub ticks : (old : HubView) (k : Clock) (t : ℕ) (desk : Desk) (booked : ℕ) (a : Applied)
+    → IsApplied (kept old.desk) (event.Moment k t) (kept desk) a
+    → desk.accounts ≡ opened_accounts old.desk (event.Moment k t)
+    → Ticks old k t (record old { desk = desk; booked = booked })
+ticks old k t desk booked a ok rows =
+    record {
+      applies = applies (kept old.desk) (kept desk) (event.Moment k t) a ok;
+      accounts = rows;
+      marks = refl;
+      opened = refl;
+    }
+
+-- a client died
+pub dies : (old : HubView) (c : ℕ) (desk : Desk) (booked : ℕ) (a : Applied)
+    → IsWritten (kept old.desk) (event.Death c) (kept desk) a
+    → Wrote old.desk.accounts desk.accounts c None
+    → Dies old c (record old { desk = desk; booked = booked })
+dies old c desk booked a ok wrote =
+    record {
+      writes = ok.writes;
+      account = wrote;
+      marks = refl;
+      opened = refl;
+    }
+
+-- a client took the answer that it may take
+module _ (old : HubView) (before : PassView) (t : Told)
+    (next : Some t ≡ next_answer old.desk before.client) where
+  abbrev h : History
+  h = past (kept old.desk)
+
+  its_answer : t.client ≡ before.client
+  its_answer =
+      go (is_untaken old.desk before.client) (is_alive h before.client) (latest h before.client)
+      next
+    where
+      told : (j : ℕ) (o : Option Outcome) → Some t ≡ told_if before.client j o
+          → t.client ≡ before.client
+      told j None e = absurd cc
+      told j (Some x) e = cc
+
+      go : (b a : Bool) (l : Option ℕ)
+          → Some t ≡ cond b (cond a (told_at h before.client l) None) None
+          → t.client ≡ before.client
+      go false a l e = absurd cc
+      go true false l e = absurd cc
+      go true true None e = absurd cc
+      go true true (Some j) e = told j (outcome h j) e
+
+  pub takes : is_pending before.receipts t.place ≡ true → (desk : Desk)
+      → desk.core ≡ old.desk.core
+      → Wrote old.desk.accounts desk.accounts before.client
+      (after_taking (account_of old.desk before.client))
+      → (rs : List Receipt) → rs ≡ answered before.receipts t.outcome
+      → Takes old before (record old { desk = desk }) (record before { receipts = rs })
+      (record { place = t.place; outcome = t.outcome })
+  takes waits desk same wrote rs grown =
+      record {
+        there = ap (takeable_if before.receipts) (sym next)
+            ∙ (ap (λ (b : Bool). cond b (Some t) None) waits
+            ∙ ap (λ n. Some (record { client = n; place = t.place; outcome = t.outcome }))
+            its_answer);
+        its_pass = ap (λ (xs : List Receipt). record before { receipts = xs }) grown;
+        same_core = same;
         account = wrote;
         marks = refl;
         opened = refl;

@@ -9,7 +9,7 @@ use Rattle.pt_model.specs.Histories.{place, outer}
 use Rattle.pt_model.specs.Legal.{LegalBehind, events_of}
 use Rattle.pt_model.specs.Steps.{IsStart}
 use Rattle.pt_core.specs.declared.applied.Applied.{Applied}
-use Rattle.pt_core.specs.Cores.{Kept, past}
+use Rattle.pt_core.specs.Cores.{Kept, Seen, past}
 use Rattle.pt_core.specs.Applying.{IsApplied, IsWritten, opened}
 use Rattle.pt_core.specs.Sealing.{IsSealed}
 use Rattle.pt_hub.specs.Desks.{Desk, kept}
@@ -82,6 +82,13 @@ module _ (old : HubView) (new : Desk) (t : TallyView) (k : IsHub old t) where
         parts = omega (arith, k.parts, places);
         sessions = k.sessions;
       }
+
+  -- an answer was taken, which leaves the core as it was
+  pub hub-took : new.core ≡ old.desk.core → IsHub (record old { desk = new }) t
+  hub-took same =
+      subst (λ (s : Seen). IsHub
+      (record old { desk = record { core = s; accounts = new.accounts } }) t) (sym same)
+      (record { outer = k.outer; book = k.book; parts = k.parts; sessions = k.sessions })
 
   pub hub-sealed : (r : Result ℕ Refusal) → IfOk r (IsSealed (kept old.desk) (kept new))
       → OnErr r (new ≡ old.desk) → IsHub (record old { desk = new }) t

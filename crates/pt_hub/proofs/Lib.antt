@@ -32,3 +32,5 @@ pub mod AccountRows
 pub mod AskedAnswers
 -- TakenSums: the sum over the first items of a list, with one item more
 pub mod TakenSums
+-- KnownRefusals: why an event is refused, and what follows where it doesn't
+pub mod KnownRefusals

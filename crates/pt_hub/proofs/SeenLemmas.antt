@@ -1,5 +1,5 @@
 -- What was read at a desk, and of a number, that are seen as others of the same value.
-use Rattle.std.proofs.Common.{◌≡◌, ℕ, ◌+◌, ◌≤◌, true, false, nat_eq, Option, Some, None, is_some}
+use Rattle.std.proofs.Common.{◌≡◌, ℕ, ◌+◌, ◌≤◌, true, false, nat_eq, Option, Some, None}
 use Rattle.std.proofs.Common.{refl, sym, ap, ◌∙◌, subst}
 use Rattle.std.specs.Prelude.{IsSome, IfSome, MatchOption, unwrap_or}
 use Rattle.std.specs.Map.{lookup}
@@ -10,7 +10,6 @@ use Rattle.pt_types.specs.Limits.{most_entries, most_places}
 use Rattle.pt_model.specs.declared.entry.Event.{Event}
 use Rattle.pt_model.specs.declared.entry.Event.TheVariants as event
 use Rattle.pt_model.specs.Records.{Told}
-use Rattle.pt_model.specs.Answers.{open_place}
 use Rattle.pt_model.specs.Queries.{answer_of}
 use Rattle.pt_model.specs.Room.{refusal_with_seals}
 use Rattle.pt_core.specs.Cores.{past}

@@ -1,5 +1,11 @@
-use Rattle.std.proofs.Common.{refl, sym, ◌∙◌}
-use Rattle.pt_hub.specs.Desks.{Desk as Seen}
+use Rattle.std.proofs.Common.{Option, refl, sym, ap, ◌∙◌, subst}
+use Rattle.std.specs.Prelude.{unwrap_or}
+use Rattle.pt_types.specs.declared.call.Call.{Call as Asked}
+use Rattle.pt_model.specs.declared.entry.Event.TheVariants as event
+use Rattle.pt_core.specs.Cores.{shown}
+use Rattle.pt_core.specs.Applying.{IsApplied}
+use Rattle.pt_hub.specs.Desks.{Desk as Seen, kept}
+use Rattle.pt_hub.proofs.DeskLemmas.{desk-alike, desk-kept}
 use Rattle.pt_hub.proofs.SeenLemmas.{caller-refused}
 use Rattle.pt_hub.proofs.OpenedDesks.{caller-there, desk-called, first-opened, next-called}
 use Rattle.pt_hub.proofs.OpenedDesks.{wrote-called}
@@ -49,3 +55,20 @@ returns-in-Ok-clause-next g c =
     (sym c.is_blocked.ensures ∙ c.if-is_blocked.false) _ c.in-Ok.applied c.in-Ok.ensures.ok _
     c.renew_if.ensures.entries _
     c.note_call.ensures _ refl
+
+pub returns-in-Ok-clause-ok : goal.returns-in-Ok-clause-ok
+returns-in-Ok-clause-ok g c =
+    subst (λ (d : Seen). IsApplied (kept d) (event.Call c.args.c c.args.call)
+    (shown c.apply_event.new.self) c.in-Ok.applied) c.self.view_is c.in-Ok.ensures.ok
+
+pub returns-in-Ok-clause-back : goal.returns-in-Ok-clause-back
+returns-in-Ok-clause-back g c =
+    ap (λ (o : Option Asked). unwrap_or o c.args.call) (sym c.call_of.ensures)
+
+pub invariant_of-self-in-Err : goal.invariant_of-self-in-Err
+invariant_of-self-in-Err g c =
+    desk-kept _ _ _ c.in-Err.ensures.unchanged refl c.self.invariant
+
+pub returns-in-Err-clause-unchanged : goal.returns-in-Err-clause-unchanged
+returns-in-Err-clause-unchanged g c =
+    desk-alike _ _ _ c.in-Err.ensures.unchanged refl _ c.self.view_is

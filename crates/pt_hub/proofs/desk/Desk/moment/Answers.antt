@@ -1,3 +1,10 @@
+use Rattle.std.proofs.Common.{refl, subst}
+use Rattle.pt_model.specs.declared.entry.Event.TheVariants as event
+use Rattle.pt_core.specs.Cores.{shown}
+use Rattle.pt_core.specs.Applying.{IsApplied}
+use Rattle.pt_hub.specs.Desks.{Desk as Seen, kept}
+use Rattle.pt_hub.proofs.DeskLemmas.{desk-kept}
+use Rattle.pt_hub.proofs.KnownRefusals.{memory-lacks}
 use Rattle.pt_hub.proofs.OpenedDesks.{desk-ticked, rows-opened}
 use Rattle.pt_hub.proofs.desk.Desk.moment.Goals as goal
 
@@ -10,3 +17,17 @@ pub returns-in-Ok-clause-accounts : goal.returns-in-Ok-clause-accounts
 returns-in-Ok-clause-accounts g c =
     rw (← c.self.view_is)
     (rows-opened _ _ _ _ _ c.in-Ok.applied c.in-Ok.ensures.ok c.renew_if.ensures.entries)
+
+pub returns-in-Ok-clause-ok : goal.returns-in-Ok-clause-ok
+returns-in-Ok-clause-ok g c =
+    subst (λ (d : Seen). IsApplied (kept d) (event.Moment c.args.clock c.args.moment)
+    (shown c.apply.new.self) c.in-Ok.applied) c.self.view_is c.in-Ok.ensures.ok
+
+pub invariant_of-self-in-Err : goal.invariant_of-self-in-Err
+invariant_of-self-in-Err g c =
+    desk-kept _ _ _ c.in-Err.ensures.unchanged refl c.self.invariant
+
+pub returns-in-Err-clause-err : goal.returns-in-Err-clause-err
+returns-in-Err-clause-err g c =
+    memory-lacks _ _ c.self.view_is (event.Moment c.args.clock c.args.moment) c.in-Err.refusal
+    c.requires c.in-Err.ensures.err

@@ -1,8 +1,9 @@
-use Rattle.std.proofs.Common.{◌≡◌, Some, sym, ap, ◌∙◌, subst}
+use Rattle.std.proofs.Common.{◌≡◌, List, None, Some, sym, ap, ◌∙◌, subst}
 use Rattle.pt_model.specs.Queries.{told_if}
 use Rattle.pt_hub.specs.Desks.{next_answer}
-use Rattle.pt_hub.specs.Hubs.{HubView, Sends}
+use Rattle.pt_hub.specs.Hubs.{HubView, Sends, answered, takeable_if}
 use Rattle.pt_hub.specs.Passes.{PassView}
+use Rattle.pt_hub.specs.declared.pass.Receipt.{Receipt}
 use Rattle.pt_hub.proofs.HubEvents.{sends_and_takes}
 use Rattle.pt_hub.proofs.hub.Hub.ask.Goals as goal
 
@@ -42,3 +43,30 @@ returns-in-Ok-default-Some-clause-ok g c =
           c.take.ensures.kept c.pass.inside.client (ap (λ (p : PassView). p.client) c.pass.view_is)
           c.take.ensures.account _ c.answer.ensures.items;
     }
+
+pub returns-in-Ok-default-None-clause-ok : goal.returns-in-Ok-default-None-clause-ok
+returns-in-Ok-default-None-clause-ok g c =
+    let its : c.send.new.pass.client ≡ c.args.pass.now.client =
+    ap (λ (p : PassView). p.client) c.in-Ok-default-None.ensures.ok.its_pass in
+    let none : next_answer c.send.new.self.desk c.args.pass.now.client ≡ None =
+    c.in-Ok-default-None.ensures.next
+    ∙ ap (told_if c.args.pass.now.client c.in-Ok-default-None.sent.place)
+    c.in-Ok-default-None.field-0-1-is in
+    record {
+      so = (
+        c.in-Ok-default-None.ensures.ok,
+        ap (λ n. takeable_if c.send.new.pass.receipts (next_answer c.send.new.self.desk n)) its
+            ∙ ap (takeable_if c.send.new.pass.receipts) none,
+      );
+    }
+
+pub returns-in-Ok-default-Some-clause-pass : goal.returns-in-Ok-default-Some-clause-pass
+returns-in-Ok-default-Some-clause-pass g c =
+    let o = c.in-Ok-default-Some.outcome in
+    ap (λ (rs : List Receipt). record {
+      client = c.pass-2.inside.client;
+      priority = c.pass-2.inside.priority;
+      receipts = rs;
+    }) c.answer.ensures.items
+    ∙ ap (λ (p : PassView). record p { receipts = answered p.receipts o })
+    (c.pass-2.view_is ∙ c.in-Ok-default-Some.ensures.ok.its_pass)

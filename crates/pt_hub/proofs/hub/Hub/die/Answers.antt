@@ -1,7 +1,15 @@
-use Rattle.std.proofs.Common.{arith, refl}
-use Rattle.pt_hub.specs.Hubs.{HubView}
+use Rattle.std.proofs.Common.{◌≡◌, ℕ, arith, refl, sym, ap, ◌∙◌}
+use Rattle.std.proofs.lemmas.Bool.{false≢true}
+use Rattle.pt_model.specs.Clients.{is_alive}
+use Rattle.pt_core.specs.Cores.{past}
+use Rattle.pt_hub.specs.Desks.{Desk as Seen, kept, one_if}
+use Rattle.pt_hub.specs.Hubs.{HubView, next_place}
+use Rattle.pt_hub.specs.Passes.{LeftView}
+use Rattle.pt_hub.proofs.HubEvents.{dies}
 use Rattle.pt_hub.proofs.HubLemmas.{hub-died}
+use Rattle.pt_hub.proofs.KnownRefusals.{death-lives}
 use Rattle.pt_hub.proofs.hub.Hub.die.Goals as goal
+use Rattle.pt_hub.proofs.hub.Hub.die.Goals.{in-Some, in-None}
 
 pub invariant_of-self : goal.invariant_of-self
 invariant_of-self g c =
@@ -24,3 +32,55 @@ invariant_of-self g c =
     hub-died old new c.self.inside.tally c.count.new.self c.self.invariant _ c.in-Some.field-0
     c.len-died_at.ensures.starts c.in-Some.ensures.some
     c.count.ensures.outer (omega (arith, c.count.ensures.left)) refl c.count.ensures.total
+
+pub returns-clause-alive : goal.returns-clause-alive
+returns-clause-alive g c =
+    let old : HubView =
+    record {
+      desk = c.self.inside.desk;
+      marks = c.self.inside.marks.entries;
+      opened = c.self.inside.opened;
+      booked = c.self.inside.tally.total;
+    } in
+    rw (← c.self.view_is, ← c.pass.view_is)
+    elim c.match-die.branch [
+      | in-Some w ↦ rw w.self-is (λ lives.
+          dies old c.pass.inside.client c.die.new.self w.count.new.self.total w.in-Some.field-0
+          w.in-Some.ensures.some (w.in-Some.ensures.account refl))
+      | in-None w ↦ λ lives. absurd (false≢true (sym w.in-None.ensures.none.0 ∙ lives))
+    ]
+
+pub returns-clause-dead : goal.returns-clause-dead
+returns-clause-dead g c =
+    rw (← c.self.view_is, ← c.pass.view_is)
+    elim c.match-die.branch [
+      | in-Some w ↦ λ dead. absurd (false≢true (sym dead
+          ∙ death-lives (kept c.self.inside.desk) c.pass.inside.client
+          w.in-Some.ensures.some.writes.accepted))
+      | in-None w ↦ λ dead. w.self-is ∙ ap (λ (d : Seen). record {
+        desk = d;
+        marks = c.self.inside.marks.entries;
+        opened = c.self.inside.opened;
+        booked = c.self.inside.tally.total;
+      }) w.in-None.ensures.none.1
+    ]
+
+pub returns-clause-left : goal.returns-clause-left
+returns-clause-left g c =
+    let left : ℕ → ℕ → LeftView = λ (n m : ℕ). record {
+      client = c.pass.inside.client;
+      priority = c.pass.inside.priority;
+      receipts = c.pass.inside.receipts.items;
+      died_at = n;
+      deaths = m;
+    } in
+    let many : c.match-die.deaths
+    ≡ one_if (is_alive (past (kept c.self.inside.desk)) c.pass.inside.client) =
+    elim c.match-die.branch [
+      | in-Some w ↦ w.deaths-is ∙ sym (ap one_if (death-lives (kept c.self.inside.desk)
+          c.pass.inside.client w.in-Some.ensures.some.writes.accepted))
+      | in-None w ↦ w.deaths-is ∙ sym (ap one_if w.in-None.ensures.none.0)
+    ] in
+    rw (← c.self.view_is, ← c.pass.view_is)
+    (ap (λ n. left n c.match-die.deaths) c.len-died_at.ensures.value
+    ∙ ap (left (next_place c.self.inside.desk)) many)

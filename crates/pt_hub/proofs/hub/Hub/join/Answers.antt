@@ -1,7 +1,9 @@
-use Rattle.std.proofs.Common.{arith, refl}
+use Rattle.std.proofs.Common.{arith, refl, ap}
+use Rattle.pt_model.specs.declared.entry.Event.TheVariants as event
 use Rattle.pt_hub.specs.Hubs.{HubView}
 use Rattle.pt_hub.proofs.HubEvents.{joins}
 use Rattle.pt_hub.proofs.HubLemmas.{hub-more}
+use Rattle.pt_hub.proofs.KnownRefusals.{refused-alike}
 use Rattle.pt_hub.proofs.hub.Hub.join.Goals as goal
 
 pub invariant_of-self : goal.invariant_of-self
@@ -41,3 +43,8 @@ returns-in-Ok-clause-ok g c =
     (joins old c.args.priority c.join.new.self c.count.new.self.total c.in-Ok.field-0
     c.in-Ok.ensures.ok c.in-Ok.ensures.account c.len-place.result c.len-place.ensures.value
     c.new.result.items c.new.ensures.items)
+
+pub returns-in-Err-clause-err : goal.returns-in-Err-clause-err
+returns-in-Err-clause-err g c =
+    refused-alike _ _ (ap (λ (h : HubView). h.desk) c.self.view_is) (event.Join c.args.priority)
+    c.in-Err.refusal c.in-Err.ensures.err

@@ -1,9 +1,15 @@
-use Rattle.std.proofs.Common.{◌++◌, ◌∷◌, [], None, arith, refl, ap, ◌∙◌}
+use Rattle.std.proofs.Common.{List, Option, ◌++◌, ◌∷◌, [], None, arith, refl, sym, ap, ◌∙◌, subst}
 use Rattle.pt_types.specs.declared.call.Call.{Call as Asked}
+use Rattle.pt_types.specs.declared.outcome.Refusal.{Refusal}
+use Rattle.pt_model.specs.Queries.{told_if}
+use Rattle.pt_hub.specs.Desks.{Desk as Seen, IsRefusedAs}
 use Rattle.pt_hub.specs.Passes.{PassView}
-use Rattle.pt_hub.specs.Hubs.{HubView}
+use Rattle.pt_hub.specs.Hubs.{HubView, IsHub}
+use Rattle.pt_hub.specs.declared.pass.Receipt.{Receipt}
 use Rattle.pt_hub.proofs.HubEvents.{sends}
 use Rattle.pt_hub.proofs.HubLemmas.{hub-more}
+use Rattle.pt_hub.proofs.KnownRefusals.{call-refused-alike, made}
+use Rattle.pt_hub.proofs.SeenLemmas.{known-or}
 use Rattle.pt_hub.proofs.hub.Hub.send.Goals as goal
 
 pub invariant_of-self : goal.invariant_of-self
@@ -53,3 +59,51 @@ returns-in-Ok-clause-ok g c =
     ∙ ap (λ (x : Asked). c.reserve.new.self.items
     ++ record { place = c.len-place.result; call = x; answer = None } ∷ [])
     c.in-Ok.ensures.back))
+
+pub push_reserved-requires : goal.push_reserved-requires
+push_reserved-requires g c =
+    let room = made c.reserve.result c.if-is_err.ensures.value c.reserve.ensures.ok in
+    omega (arith, room)
+
+pub returns-then-is_err-clause-err : goal.returns-then-is_err-clause-err
+returns-then-is_err-clause-err g c =
+    let known = c.call_refusal-known.result in
+    call-refused-alike _ _ c.self.view_is _ _ c.pass.view_is c.args.call c.unwrap_or.result
+    (subst (λ (o : Option Refusal). IsRefusedAs o c.unwrap_or.result) c.call_refusal-known.ensures
+    (subst (IsRefusedAs known) (sym c.unwrap_or.ensures) (known-or known)))
+
+pub returns-in-Err-clause-err : goal.returns-in-Err-clause-err
+returns-in-Err-clause-err g c =
+    call-refused-alike _ _ c.self.view_is _ _ c.pass.view_is c.args.call c.in-Err.refusal
+    c.in-Err.ensures.err
+
+pub returns-in-Err-clause-unchanged : goal.returns-in-Err-clause-unchanged
+returns-in-Err-clause-unchanged g c = (
+  ap (λ (d : Seen). record {
+    desk = d;
+    marks = c.self.inside.marks.entries;
+    opened = c.self.inside.opened;
+    booked = c.self.inside.tally.total;
+  }) c.in-Err.ensures.unchanged ∙ c.self.view_is,
+  ap (λ (rs : List Receipt). record {
+    client = c.pass.inside.client;
+    priority = c.pass.inside.priority;
+    receipts = rs;
+  }) c.reserve.ensures.items ∙ c.pass.view_is,
+)
+
+pub returns-in-Ok-clause-next : goal.returns-in-Ok-clause-next
+returns-in-Ok-clause-next g c =
+    rw (← c.pass.view_is)
+    (c.in-Ok.ensures.next
+    ∙ ap (λ n. told_if c.pass.inside.client n c.in-Ok.applied.outcome)
+    (c.in-Ok.ensures.first ∙ sym c.len-place.ensures.value))
+
+pub invariant_of-self-in-Err : goal.invariant_of-self-in-Err
+invariant_of-self-in-Err g c =
+    subst (λ (d : Seen). IsHub (record {
+      desk = d;
+      marks = c.self.inside.marks.entries;
+      opened = c.self.inside.opened;
+      booked = c.self.inside.tally.total;
+    }) c.self.inside.tally) (sym c.in-Err.ensures.unchanged) c.self.invariant

@@ -1,0 +1,41 @@
+use Rattle.std.proofs.Common.{sym, ap, ◌∙◌}
+use Rattle.pt_core.specs.Replies.{told_of}
+use Rattle.pt_hub.specs.Hubs.{HubView, is_pending}
+use Rattle.pt_hub.specs.Passes.{PassView}
+use Rattle.pt_hub.proofs.HubEvents.{takes}
+use Rattle.pt_hub.proofs.HubLemmas.{hub-took}
+use Rattle.pt_hub.proofs.hub.Hub.take.Goals as goal
+
+pub returns-clause-some : goal.returns-clause-some
+returns-clause-some g c =
+    let old : HubView =
+    record {
+      desk = c.self.inside.desk;
+      marks = c.self.inside.marks.entries;
+      opened = c.self.inside.opened;
+      booked = c.self.inside.tally.total;
+    } in
+    let before : PassView =
+    record {
+      client = c.pass.inside.client;
+      priority = c.pass.inside.priority;
+      receipts = c.pass.inside.receipts.items;
+    } in
+    let reply = c.in_ok-reply.reply in
+    rw (← c.self.view_is, ← c.pass.view_is)
+    (takes old before (told_of reply) c.in_ok-reply.ensures
+    (ap (λ rs. is_pending rs reply.place) (sym c.as_slice.ensures.value)
+    ∙ sym c.if-not-is_pending.ensures)
+    c.take.new.self c.take.ensures.kept c.take.ensures.account c.answer.new.receipts.items
+    c.answer.ensures.items)
+
+pub invariant_of-self : goal.invariant_of-self
+invariant_of-self g c =
+    let old : HubView =
+    record {
+      desk = c.self.inside.desk;
+      marks = c.self.inside.marks.entries;
+      opened = c.self.inside.opened;
+      booked = c.self.inside.tally.total;
+    } in
+    hub-took old c.take.new.self c.self.inside.tally c.self.invariant c.take.ensures.kept
