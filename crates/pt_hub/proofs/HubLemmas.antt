@@ -83,6 +83,9 @@ module _ (old : HubView) (new : Desk) (t : TallyView) (k : IsHub old t) where
         sessions = k.sessions;
       }
 
+  pub hub-kept : new ≡ old.desk → IsHub (record old { desk = new }) t
+  hub-kept same = subst (λ (d : Desk). IsHub (record old { desk = d }) t) (sym same) k
+
   -- an answer was taken, which leaves the core as it was
   pub hub-took : new.core ≡ old.desk.core → IsHub (record old { desk = new }) t
   hub-took same =
@@ -93,7 +96,7 @@ module _ (old : HubView) (new : Desk) (t : TallyView) (k : IsHub old t) where
   pub hub-sealed : (r : Result ℕ Refusal) → IfOk r (IsSealed (kept old.desk) (kept new))
       → OnErr r (new ≡ old.desk) → IsHub (record old { desk = new }) t
   hub-sealed (Ok at) ok err = after_seal at ok
-  hub-sealed (Err e) ok err = subst (λ (d : Desk). IsHub (record old { desk = d }) t) (sym err) k
+  hub-sealed (Err e) ok err = hub-kept err
 
 -- before the first event
 pub hub-new : (v : HubView) (t : TallyView)

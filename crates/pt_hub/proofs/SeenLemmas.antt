@@ -58,9 +58,14 @@ module _ (d e : Desk) (k : IsDesk d) (same : d ≡ e) (c b : ℕ) (at : c ≡ b)
       (IsWantOfMemory (event.Call c said) r) (λ x. r ≡ x)
       → IsRefusedAs (call_refusal e b call) r
   caller-refused call said by r free w =
-      let here : is_blocked d c ≡ false = rw (same, at) free in
-      rw (← same, ← at, ← by) (subst (λ o. IsRefusedAs o r)
-      (sym (unblocked-refusal d k c said here)) (wanted _ r (event.Call c said) w))
+      let here : is_blocked d c ≡ false =
+      subst (λ (x : Desk). is_blocked x c ≡ false) (sym same)
+      (subst (λ n. is_blocked e n ≡ false) (sym at) free) in
+      subst (λ (x : Desk). IsRefusedAs (call_refusal x b call) r) same
+      (subst (λ n. IsRefusedAs (call_refusal d n call) r) at
+      (subst (λ (v : Asked). IsRefusedAs (call_refusal d c v) r) by
+      (subst (λ (o : Option Refusal). IsRefusedAs o r)
+      (sym (unblocked-refusal d k c said here)) (wanted _ r (event.Call c said) w))))
 
   -- who takes an answer has an account, and took fewer than there are places
   module _ (s : IsSome (next_answer e b)) where

@@ -3,7 +3,7 @@ use Rattle.std.specs.Prelude.{Result, IfOk}
 use Rattle.pt_types.specs.declared.outcome.Refusal.{Refusal}
 use Rattle.pt_core.specs.declared.applied.Applied.{Applied}
 use Rattle.pt_hub.specs.Desks.{Desk as Seen}
-use Rattle.pt_hub.proofs.DeskLemmas.{desk-died}
+use Rattle.pt_hub.proofs.DeskLemmas.{desk-died, desk-kept}
 use Rattle.pt_hub.proofs.OpenedDesks.{written-unsealed}
 use Rattle.pt_hub.proofs.desk.Desk.die.Goals as goal
 
@@ -29,3 +29,7 @@ invariant_of-self g c =
     (subst (λ (r : Result Applied Refusal). IfOk r (λ a. a.sealed ≡ None)) c.in-Ok.is
     (c.apply.ensures.unsealed c.args.c refl)))
     c.erase.ensures
+
+pub invariant_of-self-in-Err : goal.invariant_of-self-in-Err
+invariant_of-self-in-Err g c =
+    desk-kept _ _ _ c.in-Err.ensures.unchanged refl c.self.invariant

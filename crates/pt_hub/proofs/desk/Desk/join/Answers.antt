@@ -56,3 +56,7 @@ pub open-requires : goal.open-requires
 open-requires g c =
     let room = made c.reserve_one.result c.if-is_err.ensures.value c.reserve_one.ensures.room in
     omega (arith, room, c.renew_if.ensures.room)
+
+pub returns-then-is_err-clause-unchanged : goal.returns-then-is_err-clause-unchanged
+returns-then-is_err-clause-unchanged g c =
+    desk-alike _ c.self.inside.core _ refl c.reserve_one.ensures.entries _ c.self.view_is

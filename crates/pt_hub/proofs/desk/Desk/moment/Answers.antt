@@ -3,7 +3,7 @@ use Rattle.pt_model.specs.declared.entry.Event.TheVariants as event
 use Rattle.pt_core.specs.Cores.{shown}
 use Rattle.pt_core.specs.Applying.{IsApplied}
 use Rattle.pt_hub.specs.Desks.{Desk as Seen, kept}
-use Rattle.pt_hub.proofs.DeskLemmas.{desk-kept}
+use Rattle.pt_hub.proofs.DeskLemmas.{desk-alike, desk-kept}
 use Rattle.pt_hub.proofs.KnownRefusals.{memory-lacks}
 use Rattle.pt_hub.proofs.OpenedDesks.{desk-ticked, rows-opened}
 use Rattle.pt_hub.proofs.desk.Desk.moment.Goals as goal
@@ -31,3 +31,7 @@ pub returns-in-Err-clause-err : goal.returns-in-Err-clause-err
 returns-in-Err-clause-err g c =
     memory-lacks _ _ c.self.view_is (event.Moment c.args.clock c.args.moment) c.in-Err.refusal
     c.requires c.in-Err.ensures.err
+
+pub returns-in-Err-clause-unchanged : goal.returns-in-Err-clause-unchanged
+returns-in-Err-clause-unchanged g c =
+    desk-alike _ _ _ c.in-Err.ensures.unchanged refl _ c.self.view_is

@@ -1,10 +1,13 @@
-use Rattle.std.proofs.Common.{◌≡◌, List, None, Some, sym, ap, ◌∙◌, subst}
+use Rattle.std.proofs.Common.{◌≡◌, List, None, Option, Some, refl, sym, ap, ◌∙◌, subst}
+use Rattle.std.specs.Prelude.{IsSome}
+use Rattle.pt_model.specs.Records.{Told}
 use Rattle.pt_model.specs.Queries.{told_if}
 use Rattle.pt_hub.specs.Desks.{next_answer}
 use Rattle.pt_hub.specs.Hubs.{HubView, Sends, answered, takeable_if}
 use Rattle.pt_hub.specs.Passes.{PassView}
 use Rattle.pt_hub.specs.declared.pass.Receipt.{Receipt}
 use Rattle.pt_hub.proofs.HubEvents.{sends_and_takes}
+use Rattle.pt_hub.proofs.HubLemmas.{hub-took}
 use Rattle.pt_hub.proofs.hub.Hub.ask.Goals as goal
 
 pub returns-in-Ok-default-Some-clause-ok : goal.returns-in-Ok-default-Some-clause-ok
@@ -70,3 +73,23 @@ returns-in-Ok-default-Some-clause-pass g c =
     }) c.answer.ensures.items
     ∙ ap (λ (p : PassView). record p { receipts = answered p.receipts o })
     (c.pass-2.view_is ∙ c.in-Ok-default-Some.ensures.ok.its_pass)
+
+pub invariant_of-self : goal.invariant_of-self
+invariant_of-self g c =
+    let old : HubView =
+    record {
+      desk = c.self.inside.desk;
+      marks = c.self.inside.marks.entries;
+      opened = c.self.inside.opened;
+      booked = c.self.inside.tally.total;
+    } in
+    hub-took old c.take.new.self c.self.inside.tally c.self.invariant c.take.ensures.kept
+
+pub take-requires : goal.take-requires
+take-requires g c =
+    let its = c.in-Ok-default-Some.ensures.next
+    ∙ ap (told_if c.args.pass.now.client c.in-Ok-default-Some.sent.place)
+    c.in-Ok-default-Some.field-0-1-is in
+    subst (λ (h : HubView). IsSome (next_answer h.desk c.pass.inside.client)) (sym c.self.view_is)
+    (subst (λ (p : PassView). IsSome (next_answer c.send.new.self.desk p.client))
+    (sym c.pass.view_is) (subst (λ (o : Option Told). IsSome o) (sym its) refl))

@@ -1,5 +1,6 @@
-use Rattle.std.proofs.Common.{arith, refl, ap}
+use Rattle.std.proofs.Common.{arith, refl, ap, ◌∙◌}
 use Rattle.pt_model.specs.declared.entry.Event.TheVariants as event
+use Rattle.pt_hub.specs.Desks.{Desk as Seen}
 use Rattle.pt_hub.specs.Hubs.{HubView}
 use Rattle.pt_hub.proofs.HubEvents.{joins}
 use Rattle.pt_hub.proofs.HubLemmas.{hub-more}
@@ -48,3 +49,12 @@ pub returns-in-Err-clause-err : goal.returns-in-Err-clause-err
 returns-in-Err-clause-err g c =
     refused-alike _ _ (ap (λ (h : HubView). h.desk) c.self.view_is) (event.Join c.args.priority)
     c.in-Err.refusal c.in-Err.ensures.err
+
+pub returns-in-Err-clause-unchanged : goal.returns-in-Err-clause-unchanged
+returns-in-Err-clause-unchanged g c =
+    ap (λ (d : Seen). record {
+      desk = d;
+      marks = c.self.inside.marks.entries;
+      opened = c.self.inside.opened;
+      booked = c.self.inside.tally.total;
+    }) c.in-Err.ensures.unchanged ∙ c.self.view_is

@@ -1,9 +1,11 @@
-use Rattle.std.proofs.Common.{None, Some, arith, refl, sym, ap}
+use Rattle.std.proofs.Common.{List, None, Some, arith, refl, sym, ap, ◌∙◌}
 use Rattle.pt_types.specs.declared.outcome.Refusal.TheVariants.{Enomem}
 use Rattle.pt_model.specs.declared.entry.Event.TheVariants as event
+use Rattle.pt_hub.specs.declared.pass.Tick.{Tick}
+use Rattle.pt_hub.specs.Desks.{Desk as Seen}
 use Rattle.pt_hub.specs.Hubs.{HubView}
 use Rattle.pt_hub.proofs.HubEvents.{ticks}
-use Rattle.pt_hub.proofs.HubLemmas.{hub-more}
+use Rattle.pt_hub.proofs.HubLemmas.{hub-kept, hub-more}
 use Rattle.pt_hub.proofs.KnownRefusals.{made, refused-known}
 use Rattle.pt_hub.proofs.hub.Hub.moment.Goals as goal
 
@@ -45,7 +47,8 @@ returns-in-Ok-clause-ok g c =
 pub returns-in-Err-clause-err : goal.returns-in-Err-clause-err
 returns-in-Err-clause-err g c =
     refused-known _ _ (ap (λ (h : HubView). h.desk) c.self.view_is)
-    (event.Moment c.args.clock c.args.moment) c.in-Err.refusal None c.in_default.ensures c.in-Err.ensures.err
+    (event.Moment c.args.clock c.args.moment) c.in-Err.refusal None c.in_default.ensures
+    c.in-Err.ensures.err
 
 pub returns-then-is_err-clause-err : goal.returns-then-is_err-clause-err
 returns-then-is_err-clause-err g c =
@@ -55,7 +58,8 @@ returns-then-is_err-clause-err g c =
 pub returns-in-Some-clause-err : goal.returns-in-Some-clause-err
 returns-in-Some-clause-err g c =
     refused-known _ _ (ap (λ (h : HubView). h.desk) c.self.view_is)
-    (event.Moment c.args.clock c.args.moment) c.in-Some.refusal (Some c.in-Some.refusal) c.in-Some.ensures refl
+    (event.Moment c.args.clock c.args.moment) c.in-Some.refusal (Some c.in-Some.refusal)
+    c.in-Some.ensures refl
 
 pub moment-requires : goal.moment-requires
 moment-requires g c = sym c.in_default.ensures
@@ -64,3 +68,32 @@ pub push_reserved-requires : goal.push_reserved-requires
 push_reserved-requires g c =
     let room = made c.reserve.result c.if-is_err.ensures.value c.reserve.ensures.ok in
     omega (arith, room)
+
+pub returns-in-Err-clause-unchanged : goal.returns-in-Err-clause-unchanged
+returns-in-Err-clause-unchanged g c = (
+  ap (λ (d : Seen). record {
+    desk = d;
+    marks = c.self.inside.marks.entries;
+    opened = c.self.inside.opened;
+    booked = c.self.inside.tally.total;
+  }) c.in-Err.ensures.unchanged ∙ c.self.view_is,
+  ap (λ (ms : List Tick). record { moments = ms }) c.reserve.ensures.items ∙ c.pass.view_is,
+)
+
+pub returns-then-is_err-clause-unchanged : goal.returns-then-is_err-clause-unchanged
+returns-then-is_err-clause-unchanged g c = (
+  refl,
+  ap (λ (ms : List Tick). record { moments = ms }) c.reserve.ensures.items ∙ c.pass.view_is,
+)
+
+pub invariant_of-self-in-Err : goal.invariant_of-self-in-Err
+invariant_of-self-in-Err g c =
+    let old : HubView =
+    record {
+      desk = c.self.inside.desk;
+      marks = c.self.inside.marks.entries;
+      opened = c.self.inside.opened;
+      booked = c.self.inside.tally.total;
+    } in
+    hub-kept old c.moment.new.self c.self.inside.tally c.self.invariant
+    c.in-Err.ensures.unchanged

@@ -1,13 +1,14 @@
-use Rattle.std.proofs.Common.{List, Option, ◌++◌, ◌∷◌, [], None, arith, refl, sym, ap, ◌∙◌, subst}
+use Rattle.std.proofs.Common.{◌≡◌, List, Option, ◌++◌, ◌∷◌, [], None, arith, refl}
+use Rattle.std.proofs.Common.{sym, ap, ◌∙◌, subst}
 use Rattle.pt_types.specs.declared.call.Call.{Call as Asked}
 use Rattle.pt_types.specs.declared.outcome.Refusal.{Refusal}
 use Rattle.pt_model.specs.Queries.{told_if}
-use Rattle.pt_hub.specs.Desks.{Desk as Seen, IsRefusedAs}
+use Rattle.pt_hub.specs.Desks.{Desk as Seen, IsRefusedAs, next_answer}
 use Rattle.pt_hub.specs.Passes.{PassView}
-use Rattle.pt_hub.specs.Hubs.{HubView, IsHub}
+use Rattle.pt_hub.specs.Hubs.{HubView}
 use Rattle.pt_hub.specs.declared.pass.Receipt.{Receipt}
 use Rattle.pt_hub.proofs.HubEvents.{sends}
-use Rattle.pt_hub.proofs.HubLemmas.{hub-more}
+use Rattle.pt_hub.proofs.HubLemmas.{hub-kept, hub-more}
 use Rattle.pt_hub.proofs.KnownRefusals.{call-refused-alike, made}
 use Rattle.pt_hub.proofs.SeenLemmas.{known-or}
 use Rattle.pt_hub.proofs.hub.Hub.send.Goals as goal
@@ -94,16 +95,29 @@ returns-in-Err-clause-unchanged g c = (
 
 pub returns-in-Ok-clause-next : goal.returns-in-Ok-clause-next
 returns-in-Ok-clause-next g c =
-    rw (← c.pass.view_is)
+    subst (λ (p : PassView). next_answer c.call.new.self p.client
+    ≡ told_if p.client c.len-place.result c.in-Ok.applied.outcome) c.pass.view_is
     (c.in-Ok.ensures.next
     ∙ ap (λ n. told_if c.pass.inside.client n c.in-Ok.applied.outcome)
     (c.in-Ok.ensures.first ∙ sym c.len-place.ensures.value))
 
 pub invariant_of-self-in-Err : goal.invariant_of-self-in-Err
 invariant_of-self-in-Err g c =
-    subst (λ (d : Seen). IsHub (record {
-      desk = d;
+    let old : HubView =
+    record {
+      desk = c.self.inside.desk;
       marks = c.self.inside.marks.entries;
       opened = c.self.inside.opened;
       booked = c.self.inside.tally.total;
-    }) c.self.inside.tally) (sym c.in-Err.ensures.unchanged) c.self.invariant
+    } in
+    hub-kept old c.call.new.self c.self.inside.tally c.self.invariant c.in-Err.ensures.unchanged
+
+pub returns-then-is_err-clause-unchanged : goal.returns-then-is_err-clause-unchanged
+returns-then-is_err-clause-unchanged g c = (
+  refl,
+  ap (λ (rs : List Receipt). record {
+    client = c.pass.inside.client;
+    priority = c.pass.inside.priority;
+    receipts = rs;
+  }) c.reserve.ensures.items ∙ c.pass.view_is,
+)

@@ -1,4 +1,6 @@
-use Rattle.std.proofs.Common.{sym, ap, ◌∙◌}
+use Rattle.std.proofs.Common.{Option, refl, sym, ap, ◌∙◌, subst}
+use Rattle.std.specs.Prelude.{IsSome}
+use Rattle.pt_model.specs.Records.{Told}
 use Rattle.pt_core.specs.Replies.{told_of}
 use Rattle.pt_hub.specs.Hubs.{HubView, is_pending}
 use Rattle.pt_hub.specs.Passes.{PassView}
@@ -39,3 +41,6 @@ invariant_of-self g c =
       booked = c.self.inside.tally.total;
     } in
     hub-took old c.take.new.self c.self.inside.tally c.self.invariant c.take.ensures.kept
+
+pub take-requires : goal.take-requires
+take-requires g c = subst (λ (o : Option Told). IsSome o) c.in_ok-reply.ensures refl
