@@ -115,3 +115,7 @@ late_end k [] zero le = tt
 late_end k [] (suc i) le = tt
 late_end k (y ∷ cs) zero le = absurd (omega (arith, le))
 late_end k (y ∷ cs) (suc i) le = late_end k cs i (omega (arith, le))
+
+-- past one more, fewer are left
+pub fewer-left : (n i : ℕ) → i < n → n - (i + 1) < n - i
+fewer-left n i lt = omega (arith, lt)

@@ -1,8 +1,8 @@
 -- A hub stays one at each event.
-use Rattle.std.proofs.Common.{◌≡◌, ℕ, ◌+◌, ◌≤◌, ◌^◌, [], sym, ap, ◌∙◌, subst, arith}
+use Rattle.std.proofs.Common.{◌≡◌, ℕ, ◌+◌, ◌<◌, ◌≤◌, ◌^◌, [], sym, ap, ◌∙◌, subst, arith}
 use Rattle.std.specs.Prelude.{Result, Ok, Err, IfOk, OnErr}
 use Rattle.pt_types.specs.declared.outcome.Refusal.{Refusal}
-use Rattle.pt_types.specs.Limits.{most_entries}
+use Rattle.pt_types.specs.Limits.{most_entries, most_places}
 use Rattle.pt_model.specs.declared.entry.Event.{Event}
 use Rattle.pt_model.specs.Starts.{nothing}
 use Rattle.pt_model.specs.Histories.{place, outer}
@@ -109,3 +109,10 @@ hub-new v t k none booked zero parts =
       parts = omega (arith, parts);
       sessions = omega (arith, none);
     }
+
+-- a further event can be counted, and whoever has a part of the ledger counts it
+pub countable : (n o p : ℕ) → n ≡ o → o ≤ p → p ≤ most_places + most_entries → n < 2 ^ 63
+countable n o p same few within = omega arith
+
+pub has_part : (n : ℕ) → n ≡ 1 → 0 < n
+has_part n one = omega arith

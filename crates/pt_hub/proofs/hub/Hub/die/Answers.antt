@@ -6,7 +6,7 @@ use Rattle.pt_hub.specs.Desks.{Desk as Seen, kept, one_if}
 use Rattle.pt_hub.specs.Hubs.{HubView, next_place}
 use Rattle.pt_hub.specs.Passes.{LeftView}
 use Rattle.pt_hub.proofs.HubEvents.{dies}
-use Rattle.pt_hub.proofs.HubLemmas.{hub-died}
+use Rattle.pt_hub.proofs.HubLemmas.{hub-died, hub-kept}
 use Rattle.pt_hub.proofs.KnownRefusals.{death-lives}
 use Rattle.pt_hub.proofs.hub.Hub.die.Goals as goal
 use Rattle.pt_hub.proofs.hub.Hub.die.Goals.{in-Some, in-None}
@@ -84,3 +84,14 @@ returns-clause-left g c =
     rw (← c.self.view_is, ← c.pass.view_is)
     (ap (λ n. left n c.match-die.deaths) c.len-died_at.ensures.value
     ∙ ap (left (next_place c.self.inside.desk)) many)
+
+pub invariant_of-self-in-None : goal.invariant_of-self-in-None
+invariant_of-self-in-None g c =
+    let old : HubView =
+    record {
+      desk = c.self.inside.desk;
+      marks = c.self.inside.marks.entries;
+      opened = c.self.inside.opened;
+      booked = c.self.inside.tally.total;
+    } in
+    hub-kept old c.die.new.self c.self.inside.tally c.self.invariant c.in-None.ensures.none.1

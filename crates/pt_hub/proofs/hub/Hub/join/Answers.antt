@@ -3,7 +3,7 @@ use Rattle.pt_model.specs.declared.entry.Event.TheVariants as event
 use Rattle.pt_hub.specs.Desks.{Desk as Seen}
 use Rattle.pt_hub.specs.Hubs.{HubView}
 use Rattle.pt_hub.proofs.HubEvents.{joins}
-use Rattle.pt_hub.proofs.HubLemmas.{hub-more}
+use Rattle.pt_hub.proofs.HubLemmas.{hub-kept, hub-more}
 use Rattle.pt_hub.proofs.KnownRefusals.{refused-alike}
 use Rattle.pt_hub.proofs.hub.Hub.join.Goals as goal
 
@@ -58,3 +58,14 @@ returns-in-Err-clause-unchanged g c =
       opened = c.self.inside.opened;
       booked = c.self.inside.tally.total;
     }) c.in-Err.ensures.unchanged ∙ c.self.view_is
+
+pub invariant_of-self-in-Err : goal.invariant_of-self-in-Err
+invariant_of-self-in-Err g c =
+    let old : HubView =
+    record {
+      desk = c.self.inside.desk;
+      marks = c.self.inside.marks.entries;
+      opened = c.self.inside.opened;
+      booked = c.self.inside.tally.total;
+    } in
+    hub-kept old c.join.new.self c.self.inside.tally c.self.invariant c.in-Err.ensures.unchanged

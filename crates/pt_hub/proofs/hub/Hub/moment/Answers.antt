@@ -5,7 +5,7 @@ use Rattle.pt_hub.specs.declared.pass.Tick.{Tick}
 use Rattle.pt_hub.specs.Desks.{Desk as Seen}
 use Rattle.pt_hub.specs.Hubs.{HubView}
 use Rattle.pt_hub.proofs.HubEvents.{ticks}
-use Rattle.pt_hub.proofs.HubLemmas.{hub-kept, hub-more}
+use Rattle.pt_hub.proofs.HubLemmas.{countable, has_part, hub-kept, hub-more}
 use Rattle.pt_hub.proofs.KnownRefusals.{made, refused-known}
 use Rattle.pt_hub.proofs.hub.Hub.moment.Goals as goal
 
@@ -97,3 +97,10 @@ invariant_of-self-in-Err g c =
     } in
     hub-kept old c.moment.new.self c.self.inside.tally c.self.invariant
     c.in-Err.ensures.unchanged
+
+pub count-requires-clause-few : goal.count-requires-clause-few
+count-requires-clause-few g c =
+    countable _ _ _ c.self.invariant.outer c.len.ensures.counted c.len.ensures.within
+
+pub count-requires-clause-part : goal.count-requires-clause-part
+count-requires-clause-part g c = has_part _ c.pass.invariant.0

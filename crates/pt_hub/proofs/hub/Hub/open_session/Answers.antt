@@ -1,4 +1,4 @@
-use Rattle.std.proofs.Common.{ℕ, Bool, List, Some, false, refl, subst}
+use Rattle.std.proofs.Common.{ℕ, Bool, List, Some, false, refl, ap, ◌∙◌, subst}
 use Rattle.pt_hub.specs.Hubs.{Marked}
 use Rattle.pt_hub.proofs.hub.Hub.open_session.Goals as goal
 
@@ -13,3 +13,12 @@ returns-clause-ok g c =
       opened = refl;
       booked = c.part-share.ensures.total;
     }
+
+pub returns-then-is_err-clause-unchanged : goal.returns-then-is_err-clause-unchanged
+returns-then-is_err-clause-unchanged g c =
+    ap (λ (ms : List (ℕ × Bool)). record {
+      desk = c.self.inside.desk;
+      marks = ms;
+      opened = c.self.inside.opened;
+      booked = c.self.inside.tally.total;
+    }) c.reserve.ensures.entries ∙ c.self.view_is

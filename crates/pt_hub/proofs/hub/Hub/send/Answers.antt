@@ -5,10 +5,11 @@ use Rattle.pt_types.specs.declared.outcome.Refusal.{Refusal}
 use Rattle.pt_model.specs.Queries.{told_if}
 use Rattle.pt_hub.specs.Desks.{Desk as Seen, IsRefusedAs, next_answer}
 use Rattle.pt_hub.specs.Passes.{PassView}
-use Rattle.pt_hub.specs.Hubs.{HubView}
+use Rattle.pt_hub.specs.Hubs.{HubView, Sends}
 use Rattle.pt_hub.specs.declared.pass.Receipt.{Receipt}
+use Rattle.pt_hub.specs.declared.pass.Sent.{Sent}
 use Rattle.pt_hub.proofs.HubEvents.{sends}
-use Rattle.pt_hub.proofs.HubLemmas.{hub-kept, hub-more}
+use Rattle.pt_hub.proofs.HubLemmas.{countable, has_part, hub-kept, hub-more}
 use Rattle.pt_hub.proofs.KnownRefusals.{call-refused-alike, made}
 use Rattle.pt_hub.proofs.SeenLemmas.{known-or}
 use Rattle.pt_hub.proofs.hub.Hub.send.Goals as goal
@@ -51,7 +52,12 @@ returns-in-Ok-clause-ok g c =
       priority = c.pass.inside.priority;
       receipts = c.pass.inside.receipts.items;
     } in
-    rw (← c.self.view_is, ← c.pass.view_is)
+    let new : HubView = record old { desk = c.call.new.self; booked = c.count.new.self.total } in
+    let after : PassView = record before { receipts = c.push_reserved.new.self.items } in
+    let made : Sent =
+    record { place = c.len-place.result; ready = c.is_some-ready.result } in
+    subst (λ (h : HubView). Sends h c.args.pass.now c.args.call new after made) c.self.view_is
+    (subst (λ (p : PassView). Sends old p c.args.call new after made) c.pass.view_is
     (sends old before c.args.call c.call.new.self c.count.new.self.total c.in-Ok.applied
     c.in-Ok.ensures.ok c.in-Ok.ensures.first c.in-Ok.ensures.account c.len-place.result
     c.len-place.ensures.value c.is_some-ready.result c.is_some-ready.ensures
@@ -59,7 +65,7 @@ returns-in-Ok-clause-ok g c =
     (c.push_reserved.ensures.items
     ∙ ap (λ (x : Asked). c.reserve.new.self.items
     ++ record { place = c.len-place.result; call = x; answer = None } ∷ [])
-    c.in-Ok.ensures.back))
+    c.in-Ok.ensures.back)))
 
 pub push_reserved-requires : goal.push_reserved-requires
 push_reserved-requires g c =
@@ -121,3 +127,10 @@ returns-then-is_err-clause-unchanged g c = (
     receipts = rs;
   }) c.reserve.ensures.items ∙ c.pass.view_is,
 )
+
+pub count-requires-clause-few : goal.count-requires-clause-few
+count-requires-clause-few g c =
+    countable _ _ _ c.self.invariant.outer c.len-place.ensures.counted c.len-place.ensures.within
+
+pub count-requires-clause-part : goal.count-requires-clause-part
+count-requires-clause-part g c = has_part _ c.pass.invariant.0
