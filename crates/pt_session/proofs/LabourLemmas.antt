@@ -1,5 +1,5 @@
 -- LabourLemmas: what was submitted and written when a working side ends.
-use Rattle.std.proofs.Common.{◌≡◌, ℕ, suc, ◌+◌, Bool, true, false, List, [], ◌∷◌, ◌++◌, length, map}
+use Rattle.std.proofs.Common.{◌≡◌, ℕ, suc, ◌+◌, ◌-◌, Bool, true, false, List, [], ◌∷◌, ◌++◌, length, map}
 use Rattle.std.proofs.Common.{take, Option, Some, None, refl, sym, ap, ◌∙◌, subst, append_assoc}
 use Rattle.std.proofs.Common.{append-nil, length-append, arith}
 use Rattle.std.specs.Prelude.{if◌then◌else◌}
@@ -151,6 +151,22 @@ labour_stopped xs x n received o written InputEnded count lines taken flushed st
 labour_stopped xs x n received o written InputFailed count lines taken flushed stops = absurd stops
 labour_stopped xs x n received o written RingFull count lines taken flushed stops = absurd stops
 labour_stopped xs x n received o written GateShut count lines taken flushed stops = absurd stops
+
+-- the last answer did not go out, or not whole
+pub stops_stopped : (xs : List Exchange) (n : ℕ) (received : List Reading) (o : Output)
+    (old line : List ℕ) (cause : EndCause) → received ≡ lines_of xs
+    → StopsWriting old line o cause → StopsBy (labour (n + 1) n xs received o) (Some cause)
+stops_stopped xs n received o old line Memory lines stops =
+    (lines, (stops.taken ∙ sym stops.flushed, stops.failures, stops.rejections), refl)
+stops_stopped xs n received o old line WriteFailed lines stops = (lines, stops.cause, refl)
+stops_stopped xs n received o old line InputEnded lines stops = absurd stops
+stops_stopped xs n received o old line InputFailed lines stops = absurd stops
+stops_stopped xs n received o old line RingFull lines stops = absurd stops
+stops_stopped xs n received o old line GateShut lines stops = absurd stops
+
+-- a count did not grow
+pub none_more : (n m : ℕ) → n ≡ m → n - m ≡ 0
+none_more n m e = omega arith
 
 -- one line more
 pub more_counted : (xs : List Exchange) (x : Exchange) (n : ℕ) → length xs ≡ n

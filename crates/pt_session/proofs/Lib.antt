@@ -4,3 +4,4 @@ pub mod DealingLemmas
 pub mod LabourLemmas
 pub mod OutputLemmas
 pub mod SessionLemmas
+pub mod SourceLemmas
