@@ -1,5 +1,4 @@
-use Rattle.std.proofs.Common.{◌++◌, [], ◌∷◌, Option, None, ap, ◌∙◌}
-use Rattle.pt_hub.specs.declared.pass.Answer.{Answer}
+use Rattle.std.proofs.Common.{◌++◌, [], ◌∷◌, None, ap, ◌∙◌}
 use Rattle.pt_hub.specs.declared.pass.Receipt.{Receipt}
 use Rattle.pt_hub.specs.Hubs.{answered}
 use Rattle.pt_hub.specs.Passes.{PassView}

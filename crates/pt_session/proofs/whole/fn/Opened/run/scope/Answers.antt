@@ -1,4 +1,4 @@
-use Rattle.std.proofs.Common.{◌++◌, ◌∙◌, ap, rules, subst, sym}
+use Rattle.std.proofs.Common.{◌++◌, ◌∙◌, ap, subst, sym}
 use mathlib.Core.List.{IsPrefix}
 use Rattle.rtrb.specs.Ring.{known_items, received, sent}
 use Rattle.pt_session.specs.Readings.{input}
@@ -20,9 +20,31 @@ returns g c =
       known_items popped,
       c.slots_beside.ensures.fifo ∙ c.slots_beside.ensures.producer.1,
     ) in
+    let of = c.of.ensures in
     is_session c.captures.mode seen
     (output g.W.Sink.taken g.W.Sink.flushed g.W.Sink.failures g.W.Sink.rejections
     c.captures.writer)
-    read work c.of.result (search rules) (search rules) taken
+    read work c.of.result
+    (record {
+      read = of.read.0;
+      reader = of.read.1;
+      submitted = of.counts.0;
+      answered = of.counts.1;
+      left = of.left.0;
+      clock = of.left.1;
+      transcript = of.transcript;
+      writer = of.writer;
+      cause = of.cause;
+    })
+    (subst (λ mode. EndsReading mode seen read)
+    (c.work-remains.ensures.lines.1
+    ∙ c.of_reader-lines.ensures.lines.1
+    ∙ c.new-side.ensures.1)
+    c.end-read.ensures.ends)
+    taken
     c.work-remains.ensures.labour c.work-remains.ensures.stops c.work-remains.ensures.words
     c.work-remains.ensures.left c.work-remains.ensures.clock
+
+pub work-remains-requires-clause-lines : goal.work-remains-requires-clause-lines
+work-remains-requires-clause-lines g c = λ _ _.
+    ap received c.of_reader-lines.ensures.lines.0 ∙ c.requires.new.0.2
