@@ -25,6 +25,13 @@ alone-at new v first ef x ex is =
     subst (AnswersOwn (reads_of new.start) new.entries v first) (sym ex)
     (subst (IsAlone new v) (sym ef) is)
 
+-- an entry was added, so there is one
+pub entered-some : (old new : Stored) (v : Event) → Enters old v new → (len : ℕ)
+    → len ≡ new.start.at + length new.entries → 1 ≤ len
+entered-some old new v e len el =
+    let more = simp length-append at (ap length e.added.1) in
+    omega (arith, more, el)
+
 module _ (old made new : Stored) (v : Event) (m : IsMade old v made) (e : Enters made v new)
     (ok : refusal_within old.limit (past_of old) v ≡ None) where
   made_past : past_of made ≡ past_of old

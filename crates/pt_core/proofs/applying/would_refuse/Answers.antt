@@ -2,7 +2,7 @@ use Rattle.std.proofs.Common.{sym, ◌∙◌}
 use Rattle.pt_history.proofs.Places.{place_of_next}
 use Rattle.pt_model.proofs.Steps.{step-event}
 use Rattle.pt_state.specs.Adds.{past}
-use Rattle.pt_core.proofs.SealNeeds.{planned-seal, refused-sealed}
+use Rattle.pt_core.proofs.SealNeeds.{planned-seal, refused-sealed, refused-without}
 use Rattle.pt_core.proofs.SealedCores.{settled}
 use Rattle.pt_core.proofs.applying.would_refuse.Goals as goal
 
@@ -25,3 +25,12 @@ returns-then-needs_seal g c =
     c.refusal_of_seal.ensures
     ∙ refused-sealed s.stored.limit (past s) v (sym c.in_default.ensures) needs c.len.result
     (c.len.ensures ∙ sym (place_of_next s.stored))
+
+pub returns : goal.returns
+returns g c =
+    let s = c.args.body.now in
+    let v = c.args.event.now in
+    let none = sym (planned-seal s.stored.limit (past s) v c.plan_seldom.result.need
+    c.needs_seal.result c.plan_seldom.ensures.planned.needs c.needs_seal.ensures)
+    ∙ c.if-needs_seal.false in
+    c.refusal_within.ensures ∙ sym (refused-without s.stored.limit (past s) v none)

@@ -1,8 +1,13 @@
-use Rattle.std.proofs.Common.{sym, ◌∙◌, arith}
+use Rattle.std.proofs.Common.{sym, ap, ◌∙◌, arith}
 use Rattle.pt_history.proofs.Places.{place_of_next}
+use Rattle.pt_state.specs.Adds.{past}
+use Rattle.pt_core.specs.Cores.{seen}
 use Rattle.pt_core.proofs.ApplyingLemmas.{applied-renewed, refused-growth, refused-places}
 use Rattle.pt_core.proofs.ApplyingLemmas.{whole-renewed}
 use Rattle.pt_core.proofs.SealedCores.{places-lack, places-left}
+use Rattle.pt_core.proofs.SealNeeds.{needs-parts}
+use Rattle.pt_core.proofs.WholeLemmas.{whole-stays}
+use Rattle.pt_core.proofs.WritingLemmas.{entered-some}
 use Rattle.pt_core.proofs.applying.write_sealed.Goals as goal
 
 pub returns-in-Some-clause-err : goal.returns-in-Some-clause-err
@@ -39,3 +44,21 @@ returns-clause-ok g c =
     c.len.result c.told-outcome.result (c.len-first.ensures ∙ sym (place_of_next s))
     (places-left c.len-first.result (sym c.in_default.is ∙ c.refusal_of_seal.ensures))
     c.len.ensures c.told-outcome.ensures
+
+pub returns-in-Err-clause-whole : goal.returns-in-Err-clause-whole
+returns-in-Err-clause-whole g c =
+    whole-stays c.args.body.now c.enter_sealed.new.body c.in-Err.ensures.err c.requires.whole
+
+pub returns-in-Err-clause-unchanged : goal.returns-in-Err-clause-unchanged
+returns-in-Err-clause-unchanged g c = ap seen c.in-Err.ensures.err.stored
+
+pub enter_sealed-requires-clause-fits : goal.enter_sealed-requires-clause-fits
+enter_sealed-requires-clause-fits g c =
+    let s = c.args.body.now in
+    (needs-parts s.stored.limit (past s) c.args.event.now c.requires.needs).1
+
+pub overflow_sub-result : goal.overflow_sub-result
+overflow_sub-result g c =
+    let e = c.in_default-enter_sealed.ensures.ok in
+    entered-some e.sealed c.enter_sealed.new.body.stored c.args.event.now e.enters c.len.result
+    c.len.ensures

@@ -1,7 +1,8 @@
-use Rattle.std.proofs.Common.{◌≡◌, false, sym, ◌∙◌, subst}
+use Rattle.std.proofs.Common.{◌≡◌, false, None, sym, ◌∙◌, subst}
 use Rattle.pt_model.specs.declared.entry.Event.{Event}
-use Rattle.pt_model.specs.Room.{needs_seal}
+use Rattle.pt_model.specs.Room.{needs_seal, refusal}
 use Rattle.pt_state.specs.Adds.{past}
+use Rattle.pt_machine.specs.Planned.{IsPlanned}
 use Rattle.pt_core.specs.Trying.{IsTried}
 use Rattle.pt_core.specs.Wholes.{HasRoom}
 use Rattle.pt_core.proofs.OpenLemmas.{open-there}
@@ -27,3 +28,13 @@ pub returns-then-not-needs_seal : goal.returns-then-not-needs_seal
 returns-then-not-needs_seal g c =
     subst (λ (v : Event). IsTried c.args.body.now v c.write_arrival.new.body c.write_arrival.result)
     (sym c.in-Call.is) c.write_arrival.ensures
+
+pub write_arrival-requires-clause-planned : goal.write_arrival-requires-clause-planned
+write_arrival-requires-clause-planned g c =
+    subst (λ (v : Event). IsPlanned (past c.args.body.now) v c.plan-plan.result) c.in-Call.is
+    c.plan-plan.ensures.planned
+
+pub write_arrival-requires-clause-accepted : goal.write_arrival-requires-clause-accepted
+write_arrival-requires-clause-accepted g c =
+    subst (λ (v : Event). refusal (past c.args.body.now) v ≡ None) c.in-Call.is
+    c.requires.accepted

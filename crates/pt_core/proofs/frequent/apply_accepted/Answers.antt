@@ -1,6 +1,9 @@
-use Rattle.std.proofs.Common.{true, false, Some, None, sym, ◌∙◌}
+use Rattle.std.proofs.Common.{◌≡◌, true, false, Some, None, sym, ◌∙◌, subst}
 use Rattle.pt_history.proofs.Places.{place_of_next}
-use Rattle.pt_core.proofs.ApplyingLemmas.{applied-at}
+use Rattle.pt_model.specs.Room.{refusal}
+use Rattle.pt_state.specs.Adds.{past}
+use Rattle.pt_core.specs.Wholes.{IsWhole}
+use Rattle.pt_core.proofs.ApplyingLemmas.{applied-at, refused-unsealed, wrote-some}
 use Rattle.pt_core.proofs.frequent.apply_accepted.Goals as goal
 
 pub returns-in-Alone-clause-ok : goal.returns-in-Alone-clause-ok
@@ -34,3 +37,31 @@ returns-in-Unanswered-clause-ok g c =
     (c.applied-in-Unanswered.ensures.last ∙ sym (place_of_next new.stored))
     c.applied-in-Unanswered.ensures.outcome c.applied-in-Unanswered.ensures.unsealed
     c.applied-in-Unanswered.ensures.alone
+
+pub applied-requires : goal.applied-requires
+applied-requires g c =
+    wrote-some c.args.body.now c.args.event.now c.try_by_kind.new.body (Some c.in-Alone.outcome)
+    true c.in-Alone.ensures
+
+pub applied-requires-in-Answered : goal.applied-requires-in-Answered
+applied-requires-in-Answered g c =
+    wrote-some c.args.body.now c.args.event.now c.try_by_kind.new.body
+    (Some c.in-Answered.outcome) false c.in-Answered.ensures
+
+pub applied-requires-in-Unanswered : goal.applied-requires-in-Unanswered
+applied-requires-in-Unanswered g c =
+    wrote-some c.args.body.now c.args.event.now c.try_by_kind.new.body None false
+    c.in-Unanswered.ensures
+
+pub returns-in-Refused-clause-err : goal.returns-in-Refused-clause-err
+returns-in-Refused-clause-err g c =
+    refused-unsealed c.args.body.now.stored c.args.event.now c.in-Refused.ensures.unsealed
+    c.in-Refused.refusal c.in-Refused.ensures.why
+
+pub apply_any-requires-clause-whole : goal.apply_any-requires-clause-whole
+apply_any-requires-clause-whole g c = subst IsWhole (sym c.in-Left.ensures) c.requires.whole
+
+pub apply_any-requires-clause-accepted : goal.apply_any-requires-clause-accepted
+apply_any-requires-clause-accepted g c =
+    subst (λ s. refusal (past s) c.args.event.now ≡ None) (sym c.in-Left.ensures)
+    c.requires.accepted

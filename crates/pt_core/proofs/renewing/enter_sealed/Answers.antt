@@ -1,4 +1,4 @@
-use Rattle.std.proofs.Common.{◌≡◌, ◌+◌, max, sym, ◌∙◌, subst, arith}
+use Rattle.std.proofs.Common.{◌≡◌, ◌≤◌, ℕ, ◌+◌, max, sym, ◌∙◌, subst, arith}
 use Rattle.std.proofs.Math.Nat.{le-max_left, le-max_right, max-le}
 use Rattle.pt_model.specs.declared.entry.Entry.{Entry}
 use Rattle.pt_model.specs.Histories.{Begin, ◌▷◌}
@@ -13,6 +13,7 @@ use Rattle.pt_core.proofs.OpenLemmas.{room-asked}
 use Rattle.pt_core.proofs.RenewingLemmas.{entry-renewed, step-renewed, roomy-added, enters-renewed}
 use Rattle.pt_core.proofs.RenewingLemmas.{roomy-kept}
 use Rattle.pt_core.proofs.SealedCores.{settled}
+use Rattle.pt_core.proofs.WholeLemmas.{told-outer}
 use Rattle.pt_core.proofs.renewing.enter_sealed.Goals as goal
 
 pub push_outer_sealed-requires-clause-settled : goal.push_outer_sealed-requires-clause-settled
@@ -25,6 +26,14 @@ push_outer_sealed-requires-clause-step g c =
     subst (λ (e : Entry). Step (Begin (seal (past s))) e)
     (entry-renewed s c.requires.whole v c.requires.accepted)
     (step-renewed s c.requires.whole v c.requires.accepted)
+
+within_room : (k r room n : ℕ) → k ≤ 1 → r ≡ max room (1 + n) → k ≤ r
+within_room k r room n le e = omega (arith, le-max_right room (1 + n))
+
+pub push_outer_sealed-requires-clause-spare : goal.push_outer_sealed-requires-clause-spare
+push_outer_sealed-requires-clause-spare g c =
+    within_room _ c.max-room.result c.room.result c.args.need
+    (told-outer (Begin (seal (past c.args.body.now))) c.args.event.now) c.max-room.ensures
 
 pub settle-requires : goal.settle-requires
 settle-requires g c =

@@ -1,5 +1,7 @@
-use Rattle.std.proofs.Common.{sym, ◌∙◌, arith}
+use Rattle.std.proofs.Common.{sym, ap, ◌∙◌, subst, arith}
 use Rattle.pt_history.proofs.Places.{place_of_next}
+use Rattle.pt_core.specs.Cores.{seen}
+use Rattle.pt_core.specs.Wholes.{IsWhole}
 use Rattle.pt_core.proofs.SealedCores.{settled, whole-sealed, kept-sealed, places-lack, places-left}
 use Rattle.pt_core.proofs.SealedCores.{refused-full, refused-memory}
 use Rattle.pt_core.proofs.sealing.seal.Goals as goal
@@ -39,3 +41,9 @@ returns-in-Err-clause-err g c =
     let left = places-left c.len-at.result (sym c.in_default.is ∙ c.refusal_of_seal.ensures) in
     c.in-Err.ensures.reason
     ∙ refused-memory c.args.body.now.stored (omega (arith, next, c.len-at.ensures, left))
+
+pub returns-in-Err-clause-whole : goal.returns-in-Err-clause-whole
+returns-in-Err-clause-whole g c = subst IsWhole (sym c.in-Err.ensures.err) c.requires
+
+pub returns-in-Err-clause-unchanged : goal.returns-in-Err-clause-unchanged
+returns-in-Err-clause-unchanged g c = ap (λ s. seen s.stored) c.in-Err.ensures.err

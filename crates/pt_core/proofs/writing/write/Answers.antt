@@ -1,5 +1,4 @@
-use Rattle.std.proofs.Common.{◌≡◌, false, None, sym, ap, ◌∙◌, subst, length, length-append}
-use Rattle.std.proofs.Common.{arith}
+use Rattle.std.proofs.Common.{◌≡◌, false, None, refl, sym, ap, ◌∙◌, subst}
 use Rattle.std.specs.Prelude.{IsOk}
 use Rattle.pt_model.specs.Histories.{History}
 use Rattle.pt_model.specs.Room.{entry_for, refusal}
@@ -8,10 +7,11 @@ use Rattle.pt_machine.specs.Planned.{IsPlanned}
 use Rattle.pt_history.specs.Stored.{past_of}
 use Rattle.pt_history.proofs.Places.{place_of_next}
 use Rattle.pt_core.specs.Applying.{IsToldStill}
+use Rattle.pt_core.specs.Cores.{seen}
 use Rattle.pt_core.proofs.AcceptingLemmas.{same-past}
-use Rattle.pt_core.proofs.WritingLemmas.{alone-at, entered-written}
-use Rattle.pt_core.proofs.OpenLemmas.{memory-open, open-within}
-use Rattle.pt_core.proofs.WholeLemmas.{whole-entered}
+use Rattle.pt_core.proofs.WritingLemmas.{alone-at, entered-some, entered-written}
+use Rattle.pt_core.proofs.OpenLemmas.{memory-open, open-made, open-within}
+use Rattle.pt_core.proofs.WholeLemmas.{whole-entered, whole-stays}
 use Rattle.pt_core.proofs.writing.write.Goals as goal
 
 pub make_room-requires-clause-need : goal.make_room-requires-clause-need
@@ -27,6 +27,10 @@ enter-requires-clause-planned g c =
     made.same_entries))
     c.requires.planned
 
+pub enter-requires-clause-open : goal.enter-requires-clause-open
+enter-requires-clause-open g c =
+    open-made c.args.body.now c.make_room.new.body c.args.event.now c.in_default.ensures.ok
+
 -- a call that was answered as it came has its answer still
 pub outcome_by_answer-outcome-requires-clause-still :
     goal.outcome_by_answer-outcome-requires-clause-still
@@ -40,8 +44,22 @@ outcome_by_answer-outcome-requires-clause-still g c =
 pub outcome_by_answer-outcome-requires-clause-some :
     goal.outcome_by_answer-outcome-requires-clause-some
 outcome_by_answer-outcome-requires-clause-some g c =
-    let more = simp length-append at (ap length c.in-Ok.ensures.ok.added.1) in
-    omega (arith, more)
+    entered-some c.make_room.new.body.stored c.enter.new.body.stored c.args.event.now
+    c.in-Ok.ensures.ok _ refl
+
+pub overflow_sub-result : goal.overflow_sub-result
+overflow_sub-result g c =
+    entered-some c.make_room.new.body.stored c.enter.new.body.stored c.args.event.now
+    c.in-Ok.ensures.ok c.len.result c.len.ensures
+
+pub returns-in-Err-enter-clause-whole : goal.returns-in-Err-enter-clause-whole
+returns-in-Err-enter-clause-whole g c =
+    whole-stays c.make_room.new.body c.enter.new.body c.in-Err-enter.ensures.err
+    c.make_room.ensures.whole
+
+pub returns-in-Err-enter-clause-unchanged : goal.returns-in-Err-enter-clause-unchanged
+returns-in-Err-enter-clause-unchanged g c =
+    ap seen c.in-Err-enter.ensures.err.stored ∙ c.make_room.ensures.same
 
 pub returns-in-Err-enter-clause-err : goal.returns-in-Err-enter-clause-err
 returns-in-Err-enter-clause-err g c =

@@ -14,7 +14,7 @@ use Rattle.pt_model.specs.declared.entry.Entry.TheVariants.{Call}
 use Rattle.pt_model.specs.Room.{entry_for}
 use Rattle.pt_state.specs.Adds.{IsReadyFor, past}
 use Rattle.pt_machine.specs.GrantedAtOnce.{AddsBoth, IsGrantedAtOnce, IsReadyAfter}
-use Rattle.pt_machine.specs.Planned.{IsAtOnce}
+use Rattle.pt_machine.specs.Planned.{IsAtOnce, IsPlanned}
 use Rattle.pt_core.proofs.WholeLemmas.{ready-outer, ready-after, begins-both}
 use Rattle.pt_core.proofs.settling.AtOnceWay.push.Goals as goal
 
@@ -90,3 +90,8 @@ returns-in_ok-outcome-in-Call-clause-alone g c = λ rests.
     (subst (AnswersOwn (reads_of new.stored.start) new.stored.entries
     (event.Call c.in-Call.c c.in-Call.call) (place (past s)))
     (sym c.in_ok-outcome-in-Call.ensures.told) c.in_ok-outcome-in-Call.ensures.alone)
+
+pub push_granted_at_once-requires-clause-planned : goal.push_granted_at_once-requires-clause-planned
+push_granted_at_once-requires-clause-planned g c =
+    subst (λ (v : Event). IsPlanned (past c.args.body.now) v c.args.plan.now) c.in-Call.is
+    c.requires.planned
