@@ -1,4 +1,5 @@
-use Rattle.std.proofs.Common.{◌≡◌, false, None, sym, ◌∙◌, subst}
+use Rattle.std.proofs.Common.{◌≡◌, false, None, sym, ap, ◌∙◌, subst}
+use Rattle.pt_types.specs.Operations.{operation}
 use Rattle.pt_model.specs.declared.entry.Event.{Event}
 use Rattle.pt_model.specs.Room.{needs_seal, refusal}
 use Rattle.pt_state.specs.Adds.{past}
@@ -38,3 +39,9 @@ pub write_arrival-requires-clause-accepted : goal.write_arrival-requires-clause-
 write_arrival-requires-clause-accepted g c =
     subst (λ (v : Event). refusal (past c.args.body.now) v ≡ None) c.in-Call.is
     c.requires.accepted
+
+pub write_arrival-requires-clause-operation : goal.write_arrival-requires-clause-operation
+write_arrival-requires-clause-operation g c = ap operation c.in-Bwait.is
+
+pub needs_seal-requires : goal.needs_seal-requires
+needs_seal-requires g c = c.plan-plan.ensures.small

@@ -1,7 +1,11 @@
 use Rattle.std.proofs.Common.{◌≡◌, true, false, Some, None, sym, ◌∙◌, subst}
+use Rattle.std.specs.Prelude.{IfErr, IfOk, OnErr}
 use Rattle.pt_history.proofs.Places.{place_of_next}
+use Rattle.pt_model.specs.Clients.{is_alive}
 use Rattle.pt_model.specs.Room.{refusal}
 use Rattle.pt_state.specs.Adds.{past}
+use Rattle.pt_core.specs.Applying.{IsApplied, IsRefusal}
+use Rattle.pt_core.specs.Cores.{kept, seen}
 use Rattle.pt_core.specs.Wholes.{IsWhole}
 use Rattle.pt_core.proofs.ApplyingLemmas.{applied-at, refused-unsealed, wrote-some}
 use Rattle.pt_core.proofs.frequent.apply_accepted.Goals as goal
@@ -65,3 +69,35 @@ pub apply_any-requires-clause-accepted : goal.apply_any-requires-clause-accepted
 apply_any-requires-clause-accepted g c =
     subst (λ s. refusal (past s) c.args.event.now ≡ None) (sym c.in-Left.ensures)
     c.requires.accepted
+
+pub returns-in-Alone-clause-unsealed : goal.returns-in-Alone-clause-unsealed
+returns-in-Alone-clause-unsealed g c = λ d is. c.applied.ensures.unsealed
+
+pub returns-in-Answered-clause-unsealed : goal.returns-in-Answered-clause-unsealed
+returns-in-Answered-clause-unsealed g c = λ d is. c.applied-in-Answered.ensures.unsealed
+
+pub returns-in-Unanswered-clause-unsealed : goal.returns-in-Unanswered-clause-unsealed
+returns-in-Unanswered-clause-unsealed g c = λ d is. c.applied-in-Unanswered.ensures.unsealed
+
+pub returns-in-Left-clause-ok : goal.returns-in-Left-clause-ok
+returns-in-Left-clause-ok g c =
+    subst
+    (λ s. IfOk c.apply_any.result
+    (IsApplied (kept s.stored) c.args.event.now (kept c.apply_any.new.body.stored)))
+    c.in-Left.ensures c.apply_any.ensures.ok
+
+pub returns-in-Left-clause-err : goal.returns-in-Left-clause-err
+returns-in-Left-clause-err g c =
+    subst (λ s. IfErr c.apply_any.result (IsRefusal (kept s.stored) c.args.event.now))
+    c.in-Left.ensures c.apply_any.ensures.err
+
+pub returns-in-Left-clause-unchanged : goal.returns-in-Left-clause-unchanged
+returns-in-Left-clause-unchanged g c =
+    subst
+    (λ s. OnErr c.apply_any.result (seen c.apply_any.new.body.stored ≡ seen s.stored))
+    c.in-Left.ensures c.apply_any.ensures.unchanged
+
+pub returns-in-Left-clause-death : goal.returns-in-Left-clause-death
+returns-in-Left-clause-death g c = λ d is alive.
+    c.apply_any.ensures.death d is
+    (subst (λ s. is_alive (past s) d ≡ true) (sym c.in-Left.ensures) alive)

@@ -29,3 +29,30 @@ returns-then-is-2 g c =
     subst (λ (t : Tried). IsTried s v new t) (sym c.without_places-then-is-2.ensures)
     (tried-written s new v none says.whole c.write-then-is-2.result says.ok says.err says.unchanged
     says.death)
+
+pub write-requires-clause-small : goal.write-requires-clause-small
+write-requires-clause-small g c = c.plan-plan.ensures.small
+
+pub write-requires-clause-planned : goal.write-requires-clause-planned
+write-requires-clause-planned g c = c.plan-plan.ensures.planned
+
+pub write-requires-clause-accepted : goal.write-requires-clause-accepted
+write-requires-clause-accepted g c = c.requires.accepted
+
+pub write-requires-clause-whole : goal.write-requires-clause-whole
+write-requires-clause-whole g c = c.requires.whole
+
+pub write-requires-then-is-2-clause-small : goal.write-requires-then-is-2-clause-small
+write-requires-then-is-2-clause-small g c = c.plan-plan.ensures.small
+
+pub write-requires-then-is-2-clause-planned : goal.write-requires-then-is-2-clause-planned
+write-requires-then-is-2-clause-planned g c = c.plan-plan.ensures.planned
+
+pub write-requires-then-is-2-clause-accepted : goal.write-requires-then-is-2-clause-accepted
+write-requires-then-is-2-clause-accepted g c = c.requires.accepted
+
+pub write-requires-then-is-2-clause-whole : goal.write-requires-then-is-2-clause-whole
+write-requires-then-is-2-clause-whole g c = c.requires.whole
+
+pub needs_seal-requires : goal.needs_seal-requires
+needs_seal-requires g c = c.plan-plan.ensures.small

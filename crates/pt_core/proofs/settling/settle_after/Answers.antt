@@ -1,3 +1,5 @@
+use Rattle.std.proofs.Common.{sym, ◌∙◌}
+use Rattle.std.proofs.lemmas.Bool.{false≢true}
 use Rattle.pt_core.proofs.SettlingLemmas.{settling-itself}
 use Rattle.pt_core.proofs.settling.settle_after.Goals as goal
 
@@ -8,3 +10,7 @@ returns-else-not-rests-clause-settles g c =
       settling = settling-itself c.args.body.now.stored roomy.read.follows roomy.room;
       settled = c.requires.rests c.if-not-rests.false;
     }
+
+pub returns-then-not-rests-clause-same : goal.returns-then-not-rests-clause-same
+returns-then-not-rests-clause-same g c = λ rests.
+    absurd (false≢true (sym c.if-not-rests.true ∙ rests))

@@ -101,3 +101,32 @@ returns-in-Err-enter-clause-enough g c = λ there small.
     (sym (same-past c.args.body.now.stored c.make_room.new.body.stored
     c.in_default.ensures.ok.made.same_start c.in_default.ensures.ok.made.same_entries))
     small))
+
+pub enter-requires-clause-accepted : goal.enter-requires-clause-accepted
+enter-requires-clause-accepted g c =
+    let made = c.in_default.ensures.ok.made in
+    ap (λ h. refusal h c.args.event.now)
+    (same-past c.args.body.now.stored c.make_room.new.body.stored made.same_start
+    made.same_entries)
+    ∙ c.requires.accepted
+
+pub outcome_by_answer-outcome-requires-clause-read :
+    goal.outcome_by_answer-outcome-requires-clause-read
+outcome_by_answer-outcome-requires-clause-read g c = c.in-Ok.ensures.roomy.read
+
+pub returns-in-Err-clause-whole : goal.returns-in-Err-clause-whole
+returns-in-Err-clause-whole g c = c.make_room.ensures.whole
+
+pub returns-in-Err-clause-unchanged : goal.returns-in-Err-clause-unchanged
+returns-in-Err-clause-unchanged g c = c.make_room.ensures.same
+
+pub returns-in-Err-clause-err : goal.returns-in-Err-clause-err
+returns-in-Err-clause-err g c = c.in-Err.ensures.refusal
+
+pub returns-in-Err-clause-death : goal.returns-in-Err-clause-death
+returns-in-Err-clause-death g c = λ dies.
+    subst (λ a. IsOk a) c.in-Err.is (c.make_room.ensures.death dies)
+
+pub returns-in-Err-enter-clause-death : goal.returns-in-Err-enter-clause-death
+returns-in-Err-enter-clause-death g c = λ dies.
+    subst (λ a. IsOk a) c.in-Err-enter.is (c.enter.ensures.death dies)

@@ -1,0 +1,12 @@
+-- A core shows what is kept of its state.
+use Rattle.std.proofs.Common.{◌≡◌, ap, ◌∙◌}
+use Rattle.pt_state.specs.declared.state.State.{State}
+use Rattle.pt_core.specs.Cores.{Seen, kept, seen, shown}
+
+module _ {A : Type 0} (lent inside : State A) (view : Seen) (same : lent ≡ inside)
+    (is : seen inside.stored ≡ view) where
+  pub seen-now : seen lent.stored ≡ view
+  seen-now = ap (λ (s : State A). seen s.stored) same ∙ is
+
+  pub shown-now : kept lent.stored ≡ shown view
+  shown-now = ap shown seen-now
