@@ -1,0 +1,2 @@
+-- Stays: what the lock lends is what the lock was had with
+mod Stays

@@ -1,0 +1,13 @@
+use Rattle.pt_shared.proofs.Stays.{found-lent, made-lent}
+use Rattle.pt_shared.proofs.shared.Shared.call.Goals as goal
+
+pub returns-in-Ok-clause-ok : goal.returns-in-Ok-clause-ok
+returns-in-Ok-clause-ok g c =
+    made-lent c.deref.result.now c.deref_mut.result.now _ c.law_fits.ensures c.deref.ensures
+    c.deref_mut.ensures.value _ c.deref-in-Ok.result.now _ c.law_fits-in-Ok.ensures
+    c.deref-in-Ok.ensures c.in-Ok.ensures.ok
+
+pub returns-in-Err-clause-err : goal.returns-in-Err-clause-err
+returns-in-Err-clause-err g c =
+    found-lent c.deref.result.now c.deref_mut.result.now _ c.law_fits.ensures c.deref.ensures
+    c.deref_mut.ensures.value _ c.in-Err.ensures.err
