@@ -1,5 +1,5 @@
 -- What was had under the lock is the hub that the calls were made of.
-use Rattle.std.proofs.Common.{◌≡◌, sym, ap, ◌∙◌, subst}
+use Rattle.std.proofs.Common.{◌≡◌, sym, ◌∙◌, subst}
 use Rattle.pt_hub.specs.Hubs.{HubView, Fits}
 use Rattle.pt_shared.specs.Stays.{Found, Made}
 use Rattle.pt_shared.specs.declared.shared.Room.{Room}

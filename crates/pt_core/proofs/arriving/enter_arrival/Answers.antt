@@ -56,3 +56,9 @@ returns-else-rests-clause-told g c =
     c.outcome_of.ensures
     ∙ ap (outcome (past c.settle_after.new.body))
     (c.len-first.ensures ∙ sym (place_of_next c.args.body.now.stored))
+
+pub returns-then-rests-clause-roomy : goal.returns-then-rests-clause-roomy
+returns-then-rests-clause-roomy g c = c.settle_after.ensures.roomy
+
+pub returns-else-rests-clause-roomy : goal.returns-else-rests-clause-roomy
+returns-else-rests-clause-roomy g c = c.settle_after.ensures.roomy

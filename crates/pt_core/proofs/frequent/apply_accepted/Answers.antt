@@ -101,3 +101,21 @@ pub returns-in-Left-clause-death : goal.returns-in-Left-clause-death
 returns-in-Left-clause-death g c = λ d is alive.
     c.apply_any.ensures.death d is
     (subst (λ s. is_alive (past s) d ≡ true) (sym c.in-Left.ensures) alive)
+
+pub returns-in-Alone-clause-whole : goal.returns-in-Alone-clause-whole
+returns-in-Alone-clause-whole g c = c.in-Alone.ensures.whole
+
+pub returns-in-Answered-clause-whole : goal.returns-in-Answered-clause-whole
+returns-in-Answered-clause-whole g c = c.in-Answered.ensures.whole
+
+pub returns-in-Unanswered-clause-whole : goal.returns-in-Unanswered-clause-whole
+returns-in-Unanswered-clause-whole g c = c.in-Unanswered.ensures.whole
+
+pub returns-in-Refused-clause-whole : goal.returns-in-Refused-clause-whole
+returns-in-Refused-clause-whole g c = c.in-Refused.ensures.whole
+
+pub returns-in-Refused-clause-unchanged : goal.returns-in-Refused-clause-unchanged
+returns-in-Refused-clause-unchanged g c = c.in-Refused.ensures.unchanged
+
+pub returns-in-Left-clause-unsealed : goal.returns-in-Left-clause-unsealed
+returns-in-Left-clause-unsealed g c = c.apply_any.ensures.unsealed

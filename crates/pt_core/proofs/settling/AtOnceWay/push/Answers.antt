@@ -95,3 +95,6 @@ pub push_granted_at_once-requires-clause-planned : goal.push_granted_at_once-req
 push_granted_at_once-requires-clause-planned g c =
     subst (λ (v : Event). IsPlanned (past c.args.body.now) v c.args.plan.now) c.in-Call.is
     c.requires.planned
+
+pub returns-in_ok-outcome-in-Call-clause-rests : goal.returns-in_ok-outcome-in-Call-clause-rests
+returns-in_ok-outcome-in-Call-clause-rests g c = λ rests. c.in_ok-outcome-in-Call.ensures.rests

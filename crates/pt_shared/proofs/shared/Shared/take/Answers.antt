@@ -11,3 +11,9 @@ pub returns-clause-none : goal.returns-clause-none
 returns-clause-none g c =
     found-lent c.deref.result.now c.deref_mut.result.now _ c.law_fits.ensures c.deref.ensures
     c.deref_mut.ensures.value _ c.in-None.ensures.none
+
+pub returns-in-Some-clause-pass : goal.returns-in-Some-clause-pass
+returns-in-Some-clause-pass g c = c.in-Some.ensures.some.its_pass
+
+pub returns-clause-same : goal.returns-clause-same
+returns-clause-same g c = c.in-None.ensures.same.1

@@ -1,5 +1,6 @@
 use Rattle.std.proofs.Common.{◌≡◌, None, sym, ap, ◌∙◌, subst}
-use Rattle.pt_hub.specs.Hubs.{Takes, has_ended, takeable}
+use Rattle.pt_hub.specs.Hubs.{Takes, answered, has_ended, takeable}
+use Rattle.pt_hub.specs.Passes.{PassView}
 use Rattle.pt_shared.proofs.Stays.{found-lent, made-lent}
 use Rattle.pt_shared.proofs.shared.Shared.wait_for_answer.Goals as goal
 
@@ -29,3 +30,22 @@ returns-then-input_ended-clause-none g c =
 
 pub returns-then-input_ended-clause-same : goal.returns-then-input_ended-clause-same
 returns-then-input_ended-clause-same g c = c.in_default.ensures.same.1 ∙ c.loop.invariant
+
+pub returns-in-Some-take-clause-same : goal.returns-in-Some-take-clause-same
+returns-in-Some-take-clause-same g c = tt
+
+pub returns-in-Some-take-clause-none : goal.returns-in-Some-take-clause-none
+returns-in-Some-take-clause-none g c = tt
+
+pub returns-then-input_ended-clause-pass : goal.returns-then-input_ended-clause-pass
+returns-then-input_ended-clause-pass g c = tt
+
+pub returns-then-input_ended-clause-some : goal.returns-then-input_ended-clause-some
+returns-then-input_ended-clause-some g c = tt
+
+pub returns-in-Some-take-clause-pass : goal.returns-in-Some-take-clause-pass
+returns-in-Some-take-clause-pass g c =
+    subst
+    (λ (p : PassView).
+    c.take.new.pass ≡ record p { receipts = answered p.receipts c.in-Some-take.answer.outcome })
+    c.loop.invariant c.in-Some-take.ensures.some.its_pass
