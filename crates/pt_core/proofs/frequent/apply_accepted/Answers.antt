@@ -1,12 +1,5 @@
-use Rattle.std.proofs.Common.{◌≡◌, true, false, Some, None, sym, ◌∙◌, subst}
-use Rattle.std.specs.Prelude.{IfErr, IfOk, OnErr}
+use Rattle.std.proofs.Common.{true, false, Some, None, sym, ◌∙◌}
 use Rattle.pt_history.proofs.Places.{place_of_next}
-use Rattle.pt_model.specs.Clients.{is_alive}
-use Rattle.pt_model.specs.Room.{refusal}
-use Rattle.pt_state.specs.Adds.{past}
-use Rattle.pt_core.specs.Applying.{IsApplied, IsRefusal}
-use Rattle.pt_core.specs.Cores.{kept, seen}
-use Rattle.pt_core.specs.Wholes.{IsWhole}
 use Rattle.pt_core.proofs.ApplyingLemmas.{applied-at, refused-unsealed, wrote-some}
 use Rattle.pt_core.proofs.frequent.apply_accepted.Goals as goal
 
@@ -62,14 +55,6 @@ returns-in-Refused-clause-err g c =
     refused-unsealed c.args.body.now.stored c.args.event.now c.in-Refused.ensures.unsealed
     c.in-Refused.refusal c.in-Refused.ensures.why
 
-pub apply_any-requires-clause-whole : goal.apply_any-requires-clause-whole
-apply_any-requires-clause-whole g c = subst IsWhole (sym c.in-Left.ensures) c.requires.whole
-
-pub apply_any-requires-clause-accepted : goal.apply_any-requires-clause-accepted
-apply_any-requires-clause-accepted g c =
-    subst (λ s. refusal (past s) c.args.event.now ≡ None) (sym c.in-Left.ensures)
-    c.requires.accepted
-
 pub returns-in-Alone-clause-unsealed : goal.returns-in-Alone-clause-unsealed
 returns-in-Alone-clause-unsealed g c = λ d is. c.applied.ensures.unsealed
 
@@ -78,29 +63,6 @@ returns-in-Answered-clause-unsealed g c = λ d is. c.applied-in-Answered.ensures
 
 pub returns-in-Unanswered-clause-unsealed : goal.returns-in-Unanswered-clause-unsealed
 returns-in-Unanswered-clause-unsealed g c = λ d is. c.applied-in-Unanswered.ensures.unsealed
-
-pub returns-in-Left-clause-ok : goal.returns-in-Left-clause-ok
-returns-in-Left-clause-ok g c =
-    subst
-    (λ s. IfOk c.apply_any.result
-    (IsApplied (kept s.stored) c.args.event.now (kept c.apply_any.new.body.stored)))
-    c.in-Left.ensures c.apply_any.ensures.ok
-
-pub returns-in-Left-clause-err : goal.returns-in-Left-clause-err
-returns-in-Left-clause-err g c =
-    subst (λ s. IfErr c.apply_any.result (IsRefusal (kept s.stored) c.args.event.now))
-    c.in-Left.ensures c.apply_any.ensures.err
-
-pub returns-in-Left-clause-unchanged : goal.returns-in-Left-clause-unchanged
-returns-in-Left-clause-unchanged g c =
-    subst
-    (λ s. OnErr c.apply_any.result (seen c.apply_any.new.body.stored ≡ seen s.stored))
-    c.in-Left.ensures c.apply_any.ensures.unchanged
-
-pub returns-in-Left-clause-death : goal.returns-in-Left-clause-death
-returns-in-Left-clause-death g c = λ d is alive.
-    c.apply_any.ensures.death d is
-    (subst (λ s. is_alive (past s) d ≡ true) (sym c.in-Left.ensures) alive)
 
 pub returns-in-Alone-clause-whole : goal.returns-in-Alone-clause-whole
 returns-in-Alone-clause-whole g c = c.in-Alone.ensures.whole
@@ -116,6 +78,3 @@ returns-in-Refused-clause-whole g c = c.in-Refused.ensures.whole
 
 pub returns-in-Refused-clause-unchanged : goal.returns-in-Refused-clause-unchanged
 returns-in-Refused-clause-unchanged g c = c.in-Refused.ensures.unchanged
-
-pub returns-in-Left-clause-unsealed : goal.returns-in-Left-clause-unsealed
-returns-in-Left-clause-unsealed g c = c.apply_any.ensures.unsealed
