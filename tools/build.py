@@ -225,7 +225,7 @@ def choose(waiting, running, at_once):
 def share(name, to_do, weight):
     """The jobs and the niceness of a check, by how long its way to the program is."""
     part = weight[name] / max(weight[it] for it in to_do)
-    return PROCESSORS if part > 1 / 3 else 1, min(19, round(30 * (1 - part)))
+    return PROCESSORS if part > 1 / 3 else 1, round(19 * (1 - part))
 
 
 def prove_all(names, stamps, scratch):
