@@ -1,4 +1,4 @@
--- Why an event is refused, and what follows where it doesn't.
+-- Why an event is refused, and what follows if it isn't.
 use Rattle.std.proofs.Common.{◌≡◌, ℕ, Bool, false, true, cond, Option, Some, None, refl}
 use Rattle.std.proofs.Common.{sym, subst}
 use Rattle.std.specs.Prelude.{Result, Ok, Err, OnOk, MatchOption}
