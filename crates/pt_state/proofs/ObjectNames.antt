@@ -1,6 +1,7 @@
 -- ObjectNames: what names mean and how many objects there are, after each entry.
 use Rattle.std.proofs.Common.{◌≡◌, ℕ, suc, ◌-◌, Bool, true, false, cond, ◌==◌, List, Option, Some}
 use Rattle.std.proofs.Common.{None, option_map, refl, sym, ap, ◌∙◌, subst, arith}
+use Rattle.std.proofs.lemmas.Bool.{false≢true}
 use Rattle.std.proofs.lemmas.Bool.Decides.{nat_tests}
 use Rattle.pt_types.specs.declared.call.Call.{Call as Asked}
 use Rattle.pt_types.specs.declared.call.ObjectKind.{ObjectKind}
@@ -56,8 +57,8 @@ names_kept at (Mends m) before n e = refl
 names_kept at (Returns m) before n e = refl
 names_kept at (Wakes m all) before n e = refl
 names_kept at (Waits w) before n e = refl
-names_kept at (Creates m kind) before n e = absurd cc
-names_kept at (Removes m class q) before n e = absurd cc
+names_kept at (Creates m kind) before n e = absurd (false≢true e)
+names_kept at (Removes m class q) before n e = absurd (false≢true e)
 
 -- what a name means after a call
 pub numbered-call : (h : History) (c : ℕ) (call : Asked) (E : Effect) → does h c call ≡ E
@@ -216,21 +217,22 @@ pub objects-call : (h : History) (c : ℕ) (call : Asked)
 objects-call h c call =
     objects_reply h c call (reply (verdict h c call)) (objects h) (resolved h c call)
 
+objects_kept : (E : Effect) (before : ℕ) → names_none E ≡ true → objects_effect E before ≡ before
+objects_kept Idle before t = refl
+objects_kept (Relocks m) before t = refl
+objects_kept (Frees m) before t = refl
+objects_kept (Mends m) before t = refl
+objects_kept (Returns m) before t = refl
+objects_kept (Wakes m all) before t = refl
+objects_kept (Waits w) before t = refl
+objects_kept (Creates m kind) before t = absurd (false≢true t)
+objects_kept (Removes m class q) before t = absurd (false≢true t)
+
 -- as many, where it is no init and no destroy
 pub objects-same : (h : History) (c : ℕ) (call : Asked) → names_none (does h c call) ≡ true
     → objects (behind h c call) ≡ objects h
-objects-same h c call e = objects-call h c call ∙ go (does h c call) e
-  where
-    go : (E : Effect) → names_none E ≡ true → objects_effect E (objects h) ≡ objects h
-    go Idle t = refl
-    go (Relocks m) t = refl
-    go (Frees m) t = refl
-    go (Mends m) t = refl
-    go (Returns m) t = refl
-    go (Wakes m all) t = refl
-    go (Waits w) t = refl
-    go (Creates m kind) t = absurd cc
-    go (Removes m class q) t = absurd cc
+objects-same h c call e =
+    objects-call h c call ∙ objects_kept (does h c call) (objects h) e
 
 -- one more after an init
 pub objects-creates : (h : History) (c : ℕ) (call : Asked) (m : List ℕ) (kind : ObjectKind)

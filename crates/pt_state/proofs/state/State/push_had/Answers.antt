@@ -4,6 +4,7 @@ use Rattle.pt_state.specs.declared.state.State.{State}
 use Rattle.pt_state.specs.Had.{NotesHad}
 use Rattle.pt_state.proofs.HadLemmas.{room, spare, still-there}
 use Rattle.pt_state.proofs.HadLocks.{mutex-had, mutex-looks, mutex-may, mutex-stored}
+use Rattle.pt_state.proofs.StandLemmas.{waits-row}
 use Rattle.pt_state.proofs.state.State.push_had.Goals as goal
 
 pub take-requires-clause-there : goal.take-requires-clause-there
@@ -56,3 +57,16 @@ returns-clause-adds g c = λ o had.
     (c.take.ensures.chained s.orphans c.requires.ready.read.chained) end
     (subst (λ (t : State g.row.A.Denot). NotesHad t c.args.c c.args.call.now x end)
     c.take.ensures.rest c.note_had.ensures)
+
+pub take-requires-clause-client : goal.take-requires-clause-client
+take-requires-clause-client g c =
+    waits-row c.args.self.now c.args.c c.args.call.now c.requires.ready
+
+pub take-requires-clause-robust : goal.take-requires-clause-robust
+take-requires-clause-robust g c = c.had_at-had.ensures.row
+
+pub take-requires-clause-chained : goal.take-requires-clause-chained
+take-requires-clause-chained g c = (c.args.self.now.orphans, c.requires.ready.read.chained)
+
+pub returns-clause-robust : goal.returns-clause-robust
+returns-clause-robust g c = c.had_at-had.ensures.robust

@@ -1,0 +1,100 @@
+-- What one step hands on to the next: an entry under another name, and objects that are written.
+use Rattle.std.proofs.Common.{◌≡◌, ℕ, Bool, false, cond, List, ◌∷◌, [], Option, None, refl, sym, ap}
+use Rattle.std.proofs.Common.{◌∙◌, subst}
+use Rattle.std.specs.Prelude.{option_map, unwrap_or}
+use Rattle.pt_types.specs.declared.call.Call.{Call as Asked}
+use Rattle.pt_types.specs.declared.call.How.{How}
+use Rattle.pt_types.specs.declared.operations.LockKind.{LockKind}
+use Rattle.pt_types.specs.declared.time.Clock.{Clock}
+use Rattle.pt_types.specs.Operations.{Acquires, class_needed, clock_of, deadline_of, operation}
+use Rattle.pt_types.specs.Times.{Timespec, deadline_nanos}
+use Rattle.pt_table.specs.declared.objects.ObjectRow.{ObjectRow}
+use Rattle.pt_model.specs.declared.entry.Entry.{Entry}
+use Rattle.pt_model.specs.declared.entry.Entry.TheVariants.{Grant, Trip}
+use Rattle.pt_model.specs.declared.waiting_call.Role.{Role}
+use Rattle.pt_model.specs.declared.waiting_call.WaitingCall.{WaitingCall}
+use Rattle.pt_model.specs.Clients.{client}
+use Rattle.pt_model.specs.Forced.{service}
+use Rattle.pt_model.specs.Grants.{grant_outcome}
+use Rattle.pt_model.specs.Histories.{History, place}
+use Rattle.pt_model.specs.Objects.{find}
+use Rattle.pt_model.specs.WaitingCall.{entered, is_arrival, role_needed, stood_by_operation}
+use Rattle.pt_records.specs.declared.clients.Open.{Open}
+use Rattle.pt_records.specs.declared.objects.Object.{Object}
+use Rattle.pt_state.specs.declared.state.State.{State}
+use Rattle.pt_state.specs.Adds.{Adds, IsReadyFor, Stays, past}
+use Rattle.pt_state.specs.Left.{IsLeft}
+use Rattle.pt_state.specs.Reads.{AreTables, Reads}
+use Rattle.pt_state.specs.Serving.{called}
+
+-- a call that waits at no barrier is served by its Grant
+pub service-grant : (h : History) (w : WaitingCall) → is_arrival w.role ≡ false
+    → service h w ≡ Grant w.place (grant_outcome h w)
+service-grant h w other =
+    ap (λ b. cond b (Trip w.object) (Grant w.place (grant_outcome h w))) other
+
+module _ {A : Type 0} (s : State A) where
+  module _ (o : Open) (other : is_arrival (called o).role ≡ false) where
+    pub ready-grant : IsReadyFor s (service (past s) (called o))
+        → IsReadyFor s (Grant o.call.place (grant_outcome (past s) (called o)))
+    ready-grant ready =
+        subst (λ (e : Entry). IsReadyFor s e) (service-grant (past s) (called o) other) ready
+
+    pub adds-service : (new : State A)
+        → Adds s (Grant o.call.place (grant_outcome (past s) (called o))) new
+        → Adds s (service (past s) (called o)) new
+    adds-service new a =
+        subst (λ (e : Entry). Adds s e new) (sym (service-grant (past s) (called o) other)) a
+
+  -- what is added to a state with other objects is added to the state before
+  pub adds-over : (mid new : State A) (e : Entry) → mid ≡ record s { objects = mid.objects }
+      → Adds mid e new → Adds s e new
+  adds-over mid new e rest a =
+      let b = subst (λ (t : State A). Adds t e new) rest a in
+      record { stored = b.stored; read = b.read; held = b.held; told = b.told }
+
+  -- where the objects are as they were, all tables are
+  pub stays-objects : (objects : List (ObjectRow (Object A))) → AreTables s
+      → objects ≡ s.objects → Stays s (record s { objects = objects })
+  stays-objects objects read same =
+      record {
+        stored = refl;
+        read = subst (λ (os : List (ObjectRow (Object A))).
+            Reads (past s) s.clients os s.orphans s.clocks s.answers.items) (sym same) read;
+        held = refl;
+        told = refl;
+      }
+
+-- what is entered of a client's call is read off the history
+pub entered-as : (h : History) (c object : ℕ) (role : Role) (clock : Clock)
+    (deadline : Option Timespec) (at priority : ℕ) (nanos : Option ℕ) → at ≡ place h
+    → priority ≡ unwrap_or (client h c) 0 → nanos ≡ option_map deadline_nanos deadline
+    → ◌≡◌ {A = WaitingCall} (record {
+      place = at;
+      client = c;
+      priority = priority;
+      object = object;
+      role = role;
+      clock = clock;
+      deadline = nanos;
+    }) (entered h c object role clock deadline)
+entered-as h c object role clock deadline at priority nanos ea ep en = rw (ea, ep, en) refl
+
+-- what a call for a lock leaves waiting
+pub left-acquires : (h : History) (c : ℕ) (call : Asked) (n : List ℕ) (kind : LockKind) (how : How)
+    (found : Option ℕ) (object : ℕ) (role : Role) (clock : Clock) (deadline : Option Timespec)
+    (o : Open) → operation call ≡ Acquires n kind how → found ≡ find h n (class_needed kind)
+    → object ≡ unwrap_or found 0 → role ≡ role_needed kind → clock ≡ clock_of call
+    → deadline ≡ deadline_of how → o.call ≡ entered h c object role clock deadline
+    → o.moved ≡ None → IsLeft h c call o
+left-acquires h c call n kind how found object role clock deadline o asks ef eo er ec ed is un =
+    record {
+      stands = ap (stood_by_operation h c (clock_of call)) asks ∙ ap (λ w. w ∷ []) (sym (is
+          ∙ (ap (λ x. entered h c x role clock deadline) (eo ∙ ap (λ f. unwrap_or f 0) ef)
+          ∙ (ap (λ x. entered h c (unwrap_or (find h n (class_needed kind)) 0) x clock deadline) er
+          ∙ (ap (λ x. entered h c (unwrap_or (find h n (class_needed kind)) 0) (role_needed kind) x
+          deadline) ec
+          ∙ ap (entered h c (unwrap_or (find h n (class_needed kind)) 0) (role_needed kind)
+          (clock_of call)) ed)))));
+      unmoved = un;
+    }
