@@ -1,7 +1,7 @@
 -- The rows of objects after a forced entry, and what the writes of its object ask.
 use Rattle.std.proofs.Common.{◌≡◌, ℕ, ◌+◌, true, false, List, Option, Some, None, IsSome}
-use Rattle.std.proofs.Common.{option_map, refl, sym, ap, ◌∙◌}
-use Rattle.std.proofs.lemmas.Bool.{and_parts}
+use Rattle.std.proofs.Common.{option_map, refl, sym, ap, ◌∙◌, subst}
+use Rattle.std.proofs.lemmas.Bool.{and_parts, false≢true}
 use Rattle.pt_types.specs.declared.operations.ObjectClass.TheVariants.{Mutex as MutexClass}
 use Rattle.pt_types.specs.declared.operations.ObjectClass.TheVariants.{Rwlock as RwlockClass}
 use Rattle.pt_types.specs.MutexTable.{is_acquired}
@@ -44,27 +44,32 @@ use Rattle.pt_state.proofs.ObjectGrants.{after_grant, granted-may, object_rows-g
 use Rattle.pt_state.proofs.ObjectGrants.{object_rows-grant-lost, object_rows-grant-read}
 use Rattle.pt_state.proofs.ObjectGrants.{object_rows-grant-write}
 
+-- what an entry says of the mutex that it takes from its owner
+abbrev Takes : History → Entry → Type 0
+Takes h (Yield m) = is_orphan h m ≡ true
+Takes h _ = Unit {0}
+
+takes_all : (h : History) (e : Entry) → Step h e → Takes h e
+takes_all h _ (yields m t o) = o
+takes_all h _ (joins p n lt) = tt
+takes_all h _ (calls c call n a o) = tt
+takes_all h _ (dies c n a) = tt
+takes_all h _ (ticks k t n) = tt
+takes_all h _ (grants w t i g) = tt
+takes_all h _ (trips w t i c) = tt
+takes_all h _ (expires w t i o) = tt
+
 -- a mutex that is taken from its owner is a robust one with a dead owner
 pub yielded-orphan : (h : History) (m : ℕ) → Step h (Yield m) → is_orphan h m ≡ true
-yielded-orphan h m s = go (Yield m) s refl
-  where
-    go : (e : Entry) → Step h e → e ≡ Yield m → is_orphan h m ≡ true
-    go _ (yields k t o) e = let same : k ≡ m = cc in ap (is_orphan h) (sym same) ∙ o
-    go _ (joins p n lt) e = absurd cc
-    go _ (calls c call n a o) e = absurd cc
-    go _ (dies c n a) e = absurd cc
-    go _ (ticks k t n) e = absurd cc
-    go _ (grants w t i g) e = absurd cc
-    go _ (trips w t i c) e = absurd cc
-    go _ (expires w t i o) e = absurd cc
+yielded-orphan h m s = takes_all h (Yield m) s
 
 -- what is a robust mutex is a mutex
 robust-class : (k : Option ObjectKind) → is_robust k ≡ true → is_class k MutexClass ≡ true
-robust-class None e = absurd cc
+robust-class None e = absurd (false≢true e)
 robust-class (Some (kind.Mutex k robust)) e = refl
-robust-class (Some kind.Rwlock) e = absurd cc
-robust-class (Some kind.Cond) e = absurd cc
-robust-class (Some (kind.Barrier n)) e = absurd cc
+robust-class (Some kind.Rwlock) e = absurd (false≢true e)
+robust-class (Some kind.Cond) e = absurd (false≢true e)
+robust-class (Some (kind.Barrier n)) e = absurd (false≢true e)
 
 -- the mutex that a call is for is there
 housed-mutex : (h : History) (m q : ℕ) (role : Role) (move : Option Move) → HousedBy h role move q
@@ -81,11 +86,9 @@ housed-mutex h m q ForBarrier move s e = absurd cc
 housed-rwlock : (h : History) (q : ℕ) (role : Role) (move : Option Move) → HousedBy h role move q
     → (role ≡ ForRead → exists_as h RwlockClass q ≡ true)
     × (role ≡ ForWrite → exists_as h RwlockClass q ≡ true)
-housed-rwlock h q ForRead move s = (λ e. s.0, λ e. absurd cc)
-housed-rwlock h q ForWrite move s = (λ e. absurd cc, λ e. s.0)
-housed-rwlock h q ForMutex move s = (λ e. absurd cc, λ e. absurd cc)
-housed-rwlock h q (ForCond k) move s = (λ e. absurd cc, λ e. absurd cc)
-housed-rwlock h q ForBarrier move s = (λ e. absurd cc, λ e. absurd cc)
+housed-rwlock h q role move s =
+    (λ e. (subst (λ (r : Role). HousedBy h r move q) e s).0,
+    λ e. (subst (λ (r : Role). HousedBy h r move q) e s).0)
 
 module _ {A : Type 0} (h : History) (look : ℕ → Option (Object A)) (t : ObjectsLook h look) where
   -- what exists as a mutex is stored as one
@@ -96,11 +99,11 @@ module _ {A : Type 0} (h : History) (look : ℕ → Option (Object A)) (t : Obje
       go : (o : Option (Object A)) → look m ≡ o
           → is_class (option_map kind_in_row o) MutexClass ≡ true
           → (x : MutexState) × (look m ≡ Some (Mutex x))
-      go None eo s = absurd cc
+      go None eo s = absurd (false≢true s)
       go (Some (Mutex x)) eo s = (x, eo)
-      go (Some (Rwlock r)) eo s = absurd cc
-      go (Some (Cond q)) eo s = absurd cc
-      go (Some (Barrier n)) eo s = absurd cc
+      go (Some (Rwlock r)) eo s = absurd (false≢true s)
+      go (Some (Cond q)) eo s = absurd (false≢true s)
+      go (Some (Barrier n)) eo s = absurd (false≢true s)
 
   -- what exists as a read-write lock is stored as one
   pub kept-rwlock : (o : ℕ) → exists_as h RwlockClass o ≡ true
@@ -110,11 +113,11 @@ module _ {A : Type 0} (h : History) (look : ℕ → Option (Object A)) (t : Obje
       go : (x : Option (Object A)) → look o ≡ x
           → is_class (option_map kind_in_row x) RwlockClass ≡ true
           → (r : RwlockState) × (look o ≡ Some (Rwlock r))
-      go None ex s = absurd cc
-      go (Some (Mutex m)) ex s = absurd cc
+      go None ex s = absurd (false≢true s)
+      go (Some (Mutex m)) ex s = absurd (false≢true s)
       go (Some (Rwlock r)) ex s = (r, ex)
-      go (Some (Cond q)) ex s = absurd cc
-      go (Some (Barrier n)) ex s = absurd cc
+      go (Some (Cond q)) ex s = absurd (false≢true s)
+      go (Some (Barrier n)) ex s = absurd (false≢true s)
 
 module _ {A : Type 0} (h : History) (f : Follows h) (old : List (ObjectRow (Object A)))
     (t : AreObjects h old) where

@@ -6,19 +6,24 @@ use Rattle.pt_types.specs.declared.call.Call.{Call as Asked}
 use Rattle.pt_types.specs.declared.call.How.{How}
 use Rattle.pt_types.specs.declared.operations.LockKind.{LockKind}
 use Rattle.pt_types.specs.declared.time.Clock.{Clock}
-use Rattle.pt_types.specs.Operations.{Acquires, class_needed, clock_of, deadline_of, operation}
+use Rattle.pt_types.specs.declared.operations.ObjectClass.TheVariants.{Cond as CondClass}
+use Rattle.pt_types.specs.declared.operations.ObjectClass.TheVariants.{Mutex as MutexClass}
+use Rattle.pt_types.specs.Operations.{Acquires, Awaits, class_needed, clock_of, deadline_of}
+use Rattle.pt_types.specs.Operations.{operation}
 use Rattle.pt_types.specs.Times.{Timespec, deadline_nanos}
 use Rattle.pt_table.specs.declared.objects.ObjectRow.{ObjectRow}
 use Rattle.pt_model.specs.declared.entry.Entry.{Entry}
 use Rattle.pt_model.specs.declared.entry.Entry.TheVariants.{Grant, Trip}
 use Rattle.pt_model.specs.declared.waiting_call.Role.{Role}
+use Rattle.pt_model.specs.declared.waiting_call.Role.TheVariants.{ForCond}
 use Rattle.pt_model.specs.declared.waiting_call.WaitingCall.{WaitingCall}
 use Rattle.pt_model.specs.Clients.{client}
 use Rattle.pt_model.specs.Forced.{service}
 use Rattle.pt_model.specs.Grants.{grant_outcome}
 use Rattle.pt_model.specs.Histories.{History, place}
 use Rattle.pt_model.specs.Objects.{find}
-use Rattle.pt_model.specs.WaitingCall.{entered, is_arrival, role_needed, stood_by_operation}
+use Rattle.pt_model.specs.WaitingCall.{entered, is_arrival, meant, role_needed}
+use Rattle.pt_model.specs.WaitingCall.{stood_by_operation}
 use Rattle.pt_records.specs.declared.clients.Open.{Open}
 use Rattle.pt_records.specs.declared.objects.Object.{Object}
 use Rattle.pt_state.specs.declared.state.State.{State}
@@ -96,5 +101,23 @@ left-acquires h c call n kind how found object role clock deadline o asks ef eo 
           deadline) ec
           ∙ ap (entered h c (unwrap_or (find h n (class_needed kind)) 0) (role_needed kind)
           (clock_of call)) ed)))));
+      unmoved = un;
+    }
+
+-- what a wait leaves waiting
+pub left-awaits : (h : History) (c : ℕ) (call : Asked) (n m : List ℕ) (found mutex : Option ℕ)
+    (object k : ℕ) (clock : Clock) (deadline : Option Timespec) (o : Open)
+    → operation call ≡ Awaits n m deadline → found ≡ find h n CondClass
+    → mutex ≡ find h m MutexClass → object ≡ unwrap_or found 0 → k ≡ unwrap_or mutex 0
+    → clock ≡ clock_of call → o.call ≡ entered h c object (ForCond k) clock deadline
+    → o.moved ≡ None → IsLeft h c call o
+left-awaits h c call n m found mutex object k clock deadline o asks ef em eo ek ec is un =
+    record {
+      stands = ap (stood_by_operation h c (clock_of call)) asks ∙ ap (λ w. w ∷ []) (sym (is
+          ∙ (ap (λ x. entered h c x (ForCond k) clock deadline) (eo ∙ ap (λ f. unwrap_or f 0) ef)
+          ∙ (ap (λ x. entered h c (meant h n CondClass) (ForCond x) clock deadline)
+          (ek ∙ ap (λ f. unwrap_or f 0) em)
+          ∙ ap (λ x. entered h c (meant h n CondClass) (ForCond (meant h m MutexClass)) x
+          deadline) ec))));
       unmoved = un;
     }

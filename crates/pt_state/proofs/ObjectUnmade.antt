@@ -50,14 +50,14 @@ pub mends-owns : (h : History) (c : ℕ) (E : Effect) (m : ℕ) → Allowed h c 
     → owning h m c ≡ true
 mends-owns h c (Mends k) m a t =
     let same : k ≡ m = grind (arith, nat_tests) in rw (← same) a.1.0
-mends-owns h c Idle m a t = absurd cc
-mends-owns h c (Creates n kind) m a t = absurd cc
-mends-owns h c (Removes n s q) m a t = absurd cc
-mends-owns h c (Relocks k) m a t = absurd cc
-mends-owns h c (Frees k) m a t = absurd cc
-mends-owns h c (Returns r) m a t = absurd cc
-mends-owns h c (Wakes n all) m a t = absurd cc
-mends-owns h c (Waits w) m a t = absurd cc
+mends-owns h c Idle m a t = absurd (false≢true t)
+mends-owns h c (Creates n kind) m a t = absurd (false≢true t)
+mends-owns h c (Removes n s q) m a t = absurd (false≢true t)
+mends-owns h c (Relocks k) m a t = absurd (false≢true t)
+mends-owns h c (Frees k) m a t = absurd (false≢true t)
+mends-owns h c (Returns r) m a t = absurd (false≢true t)
+mends-owns h c (Wakes n all) m a t = absurd (false≢true t)
+mends-owns h c (Waits w) m a t = absurd (false≢true t)
 
 -- what isn't made yet has no owner
 unowned : (h : History) (m c : ℕ) → Follows h → place h ≤ m → owning h m c ≡ true → ⊥

@@ -26,6 +26,7 @@ use Rattle.pt_state.proofs.OwnedRows.{callers-unowned, there-unowned}
 use Rattle.pt_state.proofs.StandLemmas.{nearly-left, waits_there}
 use Rattle.pt_state.proofs.StandObjects.{mutex-there, mutex-owned, object_rows-waited}
 use Rattle.pt_state.proofs.state.State.push_endless_wait.Given.{Over}
+use Rattle.pt_state.proofs.StandLemmas.{waits-row}
 use Rattle.pt_state.proofs.state.State.push_endless_wait.Goals as goal
 use Rattle.pt_history.proofs.Places.{place_of_next}
 
@@ -156,3 +157,13 @@ pub returns-clause-priority : goal.returns-clause-priority
 returns-clause-priority g c =
     sym (its-priority g c) ∙ ap Some (sym (c.wait_at.ensures.priority (nearly g c).there.0
     (nearly g c).there.1))
+
+pub push_wait-requires : goal.push_wait-requires
+push_wait-requires g c = c.requires.ready.room
+
+pub release-requires-clause-client : goal.release-requires-clause-client
+release-requires-clause-client g c =
+    waits-row c.args.self.now c.args.c c.args.call.now c.requires.ready
+
+pub release-requires-clause-chained : goal.release-requires-clause-chained
+release-requires-clause-chained g c = (c.args.self.now.orphans, c.requires.ready.read.chained)
