@@ -1,7 +1,7 @@
 -- Lists that are walked by index, and what is left of them.
-use Rattle.std.proofs.Common.{◌≡◌, ℕ, suc, ◌+◌, ◌<◌, ◌≤◌, ◌⊎◌, inl, inr, List, ◌∷◌, ◌++◌, Option}
-use Rattle.std.proofs.Common.{Some, None, map, length, drop, refl, sym, ap, ◌∙◌, arith}
-use Rattle.std.proofs.Common.{append_assoc}
+use Rattle.std.proofs.Common.{◌≡◌, ℕ, suc, ◌+◌, ◌<◌, ◌≤◌, ◌⊎◌, inl, inr, List, [], ◌∷◌, ◌++◌}
+use Rattle.std.proofs.Common.{Option, Some, None, map, length, drop, refl, sym, ap, ◌∙◌, arith}
+use Rattle.std.proofs.Common.{append_assoc, append-nil, subst}
 use Rattle.std.specs.Prelude.{option_to_list}
 use Rattle.std.specs.List.{slice_get, cons_option}
 use Rattle.std.proofs.Math.Seq.{drop-cons}
@@ -51,3 +51,13 @@ module _ {X Y : Type 0} where
       let end = ended-at xs i e in
       ap (λ ys. so_far ++ g ys)
       (drop_of_length-le xs (omega (arith, end)) ∙ sym (drop_of_length-le xs end)) ∙ kept
+
+  -- where the walk is over, all was copied
+  pub walked-through : (g : List X → List Y) → g [] ≡ [] → (xs : List X) (i len : ℕ)
+      (so_far all : List Y) → len ≡ length xs → len ≤ i → so_far ++ g (drop i xs) ≡ all
+      → so_far ≡ all
+  walked-through g nil xs i len so_far all many over kept =
+      let end = subst (λ k. k ≤ i) many over in
+      sym (append-nil so_far)
+      ∙ (ap (λ ys. so_far ++ ys) (sym nil)
+      ∙ (ap (λ ys. so_far ++ g ys) (sym (drop_of_length-le xs end)) ∙ kept))

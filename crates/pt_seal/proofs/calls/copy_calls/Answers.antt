@@ -1,10 +1,10 @@
-use Rattle.std.proofs.Common.{◌+◌, ◌++◌, drop, map, ap, sym, ◌∙◌}
+use Rattle.std.proofs.Common.{◌+◌, ◌++◌, drop, map, ap, sym, ◌∙◌, refl}
 use Rattle.std.specs.Prelude.{option_to_list, option_copied}
 use Rattle.pt_records.specs.Callers.{opens_of}
 use Rattle.pt_seal.specs.Copies.{call_start}
-use Rattle.pt_seal.proofs.Walks.{cons-listed, walked-on, walked-past}
-use Rattle.pt_seal.proofs.calls.copy_calls.Goals as goal
+use Rattle.pt_seal.proofs.Walks.{cons-listed, walked-on, walked-past, walked-through}
 use Rattle.pt_seal.proofs.calls.copy_calls.Goals.{in-Some+in_ok-add_call, in_default}
+use Rattle.pt_seal.proofs.calls.copy_calls.Goals as goal
 
 pub loop-i-preserved : goal.loop-i-preserved
 loop-i-preserved g c =
@@ -24,3 +24,9 @@ loop-i-preserved g c =
           c.loop-i.rows.items all (sym c.row.ensures ∙ ap option_copied w.in_default.is)
           c.loop-i.invariant
     ]
+
+pub returns : goal.returns
+returns g c =
+    walked-through (λ rows. map call_start (opens_of rows)) refl c.args.clients.now c.loop-i.i
+    c.len-i-end.result c.loop-i.rows.items (map call_start (opens_of c.args.clients.now))
+    c.len-i-end.ensures.len c.loop-i-test.false c.loop-i.invariant

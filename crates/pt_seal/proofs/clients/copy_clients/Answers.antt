@@ -1,9 +1,9 @@
 use Rattle.std.proofs.Common.{◌+◌, ◌++◌, ◌∷◌, [], drop, map, ap, refl, sym, ◌∙◌}
 use Rattle.std.specs.Prelude.{option_copied}
 use Rattle.pt_seal.specs.Copies.{client_start}
-use Rattle.pt_seal.proofs.Walks.{walked-on, walked-past}
-use Rattle.pt_seal.proofs.clients.copy_clients.Goals as goal
+use Rattle.pt_seal.proofs.Walks.{walked-on, walked-past, walked-through}
 use Rattle.pt_seal.proofs.clients.copy_clients.Goals.{in-Some+in_ok-add_client, in_default}
+use Rattle.pt_seal.proofs.clients.copy_clients.Goals as goal
 
 pub loop-i-preserved : goal.loop-i-preserved
 loop-i-preserved g c =
@@ -20,3 +20,8 @@ loop-i-preserved g c =
           (map client_start items) (sym c.row.ensures ∙ ap option_copied w.in_default.is)
           c.loop-i.invariant
     ]
+
+pub returns : goal.returns
+returns g c = walked-through (map client_start) refl c.args.clients.now c.loop-i.i
+    c.len-i-end.result c.loop-i.rows.items (map client_start c.args.clients.now)
+    c.len-i-end.ensures.len c.loop-i-test.false c.loop-i.invariant

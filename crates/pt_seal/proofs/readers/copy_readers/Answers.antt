@@ -1,9 +1,9 @@
 use Rattle.std.proofs.Common.{◌+◌, ◌++◌, drop, ap, refl, sym, ◌∙◌}
 use Rattle.std.specs.Prelude.{option_copied}
 use Rattle.pt_seal.specs.Copies.{readers_at, readers_in}
-use Rattle.pt_seal.proofs.Walks.{walked-on, walked-past}
-use Rattle.pt_seal.proofs.readers.copy_readers.Goals as goal
+use Rattle.pt_seal.proofs.Walks.{walked-on, walked-past, walked-through}
 use Rattle.pt_seal.proofs.readers.copy_readers.Goals.{in-Some+in_ok-add_readers, in_default}
+use Rattle.pt_seal.proofs.readers.copy_readers.Goals as goal
 
 pub loop-i-preserved : goal.loop-i-preserved
 loop-i-preserved g c =
@@ -19,3 +19,8 @@ loop-i-preserved g c =
           ∙ walked-past readers_in items c.loop-i.i c.loop-i.rows.items (readers_in items)
           (sym c.row.ensures ∙ ap option_copied w.in_default.is) c.loop-i.invariant
     ]
+
+pub returns : goal.returns
+returns g c = walked-through readers_in refl c.args.objects.now c.loop-i.i
+    c.len-i-end.result c.loop-i.rows.items (readers_in c.args.objects.now)
+    c.len-i-end.ensures.len c.loop-i-test.false c.loop-i.invariant

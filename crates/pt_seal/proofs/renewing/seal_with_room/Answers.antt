@@ -1,5 +1,9 @@
-use Rattle.std.proofs.Common.{refl, ap, ◌∙◌, arith, length}
+use Rattle.std.proofs.Common.{◌≤◌, ℕ, refl, ap, ◌∙◌, length, List, sym, subst}
+use Rattle.pt_table.specs.declared.objects.ObjectRow.{ObjectRow}
 use Rattle.pt_model.specs.StartRows.{reads_of}
+use Rattle.pt_history.specs.Stored.{past_of}
+use Rattle.pt_records.specs.declared.objects.Object.{Object}
+use Rattle.pt_state.specs.Reads.{Reads}
 use Rattle.pt_seal.proofs.SealedTables.{tables-sealed}
 use Rattle.pt_seal.proofs.renewing.seal_with_room.Goals as goal
 
@@ -23,5 +27,24 @@ returns-clause-ok g c =
       read = tables-sealed old new c.requires.read starts entries refl c.pack.ensures refl refl
           (ap (λ l. l.items) empty ∙ c.in-Ok.ensures.items);
       answers = ap (λ l. length l.items) empty ∙ ap length c.in-Ok.ensures.items;
-      held = omega (arith, ap (λ l. l.capacity) empty, c.in-Ok.ensures.room);
+      held = subst (λ (k : ℕ). c.args.room ≤ k) (sym (ap (λ l. l.capacity) empty))
+          c.in-Ok.ensures.room;
     }
+
+pub sealed_history-requires-clause-read : goal.sealed_history-requires-clause-read
+sealed_history-requires-clause-read g c = let s = c.args.state.now in
+    subst (λ (rows : List (ObjectRow (Object g.row.A.Denot))).
+    Reads (past_of s.stored) s.clients rows s.orphans s.clocks s.answers.items)
+    (sym c.pack.ensures) c.requires.read
+
+pub sealed_history-requires-clause-places : goal.sealed_history-requires-clause-places
+sealed_history-requires-clause-places g c = c.requires.places
+
+pub sealed_history-requires-clause-room : goal.sealed_history-requires-clause-room
+sealed_history-requires-clause-room g c = c.requires.room
+
+pub returns-clause-stored : goal.returns-clause-stored
+returns-clause-stored g c = c.replace.ensures.value
+
+pub returns-clause-answers : goal.returns-clause-answers
+returns-clause-answers g c = c.replace-2.ensures.value
