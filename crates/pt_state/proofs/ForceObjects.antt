@@ -86,9 +86,10 @@ housed-mutex h m q ForBarrier move s e = absurd cc
 housed-rwlock : (h : History) (q : ℕ) (role : Role) (move : Option Move) → HousedBy h role move q
     → (role ≡ ForRead → exists_as h RwlockClass q ≡ true)
     × (role ≡ ForWrite → exists_as h RwlockClass q ≡ true)
-housed-rwlock h q role move s =
-    (λ e. (subst (λ (r : Role). HousedBy h r move q) e s).0,
-    λ e. (subst (λ (r : Role). HousedBy h r move q) e s).0)
+housed-rwlock h q role move s = (
+  λ e. (subst (λ (r : Role). HousedBy h r move q) e s).0,
+  λ e. (subst (λ (r : Role). HousedBy h r move q) e s).0,
+)
 
 module _ {A : Type 0} (h : History) (look : ℕ → Option (Object A)) (t : ObjectsLook h look) where
   -- what exists as a mutex is stored as one

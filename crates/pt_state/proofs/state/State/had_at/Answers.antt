@@ -24,11 +24,11 @@ tested g c =
     let free : c.if-is_robust.result ≡ (seen.robust && is_none seen.owner) =
     elim c.if-is_robust.branch [
       | then-is_robust w ↦ w.result-is
-        ∙ robust-free c.is_robust.result seen.robust w.is_none.result w.owner.result seen.owner
-        c.is_robust.ensures w.if-is_robust.true w.owner.ensures w.is_none.ensures
+          ∙ robust-free c.is_robust.result seen.robust w.is_none.result w.owner.result seen.owner
+          c.is_robust.ensures w.if-is_robust.true w.owner.ensures w.is_none.ensures
       | else-is_robust w ↦ w.result-is
-        ∙ robust-not c.is_robust.result seen.robust seen.owner c.is_robust.ensures
-        w.if-is_robust.false
+          ∙ robust-not c.is_robust.result seen.robust seen.owner c.is_robust.ensures
+          w.if-is_robust.false
     ] in
     free ∙ free-in (object_value c.args.self.now.objects c.args.m) c.in-Some.mutex.now
     (sym c.mutex_at.ensures ∙ ap option_copied c.in-Some.is)

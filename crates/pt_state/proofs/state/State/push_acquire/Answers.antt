@@ -1,4 +1,4 @@
-use Rattle.std.proofs.Common.{sym, ap, ◌∙◌}
+use Rattle.std.proofs.Common.{sym, ap, ◌∙◌, None}
 use Rattle.std.proofs.lemmas.Bool.{false≢true}
 use Rattle.pt_types.specs.declared.operations.LockKind.{LockKind}
 use Rattle.pt_types.specs.Operations.{Acquires}
@@ -6,7 +6,6 @@ use Rattle.pt_model.specs.declared.entry.Entry.TheVariants.{Call}
 use Rattle.pt_model.specs.declared.waiting_call.WaitingCall.{WaitingCall}
 use Rattle.pt_state.specs.Adds.{past}
 use Rattle.pt_state.specs.Outer.{asks_to_read}
-use Rattle.std.proofs.Common.{None}
 use Rattle.pt_state.proofs.Handing.{adds-over, left-acquires}
 use Rattle.pt_state.proofs.state.State.push_acquire.Goals as goal
 

@@ -12,6 +12,7 @@ use Rattle.pt_model.specs.Clients.{client}
 use Rattle.pt_model.specs.Histories.{History, place}
 use Rattle.pt_model.specs.Objects.{find}
 use Rattle.pt_model.specs.WaitingCall.{entered, meant, stood_by_operation}
+use Rattle.pt_history.proofs.Places.{place_of_next}
 use Rattle.pt_records.specs.declared.clients.Caller.{Caller}
 use Rattle.pt_records.specs.declared.clients.Open.{Open}
 use Rattle.pt_records.specs.Callers.{AreCallers, called_at}
@@ -28,7 +29,6 @@ use Rattle.pt_state.proofs.StandObjects.{mutex-there, mutex-owned, object_rows-w
 use Rattle.pt_state.proofs.state.State.push_endless_wait.Given.{Over}
 use Rattle.pt_state.proofs.StandLemmas.{waits-row}
 use Rattle.pt_state.proofs.state.State.push_endless_wait.Goals as goal
-use Rattle.pt_history.proofs.Places.{place_of_next}
 
 -- the call that is left waiting at condition q with mutex m
 abbrev its-open : History → ℕ → Asked → ℕ → ℕ → Open

@@ -51,17 +51,21 @@ push_grant_write-requires-clause-role g c = c.in-ForWrite.is
 
 pub returns-in-ForMutex : goal.returns-in-ForMutex
 returns-in-ForMutex g c =
-    adds-service c.args.self.now c.args.found.now c.requires.other c.push_grant_mutex.new.self c.push_grant_mutex.ensures.adds
+    adds-service c.args.self.now c.args.found.now c.requires.other
+    c.push_grant_mutex.new.self c.push_grant_mutex.ensures.adds
 
 pub returns-in-ForCond : goal.returns-in-ForCond
 returns-in-ForCond g c =
-    adds-service c.args.self.now c.args.found.now c.requires.other c.push_grant_mutex-in-ForCond.new.self
+    adds-service c.args.self.now c.args.found.now c.requires.other
+    c.push_grant_mutex-in-ForCond.new.self
     c.push_grant_mutex-in-ForCond.ensures.adds
 
 pub returns-in-ForRead : goal.returns-in-ForRead
 returns-in-ForRead g c =
-    adds-service c.args.self.now c.args.found.now c.requires.other c.push_grant_read.new.self c.push_grant_read.ensures
+    adds-service c.args.self.now c.args.found.now c.requires.other
+    c.push_grant_read.new.self c.push_grant_read.ensures
 
 pub returns-in-ForWrite : goal.returns-in-ForWrite
 returns-in-ForWrite g c =
-    adds-service c.args.self.now c.args.found.now c.requires.other c.push_grant_write.new.self c.push_grant_write.ensures
+    adds-service c.args.self.now c.args.found.now c.requires.other
+    c.push_grant_write.new.self c.push_grant_write.ensures
