@@ -1,7 +1,7 @@
 -- What one step hands on to the next: an entry under another name, and objects that are written.
 use Rattle.std.proofs.Common.{◌≡◌, ℕ, Bool, false, cond, List, ◌∷◌, [], Option, None, refl, sym, ap}
 use Rattle.std.proofs.Common.{◌∙◌, subst}
-use Rattle.std.specs.Prelude.{option_map, unwrap_or}
+use Rattle.std.specs.Prelude.{option_map, unwrap_or, Result, Ok, Err, OnErr}
 use Rattle.pt_types.specs.declared.call.Call.{Call as Asked}
 use Rattle.pt_types.specs.declared.call.How.{How}
 use Rattle.pt_types.specs.declared.operations.LockKind.{LockKind}
@@ -11,6 +11,7 @@ use Rattle.pt_types.specs.declared.operations.ObjectClass.TheVariants.{Mutex as 
 use Rattle.pt_types.specs.Operations.{Acquires, Awaits, class_needed, clock_of, deadline_of}
 use Rattle.pt_types.specs.Operations.{operation}
 use Rattle.pt_types.specs.Times.{Timespec, deadline_nanos}
+use Rattle.pt_table.specs.declared.clients.ClientRow.{ClientRow}
 use Rattle.pt_table.specs.declared.objects.ObjectRow.{ObjectRow}
 use Rattle.pt_model.specs.declared.entry.Entry.{Entry}
 use Rattle.pt_model.specs.declared.entry.Entry.TheVariants.{Grant, Trip}
@@ -24,6 +25,7 @@ use Rattle.pt_model.specs.Histories.{History, place}
 use Rattle.pt_model.specs.Objects.{find}
 use Rattle.pt_model.specs.WaitingCall.{entered, is_arrival, meant, role_needed}
 use Rattle.pt_model.specs.WaitingCall.{stood_by_operation}
+use Rattle.pt_records.specs.declared.clients.Caller.{Caller}
 use Rattle.pt_records.specs.declared.clients.Open.{Open}
 use Rattle.pt_records.specs.declared.objects.Object.{Object}
 use Rattle.pt_state.specs.declared.state.State.{State}
@@ -69,6 +71,23 @@ module _ {A : Type 0} (s : State A) where
         held = refl;
         told = refl;
       }
+
+  -- and so where the clients are
+  pub stays-clients : (clients : List (ClientRow Caller)) → AreTables s
+      → clients ≡ s.clients → Stays s (record s { clients = clients })
+  stays-clients clients read same =
+      record {
+        stored = refl;
+        read = subst (λ (rows : List (ClientRow Caller)).
+            Reads (past s) rows s.objects s.orphans s.clocks s.answers.items) (sym same) read;
+        held = refl;
+        told = refl;
+      }
+
+-- what holds anyway holds of an error
+pub on-err : {X E P : Type 0} (r : Result X E) → P → OnErr r P
+on-err (Ok x) p = tt
+on-err (Err e) p = p
 
 -- what is entered of a client's call is read off the history
 pub entered-as : (h : History) (c object : ℕ) (role : Role) (clock : Clock)

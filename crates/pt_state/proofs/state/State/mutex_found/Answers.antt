@@ -17,3 +17,6 @@ returns-in-None-clause-number g c =
     (object_value c.args.self.now.objects) c.requires.read.object_rows.look c.args.n.now
     c.in_ok-m.m c.in_ok-m.m c.args.object c.requires.found c.in_ok-m.was refl
     (sym c.mutex_at.ensures ∙ ap option_copied c.in-None.is)
+
+pub returns-in-Some-clause-number : goal.returns-in-Some-clause-number
+returns-in-Some-clause-number g c = sym c.in_ok-m.was ∙ c.requires.found

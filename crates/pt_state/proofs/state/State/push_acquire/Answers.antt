@@ -6,7 +6,7 @@ use Rattle.pt_model.specs.declared.entry.Entry.TheVariants.{Call}
 use Rattle.pt_model.specs.declared.waiting_call.WaitingCall.{WaitingCall}
 use Rattle.pt_state.specs.Adds.{past}
 use Rattle.pt_state.specs.Outer.{asks_to_read}
-use Rattle.pt_state.proofs.Handing.{adds-over, left-acquires}
+use Rattle.pt_state.proofs.Handing.{adds-over, left-acquires, on-err}
 use Rattle.pt_state.proofs.state.State.push_acquire.Goals as goal
 
 pub entered-open-requires : goal.entered-open-requires
@@ -40,3 +40,6 @@ pub returns-clause-ok : goal.returns-clause-ok
 returns-clause-ok g c =
     adds-over c.args.self.now c.begin.new.self c.leave.new.self
     (Call c.args.c c.args.call.now None) c.begin.ensures.rest c.leave.ensures
+
+pub returns-in_err-begin-clause-err : goal.returns-in_err-begin-clause-err
+returns-in_err-begin-clause-err g c = on-err c.from_residual.result c.in_err-begin.ensures.err

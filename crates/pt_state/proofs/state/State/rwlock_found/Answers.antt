@@ -11,3 +11,6 @@ returns-in-None-clause-number g c =
     (object_value c.args.self.now.objects) c.requires.read.object_rows.look c.args.n.now
     c.in_ok-r.r c.in_ok-r.r c.args.object c.requires.found c.in_ok-r.was refl
     (sym c.rwlock_at.ensures ∙ ap option_copied c.in-None.is)
+
+pub returns-in-Some-clause-number : goal.returns-in-Some-clause-number
+returns-in-Some-clause-number g c = sym c.in_ok-r.was ∙ c.requires.found
