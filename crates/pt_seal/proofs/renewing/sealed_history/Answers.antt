@@ -4,9 +4,6 @@ use Rattle.pt_model.specs.Starts.{Start}
 use Rattle.pt_model.specs.StartRows.{reads_of}
 use Rattle.pt_seal.proofs.renewing.sealed_history.Goals as goal
 
-pub start_of-requires : goal.start_of-requires
-start_of-requires g c = c.requires.read
-
 pub seal-requires-clause-places : goal.seal-requires-clause-places
 seal-requires-clause-places g c = subst (λ (k : ℕ). k ≤ most_places)
     (sym (ap (λ (s : Start). s.at) c.in-Ok-start_of.ensures.reads)) c.requires.places

@@ -2,8 +2,5 @@ use Rattle.std.proofs.Common.{sym, ◌∙◌}
 use Rattle.pt_state.specs.Adds.{past}
 use Rattle.pt_state.proofs.state.State.object_of.Goals as goal
 
-pub find-requires : goal.find-requires
-find-requires g c = c.requires
-
 pub returns-in-Some : goal.returns-in-Some
 returns-in-Some g c = c.find.ensures ∙ sym (c.in-Some.ensures (past c.args.self.now))

@@ -9,9 +9,6 @@ use Rattle.pt_state.specs.Outer.{asks_to_read}
 use Rattle.pt_state.proofs.Handing.{adds-over, left-acquires, on-err}
 use Rattle.pt_state.proofs.state.State.push_acquire.Goals as goal
 
-pub entered-open-requires : goal.entered-open-requires
-entered-open-requires g c = c.requires.ready.read
-
 pub begin-requires-clause-ready : goal.begin-requires-clause-ready
 begin-requires-clause-ready g c = c.requires.ready
 
@@ -32,9 +29,6 @@ returns-in_err-begin-clause-enough g c = λ no.
     absurd (false≢true (c.in_err-begin.ensures.enough (λ reads.
     false≢true (sym no ∙ (ap asks_to_read c.requires.operation
     ∙ ap (λ (k : LockKind). asks_to_read (Acquires c.args.n.now k c.args.how)) reads)))))
-
-pub leave-requires : goal.leave-requires
-leave-requires g c = c.in_ok-begin.ensures.ok
 
 pub returns-clause-ok : goal.returns-clause-ok
 returns-clause-ok g c =

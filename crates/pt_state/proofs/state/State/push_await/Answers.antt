@@ -4,9 +4,6 @@ use Rattle.pt_state.specs.Adds.{past}
 use Rattle.pt_state.proofs.Handing.{left-awaits}
 use Rattle.pt_state.proofs.state.State.push_await.Goals as goal
 
-pub entered-open-requires : goal.entered-open-requires
-entered-open-requires g c = c.requires.ready.read
-
 pub push_wait-requires-clause-ready : goal.push_wait-requires-clause-ready
 push_wait-requires-clause-ready g c = c.requires.ready
 

@@ -158,9 +158,6 @@ returns-clause-priority g c =
     sym (its-priority g c) ∙ ap Some (sym (c.wait_at.ensures.priority (nearly g c).there.0
     (nearly g c).there.1))
 
-pub push_wait-requires : goal.push_wait-requires
-push_wait-requires g c = c.requires.ready.room
-
 pub release-requires-clause-client : goal.release-requires-clause-client
 release-requires-clause-client g c =
     waits-row c.args.self.now c.args.c c.args.call.now c.requires.ready
