@@ -1,5 +1,5 @@
 -- What one step hands on to the next: an entry under another name, and objects that are written.
-use Rattle.std.proofs.Common.{◌≡◌, ℕ, Bool, false, cond, List, ◌∷◌, [], Option, None, refl, sym, ap}
+use Rattle.std.proofs.Common.{◌≡◌, ℕ, false, cond, List, ◌∷◌, [], Option, None, refl, sym, ap}
 use Rattle.std.proofs.Common.{◌∙◌, subst}
 use Rattle.std.specs.Prelude.{option_map, unwrap_or, Result, Ok, Err, OnErr}
 use Rattle.pt_types.specs.declared.call.Call.{Call as Asked}

@@ -1,6 +1,5 @@
-use Rattle.std.proofs.Common.{◌≡◌, ℕ, ◌<◌, ◌≤◌, nat_le, Bool, true, false, cond, List, Option, Some}
+use Rattle.std.proofs.Common.{◌≡◌, ℕ, ◌<◌, ◌≤◌, nat_le, Bool, true, false, cond, Option, Some}
 use Rattle.std.proofs.Common.{None, is_some, option_map, refl, sym, ap, ◌∙◌, arith}
-use Rattle.std.proofs.lemmas.Bool.{false≢true}
 use Rattle.std.proofs.lemmas.Bool.Decides.{nat_tests}
 use Rattle.pt_types.specs.declared.outcome.Outcome.{Outcome}
 use Rattle.pt_types.specs.declared.outcome.Outcome.TheVariants.{Done, Einval, Ebusy, Eagain}
