@@ -37,6 +37,7 @@ use Rattle.pt_records.specs.LocksInRows.{mutex_in, rwlock_in}
 use Rattle.pt_records.specs.Objects.{kind_in_row, ObjectsLook, AreObjects}
 use Rattle.pt_records.specs.Writes.{WritesObject}
 use Rattle.pt_state.proofs.BoundCounts.{grant-can}
+use Rattle.pt_state.proofs.Locking.{no_number, same_number}
 use Rattle.pt_records.proofs.BoundReads.{read-acquire, write-acquire}
 use Rattle.pt_state.proofs.TableLemmas.{object_rows-kept, object_rows-written}
 use Rattle.pt_state.proofs.ObjectEntries.{object_rows-expire, object_rows-yield}
@@ -75,12 +76,12 @@ robust-class (Some (kind.Barrier n)) e = absurd (false≢true e)
 housed-mutex : (h : History) (m q : ℕ) (role : Role) (move : Option Move) → HousedBy h role move q
     → mutex_of role q ≡ Some m → exists_as h MutexClass m ≡ true
 housed-mutex h m q ForMutex move s e =
-    let same : q ≡ m = cc in ap (exists_as h MutexClass) (sym same) ∙ s.0
+    ap (exists_as h MutexClass) (sym (same_number q m e)) ∙ s.0
 housed-mutex h m q (ForCond k) move s e =
-    let same : k ≡ m = cc in ap (exists_as h MutexClass) (sym same) ∙ s.1
-housed-mutex h m q ForRead move s e = absurd cc
-housed-mutex h m q ForWrite move s e = absurd cc
-housed-mutex h m q ForBarrier move s e = absurd cc
+    ap (exists_as h MutexClass) (sym (same_number k m e)) ∙ s.1
+housed-mutex h m q ForRead move s e = absurd (no_number m e)
+housed-mutex h m q ForWrite move s e = absurd (no_number m e)
+housed-mutex h m q ForBarrier move s e = absurd (no_number m e)
 
 -- and so is the lock of a call for one
 housed-rwlock : (h : History) (q : ℕ) (role : Role) (move : Option Move) → HousedBy h role move q
