@@ -78,3 +78,13 @@ returns-clause-queued g c =
     (take-put new c.args.c c.object_named-q.result c.entering.result (its-place g c.before)
     seen.queue next.queue c.insert.ensures.queues)
     c.insert.ensures.admitted c.insert.ensures.made
+
+pub push_endless_wait-prio-requires-clause-ready : goal.push_endless_wait-prio-requires-clause-ready
+push_endless_wait-prio-requires-clause-ready g c = c.requires.ready
+
+pub push_endless_wait-prio-requires-clause-operation :
+    goal.push_endless_wait-prio-requires-clause-operation
+push_endless_wait-prio-requires-clause-operation g c = c.requires.operation
+
+pub returns-clause-adds : goal.returns-clause-adds
+returns-clause-adds g c = c.push_endless_wait-prio.ensures.adds

@@ -36,3 +36,30 @@ pub returns-in-Err-clause-queued : goal.returns-in-Err-clause-queued
 returns-in-Err-clause-queued g c =
     subst (λ s. IsQueued (past_of s) (g.Q.WaitList.seen c.args.queues.now))
     (sym c.in-Err.ensures.err.stored) c.requires.queued
+
+pub push_left-requires-clause-ready : goal.push_left-requires-clause-ready
+push_left-requires-clause-ready g c = c.requires.ready
+
+pub push_left-requires-clause-asks : goal.push_left-requires-clause-asks
+push_left-requires-clause-asks g c = c.requires.asks
+
+pub returns-in-Ok-clause-ok : goal.returns-in-Ok-clause-ok
+returns-in-Ok-clause-ok g c = c.in-Ok.ensures.ok
+
+pub returns-in-Ok-clause-err : goal.returns-in-Ok-clause-err
+returns-in-Ok-clause-err g c = tt
+
+pub returns-in-Ok-clause-reason : goal.returns-in-Ok-clause-reason
+returns-in-Ok-clause-reason g c = tt
+
+pub take_place-requires-clause-read : goal.take_place-requires-clause-read
+take_place-requires-clause-read g c = c.in-Ok.ensures.ok.read
+
+pub returns-in-Err-clause-ok : goal.returns-in-Err-clause-ok
+returns-in-Err-clause-ok g c = tt
+
+pub returns-in-Err-clause-err : goal.returns-in-Err-clause-err
+returns-in-Err-clause-err g c = c.in-Err.ensures.err
+
+pub returns-in-Err-clause-reason : goal.returns-in-Err-clause-reason
+returns-in-Err-clause-reason g c = c.in-Err.ensures.refusal

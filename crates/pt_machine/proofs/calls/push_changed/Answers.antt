@@ -6,6 +6,8 @@ use Rattle.pt_state.proofs.CallLemmas.{nearly-done}
 use Rattle.pt_state.specs.Calling.{is_plain}
 use Rattle.pt_state.specs.Outer.{makes_object}
 use Rattle.pt_machine.proofs.QueuedAnswers.{plain-queued}
+use Rattle.pt_state.specs.Adds.{past}
+use Rattle.pt_state.specs.Requests.{object_meant}
 use Rattle.pt_machine.proofs.calls.push_changed.Goals as goal
 
 pub returns-in-Acquires-clause-queued : goal.returns-in-Acquires-clause-queued
@@ -76,3 +78,129 @@ returns-in-Awaits-clause-queued g c =
     (let never : true ≡ false =
     sym (ap makes_object (is ∙ ap shown_operation w.2)) ∙ c.requires.other in cc))))
     c.finish_seldom.ensures
+
+pub push_ended-requires-clause-ready : goal.push_ended-requires-clause-ready
+push_ended-requires-clause-ready g c = c.requires.ready
+
+pub push_ended-requires-clause-operation : goal.push_ended-requires-clause-operation
+push_ended-requires-clause-operation g c =
+    sym c.operation_of.ensures ∙ ap shown_operation c.in-Ends.is
+
+pub push_ended-requires-clause-found : goal.push_ended-requires-clause-found
+push_ended-requires-clause-found g c =
+    let is = sym c.operation_of.ensures ∙ ap shown_operation c.in-Ends.is in
+    c.requires.asks.object ∙ ap (object_meant (past c.args.state.now)) is
+
+pub push_ended-requires-clause-queued : goal.push_ended-requires-clause-queued
+push_ended-requires-clause-queued g c = c.requires.queued
+
+pub returns-in-Ends-clause-adds : goal.returns-in-Ends-clause-adds
+returns-in-Ends-clause-adds g c = c.push_ended.ensures.adds
+
+pub returns-in-Ends-clause-queued : goal.returns-in-Ends-clause-queued
+returns-in-Ends-clause-queued g c = c.push_ended.ensures.queued
+
+pub push_locked-requires-clause-ready : goal.push_locked-requires-clause-ready
+push_locked-requires-clause-ready g c = c.requires.ready
+
+pub push_locked-requires-clause-operation : goal.push_locked-requires-clause-operation
+push_locked-requires-clause-operation g c =
+    sym c.operation_of.ensures ∙ ap shown_operation c.in-Acquires.is
+
+pub push_locked-requires-clause-found : goal.push_locked-requires-clause-found
+push_locked-requires-clause-found g c =
+    let is = sym c.operation_of.ensures ∙ ap shown_operation c.in-Acquires.is in
+    c.requires.asks.object ∙ ap (object_meant (past c.args.state.now)) is
+
+pub returns-in-Acquires-clause-adds : goal.returns-in-Acquires-clause-adds
+returns-in-Acquires-clause-adds g c = c.push_locked.ensures
+
+pub push_unlock-requires-clause-ready : goal.push_unlock-requires-clause-ready
+push_unlock-requires-clause-ready g c = c.requires.ready
+
+pub push_unlock-requires-clause-operation : goal.push_unlock-requires-clause-operation
+push_unlock-requires-clause-operation g c =
+    sym c.operation_of.ensures ∙ ap shown_operation c.in-Unlocks.is
+
+pub push_unlock-requires-clause-found : goal.push_unlock-requires-clause-found
+push_unlock-requires-clause-found g c =
+    let is = sym c.operation_of.ensures ∙ ap shown_operation c.in-Unlocks.is in
+    c.requires.asks.object ∙ ap (object_meant (past c.args.state.now)) is
+
+pub returns-in-Unlocks-clause-adds : goal.returns-in-Unlocks-clause-adds
+returns-in-Unlocks-clause-adds g c = c.push_unlock.ensures
+
+pub push_restored-requires-clause-ready : goal.push_restored-requires-clause-ready
+push_restored-requires-clause-ready g c = c.requires.ready
+
+pub push_restored-requires-clause-operation : goal.push_restored-requires-clause-operation
+push_restored-requires-clause-operation g c =
+    sym c.operation_of.ensures ∙ ap shown_operation c.in-Restores.is
+
+pub push_restored-requires-clause-found : goal.push_restored-requires-clause-found
+push_restored-requires-clause-found g c =
+    let is = sym c.operation_of.ensures ∙ ap shown_operation c.in-Restores.is in
+    c.requires.asks.object ∙ ap (object_meant (past c.args.state.now)) is
+
+pub returns-in-Restores-clause-adds : goal.returns-in-Restores-clause-adds
+returns-in-Restores-clause-adds g c = c.push_restored.ensures
+
+pub push_rwunlock-requires-clause-ready : goal.push_rwunlock-requires-clause-ready
+push_rwunlock-requires-clause-ready g c = c.requires.ready
+
+pub push_rwunlock-requires-clause-operation : goal.push_rwunlock-requires-clause-operation
+push_rwunlock-requires-clause-operation g c =
+    sym c.operation_of.ensures ∙ ap shown_operation c.in-Rwunlocks.is
+
+pub push_rwunlock-requires-clause-found : goal.push_rwunlock-requires-clause-found
+push_rwunlock-requires-clause-found g c =
+    let is = sym c.operation_of.ensures ∙ ap shown_operation c.in-Rwunlocks.is in
+    c.requires.asks.object ∙ ap (object_meant (past c.args.state.now)) is
+
+pub returns-in-Rwunlocks-clause-adds : goal.returns-in-Rwunlocks-clause-adds
+returns-in-Rwunlocks-clause-adds g c = c.push_rwunlock.ensures
+
+pub push_signal-requires-clause-ready : goal.push_signal-requires-clause-ready
+push_signal-requires-clause-ready g c = c.requires.ready
+
+pub push_signal-requires-clause-operation : goal.push_signal-requires-clause-operation
+push_signal-requires-clause-operation g c =
+    sym c.operation_of.ensures ∙ ap shown_operation c.in-Signals.is
+
+pub push_signal-requires-clause-found : goal.push_signal-requires-clause-found
+push_signal-requires-clause-found g c =
+    let is = sym c.operation_of.ensures ∙ ap shown_operation c.in-Signals.is in
+    c.requires.asks.object ∙ ap (object_meant (past c.args.state.now)) is
+
+pub push_signal-requires-clause-queued : goal.push_signal-requires-clause-queued
+push_signal-requires-clause-queued g c = c.requires.queued
+
+pub returns-in-Signals-clause-adds : goal.returns-in-Signals-clause-adds
+returns-in-Signals-clause-adds g c = c.push_signal.ensures.adds
+
+pub returns-in-Signals-clause-queued : goal.returns-in-Signals-clause-queued
+returns-in-Signals-clause-queued g c = c.push_signal.ensures.queued
+
+pub push_broadcast-requires-clause-ready : goal.push_broadcast-requires-clause-ready
+push_broadcast-requires-clause-ready g c = c.requires.ready
+
+pub push_broadcast-requires-clause-operation : goal.push_broadcast-requires-clause-operation
+push_broadcast-requires-clause-operation g c =
+    sym c.operation_of.ensures ∙ ap shown_operation c.in-Broadcasts.is
+
+pub push_broadcast-requires-clause-found : goal.push_broadcast-requires-clause-found
+push_broadcast-requires-clause-found g c =
+    let is = sym c.operation_of.ensures ∙ ap shown_operation c.in-Broadcasts.is in
+    c.requires.asks.object ∙ ap (object_meant (past c.args.state.now)) is
+
+pub push_broadcast-requires-clause-queued : goal.push_broadcast-requires-clause-queued
+push_broadcast-requires-clause-queued g c = c.requires.queued
+
+pub returns-in-Broadcasts-clause-adds : goal.returns-in-Broadcasts-clause-adds
+returns-in-Broadcasts-clause-adds g c = c.push_broadcast.ensures.adds
+
+pub returns-in-Broadcasts-clause-queued : goal.returns-in-Broadcasts-clause-queued
+returns-in-Broadcasts-clause-queued g c = c.push_broadcast.ensures.queued
+
+pub returns-in-Awaits-clause-adds : goal.returns-in-Awaits-clause-adds
+returns-in-Awaits-clause-adds g c = c.finish_seldom.ensures

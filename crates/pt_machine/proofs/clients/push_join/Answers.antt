@@ -1,4 +1,4 @@
-use Rattle.std.proofs.Common.{sym, ◌∙◌}
+use Rattle.std.proofs.Common.{refl, sym, ◌∙◌}
 use Rattle.pt_model.specs.declared.entry.Entry.TheVariants as entry
 use Rattle.pt_model.specs.Histories.{place}
 use Rattle.pt_state.specs.Adds.{past}
@@ -43,3 +43,44 @@ returns-in-Err-push_join-clause-queued g c =
     (λ q. c.dismiss.ensures.queues q ∙ c.in_default.ensures.queues q)
     (room-back c.len.result _ _ _ none c.in_default.ensures.ok c.dismiss.ensures.admitted)
     (λ o. c.dismiss.ensures.made o ∙ c.in_default.ensures.made o) c.requires.queued)
+
+pub push_join-requires : goal.push_join-requires
+push_join-requires g c = c.requires.ready
+
+pub returns-in-Err-clause-ok : goal.returns-in-Err-clause-ok
+returns-in-Err-clause-ok g c = tt
+
+pub returns-in-Err-clause-err : goal.returns-in-Err-clause-err
+returns-in-Err-clause-err g c =
+    record {
+      stored = refl;
+      read = c.requires.ready.read;
+      held = refl;
+      told = refl;
+    }
+
+pub returns-in-Err-clause-reason : goal.returns-in-Err-clause-reason
+returns-in-Err-clause-reason g c = c.in-Err.ensures.refusal
+
+pub returns-in-Err-clause-queued : goal.returns-in-Err-clause-queued
+returns-in-Err-clause-queued g c =
+    queued-kept (past c.args.state.now) _ _ _ _ _ _ c.in-Err.ensures.queues c.in-Err.ensures.err
+    c.in-Err.ensures.made c.requires.queued
+
+pub returns-in-Ok-clause-ok : goal.returns-in-Ok-clause-ok
+returns-in-Ok-clause-ok g c = c.in-Ok.ensures.ok
+
+pub returns-in-Ok-clause-err : goal.returns-in-Ok-clause-err
+returns-in-Ok-clause-err g c = tt
+
+pub returns-in-Ok-clause-reason : goal.returns-in-Ok-clause-reason
+returns-in-Ok-clause-reason g c = tt
+
+pub returns-in-Err-push_join-clause-ok : goal.returns-in-Err-push_join-clause-ok
+returns-in-Err-push_join-clause-ok g c = tt
+
+pub returns-in-Err-push_join-clause-err : goal.returns-in-Err-push_join-clause-err
+returns-in-Err-push_join-clause-err g c = c.in-Err-push_join.ensures.err
+
+pub returns-in-Err-push_join-clause-reason : goal.returns-in-Err-push_join-clause-reason
+returns-in-Err-push_join-clause-reason g c = c.in-Err-push_join.ensures.refusal

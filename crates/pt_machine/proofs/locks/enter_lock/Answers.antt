@@ -85,3 +85,33 @@ pub returns-in-Err-clause-queued : goal.returns-in-Err-clause-queued
 returns-in-Err-clause-queued g c =
     subst (λ s. IsQueued (past_of s) (g.Q.WaitList.seen c.args.queues.now))
     (sym c.in-Err.ensures.err.stored) c.requires.queued
+
+pub push_acquire-requires-clause-ready : goal.push_acquire-requires-clause-ready
+push_acquire-requires-clause-ready g c = c.requires.ready
+
+pub push_acquire-requires-clause-operation : goal.push_acquire-requires-clause-operation
+push_acquire-requires-clause-operation g c = c.requires.operation
+
+pub priority_in_row-prio-requires-clause-read : goal.priority_in_row-prio-requires-clause-read
+priority_in_row-prio-requires-clause-read g c = c.requires.ready.read
+
+pub returns-in-Ok-clause-ok : goal.returns-in-Ok-clause-ok
+returns-in-Ok-clause-ok g c = c.in-Ok.ensures.ok
+
+pub returns-in-Err-clause-err : goal.returns-in-Err-clause-err
+returns-in-Err-clause-err g c = c.in-Err.ensures.err
+
+pub returns-in-Err-clause-enough : goal.returns-in-Err-clause-enough
+returns-in-Err-clause-enough g c = c.in-Err.ensures.enough
+
+pub returns-in-Err-clause-reason : goal.returns-in-Err-clause-reason
+returns-in-Err-clause-reason g c = c.in-Err.ensures.refusal
+
+pub returns-in-Err-clause-ok : goal.returns-in-Err-clause-ok
+returns-in-Err-clause-ok g c = tt
+
+pub returns-in-Ok-clause-err : goal.returns-in-Ok-clause-err
+returns-in-Ok-clause-err g c = tt
+
+pub returns-in-Ok-clause-reason : goal.returns-in-Ok-clause-reason
+returns-in-Ok-clause-reason g c = tt

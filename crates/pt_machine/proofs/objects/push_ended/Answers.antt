@@ -27,3 +27,15 @@ returns-clause-queued g c =
     (g.Q.WaitList.seen c.discard.new.self).admitted (g.Q.WaitList.seen c.discard.new.self).made
     c.discard.ensures.queues c.discard.ensures.admitted c.discard.ensures.made
     c.push_ended.ensures
+
+pub push_ended-requires-clause-ready : goal.push_ended-requires-clause-ready
+push_ended-requires-clause-ready g c = c.requires.ready
+
+pub push_ended-requires-clause-operation : goal.push_ended-requires-clause-operation
+push_ended-requires-clause-operation g c = c.requires.operation
+
+pub push_ended-requires-clause-found : goal.push_ended-requires-clause-found
+push_ended-requires-clause-found g c = sym c.unwrap-o.ensures ∙ c.requires.found
+
+pub returns-clause-adds : goal.returns-clause-adds
+returns-clause-adds g c = c.push_ended.ensures

@@ -1,5 +1,7 @@
-use Rattle.std.proofs.Common.{◌∙◌}
+use Rattle.std.proofs.Common.{refl, ◌∙◌}
 use Rattle.pt_machine.proofs.QueuedObjects.{make-unmade, make-empty, make-queued, make-undone}
+use Rattle.pt_state.specs.Adds.{past}
+use Rattle.pt_machine.proofs.QueuedSame.{queued-kept}
 use Rattle.pt_machine.proofs.objects.push_made.Goals as goal
 
 pub make-requires : goal.make-requires
@@ -39,3 +41,47 @@ returns-in-Err-push_made-clause-queued g c =
     c.len.ensures (λ q. c.discard.ensures.queues q ∙ c.make.ensures.queues q)
     (λ d. c.discard.ensures.admitted d ∙ c.make.ensures.admitted d) c.in_default.ensures.ok
     c.discard.ensures.made c.in-Err-push_made.ensures.err
+
+pub push_made-requires-clause-ready : goal.push_made-requires-clause-ready
+push_made-requires-clause-ready g c = c.requires.ready
+
+pub push_made-requires-clause-operation : goal.push_made-requires-clause-operation
+push_made-requires-clause-operation g c = c.requires.operation
+
+pub returns-in-Err-clause-ok : goal.returns-in-Err-clause-ok
+returns-in-Err-clause-ok g c = tt
+
+pub returns-in-Err-clause-err : goal.returns-in-Err-clause-err
+returns-in-Err-clause-err g c =
+    record {
+      stored = refl;
+      read = c.requires.ready.read;
+      held = refl;
+      told = refl;
+    }
+
+pub returns-in-Err-clause-reason : goal.returns-in-Err-clause-reason
+returns-in-Err-clause-reason g c = c.in-Err.ensures.refusal
+
+pub returns-in-Err-clause-queued : goal.returns-in-Err-clause-queued
+returns-in-Err-clause-queued g c =
+    queued-kept (past c.args.state.now) _ _ _ _ _ _ c.in-Err.ensures.queues
+    c.in-Err.ensures.admitted c.in-Err.ensures.err c.requires.queued
+
+pub returns-in-Ok-clause-ok : goal.returns-in-Ok-clause-ok
+returns-in-Ok-clause-ok g c = c.in-Ok.ensures.ok
+
+pub returns-in-Ok-clause-err : goal.returns-in-Ok-clause-err
+returns-in-Ok-clause-err g c = tt
+
+pub returns-in-Ok-clause-reason : goal.returns-in-Ok-clause-reason
+returns-in-Ok-clause-reason g c = tt
+
+pub returns-in-Err-push_made-clause-ok : goal.returns-in-Err-push_made-clause-ok
+returns-in-Err-push_made-clause-ok g c = tt
+
+pub returns-in-Err-push_made-clause-err : goal.returns-in-Err-push_made-clause-err
+returns-in-Err-push_made-clause-err g c = c.in-Err-push_made.ensures.err
+
+pub returns-in-Err-push_made-clause-reason : goal.returns-in-Err-push_made-clause-reason
+returns-in-Err-push_made-clause-reason g c = c.in-Err-push_made.ensures.reason
