@@ -50,3 +50,18 @@ returns-clause-timed g c =
           (sym its ∙ ap (λ r. option_map (λ (o : Open). o.call.place) (option_copied r))
           w.in_default.is))
     ]
+
+pub push_death-requires-clause-ready : goal.push_death-requires-clause-ready
+push_death-requires-clause-ready g c = c.requires.ready
+
+pub push_death-requires-clause-queued : goal.push_death-requires-clause-queued
+push_death-requires-clause-queued g c = c.requires.queued
+
+pub open_of-requires : goal.open_of-requires
+open_of-requires g c = c.requires.ready.read
+
+pub returns-clause-adds : goal.returns-clause-adds
+returns-clause-adds g c = c.push_death.ensures.adds
+
+pub returns-clause-queued : goal.returns-clause-queued
+returns-clause-queued g c = c.push_death.ensures.queued

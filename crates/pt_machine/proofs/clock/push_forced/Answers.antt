@@ -51,3 +51,48 @@ returns-in-Expire-clause-timed g c =
     c.drop_deadline-in-Expire.ensures
     (subst (λ (x : Forced). Adds old (entry_of (past old) x) new) c.in-Expire.is
     c.push_forced-in-Expire.ensures.adds)
+
+pub push_forced-requires-clause-ready : goal.push_forced-requires-clause-ready
+push_forced-requires-clause-ready g c = c.requires.ready
+
+pub push_forced-requires-clause-queued : goal.push_forced-requires-clause-queued
+push_forced-requires-clause-queued g c = c.requires.queued
+
+pub push_forced-requires-clause-known : goal.push_forced-requires-clause-known
+push_forced-requires-clause-known g c = c.requires.known
+
+pub push_forced-requires-in-Yield-clause-ready : goal.push_forced-requires-in-Yield-clause-ready
+push_forced-requires-in-Yield-clause-ready g c = c.requires.ready
+
+pub push_forced-requires-in-Yield-clause-queued : goal.push_forced-requires-in-Yield-clause-queued
+push_forced-requires-in-Yield-clause-queued g c = c.requires.queued
+
+pub push_forced-requires-in-Yield-clause-known : goal.push_forced-requires-in-Yield-clause-known
+push_forced-requires-in-Yield-clause-known g c = c.requires.known
+
+pub push_forced-requires-in-Expire-clause-ready : goal.push_forced-requires-in-Expire-clause-ready
+push_forced-requires-in-Expire-clause-ready g c = c.requires.ready
+
+pub push_forced-requires-in-Expire-clause-queued : goal.push_forced-requires-in-Expire-clause-queued
+push_forced-requires-in-Expire-clause-queued g c = c.requires.queued
+
+pub push_forced-requires-in-Expire-clause-known : goal.push_forced-requires-in-Expire-clause-known
+push_forced-requires-in-Expire-clause-known g c = c.requires.known
+
+pub returns-in-Serve-clause-adds : goal.returns-in-Serve-clause-adds
+returns-in-Serve-clause-adds g c = c.push_forced.ensures.adds
+
+pub returns-in-Serve-clause-queued : goal.returns-in-Serve-clause-queued
+returns-in-Serve-clause-queued g c = c.push_forced.ensures.queued
+
+pub returns-in-Yield-clause-adds : goal.returns-in-Yield-clause-adds
+returns-in-Yield-clause-adds g c = c.push_forced-in-Yield.ensures.adds
+
+pub returns-in-Yield-clause-queued : goal.returns-in-Yield-clause-queued
+returns-in-Yield-clause-queued g c = c.push_forced-in-Yield.ensures.queued
+
+pub returns-in-Expire-clause-adds : goal.returns-in-Expire-clause-adds
+returns-in-Expire-clause-adds g c = c.push_forced-in-Expire.ensures.adds
+
+pub returns-in-Expire-clause-queued : goal.returns-in-Expire-clause-queued
+returns-in-Expire-clause-queued g c = c.push_forced-in-Expire.ensures.queued

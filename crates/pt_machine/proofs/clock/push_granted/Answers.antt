@@ -12,3 +12,21 @@ returns-clause-timed g c =
     c.drop_deadline.new.timers
     c.requires.ready.read c.requires.timed c.args.found.now c.requires.known c.drop_deadline.ensures
     c.push_granted.ensures.adds
+
+pub push_granted-requires-clause-ready : goal.push_granted-requires-clause-ready
+push_granted-requires-clause-ready g c = c.requires.ready
+
+pub push_granted-requires-clause-queued : goal.push_granted-requires-clause-queued
+push_granted-requires-clause-queued g c = c.requires.queued
+
+pub push_granted-requires-clause-known : goal.push_granted-requires-clause-known
+push_granted-requires-clause-known g c = c.requires.known
+
+pub push_granted-requires-clause-other : goal.push_granted-requires-clause-other
+push_granted-requires-clause-other g c = c.requires.other
+
+pub returns-clause-adds : goal.returns-clause-adds
+returns-clause-adds g c = c.push_granted.ensures.adds
+
+pub returns-clause-queued : goal.returns-clause-queued
+returns-clause-queued g c = c.push_granted.ensures.queued

@@ -5,19 +5,53 @@ use Rattle.pt_machine.proofs.TimedStates.{timed-untimed}
 use Rattle.pt_machine.proofs.clock.push_left.Goals as goal
 
 -- a call without a deadline that is a time
-pub returns-in-None-clause-timed : goal.returns-in-None-clause-timed
-returns-in-None-clause-timed g c =
-    timed-untimed c.args.state.now c.args.timers.now c.args.c c.args.call.now c.requires.ready
-    c.requires.timed c.push_left.new.state c.push_left.result
-    (sym c.good_deadline.ensures ∙ c.in-None.is) c.push_left.ensures.ok c.push_left.ensures.err
+pub returns-in-None : goal.returns-in-None
+returns-in-None g c =
+    record {
+      ok = c.push_left.ensures.ok;
+      err = c.push_left.ensures.err;
+      reason = c.push_left.ensures.reason;
+      enough = λ small.
+          c.push_left.ensures.enough (small-unread (operation c.args.call.now) small);
+      queued = c.push_left.ensures.queued;
+      timed = timed-untimed c.args.state.now c.args.timers.now c.args.c c.args.call.now
+          c.requires.ready c.requires.timed c.push_left.new.state c.push_left.result
+          (sym c.good_deadline.ensures ∙ c.in-None.is) c.push_left.ensures.ok
+          c.push_left.ensures.err;
+    }
 
 -- one that needs no memory has no deadline, and asks for no read lock
-pub returns-in-Some-clause-enough : goal.returns-in-Some-clause-enough
-returns-in-Some-clause-enough g c = λ small.
-    absurd
-    (small-untimed (operation c.args.call.now) c.in-Some.deadline
-    (sym c.good_deadline.ensures ∙ c.in-Some.is) small)
+pub returns-in-Some : goal.returns-in-Some
+returns-in-Some g c =
+    record {
+      ok = c.push_timed.ensures.ok;
+      err = c.push_timed.ensures.err;
+      reason = c.push_timed.ensures.reason;
+      enough = λ small.
+          absurd
+          (small-untimed (operation c.args.call.now) c.in-Some.deadline
+          (sym c.good_deadline.ensures ∙ c.in-Some.is) small);
+      queued = c.push_timed.ensures.queued;
+      timed = c.push_timed.ensures.timed;
+    }
 
-pub returns-in-None-clause-enough : goal.returns-in-None-clause-enough
-returns-in-None-clause-enough g c = λ small.
-    c.push_left.ensures.enough (small-unread (operation c.args.call.now) small)
+pub push_timed-requires-clause-ready : goal.push_timed-requires-clause-ready
+push_timed-requires-clause-ready g c = c.requires.ready
+
+pub push_timed-requires-clause-asks : goal.push_timed-requires-clause-asks
+push_timed-requires-clause-asks g c = c.requires.asks
+
+pub push_timed-requires-clause-queued : goal.push_timed-requires-clause-queued
+push_timed-requires-clause-queued g c = c.requires.queued
+
+pub push_timed-requires-clause-timed : goal.push_timed-requires-clause-timed
+push_timed-requires-clause-timed g c = c.requires.timed
+
+pub push_left-requires-clause-ready : goal.push_left-requires-clause-ready
+push_left-requires-clause-ready g c = c.requires.ready
+
+pub push_left-requires-clause-asks : goal.push_left-requires-clause-asks
+push_left-requires-clause-asks g c = c.requires.asks
+
+pub push_left-requires-clause-queued : goal.push_left-requires-clause-queued
+push_left-requires-clause-queued g c = c.requires.queued

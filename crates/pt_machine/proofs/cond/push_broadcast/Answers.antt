@@ -118,3 +118,21 @@ returns-clause-queued g c =
     (left before.queue after.queue _ c.in_default.is c.take_first.ensures.none)
     c.take_first.ensures.admitted c.take_first.ensures.made
     (rousing-ends c.loop-first.invariant c.take_first.ensures.first c.in_default.is)
+
+pub mutex_of_waits-m-requires-clause-read : goal.mutex_of_waits-m-requires-clause-read
+mutex_of_waits-m-requires-clause-read g c = c.requires.ready.read
+
+pub mutex_of_waits-m-requires-clause-queued : goal.mutex_of_waits-m-requires-clause-queued
+mutex_of_waits-m-requires-clause-queued g c = c.requires.queued
+
+pub push_broadcast-requires-clause-ready : goal.push_broadcast-requires-clause-ready
+push_broadcast-requires-clause-ready g c = c.requires.ready
+
+pub push_broadcast-requires-clause-operation : goal.push_broadcast-requires-clause-operation
+push_broadcast-requires-clause-operation g c = c.requires.operation
+
+pub push_broadcast-requires-clause-found : goal.push_broadcast-requires-clause-found
+push_broadcast-requires-clause-found g c = sym c.unwrap-q.ensures ∙ c.requires.found
+
+pub returns-clause-adds : goal.returns-clause-adds
+returns-clause-adds g c = c.push_broadcast.ensures

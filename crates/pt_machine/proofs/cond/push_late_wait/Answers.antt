@@ -38,3 +38,15 @@ returns-clause-queued g c =
     (g.Q.WaitList.seen c.take_place.new.queues).admitted
     (g.Q.WaitList.seen c.take_place.new.queues).made c.take_place.ensures.queues
     c.take_place.ensures.admitted c.take_place.ensures.made
+
+pub push_expire-requires-clause-ready : goal.push_expire-requires-clause-ready
+push_expire-requires-clause-ready g c = c.requires.ready
+
+pub push_expire-requires-clause-known : goal.push_expire-requires-clause-known
+push_expire-requires-clause-known g c = c.requires.known
+
+pub take_place-requires-clause-read : goal.take_place-requires-clause-read
+take_place-requires-clause-read g c = c.push_expire.ensures.read
+
+pub returns-clause-adds : goal.returns-clause-adds
+returns-clause-adds g c = c.push_expire.ensures

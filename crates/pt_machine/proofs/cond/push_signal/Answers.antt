@@ -29,3 +29,33 @@ returns-in-None-clause-queued g c =
     c.copied.result (sym c.requires.found ∙ c.unwrap-q.ensures)
     (ap (option_map called) c.copied.ensures ∙ c.first_waiting.ensures.value) None c.in-None.is))
     c.requires.queued)
+
+pub push_wake-requires-clause-ready : goal.push_wake-requires-clause-ready
+push_wake-requires-clause-ready g c = c.requires.ready
+
+pub push_wake-requires-clause-operation : goal.push_wake-requires-clause-operation
+push_wake-requires-clause-operation g c = c.requires.operation
+
+pub push_woken-requires-clause-ready : goal.push_woken-requires-clause-ready
+push_woken-requires-clause-ready g c = c.requires.ready
+
+pub push_woken-requires-clause-operation : goal.push_woken-requires-clause-operation
+push_woken-requires-clause-operation g c = c.requires.operation
+
+pub push_wake-requires-clause-queued : goal.push_wake-requires-clause-queued
+push_wake-requires-clause-queued g c = c.requires.queued
+
+pub first_waiting-requires-clause-read : goal.first_waiting-requires-clause-read
+first_waiting-requires-clause-read g c = c.requires.ready.read
+
+pub first_waiting-requires-clause-queued : goal.first_waiting-requires-clause-queued
+first_waiting-requires-clause-queued g c = c.requires.queued
+
+pub returns-in-Some-clause-adds : goal.returns-in-Some-clause-adds
+returns-in-Some-clause-adds g c = c.push_wake.ensures.adds
+
+pub returns-in-Some-clause-queued : goal.returns-in-Some-clause-queued
+returns-in-Some-clause-queued g c = c.push_wake.ensures.queued
+
+pub returns-in-None-clause-adds : goal.returns-in-None-clause-adds
+returns-in-None-clause-adds g c = c.push_woken.ensures

@@ -35,3 +35,18 @@ returns-clause-queued g c =
     (g.Q.WaitList.seen c.take_place.new.queues).admitted
     (g.Q.WaitList.seen c.take_place.new.queues).made c.take_place.ensures.queues
     c.take_place.ensures.admitted c.take_place.ensures.made
+
+pub push_woken-requires-clause-ready : goal.push_woken-requires-clause-ready
+push_woken-requires-clause-ready g c = c.requires.ready
+
+pub push_woken-requires-clause-operation : goal.push_woken-requires-clause-operation
+push_woken-requires-clause-operation g c = c.requires.operation
+
+pub push_woken-requires-clause-first : goal.push_woken-requires-clause-first
+push_woken-requires-clause-first g c = c.requires.first
+
+pub take_place-requires-clause-read : goal.take_place-requires-clause-read
+take_place-requires-clause-read g c = c.push_woken.ensures.read
+
+pub returns-clause-adds : goal.returns-clause-adds
+returns-clause-adds g c = c.push_woken.ensures
