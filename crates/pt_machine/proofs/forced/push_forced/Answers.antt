@@ -7,26 +7,34 @@ use Rattle.pt_machine.proofs.QueuedSame.{queued-adds}
 use Rattle.pt_machine.proofs.QueuedArrivals.{queued-yield}
 use Rattle.pt_machine.proofs.forced.push_forced.Goals as goal
 
-pub push_served-requires : goal.push_served-requires
-push_served-requires g c = record {
-  ready = subst (λ f. IsReadyFor c.args.state.now (entry_of (past c.args.state.now) f))
-      c.in-Serve.is c.requires.ready;
-  queued = c.requires.queued;
-  known = subst (IsFor (opens_of c.args.state.now.clients)) c.in-Serve.is c.requires.known;
-}
+pub push_served-requires-clause-ready : goal.push_served-requires-clause-ready
+push_served-requires-clause-ready g c =
+    subst (λ f. IsReadyFor c.args.state.now (entry_of (past c.args.state.now) f))
+    c.in-Serve.is c.requires.ready
+
+pub push_served-requires-clause-queued : goal.push_served-requires-clause-queued
+push_served-requires-clause-queued g c = c.requires.queued
+
+pub push_served-requires-clause-known : goal.push_served-requires-clause-known
+push_served-requires-clause-known g c =
+    subst (IsFor (opens_of c.args.state.now.clients)) c.in-Serve.is c.requires.known
 
 pub push_yield-requires : goal.push_yield-requires
 push_yield-requires g c =
     subst (λ f. IsReadyFor c.args.state.now (entry_of (past c.args.state.now) f))
     c.in-Yield.is c.requires.ready
 
-pub push_expire-requires : goal.push_expire-requires
-push_expire-requires g c = record {
-  ready = subst (λ f. IsReadyFor c.args.state.now (entry_of (past c.args.state.now) f))
-      c.in-Expire.is c.requires.ready;
-  queued = c.requires.queued;
-  known = subst (IsFor (opens_of c.args.state.now.clients)) c.in-Expire.is c.requires.known;
-}
+pub push_expire-requires-clause-ready : goal.push_expire-requires-clause-ready
+push_expire-requires-clause-ready g c =
+    subst (λ f. IsReadyFor c.args.state.now (entry_of (past c.args.state.now) f))
+    c.in-Expire.is c.requires.ready
+
+pub push_expire-requires-clause-queued : goal.push_expire-requires-clause-queued
+push_expire-requires-clause-queued g c = c.requires.queued
+
+pub push_expire-requires-clause-known : goal.push_expire-requires-clause-known
+push_expire-requires-clause-known g c =
+    subst (IsFor (opens_of c.args.state.now.clients)) c.in-Expire.is c.requires.known
 
 pub returns-in-Serve : goal.returns-in-Serve
 returns-in-Serve g c = record {

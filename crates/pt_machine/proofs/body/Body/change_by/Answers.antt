@@ -8,17 +8,24 @@ use Rattle.pt_touched.specs.Touched.{touched_by}
 use Rattle.pt_machine.specs.Planned.{HasOperation, HasRequest, entry_with}
 use Rattle.pt_machine.proofs.body.Body.change_by.Goals as goal
 
-pub change_by_call-requires : goal.change_by_call-requires
-change_by_call-requires g c =
+pub change_by_call-requires-clause-read : goal.change_by_call-requires-clause-read
+change_by_call-requires-clause-read g c = c.requires.read
+
+pub change_by_call-requires-clause-does : goal.change_by_call-requires-clause-does
+change_by_call-requires-clause-does g c =
+    subst (HasOperation (Call c.in-Call.c c.in-Call.call))
+    (sym c.as_ref.ensures.value ∙ ap option_copied c.unwrap-operation.ensures)
+    (subst (λ e. HasOperation e c.args.operation.now) c.in-Call.is c.requires.does)
+
+pub change_by_call-requires-clause-step : goal.change_by_call-requires-clause-step
+change_by_call-requires-clause-step g c =
     let h = past c.args.self.now in
-    record {
-      read = c.requires.read;
-      does = subst (HasOperation (Call c.in-Call.c c.in-Call.call))
-          (sym c.as_ref.ensures.value ∙ ap option_copied c.unwrap-operation.ensures)
-          (subst (λ e. HasOperation e c.args.operation.now) c.in-Call.is c.requires.does);
-      step = subst (λ e. Step h (entry_with h e c.args.answer)) c.in-Call.is c.requires.step;
-      asks = subst (λ e. HasRequest h e c.args.request.now) c.in-Call.is c.requires.asks;
-    }
+    subst (λ e. Step h (entry_with h e c.args.answer)) c.in-Call.is c.requires.step
+
+pub change_by_call-requires-clause-asks : goal.change_by_call-requires-clause-asks
+change_by_call-requires-clause-asks g c =
+    let h = past c.args.self.now in
+    subst (λ e. HasRequest h e c.args.request.now) c.in-Call.is c.requires.asks
 
 pub returns-in-Join : goal.returns-in-Join
 returns-in-Join g c =

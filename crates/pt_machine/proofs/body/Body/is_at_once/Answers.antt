@@ -7,18 +7,24 @@ use Rattle.pt_machine.specs.Planned.{HasOperation, HasRequest, IsAtOnce, KnowsUn
 use Rattle.pt_machine.specs.Planned.{entry_with}
 use Rattle.pt_machine.proofs.body.Body.is_at_once.Goals as goal
 
-pub is_granted_at_once-requires : goal.is_granted_at_once-requires
-is_granted_at_once-requires g c =
+pub is_granted_at_once-requires-clause-read : goal.is_granted_at_once-requires-clause-read
+is_granted_at_once-requires-clause-read g c = c.requires.read
+
+pub is_granted_at_once-requires-clause-does : goal.is_granted_at_once-requires-clause-does
+is_granted_at_once-requires-clause-does g c =
+    subst (HasOperation (Call c.in-Call.c c.in-Call.call))
+    (sym c.as_ref.ensures.value ∙ ap option_copied c.unwrap-operation.ensures)
+    (subst (λ e. HasOperation e c.args.operation.now) c.in-Call.is c.requires.does)
+
+pub is_granted_at_once-requires-clause-enters : goal.is_granted_at_once-requires-clause-enters
+is_granted_at_once-requires-clause-enters g c =
     let h = past c.args.self.now in
-    record {
-      read = c.requires.read;
-      does = subst (HasOperation (Call c.in-Call.c c.in-Call.call))
-          (sym c.as_ref.ensures.value ∙ ap option_copied c.unwrap-operation.ensures)
-          (subst (λ e. HasOperation e c.args.operation.now) c.in-Call.is c.requires.does);
-      enters = subst (λ e. entry_with h e c.args.answer ≡ entry_for h e) c.in-Call.is
-          c.requires.enters;
-      asks = subst (λ e. HasRequest h e c.args.request.now) c.in-Call.is c.requires.asks;
-    }
+    subst (λ e. entry_with h e c.args.answer ≡ entry_for h e) c.in-Call.is c.requires.enters
+
+pub is_granted_at_once-requires-clause-asks : goal.is_granted_at_once-requires-clause-asks
+is_granted_at_once-requires-clause-asks g c =
+    let h = past c.args.self.now in
+    subst (λ e. HasRequest h e c.args.request.now) c.in-Call.is c.requires.asks
 
 pub returns-in-Call : goal.returns-in-Call
 returns-in-Call g c =

@@ -1,4 +1,4 @@
-use Rattle.std.proofs.Common.{◌≡◌, Some, false, sym, ◌∙◌, subst, refl}
+use Rattle.std.proofs.Common.{◌≡◌, Some, false, sym, ap, ◌∙◌, subst, refl, unwrap_or}
 use Rattle.pt_model.specs.Answers.{open_calls}
 use Rattle.pt_model.specs.Forced.{service}
 use Rattle.pt_model.specs.declared.waiting_call.WaitingCall.{WaitingCall}
@@ -29,8 +29,7 @@ push_service-requires-clause-ready g c = λ v e.
     let its : call_of (open_calls h) c.in-Call.c ≡ Some w.0 =
     subst (λ d. call_of (open_calls h) d ≡ Some w.0) own
     (call_of-open h c.requires.read.follows w.0 w.1.0) in
-    let both : ◌≡◌ (Some w.0) (Some v) = sym its ∙ e in
-    let same : w.0 ≡ v = cc in
+    let same : w.0 ≡ v = ap (λ x. unwrap_or x v) (sym its ∙ e) in
     subst (λ (x : WaitingCall). IsReadyFor c.args.self.now (service h x)) same w.1.1.1
 
 pub push_service-requires-clause-other : goal.push_service-requires-clause-other
@@ -41,8 +40,7 @@ push_service-requires-clause-other g c = λ v e.
     let its : call_of (open_calls h) c.in-Call.c ≡ Some w.0 =
     subst (λ d. call_of (open_calls h) d ≡ Some w.0) serves.1
     (call_of-open h c.requires.read.follows w.0 w.1.0) in
-    let both : ◌≡◌ (Some w.0) (Some v) = sym its ∙ e in
-    let same : w.0 ≡ v = cc in
+    let same : w.0 ≡ v = ap (λ x. unwrap_or x v) (sym its ∙ e) in
     subst (λ (x : WaitingCall). is_arrival x.role ≡ false) same serves.0
 
 pub returns-in-Call : goal.returns-in-Call
@@ -52,3 +50,9 @@ returns-in-Call g c = λ w i serves.
     c.push_service.ensures w
     (subst (λ d. call_of (open_calls h) d ≡ Some w) own
     (call_of-open h c.requires.read.follows w i))
+
+pub push_service-requires-clause-read : goal.push_service-requires-clause-read
+push_service-requires-clause-read g c = c.requires.read
+
+pub push_full-requires-clause-read : goal.push_full-requires-clause-read
+push_full-requires-clause-read g c = c.requires.read

@@ -2,26 +2,23 @@ use Rattle.std.proofs.Common.{◌≡◌, ◌+◌, arith, subst}
 use Rattle.pt_model.specs.Histories.{◌▷◌}
 use Rattle.pt_model.specs.Room.{need}
 use Rattle.pt_touched.specs.Touched.{touched}
-use Rattle.pt_records.specs.Callers.{opens_of}
-use Rattle.pt_state.specs.Adds.{Adds, IsReadyFor, past}
-use Rattle.pt_state.specs.Serving.{IsFor, entry_of}
+use Rattle.pt_state.specs.Adds.{Adds, past}
+use Rattle.pt_state.specs.Serving.{entry_of}
 use Rattle.pt_machine.proofs.LastTouches.{touched-forced}
 use Rattle.pt_machine.proofs.NeedSteps.{reserved-forced}
 use Rattle.pt_machine.proofs.body.Body.push_forced.Goals as goal
 
-pub push_forced-requires : goal.push_forced-requires
-push_forced-requires g c =
-    let old = c.self.inside.state in
-    let forced = c.args.forced.now in
-    let ready : IsReadyFor old (entry_of (past old) forced) =
-    rw c.self.view_is c.requires.ready in
-    let known : IsFor (opens_of old.clients) forced = rw c.self.view_is c.requires.known in
-    record {
-      ready = ready;
-      queued = c.self.invariant.0;
-      timed = c.self.invariant.1;
-      known = known;
-    }
+pub push_forced-requires-clause-ready : goal.push_forced-requires-clause-ready
+push_forced-requires-clause-ready g c = rw c.self.view_is c.requires.ready
+
+pub push_forced-requires-clause-queued : goal.push_forced-requires-clause-queued
+push_forced-requires-clause-queued g c = c.self.invariant.0
+
+pub push_forced-requires-clause-timed : goal.push_forced-requires-clause-timed
+push_forced-requires-clause-timed g c = c.self.invariant.1
+
+pub push_forced-requires-clause-known : goal.push_forced-requires-clause-known
+push_forced-requires-clause-known g c = rw c.self.view_is c.requires.known
 
 pub overflow_sub-self : goal.overflow_sub-self
 overflow_sub-self g c =
@@ -52,3 +49,20 @@ invariant_of-self g c =
       reserved-forced old c.push_forced.new.state entry c.push_forced.ensures.adds
           c.self.inside.need c.used_by_forced-used.result c.self.invariant.3 used,
     )
+
+pub used_by_forced-used-requires-clause-read : goal.used_by_forced-used-requires-clause-read
+used_by_forced-used-requires-clause-read g c = c.requires.ready.read
+
+pub used_by_forced-used-requires-clause-step : goal.used_by_forced-used-requires-clause-step
+used_by_forced-used-requires-clause-step g c = c.requires.ready.step
+
+pub used_by_forced-used-requires-clause-known : goal.used_by_forced-used-requires-clause-known
+used_by_forced-used-requires-clause-known g c = c.requires.known
+
+pub touched_by_forced-touched-requires-clause-read :
+    goal.touched_by_forced-touched-requires-clause-read
+touched_by_forced-touched-requires-clause-read g c = c.requires.ready.read
+
+pub touched_by_forced-touched-requires-clause-known :
+    goal.touched_by_forced-touched-requires-clause-known
+touched_by_forced-touched-requires-clause-known g c = c.requires.known

@@ -20,20 +20,24 @@ used_by_grant-used-requires-clause-read g c = rw c.self.view_is c.requires.read
 pub used_by_grant-used-requires-clause-known : goal.used_by_grant-used-requires-clause-known
 used_by_grant-used-requires-clause-known g c = rw c.self.view_is c.requires.known
 
-pub push_granted-requires : goal.push_granted-requires
-push_granted-requires g c =
+pub push_granted-requires-clause-ready : goal.push_granted-requires-clause-ready
+push_granted-requires-clause-ready g c =
     let old = c.self.inside.state in
-    let o = c.args.found.now in
-    let ready : IsReadyFor old (service (past old) (called o)) =
+    let ready : IsReadyFor old (service (past old) (called c.args.found.now)) =
     rw c.self.view_is c.requires.ready in
-    let known : In o (opens_of old.clients) = rw c.self.view_is c.requires.known in
-    record {
-      ready = ready;
-      queued = c.self.invariant.0;
-      timed = c.self.invariant.1;
-      known = known;
-      other = c.requires.other;
-    }
+    ready
+
+pub push_granted-requires-clause-queued : goal.push_granted-requires-clause-queued
+push_granted-requires-clause-queued g c = c.self.invariant.0
+
+pub push_granted-requires-clause-timed : goal.push_granted-requires-clause-timed
+push_granted-requires-clause-timed g c = c.self.invariant.1
+
+pub push_granted-requires-clause-known : goal.push_granted-requires-clause-known
+push_granted-requires-clause-known g c = rw c.self.view_is c.requires.known
+
+pub push_granted-requires-clause-other : goal.push_granted-requires-clause-other
+push_granted-requires-clause-other g c = c.requires.other
 
 pub returns : goal.returns
 returns g c =

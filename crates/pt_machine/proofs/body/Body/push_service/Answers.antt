@@ -1,4 +1,4 @@
-use Rattle.std.proofs.Common.{◌≡◌, Some, option_map, sym, ap, ◌∙◌, subst}
+use Rattle.std.proofs.Common.{◌≡◌, Some, option_map, sym, ap, ◌∙◌, subst, unwrap_or}
 use Rattle.std.specs.Option.{option_copied}
 use Rattle.pt_table.specs.ClientRows.{client_value}
 use Rattle.pt_records.specs.Callers.{open_in}
@@ -67,7 +67,7 @@ returns-in-Some g c = λ w given.
     let same : Some (called o) ≡ Some w =
     sym (sym (c.requires.read.callers.look.calls c.args.c) ∙ ap (option_map called) (sym its))
     ∙ given in
-    let one : called o ≡ w = cc same in
+    let one : called o ≡ w = ap (λ x. unwrap_or x w) same in
     subst (λ (v : WaitingCall). Adds s (service (past s) v) c.push_gained.new.self) one
     c.push_gained.ensures
 
@@ -80,6 +80,9 @@ returns-in-None g c = λ w given.
     let same : Some (called o) ≡ Some w =
     sym (sym (c.requires.read.callers.look.calls c.args.c) ∙ ap (option_map called) (sym its))
     ∙ given in
-    let one : called o ≡ w = cc same in
+    let one : called o ≡ w = ap (λ x. unwrap_or x w) same in
     subst (λ (v : WaitingCall). Adds s (service (past s) v) c.push_passed.new.self) one
     c.push_passed.ensures
+
+pub open_of-requires : goal.open_of-requires
+open_of-requires g c = rw c.self.view_is c.requires.read
