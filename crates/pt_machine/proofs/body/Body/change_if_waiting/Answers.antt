@@ -2,6 +2,8 @@ use Rattle.std.proofs.Common.{sym, ap, ◌∙◌, arith}
 use Rattle.pt_types.specs.Shown.{shown_operation}
 use Rattle.pt_state.specs.Adds.{past}
 use Rattle.pt_state.specs.Needed.{added_by_operation, used_to_wait}
+use Rattle.pt_state.specs.Requests.{mutex_meant}
+use Rattle.pt_touched.specs.Touched.{goal_of_operation}
 use Rattle.pt_machine.proofs.body.Body.change_if_waiting.Goals as goal
 
 pub returns-in-Acquires-clause-adds : goal.returns-in-Acquires-clause-adds
@@ -27,3 +29,39 @@ returns-in-Arrives-clause-uses g c =
 
 pub returns-in-Arrives-clause-small : goal.returns-in-Arrives-clause-small
 returns-in-Arrives-clause-small g c = omega arith
+
+pub change_by_wait-requires-clause-read : goal.change_by_wait-requires-clause-read
+change_by_wait-requires-clause-read g c = c.requires.read
+
+pub change_by_wait-requires-clause-step : goal.change_by_wait-requires-clause-step
+change_by_wait-requires-clause-step g c = c.requires.step
+
+pub change_by_wait-requires-clause-operation : goal.change_by_wait-requires-clause-operation
+change_by_wait-requires-clause-operation g c =
+    sym c.requires.does ∙ ap shown_operation c.in-Awaits.is
+
+pub change_by_wait-requires-clause-found : goal.change_by_wait-requires-clause-found
+change_by_wait-requires-clause-found g c =
+    c.requires.asks.mutex
+    ∙ ap (mutex_meant (past c.args.self.now))
+    (sym c.requires.does ∙ ap shown_operation c.in-Awaits.is)
+
+pub returns-in-Awaits-clause-adds : goal.returns-in-Awaits-clause-adds
+returns-in-Awaits-clause-adds g c =
+    c.change_by_wait.ensures.adds
+    ∙ ap added_by_operation (ap shown_operation (sym c.in-Awaits.is) ∙ c.requires.does)
+
+pub returns-in-Awaits-clause-uses : goal.returns-in-Awaits-clause-uses
+returns-in-Awaits-clause-uses g c =
+    c.change_by_wait.ensures.uses
+    ∙ ap (used_to_wait (past c.args.self.now) c.args.c)
+    (ap shown_operation (sym c.in-Awaits.is) ∙ c.requires.does)
+
+pub returns-in-Awaits-clause-touches : goal.returns-in-Awaits-clause-touches
+returns-in-Awaits-clause-touches g c =
+    c.change_by_wait.ensures.touches
+    ∙ ap (goal_of_operation (past c.args.self.now))
+    (ap shown_operation (sym c.in-Awaits.is) ∙ c.requires.does)
+
+pub returns-in-Awaits-clause-small : goal.returns-in-Awaits-clause-small
+returns-in-Awaits-clause-small g c = omega (arith, c.change_by_wait.ensures.adds)

@@ -25,3 +25,6 @@ returns-in-Some g c =
       omega (arith, its, lt, c.level.ensures.value, c.level-in-Some.ensures.value),
       omega (arith, its, c.level-in-Some.ensures.value, c.level-in-Some.ensures.greatest),
     ))
+
+pub priority-requires : goal.priority-requires
+priority-requires g c = rw c.self.view_is c.requires

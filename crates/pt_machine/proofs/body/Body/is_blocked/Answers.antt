@@ -22,3 +22,6 @@ returns-in-None g c =
     c.args.c c.first_writer.result c.is_some.result
     (rw (← c.self.view_is) (sym c.priority.ensures ∙ c.in-None.is)) c.first_writer.ensures
     c.is_some.ensures
+
+pub priority-requires : goal.priority-requires
+priority-requires g c = rw c.self.view_is c.requires

@@ -20,3 +20,6 @@ returns-in-None g c =
     let found : None ≡ open_in (client_value s.clients c.args.c) =
     rw (← c.self.view_is) (ap option_copied (sym c.in-None.is) ∙ c.open_of.ensures) in
     row-waits (past s) s.clients c.requires.follows c.requires.callers c.args.c _ found
+
+pub open_of-requires : goal.open_of-requires
+open_of-requires g c = rw c.self.view_is c.requires

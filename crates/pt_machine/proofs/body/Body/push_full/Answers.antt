@@ -116,3 +116,9 @@ invariant_of-self g c =
           (trip-uses h read.follows w.0 b (c.len.result - c.len-before.result) w.1.1.0 w.1.1.1
           gone),
     )
+
+pub push_trip-requires-clause-ready : goal.push_trip-requires-clause-ready
+push_trip-requires-clause-ready g c = rw c.self.view_is c.requires.ready
+
+pub returns : goal.returns
+returns g c = rw (← c.self.view_is) c.push_trip.ensures.adds

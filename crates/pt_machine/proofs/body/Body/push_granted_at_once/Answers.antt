@@ -14,6 +14,9 @@ use Rattle.pt_machine.proofs.GrantedStates.{alone-granted, must-follow, uses, re
 use Rattle.pt_machine.proofs.GrantedStates.{queued-granted, rests-granted, timed-granted}
 use Rattle.pt_machine.proofs.GrantedStates.{told-granted, touched-granted}
 use Rattle.pt_machine.proofs.NeedSteps.{reserved-forced}
+use Rattle.pt_types.specs.Operations.{operation}
+use Rattle.std.proofs.lemmas.Bool.{false≢true}
+use Rattle.pt_machine.proofs.NeedsMemory.{small-unread}
 use Rattle.pt_machine.proofs.body.Body.push_granted_at_once.Goals as goal
 
 pub push_both-requires-clause-ready : goal.push_both-requires-clause-ready
@@ -158,3 +161,10 @@ returns-clause-alone g c =
     rw (← c.self.view_is)
     (alone-granted old both.mid c.args.c c.args.call.now ready granted both.first both.its
     both.found c.push_both.new.state both.second c.in_ok-granted.granted.outcome both.told)
+
+pub returns-in_err-granted-clause-enough : goal.returns-in_err-granted-clause-enough
+returns-in_err-granted-clause-enough g c =
+    λ small.
+    absurd
+    (false≢true
+    (c.in_err-granted.ensures.enough (small-unread (operation c.args.call.now) small)))

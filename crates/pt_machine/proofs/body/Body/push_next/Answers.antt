@@ -12,6 +12,7 @@ use Rattle.pt_state.specs.Adds.{past}
 use Rattle.pt_machine.specs.Services.{IsService}
 use Rattle.pt_machine.specs.Timed.{IsFirstLate}
 use Rattle.pt_machine.proofs.OpenPlaces.{place-in}
+use Rattle.std.proofs.lemmas.Bool.{false≢true}
 use Rattle.pt_machine.proofs.body.Body.push_next.Goals as goal
 
 -- where no call is to be served and no mutex to be taken from the dead, the deadline that passed
@@ -99,3 +100,35 @@ returns-in-Some-first_due-clause-pushed g c = λ pushed.
       late-next h c.in-Some-first_due.place none orphan c.in-Some-first_due.ensures,
       c.push_overdue.ensures,
     )
+
+pub returns-in-Some-clause-none : goal.returns-in-Some-clause-none
+returns-in-Some-clause-none g c = λ none. absurd (false≢true (sym none))
+
+pub returns-in-Some-first_orphan-clause-none : goal.returns-in-Some-first_orphan-clause-none
+returns-in-Some-first_orphan-clause-none g c = λ none. absurd (false≢true (sym none))
+
+pub returns-in-Some-first_due-clause-none : goal.returns-in-Some-first_due-clause-none
+returns-in-Some-first_due-clause-none g c = λ none. absurd (false≢true (sym none))
+
+pub returns-in-None-clause-pushed : goal.returns-in-None-clause-pushed
+returns-in-None-clause-pushed g c = λ pushed. absurd (false≢true pushed)
+
+pub first_orphan-requires : goal.first_orphan-requires
+first_orphan-requires g c = rw c.self.view_is c.requires.read
+
+pub first_due-requires-clause-read : goal.first_due-requires-clause-read
+first_due-requires-clause-read g c = c.requires.read
+
+pub push_first-requires-clause-read : goal.push_first-requires-clause-read
+push_first-requires-clause-read g c = c.requires.read
+
+pub first_service-requires : goal.first_service-requires
+first_service-requires g c = c.requires.read
+
+pub push_overdue-requires-clause-read : goal.push_overdue-requires-clause-read
+push_overdue-requires-clause-read g c = c.requires.read
+
+pub first_due-requires-clause-unserved : goal.first_due-requires-clause-unserved
+first_due-requires-clause-unserved g c =
+    let h = past c.args.self.now in
+    ap (service_if h) (subst (IsService h _) c.in_default.is c.first_service.ensures)

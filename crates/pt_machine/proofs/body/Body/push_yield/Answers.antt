@@ -36,3 +36,9 @@ invariant_of-self g c =
       reserved-forced old new (Yield m) adds c.self.inside.need 1 c.self.invariant.3
           (uses-yield (past old) m ready.read.follows ready.step),
     )
+
+pub push_yield-requires : goal.push_yield-requires
+push_yield-requires g c = rw c.self.view_is c.requires.ready
+
+pub returns : goal.returns
+returns g c = rw (← c.self.view_is) c.push_yield.ensures

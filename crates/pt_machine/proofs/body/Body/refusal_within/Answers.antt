@@ -15,3 +15,9 @@ is_over-requires-clause-step g c =
     (rw (← c.self.view_is)
     (sym c.refusal-refused.ensures
     ∙ none c.refusal-refused.result (sym c.is_some.ensures ∙ c.if-is_some.false)))
+
+pub refusal-refused-requires : goal.refusal-refused-requires
+refusal-refused-requires g c = rw c.self.view_is c.requires.read
+
+pub is_over-requires-clause-read : goal.is_over-requires-clause-read
+is_over-requires-clause-read g c = c.requires.read

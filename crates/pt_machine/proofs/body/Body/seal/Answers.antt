@@ -1,4 +1,4 @@
-use Rattle.std.proofs.Common.{◌≡◌, None, sym, subst}
+use Rattle.std.proofs.Common.{◌≡◌, None, refl, sym, ◌∙◌, subst}
 use Rattle.pt_model.specs.Histories.{History, Begin}
 use Rattle.pt_model.specs.Forced.{forced}
 use Rattle.pt_model.specs.Seals.{seal}
@@ -36,3 +36,27 @@ invariant_of-self-2 g c =
       subst (λ (h : History). IsReserved h need) (sym begins)
           (reserved-seal (past old) follows quiet need c.self.invariant.3),
     )
+
+pub seal-requires-clause-read : goal.seal-requires-clause-read
+seal-requires-clause-read g c = rw c.self.view_is c.requires.read
+
+pub seal-requires-clause-places : goal.seal-requires-clause-places
+seal-requires-clause-places g c = rw c.self.view_is c.requires.places
+
+pub returns-in-Err-clause-ok : goal.returns-in-Err-clause-ok
+returns-in-Err-clause-ok g c = tt
+
+pub returns-in-Err-clause-err : goal.returns-in-Err-clause-err
+returns-in-Err-clause-err g c = c.in-Err.ensures.err ∙ c.self.view_is
+
+pub returns-in-Err-clause-reason : goal.returns-in-Err-clause-reason
+returns-in-Err-clause-reason g c = refl
+
+pub returns-clause-ok : goal.returns-clause-ok
+returns-clause-ok g c = rw (← c.self.view_is) c.in_default.ensures.ok
+
+pub returns-clause-err : goal.returns-clause-err
+returns-clause-err g c = tt
+
+pub returns-clause-reason : goal.returns-clause-reason
+returns-clause-reason g c = tt

@@ -1,4 +1,4 @@
-use Rattle.std.proofs.Common.{◌≡◌, None, sym, subst}
+use Rattle.std.proofs.Common.{◌≡◌, None, sym, ap, ◌∙◌, subst}
 use Rattle.pt_model.specs.Histories.{History, Begin}
 use Rattle.pt_model.specs.Forced.{forced}
 use Rattle.pt_model.specs.Seals.{seal}
@@ -44,3 +44,31 @@ invariant_of-self-2 g c =
       subst (λ (h : History). IsReserved h need) (sym begins)
           (reserved-seal (past old) follows quiet need c.self.invariant.3),
     )
+
+pub seal_with_room-requires-clause-read : goal.seal_with_room-requires-clause-read
+seal_with_room-requires-clause-read g c = rw c.self.view_is c.requires.read
+
+pub seal_with_room-requires-clause-places : goal.seal_with_room-requires-clause-places
+seal_with_room-requires-clause-places g c = rw c.self.view_is c.requires.places
+
+pub seal_with_room-requires-clause-room : goal.seal_with_room-requires-clause-room
+seal_with_room-requires-clause-room g c = rw c.self.view_is c.requires.room
+
+pub returns-clause-ok : goal.returns-clause-ok
+returns-clause-ok g c = rw (← c.self.view_is) c.in_ok-unsealed.ensures.ok
+
+pub returns-clause-stored : goal.returns-clause-stored
+returns-clause-stored g c = c.in_ok-unsealed.ensures.stored ∙ ap (λ s. s.stored) c.self.view_is
+
+pub returns-clause-answers : goal.returns-clause-answers
+returns-clause-answers g c =
+    c.in_ok-unsealed.ensures.answers ∙ ap (λ s. s.answers) c.self.view_is
+
+pub returns-clause-touches : goal.returns-clause-touches
+returns-clause-touches g c = rw (← c.self.view_is) c.self.invariant.2
+
+pub returns-clause-err : goal.returns-clause-err
+returns-clause-err g c = tt
+
+pub returns-clause-reason : goal.returns-clause-reason
+returns-clause-reason g c = tt

@@ -42,3 +42,12 @@ returns-in-Rwlock g c =
     subst (IsService h (candidate h o)) (sym c.call_served-in-Rwlock.ensures)
     (call-service h c.requires.follows o other c.rwlock_candidate.result
     (c.rwlock_candidate.ensures ∙ ap client_at (sym same)))
+
+pub barrier_service-requires-clause-read : goal.barrier_service-requires-clause-read
+barrier_service-requires-clause-read g c = c.requires
+
+pub rwlock_candidate-requires-clause-read : goal.rwlock_candidate-requires-clause-read
+rwlock_candidate-requires-clause-read g c = c.requires
+
+pub mutex_candidate-requires-clause-read : goal.mutex_candidate-requires-clause-read
+mutex_candidate-requires-clause-read g c = c.requires

@@ -20,3 +20,9 @@ invariant_of-self g c =
           c.self.invariant.2,
       subst (λ (h : History). IsReserved h inside.need) back c.self.invariant.3,
     )
+
+pub take_memory-requires : goal.take_memory-requires
+take_memory-requires g c = rw c.self.view_is c.requires
+
+pub returns : goal.returns
+returns g c = rw (← c.self.view_is) c.take_memory.ensures

@@ -31,3 +31,24 @@ invariant_of-self g c =
           (reserved-unsealed h c.requires.follows c.requires.settled need
           (subst (λ (x : History). IsReserved x need) begins c.self.invariant.3)),
     )
+
+pub unseal-requires-clause-read : goal.unseal-requires-clause-read
+unseal-requires-clause-read g c = rw c.self.view_is c.requires.read
+
+pub unseal-requires-clause-begins : goal.unseal-requires-clause-begins
+unseal-requires-clause-begins g c = rw c.self.view_is c.requires.begins
+
+pub unseal-requires-clause-follows : goal.unseal-requires-clause-follows
+unseal-requires-clause-follows g c = c.requires.follows
+
+pub unseal-requires-clause-told : goal.unseal-requires-clause-told
+unseal-requires-clause-told g c = c.requires.told
+
+pub returns-clause-stored : goal.returns-clause-stored
+returns-clause-stored g c = c.unseal.ensures.stored
+
+pub returns-clause-answers : goal.returns-clause-answers
+returns-clause-answers g c = c.unseal.ensures.answers
+
+pub returns-clause-read : goal.returns-clause-read
+returns-clause-read g c = c.unseal.ensures.read

@@ -46,3 +46,12 @@ returns-else-is_arrival g c =
     uses-grant (past s) (called o) read.follows
     (known-open (past s) s.clients read.follows read.callers o c.requires.known)
     (sym c.is_arrival.ensures ∙ c.if-is_arrival.false) c.requires.step c.used_by_grant.result used
+
+pub used_by_grant-requires-clause-read : goal.used_by_grant-requires-clause-read
+used_by_grant-requires-clause-read g c = rw c.self.view_is c.requires.read
+
+pub used_by_grant-requires-clause-known : goal.used_by_grant-requires-clause-known
+used_by_grant-requires-clause-known g c = rw c.self.view_is c.requires.known
+
+pub arrivals-requires-clause-read : goal.arrivals-requires-clause-read
+arrivals-requires-clause-read g c = c.requires.read

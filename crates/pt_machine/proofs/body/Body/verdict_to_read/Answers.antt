@@ -22,3 +22,9 @@ returns-in-Some g c =
     rw (← c.self.view_is) c.read_verdict.ensures
     ∙ (c.is_held_back-blocked.ensures (rwlock_view h c.in-Some.r c.args.c)
     ∙ ap (λ r. on r (λ q. lock_kind_verdict h c.args.c q ReadLock c.args.how.now)) found)
+
+pub read_verdict-requires-clause-read : goal.read_verdict-requires-clause-read
+read_verdict-requires-clause-read g c = rw c.self.view_is c.requires.read
+
+pub is_held_back-blocked-requires : goal.is_held_back-blocked-requires
+is_held_back-blocked-requires g c = c.requires.read
