@@ -85,23 +85,26 @@ insert-requires-clause-latest g c =
     c.requires.ready.step seen.queue seen.admitted seen.made c.requires.queued new came in
     take-latest can takes
 
-pub returns-clause-queued : goal.returns-clause-queued
-returns-clause-queued g c =
-    let old = c.args.state.now in
-    let h = past old in
-    let new = past c.push_arrival.new.self in
-    let seen = g.Q.WaitList.seen c.args.queues.now in
-    let came = past-adds old c.push_arrival.new.self (entry.Call c.args.c c.args.call.now None)
-    c.push_arrival.ensures in
-    let takes = arrival-takes h c.requires.ready.read.follows c.args.c c.args.call.now
-    c.requires.ready.step seen.queue seen.admitted seen.made c.requires.queued c.args.n.now
-    c.requires.operation new came c.object_named-b.result c.len-place.result c.arriving.result
-    (c.object_named-b.ensures
-    ∙ ap (λ o. unwrap_or o 0) (c.requires.asks.object ∙ ap (object_meant h) c.requires.operation))
-    (c.len-place.ensures ∙ sym (place_of_next old.stored)) c.arriving.ensures in
-    let next = g.Q.WaitList.seen c.insert.new.self in
-    queued-left h c.requires.ready.read.follows c.args.c c.args.call.now c.requires.ready.step
-    seen.queue seen.admitted seen.made c.requires.queued new came next.queue next.admitted next.made
-    (take-put new c.args.c c.object_named-b.result c.arriving.result takes seen.queue next.queue
-    c.insert.ensures.queues)
-    c.insert.ensures.admitted c.insert.ensures.made
+pub returns : goal.returns
+returns g c = record {
+  adds = c.push_arrival.ensures;
+  queued = let old = c.args.state.now in
+      let h = past old in
+      let new = past c.push_arrival.new.self in
+      let seen = g.Q.WaitList.seen c.args.queues.now in
+      let came = past-adds old c.push_arrival.new.self (entry.Call c.args.c c.args.call.now None)
+      c.push_arrival.ensures in
+      let takes = arrival-takes h c.requires.ready.read.follows c.args.c c.args.call.now
+      c.requires.ready.step seen.queue seen.admitted seen.made c.requires.queued c.args.n.now
+      c.requires.operation new came c.object_named-b.result c.len-place.result c.arriving.result
+      (c.object_named-b.ensures
+      ∙ ap (λ o. unwrap_or o 0) (c.requires.asks.object ∙ ap (object_meant h) c.requires.operation))
+      (c.len-place.ensures ∙ sym (place_of_next old.stored)) c.arriving.ensures in
+      let next = g.Q.WaitList.seen c.insert.new.self in
+      queued-left h c.requires.ready.read.follows c.args.c c.args.call.now c.requires.ready.step
+      seen.queue seen.admitted seen.made c.requires.queued new came next.queue next.admitted
+      next.made
+      (take-put new c.args.c c.object_named-b.result c.arriving.result takes seen.queue next.queue
+      c.insert.ensures.queues)
+      c.insert.ensures.admitted c.insert.ensures.made;
+}

@@ -16,19 +16,17 @@ push_trip-requires-clause-arrived g c =
     (g.Q.WaitList.seen c.args.queues.now).made c.requires.ready.read c.requires.known
     c.requires.arrival c.requires.queued
 
-pub returns-clause-adds : goal.returns-clause-adds
-returns-clause-adds g c =
-    subst (λ e. Adds c.args.state.now e c.push_trip.new.self)
-    (sym (service-trip (past c.args.state.now) c.args.found.now c.requires.arrival))
-    c.push_trip.ensures.adds
-
-pub returns-clause-queued : goal.returns-clause-queued
-returns-clause-queued g c =
-    queued-tripped c.args.state.now c.push_trip.new.self c.args.found.now
-    (g.Q.WaitList.seen c.args.queues.now).queue (g.Q.WaitList.seen c.push_trip.new.queues).queue
-    (g.Q.WaitList.seen c.args.queues.now).admitted
-    (g.Q.WaitList.seen c.push_trip.new.queues).admitted
-    (g.Q.WaitList.seen c.args.queues.now).made (g.Q.WaitList.seen c.push_trip.new.queues).made
-    c.requires.ready.read c.requires.known c.push_trip.ensures.emptied.admitted
-    c.push_trip.ensures.emptied.made c.requires.queued c.push_trip.ensures.adds
-    c.requires.arrival c.push_trip.ensures.emptied.queues
+pub returns : goal.returns
+returns g c = record {
+  adds = subst (λ e. Adds c.args.state.now e c.push_trip.new.self)
+      (sym (service-trip (past c.args.state.now) c.args.found.now c.requires.arrival))
+      c.push_trip.ensures.adds;
+  queued = queued-tripped c.args.state.now c.push_trip.new.self c.args.found.now
+      (g.Q.WaitList.seen c.args.queues.now).queue (g.Q.WaitList.seen c.push_trip.new.queues).queue
+      (g.Q.WaitList.seen c.args.queues.now).admitted
+      (g.Q.WaitList.seen c.push_trip.new.queues).admitted
+      (g.Q.WaitList.seen c.args.queues.now).made (g.Q.WaitList.seen c.push_trip.new.queues).made
+      c.requires.ready.read c.requires.known c.push_trip.ensures.emptied.admitted
+      c.push_trip.ensures.emptied.made c.requires.queued c.push_trip.ensures.adds
+      c.requires.arrival c.push_trip.ensures.emptied.queues;
+}

@@ -64,21 +64,6 @@ insert-requires-clause-made g c = take-made (may-stand g c) (its-place g c)
 pub insert-requires-clause-latest : goal.insert-requires-clause-latest
 insert-requires-clause-latest g c = take-latest (may-stand g c) (its-place g c)
 
-pub returns-clause-queued : goal.returns-clause-queued
-returns-clause-queued g c =
-    let old = c.args.state.now in
-    let new = past c.push_endless_wait-prio.new.self in
-    let seen = g.Q.WaitList.seen c.args.queues.now in
-    let next = g.Q.WaitList.seen c.insert.new.self in
-    queued-left (past old) c.requires.ready.read.follows c.args.c c.args.call.now
-    c.requires.ready.step seen.queue seen.admitted seen.made c.requires.queued new
-    (past-adds old c.push_endless_wait-prio.new.self (entry.Call c.args.c c.args.call.now None)
-    c.push_endless_wait-prio.ensures.adds)
-    next.queue next.admitted next.made
-    (take-put new c.args.c c.object_named-q.result c.entering.result (its-place g c.before)
-    seen.queue next.queue c.insert.ensures.queues)
-    c.insert.ensures.admitted c.insert.ensures.made
-
 pub push_endless_wait-prio-requires-clause-ready : goal.push_endless_wait-prio-requires-clause-ready
 push_endless_wait-prio-requires-clause-ready g c = c.requires.ready
 
@@ -86,5 +71,19 @@ pub push_endless_wait-prio-requires-clause-operation :
     goal.push_endless_wait-prio-requires-clause-operation
 push_endless_wait-prio-requires-clause-operation g c = c.requires.operation
 
-pub returns-clause-adds : goal.returns-clause-adds
-returns-clause-adds g c = c.push_endless_wait-prio.ensures.adds
+pub returns : goal.returns
+returns g c = record {
+  adds = c.push_endless_wait-prio.ensures.adds;
+  queued = let old = c.args.state.now in
+      let new = past c.push_endless_wait-prio.new.self in
+      let seen = g.Q.WaitList.seen c.args.queues.now in
+      let next = g.Q.WaitList.seen c.insert.new.self in
+      queued-left (past old) c.requires.ready.read.follows c.args.c c.args.call.now
+      c.requires.ready.step seen.queue seen.admitted seen.made c.requires.queued new
+      (past-adds old c.push_endless_wait-prio.new.self (entry.Call c.args.c c.args.call.now None)
+      c.push_endless_wait-prio.ensures.adds)
+      next.queue next.admitted next.made
+      (take-put new c.args.c c.object_named-q.result c.entering.result (its-place g c.before)
+      seen.queue next.queue c.insert.ensures.queues)
+      c.insert.ensures.admitted c.insert.ensures.made;
+}

@@ -1,4 +1,4 @@
-use Rattle.std.proofs.Common.{subst, sym}
+use Rattle.std.proofs.Common.{subst, sym, refl}
 use Rattle.pt_history.specs.Stored.{past_of}
 use Rattle.pt_machine.specs.Queued.{IsQueued}
 use Rattle.std.proofs.Common.{None}
@@ -18,48 +18,40 @@ take_place-requires-clause-ready g c =
     (past-adds c.args.state.now c.push_left.new.self
     (entry.Call c.args.c c.args.call.now None) c.in-Ok.ensures.ok)
 
--- it takes its place
-pub returns-in-Ok-clause-queued : goal.returns-in-Ok-clause-queued
-returns-in-Ok-clause-queued g c =
-    queued-left (past c.args.state.now) c.requires.ready.read.follows c.args.c
-    c.args.call.now c.requires.ready.step (g.Q.WaitList.seen c.args.queues.now).queue
-    (g.Q.WaitList.seen c.args.queues.now).admitted (g.Q.WaitList.seen c.args.queues.now).made
-    c.requires.queued (past c.push_left.new.self)
-    (past-adds c.args.state.now c.push_left.new.self
-    (entry.Call c.args.c c.args.call.now None) c.in-Ok.ensures.ok)
-    (g.Q.WaitList.seen c.take_place.new.queues).queue
-    (g.Q.WaitList.seen c.take_place.new.queues).admitted
-    (g.Q.WaitList.seen c.take_place.new.queues).made
-    c.take_place.ensures.queues c.take_place.ensures.admitted c.take_place.ensures.made
-
-pub returns-in-Err-clause-queued : goal.returns-in-Err-clause-queued
-returns-in-Err-clause-queued g c =
-    subst (λ s. IsQueued (past_of s) (g.Q.WaitList.seen c.args.queues.now))
-    (sym c.in-Err.ensures.err.stored) c.requires.queued
-
 pub push_left-requires-clause-ready : goal.push_left-requires-clause-ready
 push_left-requires-clause-ready g c = c.requires.ready
 
 pub push_left-requires-clause-asks : goal.push_left-requires-clause-asks
 push_left-requires-clause-asks g c = c.requires.asks
 
-pub returns-in-Ok-clause-ok : goal.returns-in-Ok-clause-ok
-returns-in-Ok-clause-ok g c = c.in-Ok.ensures.ok
-
-pub returns-in-Ok-clause-err : goal.returns-in-Ok-clause-err
-returns-in-Ok-clause-err g c = tt
-
-pub returns-in-Ok-clause-reason : goal.returns-in-Ok-clause-reason
-returns-in-Ok-clause-reason g c = tt
-
 pub take_place-requires-clause-read : goal.take_place-requires-clause-read
 take_place-requires-clause-read g c = c.in-Ok.ensures.ok.read
 
-pub returns-in-Err-clause-ok : goal.returns-in-Err-clause-ok
-returns-in-Err-clause-ok g c = tt
+-- it takes its place
+pub returns-in-Ok : goal.returns-in-Ok
+returns-in-Ok g c = record {
+  ok = c.in-Ok.ensures.ok;
+  err = tt;
+  reason = tt;
+  enough = λ other. refl;
+  queued = queued-left (past c.args.state.now) c.requires.ready.read.follows c.args.c
+      c.args.call.now c.requires.ready.step (g.Q.WaitList.seen c.args.queues.now).queue
+      (g.Q.WaitList.seen c.args.queues.now).admitted (g.Q.WaitList.seen c.args.queues.now).made
+      c.requires.queued (past c.push_left.new.self)
+      (past-adds c.args.state.now c.push_left.new.self
+      (entry.Call c.args.c c.args.call.now None) c.in-Ok.ensures.ok)
+      (g.Q.WaitList.seen c.take_place.new.queues).queue
+      (g.Q.WaitList.seen c.take_place.new.queues).admitted
+      (g.Q.WaitList.seen c.take_place.new.queues).made
+      c.take_place.ensures.queues c.take_place.ensures.admitted c.take_place.ensures.made;
+}
 
-pub returns-in-Err-clause-err : goal.returns-in-Err-clause-err
-returns-in-Err-clause-err g c = c.in-Err.ensures.err
-
-pub returns-in-Err-clause-reason : goal.returns-in-Err-clause-reason
-returns-in-Err-clause-reason g c = c.in-Err.ensures.refusal
+pub returns-in-Err : goal.returns-in-Err
+returns-in-Err g c = record {
+  ok = tt;
+  err = c.in-Err.ensures.err;
+  reason = c.in-Err.ensures.refusal;
+  enough = c.in-Err.ensures.enough;
+  queued = subst (λ s. IsQueued (past_of s) (g.Q.WaitList.seen c.args.queues.now))
+      (sym c.in-Err.ensures.err.stored) c.requires.queued;
+}

@@ -10,42 +10,6 @@ use Rattle.pt_state.specs.Adds.{past}
 use Rattle.pt_state.specs.Requests.{object_meant}
 use Rattle.pt_machine.proofs.calls.push_changed.Goals as goal
 
-pub returns-in-Acquires-clause-queued : goal.returns-in-Acquires-clause-queued
-returns-in-Acquires-clause-queued g c =
-    plain-queued c.args.state.now c.args.c c.args.call.now
-    (g.Q.WaitList.seen c.args.queues.now).queue (g.Q.WaitList.seen c.args.queues.now).admitted
-    (g.Q.WaitList.seen c.args.queues.now).made c.requires.queued c.push_locked.new.self
-    c.requires.ready
-    (ap is_plain (sym c.operation_of.ensures)
-    ∙ ap (λ d. is_plain (shown_operation d)) c.in-Acquires.is) c.push_locked.ensures
-
-pub returns-in-Unlocks-clause-queued : goal.returns-in-Unlocks-clause-queued
-returns-in-Unlocks-clause-queued g c =
-    plain-queued c.args.state.now c.args.c c.args.call.now
-    (g.Q.WaitList.seen c.args.queues.now).queue (g.Q.WaitList.seen c.args.queues.now).admitted
-    (g.Q.WaitList.seen c.args.queues.now).made c.requires.queued c.push_unlock.new.self
-    c.requires.ready
-    (ap is_plain (sym c.operation_of.ensures)
-    ∙ ap (λ d. is_plain (shown_operation d)) c.in-Unlocks.is) c.push_unlock.ensures
-
-pub returns-in-Restores-clause-queued : goal.returns-in-Restores-clause-queued
-returns-in-Restores-clause-queued g c =
-    plain-queued c.args.state.now c.args.c c.args.call.now
-    (g.Q.WaitList.seen c.args.queues.now).queue (g.Q.WaitList.seen c.args.queues.now).admitted
-    (g.Q.WaitList.seen c.args.queues.now).made c.requires.queued c.push_restored.new.self
-    c.requires.ready
-    (ap is_plain (sym c.operation_of.ensures)
-    ∙ ap (λ d. is_plain (shown_operation d)) c.in-Restores.is) c.push_restored.ensures
-
-pub returns-in-Rwunlocks-clause-queued : goal.returns-in-Rwunlocks-clause-queued
-returns-in-Rwunlocks-clause-queued g c =
-    plain-queued c.args.state.now c.args.c c.args.call.now
-    (g.Q.WaitList.seen c.args.queues.now).queue (g.Q.WaitList.seen c.args.queues.now).admitted
-    (g.Q.WaitList.seen c.args.queues.now).made c.requires.queued c.push_rwunlock.new.self
-    c.requires.ready
-    (ap is_plain (sym c.operation_of.ensures)
-    ∙ ap (λ d. is_plain (shown_operation d)) c.in-Rwunlocks.is) c.push_rwunlock.ensures
-
 -- of two cases, the one that holds
 either : {A B C : Type 0} → A ⊎ B → (A → C) → (B → C) → C
 either (inl a) f g = f a
@@ -65,20 +29,6 @@ finish_seldom-requires g c =
     (let never : true ≡ false =
     sym (ap makes_object (is ∙ ap shown_operation w.2)) ∙ c.requires.other in cc)))
 
-pub returns-in-Awaits-clause-queued : goal.returns-in-Awaits-clause-queued
-returns-in-Awaits-clause-queued g c =
-    let is = sym c.operation_of.ensures in
-    plain-queued c.args.state.now c.args.c c.args.call.now
-    (g.Q.WaitList.seen c.args.queues.now).queue (g.Q.WaitList.seen c.args.queues.now).admitted
-    (g.Q.WaitList.seen c.args.queues.now).made c.requires.queued c.finish_seldom.new.self
-    c.requires.ready
-    (ap is_plain is ∙ either c.in-Awaits.is (λ w. ap (λ d. is_plain (shown_operation d)) w.3)
-    (λ other. either other (λ w. ap (λ d. is_plain (shown_operation d)) w.1)
-    (λ w. absurd
-    (let never : true ≡ false =
-    sym (ap makes_object (is ∙ ap shown_operation w.2)) ∙ c.requires.other in cc))))
-    c.finish_seldom.ensures
-
 pub push_ended-requires-clause-ready : goal.push_ended-requires-clause-ready
 push_ended-requires-clause-ready g c = c.requires.ready
 
@@ -94,11 +44,11 @@ push_ended-requires-clause-found g c =
 pub push_ended-requires-clause-queued : goal.push_ended-requires-clause-queued
 push_ended-requires-clause-queued g c = c.requires.queued
 
-pub returns-in-Ends-clause-adds : goal.returns-in-Ends-clause-adds
-returns-in-Ends-clause-adds g c = c.push_ended.ensures.adds
-
-pub returns-in-Ends-clause-queued : goal.returns-in-Ends-clause-queued
-returns-in-Ends-clause-queued g c = c.push_ended.ensures.queued
+pub returns-in-Ends : goal.returns-in-Ends
+returns-in-Ends g c = record {
+  adds = c.push_ended.ensures.adds;
+  queued = c.push_ended.ensures.queued;
+}
 
 pub push_locked-requires-clause-ready : goal.push_locked-requires-clause-ready
 push_locked-requires-clause-ready g c = c.requires.ready
@@ -112,8 +62,16 @@ push_locked-requires-clause-found g c =
     let is = sym c.operation_of.ensures ∙ ap shown_operation c.in-Acquires.is in
     c.requires.asks.object ∙ ap (object_meant (past c.args.state.now)) is
 
-pub returns-in-Acquires-clause-adds : goal.returns-in-Acquires-clause-adds
-returns-in-Acquires-clause-adds g c = c.push_locked.ensures
+pub returns-in-Acquires : goal.returns-in-Acquires
+returns-in-Acquires g c = record {
+  adds = c.push_locked.ensures;
+  queued = plain-queued c.args.state.now c.args.c c.args.call.now
+      (g.Q.WaitList.seen c.args.queues.now).queue (g.Q.WaitList.seen c.args.queues.now).admitted
+      (g.Q.WaitList.seen c.args.queues.now).made c.requires.queued c.push_locked.new.self
+      c.requires.ready
+      (ap is_plain (sym c.operation_of.ensures)
+      ∙ ap (λ d. is_plain (shown_operation d)) c.in-Acquires.is) c.push_locked.ensures;
+}
 
 pub push_unlock-requires-clause-ready : goal.push_unlock-requires-clause-ready
 push_unlock-requires-clause-ready g c = c.requires.ready
@@ -127,8 +85,16 @@ push_unlock-requires-clause-found g c =
     let is = sym c.operation_of.ensures ∙ ap shown_operation c.in-Unlocks.is in
     c.requires.asks.object ∙ ap (object_meant (past c.args.state.now)) is
 
-pub returns-in-Unlocks-clause-adds : goal.returns-in-Unlocks-clause-adds
-returns-in-Unlocks-clause-adds g c = c.push_unlock.ensures
+pub returns-in-Unlocks : goal.returns-in-Unlocks
+returns-in-Unlocks g c = record {
+  adds = c.push_unlock.ensures;
+  queued = plain-queued c.args.state.now c.args.c c.args.call.now
+      (g.Q.WaitList.seen c.args.queues.now).queue (g.Q.WaitList.seen c.args.queues.now).admitted
+      (g.Q.WaitList.seen c.args.queues.now).made c.requires.queued c.push_unlock.new.self
+      c.requires.ready
+      (ap is_plain (sym c.operation_of.ensures)
+      ∙ ap (λ d. is_plain (shown_operation d)) c.in-Unlocks.is) c.push_unlock.ensures;
+}
 
 pub push_restored-requires-clause-ready : goal.push_restored-requires-clause-ready
 push_restored-requires-clause-ready g c = c.requires.ready
@@ -142,8 +108,16 @@ push_restored-requires-clause-found g c =
     let is = sym c.operation_of.ensures ∙ ap shown_operation c.in-Restores.is in
     c.requires.asks.object ∙ ap (object_meant (past c.args.state.now)) is
 
-pub returns-in-Restores-clause-adds : goal.returns-in-Restores-clause-adds
-returns-in-Restores-clause-adds g c = c.push_restored.ensures
+pub returns-in-Restores : goal.returns-in-Restores
+returns-in-Restores g c = record {
+  adds = c.push_restored.ensures;
+  queued = plain-queued c.args.state.now c.args.c c.args.call.now
+      (g.Q.WaitList.seen c.args.queues.now).queue (g.Q.WaitList.seen c.args.queues.now).admitted
+      (g.Q.WaitList.seen c.args.queues.now).made c.requires.queued c.push_restored.new.self
+      c.requires.ready
+      (ap is_plain (sym c.operation_of.ensures)
+      ∙ ap (λ d. is_plain (shown_operation d)) c.in-Restores.is) c.push_restored.ensures;
+}
 
 pub push_rwunlock-requires-clause-ready : goal.push_rwunlock-requires-clause-ready
 push_rwunlock-requires-clause-ready g c = c.requires.ready
@@ -157,8 +131,16 @@ push_rwunlock-requires-clause-found g c =
     let is = sym c.operation_of.ensures ∙ ap shown_operation c.in-Rwunlocks.is in
     c.requires.asks.object ∙ ap (object_meant (past c.args.state.now)) is
 
-pub returns-in-Rwunlocks-clause-adds : goal.returns-in-Rwunlocks-clause-adds
-returns-in-Rwunlocks-clause-adds g c = c.push_rwunlock.ensures
+pub returns-in-Rwunlocks : goal.returns-in-Rwunlocks
+returns-in-Rwunlocks g c = record {
+  adds = c.push_rwunlock.ensures;
+  queued = plain-queued c.args.state.now c.args.c c.args.call.now
+      (g.Q.WaitList.seen c.args.queues.now).queue (g.Q.WaitList.seen c.args.queues.now).admitted
+      (g.Q.WaitList.seen c.args.queues.now).made c.requires.queued c.push_rwunlock.new.self
+      c.requires.ready
+      (ap is_plain (sym c.operation_of.ensures)
+      ∙ ap (λ d. is_plain (shown_operation d)) c.in-Rwunlocks.is) c.push_rwunlock.ensures;
+}
 
 pub push_signal-requires-clause-ready : goal.push_signal-requires-clause-ready
 push_signal-requires-clause-ready g c = c.requires.ready
@@ -175,11 +157,11 @@ push_signal-requires-clause-found g c =
 pub push_signal-requires-clause-queued : goal.push_signal-requires-clause-queued
 push_signal-requires-clause-queued g c = c.requires.queued
 
-pub returns-in-Signals-clause-adds : goal.returns-in-Signals-clause-adds
-returns-in-Signals-clause-adds g c = c.push_signal.ensures.adds
-
-pub returns-in-Signals-clause-queued : goal.returns-in-Signals-clause-queued
-returns-in-Signals-clause-queued g c = c.push_signal.ensures.queued
+pub returns-in-Signals : goal.returns-in-Signals
+returns-in-Signals g c = record {
+  adds = c.push_signal.ensures.adds;
+  queued = c.push_signal.ensures.queued;
+}
 
 pub push_broadcast-requires-clause-ready : goal.push_broadcast-requires-clause-ready
 push_broadcast-requires-clause-ready g c = c.requires.ready
@@ -196,11 +178,24 @@ push_broadcast-requires-clause-found g c =
 pub push_broadcast-requires-clause-queued : goal.push_broadcast-requires-clause-queued
 push_broadcast-requires-clause-queued g c = c.requires.queued
 
-pub returns-in-Broadcasts-clause-adds : goal.returns-in-Broadcasts-clause-adds
-returns-in-Broadcasts-clause-adds g c = c.push_broadcast.ensures.adds
+pub returns-in-Broadcasts : goal.returns-in-Broadcasts
+returns-in-Broadcasts g c = record {
+  adds = c.push_broadcast.ensures.adds;
+  queued = c.push_broadcast.ensures.queued;
+}
 
-pub returns-in-Broadcasts-clause-queued : goal.returns-in-Broadcasts-clause-queued
-returns-in-Broadcasts-clause-queued g c = c.push_broadcast.ensures.queued
-
-pub returns-in-Awaits-clause-adds : goal.returns-in-Awaits-clause-adds
-returns-in-Awaits-clause-adds g c = c.finish_seldom.ensures
+pub returns-in-Awaits : goal.returns-in-Awaits
+returns-in-Awaits g c = record {
+  adds = c.finish_seldom.ensures;
+  queued = let is = sym c.operation_of.ensures in
+      plain-queued c.args.state.now c.args.c c.args.call.now
+      (g.Q.WaitList.seen c.args.queues.now).queue (g.Q.WaitList.seen c.args.queues.now).admitted
+      (g.Q.WaitList.seen c.args.queues.now).made c.requires.queued c.finish_seldom.new.self
+      c.requires.ready
+      (ap is_plain is ∙ either c.in-Awaits.is (λ w. ap (λ d. is_plain (shown_operation d)) w.3)
+      (λ other. either other (λ w. ap (λ d. is_plain (shown_operation d)) w.1)
+      (λ w. absurd
+      (let never : true ≡ false =
+      sym (ap makes_object (is ∙ ap shown_operation w.2)) ∙ c.requires.other in cc))))
+      c.finish_seldom.ensures;
+}

@@ -22,65 +22,50 @@ dismiss-requires-clause-nowhere g c =
     (g.Q.WaitList.seen c.admit.new.self).queue (g.Q.WaitList.seen c.args.queues.now).admitted
     (g.met.Q.WaitList.admits c.args.queues.now c.len.result) none c.in_default.ensures.queues
 
-pub returns-in-Ok-clause-queued : goal.returns-in-Ok-clause-queued
-returns-in-Ok-clause-queued g c =
-    let s = c.args.state.now in
-    let h = past s in
-    queued-adds s c.push_join.new.self (entry.Join (place h) c.args.priority) _ _ _
-    c.in-Ok.ensures.ok
-    (queued-join h c.len.result c.args.priority _ _ _ _ _ _ c.requires.ready.read.follows
-    (c.len.ensures ∙ sym (place_of_next s.stored)) c.in_default.ensures.queues
-    c.in_default.ensures.ok c.in_default.ensures.made c.requires.queued)
-
-pub returns-in-Err-push_join-clause-queued : goal.returns-in-Err-push_join-clause-queued
-returns-in-Err-push_join-clause-queued g c =
-    let s = c.args.state.now in
-    let h = past s in
-    let none = no-room-yet h c.len.result _ _ _ c.requires.ready.read.follows
-    (c.len.ensures ∙ sym (place_of_next s.stored)) c.requires.queued in
-    queued-stays s c.push_join.new.self _ _ _ c.in-Err-push_join.ensures.err
-    (queued-kept h _ _ _ _ _ _
-    (λ q. c.dismiss.ensures.queues q ∙ c.in_default.ensures.queues q)
-    (room-back c.len.result _ _ _ none c.in_default.ensures.ok c.dismiss.ensures.admitted)
-    (λ o. c.dismiss.ensures.made o ∙ c.in_default.ensures.made o) c.requires.queued)
-
 pub push_join-requires : goal.push_join-requires
 push_join-requires g c = c.requires.ready
 
-pub returns-in-Err-clause-ok : goal.returns-in-Err-clause-ok
-returns-in-Err-clause-ok g c = tt
+pub returns-in-Err : goal.returns-in-Err
+returns-in-Err g c = record {
+  ok = tt;
+  err = record {
+        stored = refl;
+        read = c.requires.ready.read;
+        held = refl;
+        told = refl;
+      };
+  reason = c.in-Err.ensures.refusal;
+  queued =
+      queued-kept (past c.args.state.now) _ _ _ _ _ _ c.in-Err.ensures.queues c.in-Err.ensures.err
+      c.in-Err.ensures.made c.requires.queued;
+}
 
-pub returns-in-Err-clause-err : goal.returns-in-Err-clause-err
-returns-in-Err-clause-err g c =
-    record {
-      stored = refl;
-      read = c.requires.ready.read;
-      held = refl;
-      told = refl;
-    }
+pub returns-in-Ok : goal.returns-in-Ok
+returns-in-Ok g c = record {
+  ok = c.in-Ok.ensures.ok;
+  err = tt;
+  reason = tt;
+  queued = let s = c.args.state.now in
+      let h = past s in
+      queued-adds s c.push_join.new.self (entry.Join (place h) c.args.priority) _ _ _
+      c.in-Ok.ensures.ok
+      (queued-join h c.len.result c.args.priority _ _ _ _ _ _ c.requires.ready.read.follows
+      (c.len.ensures ∙ sym (place_of_next s.stored)) c.in_default.ensures.queues
+      c.in_default.ensures.ok c.in_default.ensures.made c.requires.queued);
+}
 
-pub returns-in-Err-clause-reason : goal.returns-in-Err-clause-reason
-returns-in-Err-clause-reason g c = c.in-Err.ensures.refusal
-
-pub returns-in-Err-clause-queued : goal.returns-in-Err-clause-queued
-returns-in-Err-clause-queued g c =
-    queued-kept (past c.args.state.now) _ _ _ _ _ _ c.in-Err.ensures.queues c.in-Err.ensures.err
-    c.in-Err.ensures.made c.requires.queued
-
-pub returns-in-Ok-clause-ok : goal.returns-in-Ok-clause-ok
-returns-in-Ok-clause-ok g c = c.in-Ok.ensures.ok
-
-pub returns-in-Ok-clause-err : goal.returns-in-Ok-clause-err
-returns-in-Ok-clause-err g c = tt
-
-pub returns-in-Ok-clause-reason : goal.returns-in-Ok-clause-reason
-returns-in-Ok-clause-reason g c = tt
-
-pub returns-in-Err-push_join-clause-ok : goal.returns-in-Err-push_join-clause-ok
-returns-in-Err-push_join-clause-ok g c = tt
-
-pub returns-in-Err-push_join-clause-err : goal.returns-in-Err-push_join-clause-err
-returns-in-Err-push_join-clause-err g c = c.in-Err-push_join.ensures.err
-
-pub returns-in-Err-push_join-clause-reason : goal.returns-in-Err-push_join-clause-reason
-returns-in-Err-push_join-clause-reason g c = c.in-Err-push_join.ensures.refusal
+pub returns-in-Err-push_join : goal.returns-in-Err-push_join
+returns-in-Err-push_join g c = record {
+  ok = tt;
+  err = c.in-Err-push_join.ensures.err;
+  reason = c.in-Err-push_join.ensures.refusal;
+  queued = let s = c.args.state.now in
+      let h = past s in
+      let none = no-room-yet h c.len.result _ _ _ c.requires.ready.read.follows
+      (c.len.ensures ∙ sym (place_of_next s.stored)) c.requires.queued in
+      queued-stays s c.push_join.new.self _ _ _ c.in-Err-push_join.ensures.err
+      (queued-kept h _ _ _ _ _ _
+      (λ q. c.dismiss.ensures.queues q ∙ c.in_default.ensures.queues q)
+      (room-back c.len.result _ _ _ none c.in_default.ensures.ok c.dismiss.ensures.admitted)
+      (λ o. c.dismiss.ensures.made o ∙ c.in_default.ensures.made o) c.requires.queued);
+}

@@ -30,27 +30,6 @@ drop_deadline-requires g c =
     (client-in s.clients c.args.c o
     (sym c.open_of.ensures ∙ ap option_copied c.in-Some.is))
 
--- the deadline of its open call is dropped, if it has one
-pub returns-clause-timed : goal.returns-clause-timed
-returns-clause-timed g c =
-    let s = c.args.state.now in
-    let its = placed s c.requires.ready.read c.args.c (option_copied c.open_of.result)
-    c.open_of.ensures in
-    elim c.match-open_of.branch [
-      | in-Some w ↦ rw w.timers-is
-          (timed-death s c.push_death.new.state c.args.timers.now w.drop_deadline.new.timers
-          c.requires.ready.read c.requires.timed c.args.c w.in-Some.open.now.call.place
-          c.push_death.ensures.adds
-          (sym its ∙ ap (λ r. option_map (λ (o : Open). o.call.place) (option_copied r))
-          w.in-Some.is)
-          w.drop_deadline.ensures)
-      | in_default w ↦ rw w.timers-is
-          (timed-death-free s c.push_death.new.state c.args.timers.now c.args.timers.now
-          c.requires.ready.read c.requires.timed c.args.c c.push_death.ensures.adds
-          (sym its ∙ ap (λ r. option_map (λ (o : Open). o.call.place) (option_copied r))
-          w.in_default.is))
-    ]
-
 pub push_death-requires-clause-ready : goal.push_death-requires-clause-ready
 push_death-requires-clause-ready g c = c.requires.ready
 
@@ -60,8 +39,26 @@ push_death-requires-clause-queued g c = c.requires.queued
 pub open_of-requires : goal.open_of-requires
 open_of-requires g c = c.requires.ready.read
 
-pub returns-clause-adds : goal.returns-clause-adds
-returns-clause-adds g c = c.push_death.ensures.adds
-
-pub returns-clause-queued : goal.returns-clause-queued
-returns-clause-queued g c = c.push_death.ensures.queued
+-- the deadline of its open call is dropped, if it has one
+pub returns : goal.returns
+returns g c = record {
+  adds = c.push_death.ensures.adds;
+  queued = c.push_death.ensures.queued;
+  timed = let s = c.args.state.now in
+      let its = placed s c.requires.ready.read c.args.c (option_copied c.open_of.result)
+      c.open_of.ensures in
+      elim c.match-open_of.branch [
+        | in-Some w ↦ rw w.timers-is
+            (timed-death s c.push_death.new.state c.args.timers.now w.drop_deadline.new.timers
+            c.requires.ready.read c.requires.timed c.args.c w.in-Some.open.now.call.place
+            c.push_death.ensures.adds
+            (sym its ∙ ap (λ r. option_map (λ (o : Open). o.call.place) (option_copied r))
+            w.in-Some.is)
+            w.drop_deadline.ensures)
+        | in_default w ↦ rw w.timers-is
+            (timed-death-free s c.push_death.new.state c.args.timers.now c.args.timers.now
+            c.requires.ready.read c.requires.timed c.args.c c.push_death.ensures.adds
+            (sym its ∙ ap (λ r. option_map (λ (o : Open). o.call.place) (option_copied r))
+            w.in_default.is))
+      ];
+}

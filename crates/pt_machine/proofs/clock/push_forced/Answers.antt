@@ -18,40 +18,6 @@ drop_deadline-requires-in-Expire g c =
     own-deadlines old c.args.timers.now c.requires.ready.read c.requires.timed c.in-Expire.late
     (subst (λ (x : Forced). IsFor (opens_of old.clients) x) c.in-Expire.is c.requires.known)
 
--- a call is served
-pub returns-in-Serve-clause-timed : goal.returns-in-Serve-clause-timed
-returns-in-Serve-clause-timed g c =
-    let old = c.args.state.now in
-    let new = c.push_forced.new.state in
-    timed-served old new c.args.timers.now c.drop_deadline.new.timers c.requires.ready.read
-    c.requires.timed c.in-Serve.found
-    (subst (λ (x : Forced). IsFor (opens_of old.clients) x) c.in-Serve.is c.requires.known)
-    c.drop_deadline.ensures
-    (subst (λ (x : Forced). Adds old (entry_of (past old) x) new) c.in-Serve.is
-    c.push_forced.ensures.adds)
-
--- a dead owner's lock is given up
-pub returns-in-Yield-clause-timed : goal.returns-in-Yield-clause-timed
-returns-in-Yield-clause-timed g c =
-    let old = c.args.state.now in
-    let new = c.push_forced-in-Yield.new.state in
-    timed-yield old new c.args.timers.now c.args.timers.now c.requires.ready.read
-    c.requires.timed c.in-Yield.field-0
-    (subst (λ (x : Forced). Adds old (entry_of (past old) x) new) c.in-Yield.is
-    c.push_forced-in-Yield.ensures.adds)
-
--- a deadline passed
-pub returns-in-Expire-clause-timed : goal.returns-in-Expire-clause-timed
-returns-in-Expire-clause-timed g c =
-    let old = c.args.state.now in
-    let new = c.push_forced-in-Expire.new.state in
-    timed-late old new c.args.timers.now c.drop_deadline-in-Expire.new.timers c.requires.ready.read
-    c.requires.timed c.in-Expire.late
-    (subst (λ (x : Forced). IsFor (opens_of old.clients) x) c.in-Expire.is c.requires.known)
-    c.drop_deadline-in-Expire.ensures
-    (subst (λ (x : Forced). Adds old (entry_of (past old) x) new) c.in-Expire.is
-    c.push_forced-in-Expire.ensures.adds)
-
 pub push_forced-requires-clause-ready : goal.push_forced-requires-clause-ready
 push_forced-requires-clause-ready g c = c.requires.ready
 
@@ -79,20 +45,46 @@ push_forced-requires-in-Expire-clause-queued g c = c.requires.queued
 pub push_forced-requires-in-Expire-clause-known : goal.push_forced-requires-in-Expire-clause-known
 push_forced-requires-in-Expire-clause-known g c = c.requires.known
 
-pub returns-in-Serve-clause-adds : goal.returns-in-Serve-clause-adds
-returns-in-Serve-clause-adds g c = c.push_forced.ensures.adds
+-- a call is served
+pub returns-in-Serve : goal.returns-in-Serve
+returns-in-Serve g c = record {
+  adds = c.push_forced.ensures.adds;
+  queued = c.push_forced.ensures.queued;
+  timed = let old = c.args.state.now in
+      let new = c.push_forced.new.state in
+      timed-served old new c.args.timers.now c.drop_deadline.new.timers c.requires.ready.read
+      c.requires.timed c.in-Serve.found
+      (subst (λ (x : Forced). IsFor (opens_of old.clients) x) c.in-Serve.is c.requires.known)
+      c.drop_deadline.ensures
+      (subst (λ (x : Forced). Adds old (entry_of (past old) x) new) c.in-Serve.is
+      c.push_forced.ensures.adds);
+}
 
-pub returns-in-Serve-clause-queued : goal.returns-in-Serve-clause-queued
-returns-in-Serve-clause-queued g c = c.push_forced.ensures.queued
+-- a dead owner's lock is given up
+pub returns-in-Yield : goal.returns-in-Yield
+returns-in-Yield g c = record {
+  adds = c.push_forced-in-Yield.ensures.adds;
+  queued = c.push_forced-in-Yield.ensures.queued;
+  timed = let old = c.args.state.now in
+      let new = c.push_forced-in-Yield.new.state in
+      timed-yield old new c.args.timers.now c.args.timers.now c.requires.ready.read
+      c.requires.timed c.in-Yield.field-0
+      (subst (λ (x : Forced). Adds old (entry_of (past old) x) new) c.in-Yield.is
+      c.push_forced-in-Yield.ensures.adds);
+}
 
-pub returns-in-Yield-clause-adds : goal.returns-in-Yield-clause-adds
-returns-in-Yield-clause-adds g c = c.push_forced-in-Yield.ensures.adds
-
-pub returns-in-Yield-clause-queued : goal.returns-in-Yield-clause-queued
-returns-in-Yield-clause-queued g c = c.push_forced-in-Yield.ensures.queued
-
-pub returns-in-Expire-clause-adds : goal.returns-in-Expire-clause-adds
-returns-in-Expire-clause-adds g c = c.push_forced-in-Expire.ensures.adds
-
-pub returns-in-Expire-clause-queued : goal.returns-in-Expire-clause-queued
-returns-in-Expire-clause-queued g c = c.push_forced-in-Expire.ensures.queued
+-- a deadline passed
+pub returns-in-Expire : goal.returns-in-Expire
+returns-in-Expire g c = record {
+  adds = c.push_forced-in-Expire.ensures.adds;
+  queued = c.push_forced-in-Expire.ensures.queued;
+  timed = let old = c.args.state.now in
+      let new = c.push_forced-in-Expire.new.state in
+      timed-late old new c.args.timers.now c.drop_deadline-in-Expire.new.timers
+      c.requires.ready.read
+      c.requires.timed c.in-Expire.late
+      (subst (λ (x : Forced). IsFor (opens_of old.clients) x) c.in-Expire.is c.requires.known)
+      c.drop_deadline-in-Expire.ensures
+      (subst (λ (x : Forced). Adds old (entry_of (past old) x) new) c.in-Expire.is
+      c.push_forced-in-Expire.ensures.adds);
+}

@@ -6,13 +6,6 @@ drop_deadline-requires g c =
     own-deadlines c.args.state.now c.args.timers.now c.requires.ready.read c.requires.timed
     c.args.found.now c.requires.known
 
-pub returns-clause-timed : goal.returns-clause-timed
-returns-clause-timed g c =
-    timed-served c.args.state.now c.push_granted.new.state c.args.timers.now
-    c.drop_deadline.new.timers
-    c.requires.ready.read c.requires.timed c.args.found.now c.requires.known c.drop_deadline.ensures
-    c.push_granted.ensures.adds
-
 pub push_granted-requires-clause-ready : goal.push_granted-requires-clause-ready
 push_granted-requires-clause-ready g c = c.requires.ready
 
@@ -25,8 +18,13 @@ push_granted-requires-clause-known g c = c.requires.known
 pub push_granted-requires-clause-other : goal.push_granted-requires-clause-other
 push_granted-requires-clause-other g c = c.requires.other
 
-pub returns-clause-adds : goal.returns-clause-adds
-returns-clause-adds g c = c.push_granted.ensures.adds
-
-pub returns-clause-queued : goal.returns-clause-queued
-returns-clause-queued g c = c.push_granted.ensures.queued
+pub returns : goal.returns
+returns g c = record {
+  adds = c.push_granted.ensures.adds;
+  queued = c.push_granted.ensures.queued;
+  timed = timed-served c.args.state.now c.push_granted.new.state c.args.timers.now
+      c.drop_deadline.new.timers
+      c.requires.ready.read c.requires.timed c.args.found.now c.requires.known
+      c.drop_deadline.ensures
+      c.push_granted.ensures.adds;
+}

@@ -4,8 +4,10 @@ use Rattle.pt_machine.proofs.QueuedSame.{queued-adds}
 use Rattle.pt_machine.proofs.QueuedArrivals.{queued-moment}
 use Rattle.pt_machine.proofs.clock.push_moment.Goals as goal
 
-pub returns-clause-queued : goal.returns-clause-queued
-returns-clause-queued g c =
-    queued-adds c.args.state.now c.push_moment.new.self
-    (entry.Moment c.args.clock c.args.moment) _ _ _ c.push_moment.ensures
-    (queued-moment (past c.args.state.now) c.args.clock c.args.moment _ _ _ c.requires.queued)
+pub returns : goal.returns
+returns g c = record {
+  adds = c.push_moment.ensures;
+  queued = queued-adds c.args.state.now c.push_moment.new.self
+      (entry.Moment c.args.clock c.args.moment) _ _ _ c.push_moment.ensures
+      (queued-moment (past c.args.state.now) c.args.clock c.args.moment _ _ _ c.requires.queued);
+}

@@ -8,28 +8,6 @@ set-requires-clause-unset g c =
     none-next c.args.state.now c.args.timers.now c.args.c c.args.call.now c.requires.ready
     c.requires.timed c.len-place.result c.len-place.ensures
 
--- its deadline is set
-pub returns-in-Ok-clause-timed : goal.returns-in-Ok-clause-timed
-returns-in-Ok-clause-timed g c =
-    timed-left c.args.state.now c.args.timers.now c.args.c c.args.call.now c.requires.ready
-    c.requires.timed c.args.deadline c.requires.deadline c.requires.good c.clock_of-clock.result
-    c.clock_of-clock.ensures c.len-place.result
-    c.len-place.ensures c.set.new.self c.in_default.ensures.ok c.push_left.new.state
-    c.in-Ok.ensures.ok
-
--- and cancelled where the call is refused
-pub returns-in-Err-push_left-clause-timed : goal.returns-in-Err-push_left-clause-timed
-returns-in-Err-push_left-clause-timed g c =
-    timed-refused c.args.state.now c.args.timers.now c.args.c c.args.call.now c.requires.ready
-    c.requires.timed c.args.deadline c.requires.deadline c.requires.good c.clock_of-clock.result
-    c.clock_of-clock.ensures c.len-place.result
-    c.len-place.ensures c.set.new.self c.in_default.ensures.ok c.push_left.new.state
-    c.cancel.new.self c.in-Err-push_left.ensures.err
-    (taken c.set.new.self c.cancel.new.self c.len-place.result c.clock_of-clock.result
-    c.nanos.result
-    (just-set c.args.timers.now c.set.new.self c.len-place.result c.clock_of-clock.result
-    c.nanos.result _ c.nanos.ensures c.in_default.ensures.ok) c.cancel.ensures)
-
 pub returns-in-Err-clause-err : goal.returns-in-Err-clause-err
 returns-in-Err-clause-err g c =
     record {
@@ -57,26 +35,34 @@ push_left-requires-clause-asks g c = c.requires.asks
 pub push_left-requires-clause-queued : goal.push_left-requires-clause-queued
 push_left-requires-clause-queued g c = c.requires.queued
 
-pub returns-in-Ok-clause-ok : goal.returns-in-Ok-clause-ok
-returns-in-Ok-clause-ok g c = c.in-Ok.ensures.ok
+-- its deadline is set
+pub returns-in-Ok : goal.returns-in-Ok
+returns-in-Ok g c = record {
+  ok = c.in-Ok.ensures.ok;
+  err = tt;
+  reason = tt;
+  queued = c.push_left.ensures.queued;
+  timed = timed-left c.args.state.now c.args.timers.now c.args.c c.args.call.now c.requires.ready
+      c.requires.timed c.args.deadline c.requires.deadline c.requires.good c.clock_of-clock.result
+      c.clock_of-clock.ensures c.len-place.result
+      c.len-place.ensures c.set.new.self c.in_default.ensures.ok c.push_left.new.state
+      c.in-Ok.ensures.ok;
+}
 
-pub returns-in-Ok-clause-queued : goal.returns-in-Ok-clause-queued
-returns-in-Ok-clause-queued g c = c.push_left.ensures.queued
-
-pub returns-in-Ok-clause-err : goal.returns-in-Ok-clause-err
-returns-in-Ok-clause-err g c = tt
-
-pub returns-in-Ok-clause-reason : goal.returns-in-Ok-clause-reason
-returns-in-Ok-clause-reason g c = tt
-
-pub returns-in-Err-push_left-clause-err : goal.returns-in-Err-push_left-clause-err
-returns-in-Err-push_left-clause-err g c = c.in-Err-push_left.ensures.err
-
-pub returns-in-Err-push_left-clause-reason : goal.returns-in-Err-push_left-clause-reason
-returns-in-Err-push_left-clause-reason g c = c.in-Err-push_left.ensures.reason
-
-pub returns-in-Err-push_left-clause-queued : goal.returns-in-Err-push_left-clause-queued
-returns-in-Err-push_left-clause-queued g c = c.push_left.ensures.queued
-
-pub returns-in-Err-push_left-clause-ok : goal.returns-in-Err-push_left-clause-ok
-returns-in-Err-push_left-clause-ok g c = tt
+-- and cancelled where the call is refused
+pub returns-in-Err-push_left : goal.returns-in-Err-push_left
+returns-in-Err-push_left g c = record {
+  ok = tt;
+  err = c.in-Err-push_left.ensures.err;
+  reason = c.in-Err-push_left.ensures.reason;
+  queued = c.push_left.ensures.queued;
+  timed = timed-refused c.args.state.now c.args.timers.now c.args.c c.args.call.now c.requires.ready
+      c.requires.timed c.args.deadline c.requires.deadline c.requires.good c.clock_of-clock.result
+      c.clock_of-clock.ensures c.len-place.result
+      c.len-place.ensures c.set.new.self c.in_default.ensures.ok c.push_left.new.state
+      c.cancel.new.self c.in-Err-push_left.ensures.err
+      (taken c.set.new.self c.cancel.new.self c.len-place.result c.clock_of-clock.result
+      c.nanos.result
+      (just-set c.args.timers.now c.set.new.self c.len-place.result c.clock_of-clock.result
+      c.nanos.result _ c.nanos.ensures c.in_default.ensures.ok) c.cancel.ensures);
+}

@@ -109,16 +109,6 @@ loop-first-preserved g c =
     (put g c) c.take_first.ensures.admitted c.take_first.ensures.made
     c.insert.ensures.admitted c.insert.ensures.made
 
-pub returns-clause-queued : goal.returns-clause-queued
-returns-clause-queued g c =
-    let before = g.Q.WaitList.seen c.loop-first.queues in
-    let after = g.Q.WaitList.seen c.take_first.new.self in
-    queued-lists (past c.push_broadcast.new.self) before.queue after.queue before.admitted
-    after.admitted before.made after.made
-    (left before.queue after.queue _ c.in_default.is c.take_first.ensures.none)
-    c.take_first.ensures.admitted c.take_first.ensures.made
-    (rousing-ends c.loop-first.invariant c.take_first.ensures.first c.in_default.is)
-
 pub mutex_of_waits-m-requires-clause-read : goal.mutex_of_waits-m-requires-clause-read
 mutex_of_waits-m-requires-clause-read g c = c.requires.ready.read
 
@@ -134,5 +124,14 @@ push_broadcast-requires-clause-operation g c = c.requires.operation
 pub push_broadcast-requires-clause-found : goal.push_broadcast-requires-clause-found
 push_broadcast-requires-clause-found g c = sym c.unwrap-q.ensures ∙ c.requires.found
 
-pub returns-clause-adds : goal.returns-clause-adds
-returns-clause-adds g c = c.push_broadcast.ensures
+pub returns : goal.returns
+returns g c = record {
+  adds = c.push_broadcast.ensures;
+  queued = let before = g.Q.WaitList.seen c.loop-first.queues in
+      let after = g.Q.WaitList.seen c.take_first.new.self in
+      queued-lists (past c.push_broadcast.new.self) before.queue after.queue before.admitted
+      after.admitted before.made after.made
+      (left before.queue after.queue _ c.in_default.is c.take_first.ensures.none)
+      c.take_first.ensures.admitted c.take_first.ensures.made
+      (rousing-ends c.loop-first.invariant c.take_first.ensures.first c.in_default.is);
+}

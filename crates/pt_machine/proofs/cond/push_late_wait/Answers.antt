@@ -20,25 +20,6 @@ take_place-requires-clause-ready g c =
     (g.Q.WaitList.seen c.args.queues.now).made (g.Q.WaitList.seen c.remove.new.self).made
     c.remove.ensures.queues c.remove.ensures.admitted c.remove.ensures.made c.requires.queued
 
-pub returns-clause-queued : goal.returns-clause-queued
-returns-clause-queued g c =
-    let h = past c.args.state.now in
-    let read = c.requires.ready.read in
-    queued-taken c.args.state.now c.push_expire.new.self
-    (entry.Expire c.args.found.now.call.place) (called c.args.found.now) c.requires.ready
-    c.push_expire.ensures
-    (moves-late h (called c.args.found.now) read.follows
-    ((are-open h c.args.state.now.clients read.follows read.callers).known c.args.found.now
-    c.requires.known).0 c.requires.wait)
-    (g.Q.WaitList.seen c.args.queues.now).queue (g.Q.WaitList.seen c.remove.new.self).queue
-    (g.Q.WaitList.seen c.args.queues.now).admitted (g.Q.WaitList.seen c.remove.new.self).admitted
-    (g.Q.WaitList.seen c.args.queues.now).made (g.Q.WaitList.seen c.remove.new.self).made
-    c.remove.ensures.queues c.remove.ensures.admitted c.remove.ensures.made c.requires.queued
-    (g.Q.WaitList.seen c.take_place.new.queues).queue
-    (g.Q.WaitList.seen c.take_place.new.queues).admitted
-    (g.Q.WaitList.seen c.take_place.new.queues).made c.take_place.ensures.queues
-    c.take_place.ensures.admitted c.take_place.ensures.made
-
 pub push_expire-requires-clause-ready : goal.push_expire-requires-clause-ready
 push_expire-requires-clause-ready g c = c.requires.ready
 
@@ -48,5 +29,23 @@ push_expire-requires-clause-known g c = c.requires.known
 pub take_place-requires-clause-read : goal.take_place-requires-clause-read
 take_place-requires-clause-read g c = c.push_expire.ensures.read
 
-pub returns-clause-adds : goal.returns-clause-adds
-returns-clause-adds g c = c.push_expire.ensures
+pub returns : goal.returns
+returns g c = record {
+  adds = c.push_expire.ensures;
+  queued = let h = past c.args.state.now in
+      let read = c.requires.ready.read in
+      queued-taken c.args.state.now c.push_expire.new.self
+      (entry.Expire c.args.found.now.call.place) (called c.args.found.now) c.requires.ready
+      c.push_expire.ensures
+      (moves-late h (called c.args.found.now) read.follows
+      ((are-open h c.args.state.now.clients read.follows read.callers).known c.args.found.now
+      c.requires.known).0 c.requires.wait)
+      (g.Q.WaitList.seen c.args.queues.now).queue (g.Q.WaitList.seen c.remove.new.self).queue
+      (g.Q.WaitList.seen c.args.queues.now).admitted (g.Q.WaitList.seen c.remove.new.self).admitted
+      (g.Q.WaitList.seen c.args.queues.now).made (g.Q.WaitList.seen c.remove.new.self).made
+      c.remove.ensures.queues c.remove.ensures.admitted c.remove.ensures.made c.requires.queued
+      (g.Q.WaitList.seen c.take_place.new.queues).queue
+      (g.Q.WaitList.seen c.take_place.new.queues).admitted
+      (g.Q.WaitList.seen c.take_place.new.queues).made c.take_place.ensures.queues
+      c.take_place.ensures.admitted c.take_place.ensures.made;
+}

@@ -14,22 +14,6 @@ first_waiting-requires-clause-cond g c =
     cond-found (past c.args.state.now) c.requires.ready.read.follows c.args.n.now
     c.unwrap-q.result (sym c.requires.found ∙ c.unwrap-q.ensures)
 
-pub returns-in-None-clause-queued : goal.returns-in-None-clause-queued
-returns-in-None-clause-queued g c =
-    queued-adds c.args.state.now c.push_woken.new.self
-    (entry.Call c.args.c c.args.call.now (Some told.Done))
-    (g.Q.WaitList.seen c.args.queues.now).queue
-    (g.Q.WaitList.seen c.args.queues.now).admitted (g.Q.WaitList.seen c.args.queues.now).made
-    c.push_woken.ensures
-    (queued-unmoved (past c.args.state.now) c.args.c c.args.call.now c.args.n.now
-    c.requires.ready.read.follows c.requires.ready.step c.requires.operation
-    (g.Q.WaitList.seen c.args.queues.now).queue (g.Q.WaitList.seen c.args.queues.now).admitted
-    (g.Q.WaitList.seen c.args.queues.now).made
-    (sym (first-named (past c.args.state.now) c.args.n.now c.unwrap-q.result
-    c.copied.result (sym c.requires.found ∙ c.unwrap-q.ensures)
-    (ap (option_map called) c.copied.ensures ∙ c.first_waiting.ensures.value) None c.in-None.is))
-    c.requires.queued)
-
 pub push_wake-requires-clause-ready : goal.push_wake-requires-clause-ready
 push_wake-requires-clause-ready g c = c.requires.ready
 
@@ -51,11 +35,26 @@ first_waiting-requires-clause-read g c = c.requires.ready.read
 pub first_waiting-requires-clause-queued : goal.first_waiting-requires-clause-queued
 first_waiting-requires-clause-queued g c = c.requires.queued
 
-pub returns-in-Some-clause-adds : goal.returns-in-Some-clause-adds
-returns-in-Some-clause-adds g c = c.push_wake.ensures.adds
+pub returns-in-Some : goal.returns-in-Some
+returns-in-Some g c = record {
+  adds = c.push_wake.ensures.adds;
+  queued = c.push_wake.ensures.queued;
+}
 
-pub returns-in-Some-clause-queued : goal.returns-in-Some-clause-queued
-returns-in-Some-clause-queued g c = c.push_wake.ensures.queued
-
-pub returns-in-None-clause-adds : goal.returns-in-None-clause-adds
-returns-in-None-clause-adds g c = c.push_woken.ensures
+pub returns-in-None : goal.returns-in-None
+returns-in-None g c = record {
+  adds = c.push_woken.ensures;
+  queued = queued-adds c.args.state.now c.push_woken.new.self
+      (entry.Call c.args.c c.args.call.now (Some told.Done))
+      (g.Q.WaitList.seen c.args.queues.now).queue
+      (g.Q.WaitList.seen c.args.queues.now).admitted (g.Q.WaitList.seen c.args.queues.now).made
+      c.push_woken.ensures
+      (queued-unmoved (past c.args.state.now) c.args.c c.args.call.now c.args.n.now
+      c.requires.ready.read.follows c.requires.ready.step c.requires.operation
+      (g.Q.WaitList.seen c.args.queues.now).queue (g.Q.WaitList.seen c.args.queues.now).admitted
+      (g.Q.WaitList.seen c.args.queues.now).made
+      (sym (first-named (past c.args.state.now) c.args.n.now c.unwrap-q.result
+      c.copied.result (sym c.requires.found ∙ c.unwrap-q.ensures)
+      (ap (option_map called) c.copied.ensures ∙ c.first_waiting.ensures.value) None c.in-None.is))
+      c.requires.queued);
+}

@@ -19,23 +19,6 @@ take_place-requires-clause-ready g c =
     (g.Q.WaitList.seen c.args.queues.now).made (g.Q.WaitList.seen c.remove.new.self).made
     c.remove.ensures.queues c.remove.ensures.admitted c.remove.ensures.made c.requires.queued
 
-pub returns-clause-queued : goal.returns-clause-queued
-returns-clause-queued g c =
-    queued-taken c.args.state.now c.push_woken.new.self
-    (entry.Call c.args.c c.args.call.now (Some told.Done)) (called c.args.first.now)
-    c.requires.ready c.push_woken.ensures
-    (moves-first (past c.args.state.now) c.args.c c.args.call.now c.args.n.now
-    c.requires.ready.read.follows c.requires.ready.step c.requires.operation
-    (called c.args.first.now) c.requires.first)
-    (g.Q.WaitList.seen c.args.queues.now).queue (g.Q.WaitList.seen c.remove.new.self).queue
-    (g.Q.WaitList.seen c.args.queues.now).admitted (g.Q.WaitList.seen c.remove.new.self).admitted
-    (g.Q.WaitList.seen c.args.queues.now).made (g.Q.WaitList.seen c.remove.new.self).made
-    c.remove.ensures.queues c.remove.ensures.admitted c.remove.ensures.made c.requires.queued
-    (g.Q.WaitList.seen c.take_place.new.queues).queue
-    (g.Q.WaitList.seen c.take_place.new.queues).admitted
-    (g.Q.WaitList.seen c.take_place.new.queues).made c.take_place.ensures.queues
-    c.take_place.ensures.admitted c.take_place.ensures.made
-
 pub push_woken-requires-clause-ready : goal.push_woken-requires-clause-ready
 push_woken-requires-clause-ready g c = c.requires.ready
 
@@ -48,5 +31,21 @@ push_woken-requires-clause-first g c = c.requires.first
 pub take_place-requires-clause-read : goal.take_place-requires-clause-read
 take_place-requires-clause-read g c = c.push_woken.ensures.read
 
-pub returns-clause-adds : goal.returns-clause-adds
-returns-clause-adds g c = c.push_woken.ensures
+pub returns : goal.returns
+returns g c = record {
+  adds = c.push_woken.ensures;
+  queued = queued-taken c.args.state.now c.push_woken.new.self
+      (entry.Call c.args.c c.args.call.now (Some told.Done)) (called c.args.first.now)
+      c.requires.ready c.push_woken.ensures
+      (moves-first (past c.args.state.now) c.args.c c.args.call.now c.args.n.now
+      c.requires.ready.read.follows c.requires.ready.step c.requires.operation
+      (called c.args.first.now) c.requires.first)
+      (g.Q.WaitList.seen c.args.queues.now).queue (g.Q.WaitList.seen c.remove.new.self).queue
+      (g.Q.WaitList.seen c.args.queues.now).admitted (g.Q.WaitList.seen c.remove.new.self).admitted
+      (g.Q.WaitList.seen c.args.queues.now).made (g.Q.WaitList.seen c.remove.new.self).made
+      c.remove.ensures.queues c.remove.ensures.admitted c.remove.ensures.made c.requires.queued
+      (g.Q.WaitList.seen c.take_place.new.queues).queue
+      (g.Q.WaitList.seen c.take_place.new.queues).admitted
+      (g.Q.WaitList.seen c.take_place.new.queues).made c.take_place.ensures.queues
+      c.take_place.ensures.admitted c.take_place.ensures.made;
+}

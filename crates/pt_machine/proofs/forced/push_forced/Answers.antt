@@ -52,17 +52,16 @@ returns-in-Expire g c = record {
   queued = c.push_expire.ensures.queued;
 }
 
-pub returns-in-Yield-clause-adds : goal.returns-in-Yield-clause-adds
-returns-in-Yield-clause-adds g c =
-    subst (λ f. Adds c.args.state.now (entry_of (past c.args.state.now) f) c.push_yield.new.self)
-    (sym c.in-Yield.is) c.push_yield.ensures
-
 -- a lock that a dead owner's entry gives up changes no queue
-pub returns-in-Yield-clause-queued : goal.returns-in-Yield-clause-queued
-returns-in-Yield-clause-queued g c =
-    let queue = (g.Q.WaitList.seen c.args.queues.now).queue in
-    let admitted = (g.Q.WaitList.seen c.args.queues.now).admitted in
-    let made = (g.Q.WaitList.seen c.args.queues.now).made in
-    queued-adds c.args.state.now c.push_yield.new.self (entry.Yield c.in-Yield.m) queue admitted
-    made c.push_yield.ensures
-    (queued-yield (past c.args.state.now) c.in-Yield.m queue admitted made c.requires.queued)
+pub returns-in-Yield : goal.returns-in-Yield
+returns-in-Yield g c = record {
+  adds =
+      subst (λ f. Adds c.args.state.now (entry_of (past c.args.state.now) f) c.push_yield.new.self)
+      (sym c.in-Yield.is) c.push_yield.ensures;
+  queued = let queue = (g.Q.WaitList.seen c.args.queues.now).queue in
+      let admitted = (g.Q.WaitList.seen c.args.queues.now).admitted in
+      let made = (g.Q.WaitList.seen c.args.queues.now).made in
+      queued-adds c.args.state.now c.push_yield.new.self (entry.Yield c.in-Yield.m) queue admitted
+      made c.push_yield.ensures
+      (queued-yield (past c.args.state.now) c.in-Yield.m queue admitted made c.requires.queued);
+}

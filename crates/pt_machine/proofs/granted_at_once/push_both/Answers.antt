@@ -1,6 +1,6 @@
 use Rattle.pt_state.specs.Adds.{past}
 use Rattle.pt_machine.proofs.GrantedLocks.{asks-for}
-use Rattle.std.proofs.Common.{sym, ◌∙◌}
+use Rattle.std.proofs.Common.{sym, ◌∙◌, refl}
 use Rattle.pt_machine.proofs.granted_at_once.push_both.Goals as goal
 
 pub unwrap-o-requires : goal.unwrap-o-requires
@@ -38,8 +38,18 @@ push_lock_had-requires-clause-object g c = sym c.requires.asks.object ∙ c.unwr
 pub push_lock_had-requires-clause-lock : goal.push_lock_had-requires-clause-lock
 push_lock_had-requires-clause-lock g c = sym c.asks_for_mutex.ensures ∙ c.if-asks_for_mutex.false
 
-pub returns-then-asks_for_mutex-clause-ok : goal.returns-then-asks_for_mutex-clause-ok
-returns-then-asks_for_mutex-clause-ok g c = c.push_had.ensures
+pub returns-then-asks_for_mutex : goal.returns-then-asks_for_mutex
+returns-then-asks_for_mutex g c = record {
+  ok = c.push_had.ensures;
+  err = tt;
+  reason = tt;
+  enough = λ other. refl;
+}
 
-pub returns-clause-ok : goal.returns-clause-ok
-returns-clause-ok g c = c.in_ok-push_lock_had.ensures.ok
+pub returns : goal.returns
+returns g c = record {
+  ok = c.in_ok-push_lock_had.ensures.ok;
+  err = tt;
+  reason = tt;
+  enough = λ other. refl;
+}

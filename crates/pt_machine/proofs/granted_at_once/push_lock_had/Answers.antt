@@ -16,17 +16,6 @@ push_had_read-requires-clause-had g c =
           c.requires.object c.requires.next,
     )
 
-pub returns-then-asks_to_read-clause-ok : goal.returns-then-asks_to_read-clause-ok
-returns-then-asks_to_read-clause-ok g c =
-    let s = c.args.state.now in
-    let is = for-read (past s) c.args.c c.args.call.now c.requires.granted
-    (sym c.asks_to_read.ensures ∙ c.if-asks_to_read.true) in
-    let had = is_had s c.args.c c.args.call.now c.args.r ReadLock c.requires.ready
-    c.requires.granted is c.requires.object c.requires.next in
-    adds-lock s c.args.c c.args.call.now c.args.r ReadLock c.requires.ready c.requires.granted is
-    c.requires.object c.requires.next Done c.push_had_read.new.self
-    (c.in_ok-push_had_read.ensures.ok _ had) (λ q. refl)
-
 pub push_had_write-requires-clause-had : goal.push_had_write-requires-clause-had
 push_had_write-requires-clause-had g c =
     let s = c.args.state.now in
@@ -38,13 +27,32 @@ push_had_write-requires-clause-had g c =
           c.requires.object c.requires.next,
     )
 
-pub returns-clause-ok : goal.returns-clause-ok
-returns-clause-ok g c =
-    let s = c.args.state.now in
-    let is = for-write (past s) c.args.c c.args.call.now c.requires.granted c.requires.lock
-    (sym c.asks_to_read.ensures ∙ c.if-asks_to_read.false) in
-    let had = is_had s c.args.c c.args.call.now c.args.r WriteLock c.requires.ready
-    c.requires.granted is c.requires.object c.requires.next in
-    adds-lock s c.args.c c.args.call.now c.args.r WriteLock c.requires.ready c.requires.granted is
-    c.requires.object c.requires.next Done c.push_had_write.new.self
-    (c.push_had_write.ensures _ had) (λ q. refl)
+pub returns-then-asks_to_read : goal.returns-then-asks_to_read
+returns-then-asks_to_read g c = record {
+  ok = let s = c.args.state.now in
+      let is = for-read (past s) c.args.c c.args.call.now c.requires.granted
+      (sym c.asks_to_read.ensures ∙ c.if-asks_to_read.true) in
+      let had = is_had s c.args.c c.args.call.now c.args.r ReadLock c.requires.ready
+      c.requires.granted is c.requires.object c.requires.next in
+      adds-lock s c.args.c c.args.call.now c.args.r ReadLock c.requires.ready c.requires.granted is
+      c.requires.object c.requires.next Done c.push_had_read.new.self
+      (c.in_ok-push_had_read.ensures.ok _ had) (λ q. refl);
+  err = tt;
+  reason = tt;
+  enough = λ other. refl;
+}
+
+pub returns : goal.returns
+returns g c = record {
+  ok = let s = c.args.state.now in
+      let is = for-write (past s) c.args.c c.args.call.now c.requires.granted c.requires.lock
+      (sym c.asks_to_read.ensures ∙ c.if-asks_to_read.false) in
+      let had = is_had s c.args.c c.args.call.now c.args.r WriteLock c.requires.ready
+      c.requires.granted is c.requires.object c.requires.next in
+      adds-lock s c.args.c c.args.call.now c.args.r WriteLock c.requires.ready c.requires.granted is
+      c.requires.object c.requires.next Done c.push_had_write.new.self
+      (c.push_had_write.ensures _ had) (λ q. refl);
+  err = tt;
+  reason = tt;
+  enough = λ other. refl;
+}

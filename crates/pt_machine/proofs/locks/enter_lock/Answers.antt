@@ -1,4 +1,4 @@
-use Rattle.std.proofs.Common.{subst}
+use Rattle.std.proofs.Common.{subst, refl}
 use Rattle.pt_history.specs.Stored.{past_of}
 use Rattle.pt_machine.specs.Queued.{IsQueued}
 use Rattle.std.proofs.Common.{None, unwrap_or, sym, ap, ◌∙◌}
@@ -66,26 +66,6 @@ insert-requires-clause-made g c = take-made (may-stand g c) (its-place g c)
 pub insert-requires-clause-latest : goal.insert-requires-clause-latest
 insert-requires-clause-latest g c = take-latest (may-stand g c) (its-place g c)
 
-pub returns-in-Ok-clause-queued : goal.returns-in-Ok-clause-queued
-returns-in-Ok-clause-queued g c =
-    let old = c.args.state.now in
-    let new = past c.push_acquire.new.self in
-    let seen = g.Q.WaitList.seen c.args.queues.now in
-    let next = g.Q.WaitList.seen c.insert.new.self in
-    queued-left (past old) c.requires.ready.read.follows c.args.c c.args.call.now
-    c.requires.ready.step seen.queue seen.admitted seen.made c.requires.queued new
-    (past-adds old c.push_acquire.new.self (entry.Call c.args.c c.args.call.now None)
-    c.in-Ok.ensures.ok)
-    next.queue next.admitted next.made
-    (take-put new c.args.c c.object_named-o.result c.asking.result (its-place g c.before)
-    seen.queue next.queue c.insert.ensures.queues)
-    c.insert.ensures.admitted c.insert.ensures.made
-
-pub returns-in-Err-clause-queued : goal.returns-in-Err-clause-queued
-returns-in-Err-clause-queued g c =
-    subst (λ s. IsQueued (past_of s) (g.Q.WaitList.seen c.args.queues.now))
-    (sym c.in-Err.ensures.err.stored) c.requires.queued
-
 pub push_acquire-requires-clause-ready : goal.push_acquire-requires-clause-ready
 push_acquire-requires-clause-ready g c = c.requires.ready
 
@@ -95,23 +75,32 @@ push_acquire-requires-clause-operation g c = c.requires.operation
 pub priority_in_row-prio-requires-clause-read : goal.priority_in_row-prio-requires-clause-read
 priority_in_row-prio-requires-clause-read g c = c.requires.ready.read
 
-pub returns-in-Ok-clause-ok : goal.returns-in-Ok-clause-ok
-returns-in-Ok-clause-ok g c = c.in-Ok.ensures.ok
+pub returns-in-Err : goal.returns-in-Err
+returns-in-Err g c = record {
+  ok = tt;
+  err = c.in-Err.ensures.err;
+  reason = c.in-Err.ensures.refusal;
+  enough = c.in-Err.ensures.enough;
+  queued = subst (λ s. IsQueued (past_of s) (g.Q.WaitList.seen c.args.queues.now))
+      (sym c.in-Err.ensures.err.stored) c.requires.queued;
+}
 
-pub returns-in-Err-clause-err : goal.returns-in-Err-clause-err
-returns-in-Err-clause-err g c = c.in-Err.ensures.err
-
-pub returns-in-Err-clause-enough : goal.returns-in-Err-clause-enough
-returns-in-Err-clause-enough g c = c.in-Err.ensures.enough
-
-pub returns-in-Err-clause-reason : goal.returns-in-Err-clause-reason
-returns-in-Err-clause-reason g c = c.in-Err.ensures.refusal
-
-pub returns-in-Err-clause-ok : goal.returns-in-Err-clause-ok
-returns-in-Err-clause-ok g c = tt
-
-pub returns-in-Ok-clause-err : goal.returns-in-Ok-clause-err
-returns-in-Ok-clause-err g c = tt
-
-pub returns-in-Ok-clause-reason : goal.returns-in-Ok-clause-reason
-returns-in-Ok-clause-reason g c = tt
+pub returns-in-Ok : goal.returns-in-Ok
+returns-in-Ok g c = record {
+  ok = c.in-Ok.ensures.ok;
+  err = tt;
+  reason = tt;
+  enough = λ other. refl;
+  queued = let old = c.args.state.now in
+      let new = past c.push_acquire.new.self in
+      let seen = g.Q.WaitList.seen c.args.queues.now in
+      let next = g.Q.WaitList.seen c.insert.new.self in
+      queued-left (past old) c.requires.ready.read.follows c.args.c c.args.call.now
+      c.requires.ready.step seen.queue seen.admitted seen.made c.requires.queued new
+      (past-adds old c.push_acquire.new.self (entry.Call c.args.c c.args.call.now None)
+      c.in-Ok.ensures.ok)
+      next.queue next.admitted next.made
+      (take-put new c.args.c c.object_named-o.result c.asking.result (its-place g c.before)
+      seen.queue next.queue c.insert.ensures.queues)
+      c.insert.ensures.admitted c.insert.ensures.made;
+}

@@ -17,17 +17,6 @@ discard-requires-clause-empty g c =
     c.args.class c.unwrap-o.result (sym c.requires.found ∙ c.unwrap-o.ensures)
     c.requires.operation
 
-pub returns-clause-queued : goal.returns-clause-queued
-returns-clause-queued g c =
-    end-queued c.args.state.now c.args.c c.args.call.now c.requires.ready
-    (g.Q.WaitList.seen c.args.queues.now).queue (g.Q.WaitList.seen c.args.queues.now).admitted
-    (g.Q.WaitList.seen c.args.queues.now).made c.requires.queued c.args.n.now
-    c.args.class c.unwrap-o.result (sym c.requires.found ∙ c.unwrap-o.ensures)
-    c.requires.operation c.push_ended.new.self (g.Q.WaitList.seen c.discard.new.self).queue
-    (g.Q.WaitList.seen c.discard.new.self).admitted (g.Q.WaitList.seen c.discard.new.self).made
-    c.discard.ensures.queues c.discard.ensures.admitted c.discard.ensures.made
-    c.push_ended.ensures
-
 pub push_ended-requires-clause-ready : goal.push_ended-requires-clause-ready
 push_ended-requires-clause-ready g c = c.requires.ready
 
@@ -37,5 +26,15 @@ push_ended-requires-clause-operation g c = c.requires.operation
 pub push_ended-requires-clause-found : goal.push_ended-requires-clause-found
 push_ended-requires-clause-found g c = sym c.unwrap-o.ensures ∙ c.requires.found
 
-pub returns-clause-adds : goal.returns-clause-adds
-returns-clause-adds g c = c.push_ended.ensures
+pub returns : goal.returns
+returns g c = record {
+  adds = c.push_ended.ensures;
+  queued = end-queued c.args.state.now c.args.c c.args.call.now c.requires.ready
+      (g.Q.WaitList.seen c.args.queues.now).queue (g.Q.WaitList.seen c.args.queues.now).admitted
+      (g.Q.WaitList.seen c.args.queues.now).made c.requires.queued c.args.n.now
+      c.args.class c.unwrap-o.result (sym c.requires.found ∙ c.unwrap-o.ensures)
+      c.requires.operation c.push_ended.new.self (g.Q.WaitList.seen c.discard.new.self).queue
+      (g.Q.WaitList.seen c.discard.new.self).admitted (g.Q.WaitList.seen c.discard.new.self).made
+      c.discard.ensures.queues c.discard.ensures.admitted c.discard.ensures.made
+      c.push_ended.ensures;
+}

@@ -46,22 +46,15 @@ change_by_wait-requires-clause-found g c =
     ∙ ap (mutex_meant (past c.args.self.now))
     (sym c.requires.does ∙ ap shown_operation c.in-Awaits.is)
 
-pub returns-in-Awaits-clause-adds : goal.returns-in-Awaits-clause-adds
-returns-in-Awaits-clause-adds g c =
-    c.change_by_wait.ensures.adds
-    ∙ ap added_by_operation (ap shown_operation (sym c.in-Awaits.is) ∙ c.requires.does)
-
-pub returns-in-Awaits-clause-uses : goal.returns-in-Awaits-clause-uses
-returns-in-Awaits-clause-uses g c =
-    c.change_by_wait.ensures.uses
-    ∙ ap (used_to_wait (past c.args.self.now) c.args.c)
-    (ap shown_operation (sym c.in-Awaits.is) ∙ c.requires.does)
-
-pub returns-in-Awaits-clause-touches : goal.returns-in-Awaits-clause-touches
-returns-in-Awaits-clause-touches g c =
-    c.change_by_wait.ensures.touches
-    ∙ ap (goal_of_operation (past c.args.self.now))
-    (ap shown_operation (sym c.in-Awaits.is) ∙ c.requires.does)
-
-pub returns-in-Awaits-clause-small : goal.returns-in-Awaits-clause-small
-returns-in-Awaits-clause-small g c = omega (arith, c.change_by_wait.ensures.adds)
+pub returns-in-Awaits : goal.returns-in-Awaits
+returns-in-Awaits g c = record {
+  adds = c.change_by_wait.ensures.adds
+      ∙ ap added_by_operation (ap shown_operation (sym c.in-Awaits.is) ∙ c.requires.does);
+  uses = c.change_by_wait.ensures.uses
+      ∙ ap (used_to_wait (past c.args.self.now) c.args.c)
+      (ap shown_operation (sym c.in-Awaits.is) ∙ c.requires.does);
+  touches = c.change_by_wait.ensures.touches
+      ∙ ap (goal_of_operation (past c.args.self.now))
+      (ap shown_operation (sym c.in-Awaits.is) ∙ c.requires.does);
+  small = omega (arith, c.change_by_wait.ensures.adds);
+}

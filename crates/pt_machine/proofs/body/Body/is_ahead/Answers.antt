@@ -1,4 +1,4 @@
-use Rattle.std.proofs.Common.{Bool, true, false, unwrap_or}
+use Rattle.std.proofs.Common.{Bool, true, false, unwrap_or, refl}
 use Rattle.std.specs.Bool.{OnTrue}
 use Rattle.pt_model.specs.Clients.{client}
 use Rattle.pt_state.specs.Adds.{past}
@@ -11,32 +11,34 @@ if_true : {P Q : Type 0} (b : Bool) → OnTrue b P → (P → Q) → OnTrue b Q
 if_true true p f = f p
 if_true false p f = tt
 
-pub returns-in-Some-clause-ahead : goal.returns-in-Some-clause-ahead
-returns-in-Some-clause-ahead g c =
-    let s = c.args.self.now in
-    let queues = c.self.inside.queues in
-    let queued : IsQueued (past s) (g.Q.WaitList.seen queues) =
-    rw (← c.self.view_is) c.self.invariant.0 in
-    if_true c.is_above.result c.is_above.ensures
-    (λ k. ahead-first (past s) (g.Q.WaitList.seen queues).queue queued.members
-    c.requires.follows c.args.o (unwrap_or (client (past s) c.args.c) 0) c.first.result
-    c.first.ensures c.in-Some.first c.in-Some.is k.0 k.1)
+pub returns-in-Some : goal.returns-in-Some
+returns-in-Some g c = record {
+  ahead = let s = c.args.self.now in
+      let queues = c.self.inside.queues in
+      let queued : IsQueued (past s) (g.Q.WaitList.seen queues) =
+      rw (← c.self.view_is) c.self.invariant.0 in
+      if_true c.is_above.result c.is_above.ensures
+      (λ k. ahead-first (past s) (g.Q.WaitList.seen queues).queue queued.members
+      c.requires.follows c.args.o (unwrap_or (client (past s) c.args.c) 0) c.first.result
+      c.first.ensures c.in-Some.first c.in-Some.is k.0 k.1);
+  alone = λ none.
+      let s = c.args.self.now in
+      let queues = c.self.inside.queues in
+      let queued : IsQueued (past s) (g.Q.WaitList.seen queues) =
+      rw (← c.self.view_is) c.self.invariant.0 in
+      absurd (not-alone (past s) (g.Q.WaitList.seen queues).queue queued.members
+      c.requires.follows c.args.o (unwrap_or (client (past s) c.args.c) 0) c.first.result
+      c.first.ensures c.in-Some.first c.in-Some.is none);
+}
 
-pub returns-in-None-clause-ahead : goal.returns-in-None-clause-ahead
-returns-in-None-clause-ahead g c =
-    let s = c.args.self.now in
-    let queues = c.self.inside.queues in
-    let queued : IsQueued (past s) (g.Q.WaitList.seen queues) =
-    rw (← c.self.view_is) c.self.invariant.0 in
-    ahead-none (past s) (g.Q.WaitList.seen queues).queue queued.members c.requires.follows c.args.o
-    (unwrap_or (client (past s) c.args.c) 0) c.first.result c.first.ensures c.in-None.is
-
-pub returns-in-Some-clause-alone : goal.returns-in-Some-clause-alone
-returns-in-Some-clause-alone g c = λ none.
-    let s = c.args.self.now in
-    let queues = c.self.inside.queues in
-    let queued : IsQueued (past s) (g.Q.WaitList.seen queues) =
-    rw (← c.self.view_is) c.self.invariant.0 in
-    absurd (not-alone (past s) (g.Q.WaitList.seen queues).queue queued.members
-    c.requires.follows c.args.o (unwrap_or (client (past s) c.args.c) 0) c.first.result
-    c.first.ensures c.in-Some.first c.in-Some.is none)
+pub returns-in-None : goal.returns-in-None
+returns-in-None g c = record {
+  ahead = let s = c.args.self.now in
+      let queues = c.self.inside.queues in
+      let queued : IsQueued (past s) (g.Q.WaitList.seen queues) =
+      rw (← c.self.view_is) c.self.invariant.0 in
+      ahead-none (past s) (g.Q.WaitList.seen queues).queue queued.members c.requires.follows
+      c.args.o
+      (unwrap_or (client (past s) c.args.c) 0) c.first.result c.first.ensures c.in-None.is;
+  alone = λ known. refl;
+}

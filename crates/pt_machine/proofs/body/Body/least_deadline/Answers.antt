@@ -15,15 +15,13 @@ is_time : (timers : List (ℕ × (Clock × ℕ))) (k : Clock) (found : Option Ti
 is_time timers k None least = tt
 is_time timers k (Some d) least = least.2
 
-pub returns-clause-value : goal.returns-clause-value
-returns-clause-value g c =
-    let s = c.args.self.now in
-    let read = c.requires.read in
-    let timed : AreTimed (past s) c.self.inside.timers =
-    rw (← c.self.view_is) c.self.invariant.1 in
-    least-kept (past s) read.follows c.self.inside.timers timed
-    (none-bad (past s) read.follows c.requires.quiet) c.args.clock c.least.result c.least.ensures
-
-pub returns-clause-time : goal.returns-clause-time
-returns-clause-time g c =
-    is_time c.self.inside.timers c.args.clock c.least.result c.least.ensures
+pub returns : goal.returns
+returns g c = record {
+  value = let s = c.args.self.now in
+      let read = c.requires.read in
+      let timed : AreTimed (past s) c.self.inside.timers =
+      rw (← c.self.view_is) c.self.invariant.1 in
+      least-kept (past s) read.follows c.self.inside.timers timed
+      (none-bad (past s) read.follows c.requires.quiet) c.args.clock c.least.result c.least.ensures;
+  time = is_time c.self.inside.timers c.args.clock c.least.result c.least.ensures;
+}

@@ -4,13 +4,11 @@ use Rattle.pt_state.specs.Adds.{past}
 use Rattle.pt_machine.proofs.OpenPlaces.{kept-in, open-there}
 use Rattle.pt_machine.proofs.body.Body.open_at.Goals as goal
 
-pub returns-in-Some-clause-value : goal.returns-in-Some-clause-value
-returns-in-Some-clause-value g c =
-    let s = c.args.self.now in
-    open-there (past s) c.requires.follows s.clients c.requires.callers c.args.place c.args.c
-    c.in-Some.open.now (sym (ap option_copied c.in-Some.is) ∙ c.open_if_at.ensures)
-
-pub returns-in-Some-clause-known : goal.returns-in-Some-clause-known
-returns-in-Some-clause-known g c =
-    kept-in c.args.self.now.clients c.args.c c.args.place (Some c.in-Some.open.now)
-    (sym (ap option_copied c.in-Some.is) ∙ c.open_if_at.ensures)
+pub returns-in-Some : goal.returns-in-Some
+returns-in-Some g c = record {
+  value = let s = c.args.self.now in
+      open-there (past s) c.requires.follows s.clients c.requires.callers c.args.place c.args.c
+      c.in-Some.open.now (sym (ap option_copied c.in-Some.is) ∙ c.open_if_at.ensures);
+  known = kept-in c.args.self.now.clients c.args.c c.args.place (Some c.in-Some.open.now)
+      (sym (ap option_copied c.in-Some.is) ∙ c.open_if_at.ensures);
+}

@@ -12,15 +12,13 @@ returns-in_err-caller_at-clause-value g c =
     ∙ sym (none-came (past c.args.self.now) c.requires.follows c.args.place
     c.in_err-caller_at.ensures)
 
-pub returns-clause-value : goal.returns-clause-value
-returns-clause-value g c =
-    let s = c.args.self.now in
-    ap (option_map called) c.open_if_at.ensures
-    ∙ client-came (past s) c.requires.follows s.clients c.requires.callers c.args.place
-    c.in_ok-caller_at.field-0 c.in_ok-caller_at.ensures
-
-pub returns-clause-known : goal.returns-clause-known
-returns-clause-known g c =
-    kept-in c.args.self.now.clients c.in_ok-caller_at.field-0 c.args.place
-    (option_copied c.open_if_at.result)
-    c.open_if_at.ensures
+pub returns : goal.returns
+returns g c = record {
+  value = let s = c.args.self.now in
+      ap (option_map called) c.open_if_at.ensures
+      ∙ client-came (past s) c.requires.follows s.clients c.requires.callers c.args.place
+      c.in_ok-caller_at.field-0 c.in_ok-caller_at.ensures;
+  known = kept-in c.args.self.now.clients c.in_ok-caller_at.field-0 c.args.place
+      (option_copied c.open_if_at.result)
+      c.open_if_at.ensures;
+}

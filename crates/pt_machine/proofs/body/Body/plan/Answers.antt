@@ -35,33 +35,31 @@ overflow_sub-result g c =
       need-event h c.args.event.now c.requires.read.follows c.requires.step,
     )
 
-pub returns-clause-planned : goal.returns-clause-planned
-returns-clause-planned g c =
-    let h = past c.args.self.now in
-    let enters = c.answer_at_once-answer.ensures in
-    let before : c.self.inside.need ≡ need h =
-    c.self.invariant.3.needs ∙ ap (λ s. need (past s)) c.self.view_is in
-    record {
-      asks = c.request-request.ensures;
-      enters = enters;
-      needs = omega (
-        arith,
-        before,
-        c.change_by-change.ensures.adds ∙ ap added_by enters,
-        c.change_by-change.ensures.uses ∙ ap (used_by h) enters,
-        need-event h c.args.event.now c.requires.read.follows c.requires.step,
-      );
-      touches = c.change_by-change.ensures.touches ∙ ap (touched_by h) enters;
-      at_once = c.is_at_once.ensures.granted;
-      unopposed = c.is_at_once.ensures.unopposed;
-    }
-
-pub returns-clause-small : goal.returns-clause-small
-returns-clause-small g c =
-    let s = c.args.self.now in
-    let before : c.self.inside.need ≡ need (past s) =
-    c.self.invariant.3.needs ∙ ap (λ s. need (past s)) c.self.view_is in
-    omega (arith, before, need-most s c.requires.read, c.change_by-change.ensures.small)
+pub returns : goal.returns
+returns g c = record {
+  planned = let h = past c.args.self.now in
+      let enters = c.answer_at_once-answer.ensures in
+      let before : c.self.inside.need ≡ need h =
+      c.self.invariant.3.needs ∙ ap (λ s. need (past s)) c.self.view_is in
+      record {
+        asks = c.request-request.ensures;
+        enters = enters;
+        needs = omega (
+          arith,
+          before,
+          c.change_by-change.ensures.adds ∙ ap added_by enters,
+          c.change_by-change.ensures.uses ∙ ap (used_by h) enters,
+          need-event h c.args.event.now c.requires.read.follows c.requires.step,
+        );
+        touches = c.change_by-change.ensures.touches ∙ ap (touched_by h) enters;
+        at_once = c.is_at_once.ensures.granted;
+        unopposed = c.is_at_once.ensures.unopposed;
+      };
+  small = let s = c.args.self.now in
+      let before : c.self.inside.need ≡ need (past s) =
+      c.self.invariant.3.needs ∙ ap (λ s. need (past s)) c.self.view_is in
+      omega (arith, before, need-most s c.requires.read, c.change_by-change.ensures.small);
+}
 
 pub request-request-requires-clause-read : goal.request-request-requires-clause-read
 request-request-requires-clause-read g c = c.requires.read

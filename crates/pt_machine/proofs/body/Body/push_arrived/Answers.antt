@@ -27,18 +27,6 @@ arrival_service-requires g c = c.push_arrival.ensures.read
 pub push_first-requires-clause-read : goal.push_first-requires-clause-read
 push_first-requires-clause-read g c = c.push_arrival.ensures.read
 
-pub returns-in-Some-clause-adds : goal.returns-in-Some-clause-adds
-returns-in-Some-clause-adds g c = λ short. absurd (false≢true short)
-
-pub returns-in-Some-clause-rests : goal.returns-in-Some-clause-rests
-returns-in-Some-clause-rests g c = λ short. absurd (false≢true short)
-
-pub returns-in-None-clause-adds : goal.returns-in-None-clause-adds
-returns-in-None-clause-adds g c = λ short. c.push_arrival.ensures
-
-pub returns-in-None-clause-both : goal.returns-in-None-clause-both
-returns-in-None-clause-both g c = λ full. absurd (false≢true (sym full))
-
 -- what is served there is ready
 pub push_first-requires-clause-ready : goal.push_first-requires-clause-ready
 push_first-requires-clause-ready g c =
@@ -62,33 +50,41 @@ push_first-requires-clause-ready g c =
       ),
     )
 
-pub returns-in-Some-clause-both : goal.returns-in-Some-clause-both
-returns-in-Some-clause-both g c = λ full.
-    let old = c.args.self.now in
-    let new = c.push_arrival.new.self in
-    let at : c.object_named.result ≡ meant (past old) c.args.n.now BarrierClass =
-    c.object_named.ensures
-    ∙ ap (λ o. unwrap_or o 0)
-    (c.requires.planned.asks.object ∙ ap (object_meant (past old)) c.requires.operation) in
-    let r = subst (IsService (past new) _) c.in-Some.is c.arrival_service.ensures in
-    record {
-      mid = new;
-      first = c.push_arrival.ensures;
-      next = service (past new) r.0;
-      follows = serves-arrived old new c.args.c c.args.call.now c.args.n.now
-          c.requires.operation c.requires.ready c.push_arrival.ensures c.object_named.result at
-          r.0 r.1.0;
-      second = c.push_first.ensures r.0 r.1.1.0 r.1.1.1;
-    }
+pub returns-in-Some : goal.returns-in-Some
+returns-in-Some g c = record {
+  adds = λ short. absurd (false≢true short);
+  rests = λ short. absurd (false≢true short);
+  both = λ full.
+      let old = c.args.self.now in
+      let new = c.push_arrival.new.self in
+      let at : c.object_named.result ≡ meant (past old) c.args.n.now BarrierClass =
+      c.object_named.ensures
+      ∙ ap (λ o. unwrap_or o 0)
+      (c.requires.planned.asks.object ∙ ap (object_meant (past old)) c.requires.operation) in
+      let r = subst (IsService (past new) _) c.in-Some.is c.arrival_service.ensures in
+      record {
+        mid = new;
+        first = c.push_arrival.ensures;
+        next = service (past new) r.0;
+        follows = serves-arrived old new c.args.c c.args.call.now c.args.n.now
+            c.requires.operation c.requires.ready c.push_arrival.ensures c.object_named.result at
+            r.0 r.1.0;
+        second = c.push_first.ensures r.0 r.1.1.0 r.1.1.1;
+      };
+}
 
-pub returns-in-None-clause-rests : goal.returns-in-None-clause-rests
-returns-in-None-clause-rests g c = λ short.
-    let old = c.args.self.now in
-    let new = c.push_arrival.new.self in
-    let at : c.object_named.result ≡ meant (past old) c.args.n.now BarrierClass =
-    c.object_named.ensures
-    ∙ ap (λ o. unwrap_or o 0)
-    (c.requires.planned.asks.object ∙ ap (object_meant (past old)) c.requires.operation) in
-    rests-arrived old new c.args.c c.args.call.now c.args.n.now c.requires.operation
-    c.requires.ready c.push_arrival.ensures c.object_named.result at
-    (subst (IsService (past new) _) c.in-None.is c.arrival_service.ensures)
+pub returns-in-None : goal.returns-in-None
+returns-in-None g c = record {
+  adds = λ short. c.push_arrival.ensures;
+  rests = λ short.
+      let old = c.args.self.now in
+      let new = c.push_arrival.new.self in
+      let at : c.object_named.result ≡ meant (past old) c.args.n.now BarrierClass =
+      c.object_named.ensures
+      ∙ ap (λ o. unwrap_or o 0)
+      (c.requires.planned.asks.object ∙ ap (object_meant (past old)) c.requires.operation) in
+      rests-arrived old new c.args.c c.args.call.now c.args.n.now c.requires.operation
+      c.requires.ready c.push_arrival.ensures c.object_named.result at
+      (subst (IsService (past new) _) c.in-None.is c.arrival_service.ensures);
+  both = λ full. absurd (false≢true (sym full));
+}

@@ -1,4 +1,4 @@
-use Rattle.std.proofs.Common.{None, arith, subst, sym}
+use Rattle.std.proofs.Common.{None, arith, subst, sym, refl}
 use Rattle.pt_history.specs.Stored.{past_of}
 use Rattle.pt_model.specs.declared.entry.Entry.TheVariants.{Call}
 use Rattle.pt_model.specs.declared.entry.Event.TheVariants as event
@@ -105,66 +105,62 @@ invariant_of-self-2 g c =
           c.args.plan.now.need c.in_ok-granted.granted.used reserved used,
     )
 
-pub returns-clause-ok : goal.returns-clause-ok
-returns-clause-ok g c =
-    let old = c.self.inside.state in
-    let e = Call c.args.c c.args.call.now None in
-    let ready : IsReadyFor old e = rw c.self.view_is c.requires.ready in
-    let granted : IsGrantedAtOnce (past old) c.args.c c.args.call.now =
-    rw c.self.view_is c.requires.granted in
-    let both = c.in_ok-granted.ensures.ok in
-    rw (← c.self.view_is)
-    (record {
-      mid = both.mid;
-      first = both.first;
-      next = service (past both.mid) both.its.call;
-      follows = must-follow old both.mid c.args.c c.args.call.now ready granted both.first both.its
-          both.found;
-      second = both.second;
-    })
-
-pub returns-clause-told : goal.returns-clause-told
-returns-clause-told g c =
-    let old = c.self.inside.state in
-    let e = Call c.args.c c.args.call.now None in
-    let ready : IsReadyFor old e = rw c.self.view_is c.requires.ready in
-    let granted : IsGrantedAtOnce (past old) c.args.c c.args.call.now =
-    rw c.self.view_is c.requires.granted in
-    let both = c.in_ok-granted.ensures.ok in
-    rw (← c.self.view_is)
-    (told-granted old both.mid c.args.c c.args.call.now ready granted both.first both.its
-    both.found c.push_both.new.state both.second c.in_ok-granted.granted.outcome both.told)
-
-pub returns-clause-rests : goal.returns-clause-rests
-returns-clause-rests g c =
-    let old = c.self.inside.state in
-    let e = Call c.args.c c.args.call.now None in
-    let ready : IsReadyFor old e = rw c.self.view_is c.requires.ready in
-    let granted : IsGrantedAtOnce (past old) c.args.c c.args.call.now =
-    rw c.self.view_is c.requires.granted in
-    let after : IsReadyAfter old e = rw c.self.view_is c.requires.next in
-    let both = c.in_ok-granted.ensures.ok in
-    let must = must-follow old both.mid c.args.c c.args.call.now ready granted both.first both.its
-    both.found in
-    rests-granted old both.mid c.args.c c.args.call.now ready granted both.first both.its
-    both.found c.push_both.new.state both.second
-    (after both.mid both.first (service (past both.mid) both.its.call) must)
-
-pub returns-clause-alone : goal.returns-clause-alone
-returns-clause-alone g c =
-    let old = c.self.inside.state in
-    let e = Call c.args.c c.args.call.now None in
-    let ready : IsReadyFor old e = rw c.self.view_is c.requires.ready in
-    let granted : IsGrantedAtOnce (past old) c.args.c c.args.call.now =
-    rw c.self.view_is c.requires.granted in
-    let both = c.in_ok-granted.ensures.ok in
-    rw (← c.self.view_is)
-    (alone-granted old both.mid c.args.c c.args.call.now ready granted both.first both.its
-    both.found c.push_both.new.state both.second c.in_ok-granted.granted.outcome both.told)
-
 pub returns-in_err-granted-clause-enough : goal.returns-in_err-granted-clause-enough
 returns-in_err-granted-clause-enough g c =
     λ small.
     absurd
     (false≢true
     (c.in_err-granted.ensures.enough (small-unread (operation c.args.call.now) small)))
+
+pub returns : goal.returns
+returns g c = record {
+  ok = let old = c.self.inside.state in
+      let e = Call c.args.c c.args.call.now None in
+      let ready : IsReadyFor old e = rw c.self.view_is c.requires.ready in
+      let granted : IsGrantedAtOnce (past old) c.args.c c.args.call.now =
+      rw c.self.view_is c.requires.granted in
+      let both = c.in_ok-granted.ensures.ok in
+      rw (← c.self.view_is)
+      (record {
+        mid = both.mid;
+        first = both.first;
+        next = service (past both.mid) both.its.call;
+        follows = must-follow old both.mid c.args.c c.args.call.now ready granted both.first
+        both.its
+            both.found;
+        second = both.second;
+      });
+  told = let old = c.self.inside.state in
+      let e = Call c.args.c c.args.call.now None in
+      let ready : IsReadyFor old e = rw c.self.view_is c.requires.ready in
+      let granted : IsGrantedAtOnce (past old) c.args.c c.args.call.now =
+      rw c.self.view_is c.requires.granted in
+      let both = c.in_ok-granted.ensures.ok in
+      rw (← c.self.view_is)
+      (told-granted old both.mid c.args.c c.args.call.now ready granted both.first both.its
+      both.found c.push_both.new.state both.second c.in_ok-granted.granted.outcome both.told);
+  alone = let old = c.self.inside.state in
+      let e = Call c.args.c c.args.call.now None in
+      let ready : IsReadyFor old e = rw c.self.view_is c.requires.ready in
+      let granted : IsGrantedAtOnce (past old) c.args.c c.args.call.now =
+      rw c.self.view_is c.requires.granted in
+      let both = c.in_ok-granted.ensures.ok in
+      rw (← c.self.view_is)
+      (alone-granted old both.mid c.args.c c.args.call.now ready granted both.first both.its
+      both.found c.push_both.new.state both.second c.in_ok-granted.granted.outcome both.told);
+  rests = let old = c.self.inside.state in
+      let e = Call c.args.c c.args.call.now None in
+      let ready : IsReadyFor old e = rw c.self.view_is c.requires.ready in
+      let granted : IsGrantedAtOnce (past old) c.args.c c.args.call.now =
+      rw c.self.view_is c.requires.granted in
+      let after : IsReadyAfter old e = rw c.self.view_is c.requires.next in
+      let both = c.in_ok-granted.ensures.ok in
+      let must = must-follow old both.mid c.args.c c.args.call.now ready granted both.first both.its
+      both.found in
+      rests-granted old both.mid c.args.c c.args.call.now ready granted both.first both.its
+      both.found c.push_both.new.state both.second
+      (after both.mid both.first (service (past both.mid) both.its.call) must);
+  err = tt;
+  reason = tt;
+  enough = λ small. refl;
+}

@@ -1,5 +1,5 @@
 use Rattle.std.proofs.Common.{◌≡◌, ℕ, Option, Some, None, filter, sym, ap}
-use Rattle.std.proofs.Common.{◌∙◌, subst}
+use Rattle.std.proofs.Common.{refl, ◌∙◌, subst}
 use Rattle.std.specs.Option.{option_or}
 use Rattle.pt_model.specs.Answers.{open_calls}
 use Rattle.pt_model.specs.declared.entry.Entry.TheVariants.{Expire, Yield}
@@ -27,6 +27,16 @@ late-next h p none orphan due =
     ∙ (ap (λ y. option_or (yield_if y) (forced_expire h)) (sym orphan)
     ∙ (ap expire_if due.1 ∙ ap (λ j. Some (Expire j)) (place-in p (open_calls h) due.0 due.2).1))
 
+-- and if none has passed either, nothing must follow
+none-next : (h : History)
+    → ◌≡◌ {A = Option WaitingCall} None
+    (least (is_served_before h) (filter (is_served h) (open_calls h)))
+    → ◌≡◌ {A = Option ℕ} None (first_below (place h) (is_orphan h)) → IsFirstLate h None
+    → forced h ≡ None
+none-next h none orphan due =
+    ap (λ x. option_or (service_if h x) (option_or (forced_yield h) (forced_expire h))) (sym none)
+    ∙ (ap (λ y. option_or (yield_if y) (forced_expire h)) (sym orphan) ∙ ap expire_if due)
+
 pub push_first-requires-clause-ready : goal.push_first-requires-clause-ready
 push_first-requires-clause-ready g c =
     let h = past c.args.self.now in
@@ -43,15 +53,6 @@ push_first-requires-clause-ready g c =
       ),
     )
 
-pub returns-in-Some-clause-pushed : goal.returns-in-Some-clause-pushed
-returns-in-Some-clause-pushed g c = λ pushed.
-    let h = past c.args.self.now in
-    let r = subst (IsService h _) c.in-Some.is c.first_service.ensures in (
-      service h r.0,
-      ap (λ x. option_or (service_if h x) (option_or (forced_yield h) (forced_expire h))) r.1.0,
-      c.push_first.ensures r.0 r.1.1.0 r.1.1.1,
-    )
-
 pub push_yield-requires : goal.push_yield-requires
 push_yield-requires g c =
     let h = past c.args.self.now in
@@ -65,20 +66,6 @@ push_yield-requires g c =
           (sym none) ∙ ap (λ y. option_or (yield_if y) (forced_expire h)) (sym orphan));
     }
 
-pub returns-in-Some-first_orphan-clause-pushed : goal.returns-in-Some-first_orphan-clause-pushed
-returns-in-Some-first_orphan-clause-pushed g c = λ pushed.
-    let h = past c.args.self.now in
-    let none = sym (subst (IsService h _) c.in_default.is c.first_service.ensures) in
-    let orphan = sym c.in-Some-first_orphan.is
-    ∙ subst (λ s. c.first_orphan.result
-    ≡ first_below (place (past s)) (is_orphan (past s))) c.self.view_is c.first_orphan.ensures in (
-      Yield c.in-Some-first_orphan.m,
-      ap (λ x. option_or (service_if h x) (option_or (forced_yield h) (forced_expire h)))
-          (sym none)
-          ∙ ap (λ y. option_or (yield_if y) (forced_expire h)) (sym orphan),
-      c.push_yield.ensures,
-    )
-
 pub push_overdue-requires-clause-ready : goal.push_overdue-requires-clause-ready
 push_overdue-requires-clause-ready g c =
     let h = past c.args.self.now in
@@ -89,29 +76,51 @@ push_overdue-requires-clause-ready g c =
     c.requires.ready (Expire c.in-Some-first_due.place)
     (late-next h c.in-Some-first_due.place none orphan c.in-Some-first_due.ensures)
 
-pub returns-in-Some-first_due-clause-pushed : goal.returns-in-Some-first_due-clause-pushed
-returns-in-Some-first_due-clause-pushed g c = λ pushed.
-    let h = past c.args.self.now in
-    let none = sym (subst (IsService h _) c.in_default.is c.first_service.ensures) in
-    let orphan = sym c.in_default-first_orphan.is
-    ∙ subst (λ s. c.first_orphan.result
-    ≡ first_below (place (past s)) (is_orphan (past s))) c.self.view_is c.first_orphan.ensures in (
-      Expire c.in-Some-first_due.place,
-      late-next h c.in-Some-first_due.place none orphan c.in-Some-first_due.ensures,
-      c.push_overdue.ensures,
-    )
+pub returns-in-Some : goal.returns-in-Some
+returns-in-Some g c = record {
+  pushed = λ pushed.
+      let h = past c.args.self.now in
+      let r = subst (IsService h _) c.in-Some.is c.first_service.ensures in (
+        service h r.0,
+        ap (λ x. option_or (service_if h x) (option_or (forced_yield h) (forced_expire h))) r.1.0,
+        c.push_first.ensures r.0 r.1.1.0 r.1.1.1,
+      );
+  none = λ none. absurd (false≢true (sym none));
+}
 
-pub returns-in-Some-clause-none : goal.returns-in-Some-clause-none
-returns-in-Some-clause-none g c = λ none. absurd (false≢true (sym none))
+pub returns-in-Some-first_orphan : goal.returns-in-Some-first_orphan
+returns-in-Some-first_orphan g c = record {
+  pushed = λ pushed.
+      let h = past c.args.self.now in
+      let none = sym (subst (IsService h _) c.in_default.is c.first_service.ensures) in
+      let orphan = sym c.in-Some-first_orphan.is
+      ∙ subst (λ s. c.first_orphan.result
+      ≡ first_below (place (past s)) (is_orphan (past s))) c.self.view_is
+      c.first_orphan.ensures in (
+        Yield c.in-Some-first_orphan.m,
+        ap (λ x. option_or (service_if h x) (option_or (forced_yield h) (forced_expire h)))
+            (sym none)
+            ∙ ap (λ y. option_or (yield_if y) (forced_expire h)) (sym orphan),
+        c.push_yield.ensures,
+      );
+  none = λ none. absurd (false≢true (sym none));
+}
 
-pub returns-in-Some-first_orphan-clause-none : goal.returns-in-Some-first_orphan-clause-none
-returns-in-Some-first_orphan-clause-none g c = λ none. absurd (false≢true (sym none))
-
-pub returns-in-Some-first_due-clause-none : goal.returns-in-Some-first_due-clause-none
-returns-in-Some-first_due-clause-none g c = λ none. absurd (false≢true (sym none))
-
-pub returns-in-None-clause-pushed : goal.returns-in-None-clause-pushed
-returns-in-None-clause-pushed g c = λ pushed. absurd (false≢true pushed)
+pub returns-in-Some-first_due : goal.returns-in-Some-first_due
+returns-in-Some-first_due g c = record {
+  pushed = λ pushed.
+      let h = past c.args.self.now in
+      let none = sym (subst (IsService h _) c.in_default.is c.first_service.ensures) in
+      let orphan = sym c.in_default-first_orphan.is
+      ∙ subst (λ s. c.first_orphan.result
+      ≡ first_below (place (past s)) (is_orphan (past s))) c.self.view_is
+      c.first_orphan.ensures in (
+        Expire c.in-Some-first_due.place,
+        late-next h c.in-Some-first_due.place none orphan c.in-Some-first_due.ensures,
+        c.push_overdue.ensures,
+      );
+  none = λ none. absurd (false≢true (sym none));
+}
 
 pub first_orphan-requires : goal.first_orphan-requires
 first_orphan-requires g c = rw c.self.view_is c.requires.read
@@ -132,3 +141,18 @@ pub first_due-requires-clause-unserved : goal.first_due-requires-clause-unserved
 first_due-requires-clause-unserved g c =
     let h = past c.args.self.now in
     ap (service_if h) (subst (IsService h _) c.in_default.is c.first_service.ensures)
+
+pub returns-in-None : goal.returns-in-None
+returns-in-None g c = record {
+  pushed = λ pushed. absurd (false≢true pushed);
+  none = λ rest.
+      let h = past c.args.self.now in
+      let none = sym (subst (IsService h _) c.in_default.is c.first_service.ensures) in
+      let orphan = sym c.in_default-first_orphan.is
+      ∙ subst (λ s. c.first_orphan.result
+      ≡ first_below (place (past s)) (is_orphan (past s))) c.self.view_is
+      c.first_orphan.ensures in (
+        none-next h none orphan c.in-None.ensures,
+        refl,
+      );
+}

@@ -1,11 +1,11 @@
-use Rattle.std.proofs.Common.{subst, sym}
+use Rattle.std.proofs.Common.{refl, subst, sym}
 use Rattle.pt_history.specs.Stored.{past_of}
 use Rattle.pt_model.specs.declared.entry.Entry.{Entry}
 use Rattle.pt_model.specs.Room.{entry_for}
 use Rattle.pt_machine.specs.LastTouched.{IsTouched}
 use Rattle.pt_machine.specs.Planned.{IsPlanned}
 use Rattle.pt_machine.specs.Reserved.{IsReserved}
-use Rattle.pt_state.specs.Adds.{Adds, past}
+use Rattle.pt_state.specs.Adds.{Adds, IsReadyFor, past}
 use Rattle.pt_machine.proofs.LastTouches.{touched-outer}
 use Rattle.pt_machine.proofs.NeedSteps.{event-outer, reserved-outer}
 use Rattle.pt_machine.proofs.body.Body.push_outer.Goals as goal
@@ -36,3 +36,34 @@ invariant_of-self-2 g c =
           (c.caller_of-entering.ensures (past old)),
       reserved-outer old c.push_outer.new.state e adds c.args.plan.now.need planned.needs,
     )
+
+pub push_outer-requires-clause-ready : goal.push_outer-requires-clause-ready
+push_outer-requires-clause-ready g c =
+    let old = c.self.inside.state in
+    let v = c.args.event.now in
+    let planned : IsPlanned (past old) v c.args.plan.now = rw c.self.view_is c.requires.planned in
+    let ready : IsReadyFor old (entry_for (past old) v) = rw c.self.view_is c.requires.ready in
+    subst (λ (x : Entry). IsReadyFor old x) (sym planned.enters) ready
+
+pub push_outer-requires-clause-asks : goal.push_outer-requires-clause-asks
+push_outer-requires-clause-asks g c = rw c.self.view_is c.requires.planned.asks
+
+pub push_outer-requires-clause-queued : goal.push_outer-requires-clause-queued
+push_outer-requires-clause-queued g c = c.self.invariant.0
+
+pub push_outer-requires-clause-timed : goal.push_outer-requires-clause-timed
+push_outer-requires-clause-timed g c = c.self.invariant.1
+
+pub returns : goal.returns
+returns g c = record {
+  ok =
+      let old = c.self.inside.state in
+      let v = c.args.event.now in
+      let planned : IsPlanned (past old) v c.args.plan.now = rw c.self.view_is c.requires.planned in
+      subst (λ s. Adds s (entry_for (past s) v) c.push_outer.new.state) c.self.view_is
+      (subst (λ (x : Entry). Adds old x c.push_outer.new.state) planned.enters
+      c.in_ok-push_outer.ensures.ok);
+  err = tt;
+  reason = tt;
+  enough = λ small. refl;
+}

@@ -43,20 +43,16 @@ seal-requires-clause-read g c = rw c.self.view_is c.requires.read
 pub seal-requires-clause-places : goal.seal-requires-clause-places
 seal-requires-clause-places g c = rw c.self.view_is c.requires.places
 
-pub returns-in-Err-clause-ok : goal.returns-in-Err-clause-ok
-returns-in-Err-clause-ok g c = tt
+pub returns-in-Err : goal.returns-in-Err
+returns-in-Err g c = record {
+  ok = tt;
+  err = c.in-Err.ensures.err ∙ c.self.view_is;
+  reason = refl;
+}
 
-pub returns-in-Err-clause-err : goal.returns-in-Err-clause-err
-returns-in-Err-clause-err g c = c.in-Err.ensures.err ∙ c.self.view_is
-
-pub returns-in-Err-clause-reason : goal.returns-in-Err-clause-reason
-returns-in-Err-clause-reason g c = refl
-
-pub returns-clause-ok : goal.returns-clause-ok
-returns-clause-ok g c = rw (← c.self.view_is) c.in_default.ensures.ok
-
-pub returns-clause-err : goal.returns-clause-err
-returns-clause-err g c = tt
-
-pub returns-clause-reason : goal.returns-clause-reason
-returns-clause-reason g c = tt
+pub returns : goal.returns
+returns g c = record {
+  ok = rw (← c.self.view_is) c.in_default.ensures.ok;
+  err = tt;
+  reason = tt;
+}

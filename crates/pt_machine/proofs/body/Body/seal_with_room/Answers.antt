@@ -54,21 +54,12 @@ seal_with_room-requires-clause-places g c = rw c.self.view_is c.requires.places
 pub seal_with_room-requires-clause-room : goal.seal_with_room-requires-clause-room
 seal_with_room-requires-clause-room g c = rw c.self.view_is c.requires.room
 
-pub returns-clause-ok : goal.returns-clause-ok
-returns-clause-ok g c = rw (← c.self.view_is) c.in_ok-unsealed.ensures.ok
-
-pub returns-clause-stored : goal.returns-clause-stored
-returns-clause-stored g c = c.in_ok-unsealed.ensures.stored ∙ ap (λ s. s.stored) c.self.view_is
-
-pub returns-clause-answers : goal.returns-clause-answers
-returns-clause-answers g c =
-    c.in_ok-unsealed.ensures.answers ∙ ap (λ s. s.answers) c.self.view_is
-
-pub returns-clause-touches : goal.returns-clause-touches
-returns-clause-touches g c = rw (← c.self.view_is) c.self.invariant.2
-
-pub returns-clause-err : goal.returns-clause-err
-returns-clause-err g c = tt
-
-pub returns-clause-reason : goal.returns-clause-reason
-returns-clause-reason g c = tt
+pub returns : goal.returns
+returns g c = record {
+  ok = rw (← c.self.view_is) c.in_ok-unsealed.ensures.ok;
+  stored = c.in_ok-unsealed.ensures.stored ∙ ap (λ s. s.stored) c.self.view_is;
+  answers = c.in_ok-unsealed.ensures.answers ∙ ap (λ s. s.answers) c.self.view_is;
+  touches = rw (← c.self.view_is) c.self.invariant.2;
+  err = tt;
+  reason = tt;
+}

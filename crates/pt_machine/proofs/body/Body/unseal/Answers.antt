@@ -44,11 +44,9 @@ unseal-requires-clause-follows g c = c.requires.follows
 pub unseal-requires-clause-told : goal.unseal-requires-clause-told
 unseal-requires-clause-told g c = c.requires.told
 
-pub returns-clause-stored : goal.returns-clause-stored
-returns-clause-stored g c = c.unseal.ensures.stored
-
-pub returns-clause-answers : goal.returns-clause-answers
-returns-clause-answers g c = c.unseal.ensures.answers
-
-pub returns-clause-read : goal.returns-clause-read
-returns-clause-read g c = c.unseal.ensures.read
+pub returns : goal.returns
+returns g c = record {
+  stored = c.unseal.ensures.stored;
+  answers = c.unseal.ensures.answers;
+  read = c.unseal.ensures.read;
+}
