@@ -137,11 +137,6 @@ first_service-requires g c = c.requires.read
 pub push_overdue-requires-clause-read : goal.push_overdue-requires-clause-read
 push_overdue-requires-clause-read g c = c.requires.read
 
-pub first_due-requires-clause-unserved : goal.first_due-requires-clause-unserved
-first_due-requires-clause-unserved g c =
-    let h = past c.args.self.now in
-    ap (service_if h) (subst (IsService h _) c.in_default.is c.first_service.ensures)
-
 pub returns-in-None : goal.returns-in-None
 returns-in-None g c = record {
   pushed = λ pushed. absurd (false≢true pushed);
