@@ -1,15 +1,10 @@
-use Rattle.std.proofs.Common.{ℕ, ◌+◌, ◌<◌, ◌≤◌, ap, sym, ◌∙◌, length, map, subst, arith}
-use Rattle.pt_model.specs.Histories.{Begin, History}
+use Rattle.std.proofs.Common.{ℕ, ◌+◌, ◌<◌, ◌≤◌, ap, sym, ◌∙◌, length, subst, arith}
+use Rattle.pt_model.specs.Histories.{History}
 use Rattle.pt_model.specs.Room.{entry_for}
 use Rattle.pt_state.specs.Adds.{Adds, past}
 use Rattle.pt_machine.proofs.UnsealedBodies.{past-renewed}
-use Rattle.pt_history.specs.Stored.{past_of}
 use Rattle.pt_model.specs.Answers.{told}
-use Rattle.pt_model.specs.Forced.{forced}
-use Rattle.pt_model.specs.Seals.{seal}
-use Rattle.pt_model.specs.Steps.{Follows, Step}
-use Rattle.pt_records.specs.Logs.{log, logged}
-use Rattle.pt_machine.specs.LastTouched.{IsTouched}
+use Rattle.pt_model.specs.Steps.{Step}
 use Rattle.pt_machine.proofs.body.Body.push_outer_sealed.Goals as goal
 
 pub returns-in-Ok : goal.returns-in-Ok
@@ -83,33 +78,3 @@ push_outer-requires-clause-ready g c =
           (spare-sealed _ _ _ (subst (λ (h : History). length (told h (entry_for h e))
           ≤ c.args.room) (sym begins) c.requires.spare) seals.held);
     }
-
-pub unseal-requires-clause-read : goal.unseal-requires-clause-read
-unseal-requires-clause-read g c = c.in-Err.ensures.err.read
-
-pub unseal-requires-clause-begins : goal.unseal-requires-clause-begins
-unseal-requires-clause-begins g c =
-    ap past_of c.in-Err.ensures.err.stored
-    ∙ past-renewed c.args.self.now c.seal_with_room.new.self c.args.room c.in_ok-before.ensures.ok
-    ∙ ap (λ x. Begin (seal (past_of x))) (sym c.in_ok-before.ensures.stored)
-
-pub unseal-requires-clause-follows : goal.unseal-requires-clause-follows
-unseal-requires-clause-follows g c =
-    subst (λ x. Follows (past_of x)) (sym c.in_ok-before.ensures.stored) c.requires.read.follows
-
-pub unseal-requires-clause-settled : goal.unseal-requires-clause-settled
-unseal-requires-clause-settled g c =
-    ap (λ x. forced (past_of x)) c.in_ok-before.ensures.stored ∙ c.requires.settled
-
-pub unseal-requires-clause-told : goal.unseal-requires-clause-told
-unseal-requires-clause-told g c =
-    ap (λ a. map logged a.items) c.in_ok-before.ensures.answers
-    ∙ c.requires.read.answers
-    ∙ ap (λ x. log (past_of x)) (sym c.in_ok-before.ensures.stored)
-
-pub unseal-requires-clause-touches : goal.unseal-requires-clause-touches
-unseal-requires-clause-touches g c =
-    let before = c.in_ok-before.before in
-    subst (λ x. IsTouched (past_of x) before.touched before.entering)
-    (sym c.in_ok-before.ensures.stored)
-    c.in_ok-before.ensures.touches
