@@ -1,5 +1,7 @@
 use Rattle.pt_machine.proofs.TimedStates.{just-set, none-next, taken, timed-left, timed-refused}
-use Rattle.std.proofs.Common.{refl}
+use Rattle.std.proofs.Common.{refl, sym, subst}
+use Rattle.pt_state.specs.Adds.{past}
+use Rattle.pt_machine.specs.Timed.{AreTimed}
 use Rattle.pt_machine.proofs.clock.push_timed.Goals as goal
 
 -- no call has come at the next place
@@ -7,21 +9,6 @@ pub set-requires-clause-unset : goal.set-requires-clause-unset
 set-requires-clause-unset g c =
     none-next c.args.state.now c.args.timers.now c.args.c c.args.call.now c.requires.ready
     c.requires.timed c.len-place.result c.len-place.ensures
-
-pub returns-in-Err-clause-err : goal.returns-in-Err-clause-err
-returns-in-Err-clause-err g c =
-    record {
-      stored = refl;
-      read = c.requires.ready.read;
-      held = refl;
-      told = refl;
-    }
-
-pub returns-in-Err-clause-queued : goal.returns-in-Err-clause-queued
-returns-in-Err-clause-queued g c = c.requires.queued
-
-pub returns-in-Err-clause-ok : goal.returns-in-Err-clause-ok
-returns-in-Err-clause-ok g c = tt
 
 pub set-requires-clause-good : goal.set-requires-clause-good
 set-requires-clause-good g c = c.requires.good
@@ -65,4 +52,18 @@ returns-in-Err-push_left g c = record {
       c.nanos.result
       (just-set c.args.timers.now c.set.new.self c.len-place.result c.clock_of-clock.result
       c.nanos.result _ c.nanos.ensures c.in_default.ensures.ok) c.cancel.ensures);
+}
+
+pub returns-in-Err : goal.returns-in-Err
+returns-in-Err g c = record {
+  ok = tt;
+  err = record {
+        stored = refl;
+        read = c.requires.ready.read;
+        held = refl;
+        told = refl;
+      };
+  reason = c.in-Err.ensures.refusal;
+  queued = c.requires.queued;
+  timed = subst (AreTimed (past c.args.state.now)) (sym c.in-Err.ensures.err) c.requires.timed;
 }

@@ -58,3 +58,17 @@ returns-in-None g c = record {
       (ap (option_map called) c.copied.ensures ∙ c.first_waiting.ensures.value) None c.in-None.is))
       c.requires.queued);
 }
+
+pub push_wake-requires-clause-first : goal.push_wake-requires-clause-first
+push_wake-requires-clause-first g c =
+    first-named (past c.args.state.now) c.args.n.now c.unwrap-q.result
+    c.copied.result (sym c.requires.found ∙ c.unwrap-q.ensures)
+    (ap (option_map called) c.copied.ensures ∙ c.first_waiting.ensures.value)
+    (Some c.in-Some.first) c.in-Some.is
+
+pub push_woken-requires-clause-first : goal.push_woken-requires-clause-first
+push_woken-requires-clause-first g c =
+    first-named (past c.args.state.now) c.args.n.now c.unwrap-q.result
+    c.copied.result (sym c.requires.found ∙ c.unwrap-q.ensures)
+    (ap (option_map called) c.copied.ensures ∙ c.first_waiting.ensures.value) None
+    c.in-None.is

@@ -16,3 +16,24 @@ returns-else-is_last g c =
     (object_value t.objects c.m.inside.0)) c.self.view_is
     ∙ (last-kept h (object_value s.objects) c.requires.follows c.requires.object_rows.look
     c.args.c c.m.inside.0 ∙ ap (last_lock h c.args.c) c.m.view_is)))
+
+pub returns-then-is_last : goal.returns-then-is_last
+returns-then-is_last g c =
+    let s = c.args.self.now in
+    let h = past s in
+    sym (ap one_if (sym c.is_last.ensures ∙ c.if-is_last.true))
+    ∙ (ap (counted (λ x. one_if (is_last_lock c.args.c x))) c.in-Some.ensures
+    ∙ (ap (λ t. counted (λ x. one_if (is_last_lock c.args.c x))
+    (object_value t.objects c.m.inside.0)) c.self.view_is
+    ∙ (last-kept h (object_value s.objects) c.requires.follows c.requires.object_rows.look
+    c.args.c c.m.inside.0 ∙ ap (last_lock h c.args.c) c.m.view_is)))
+
+pub returns-in-None : goal.returns-in-None
+returns-in-None g c =
+    let s = c.args.self.now in
+    let h = past s in
+    ap (counted (λ x. one_if (is_last_lock c.args.c x))) c.in-None.ensures
+    ∙ (ap (λ t. counted (λ x. one_if (is_last_lock c.args.c x))
+    (object_value t.objects c.m.inside.0)) c.self.view_is
+    ∙ (last-kept h (object_value s.objects) c.requires.follows c.requires.object_rows.look
+    c.args.c c.m.inside.0 ∙ ap (last_lock h c.args.c) c.m.view_is))

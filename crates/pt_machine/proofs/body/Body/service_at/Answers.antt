@@ -1,4 +1,4 @@
-use Rattle.std.proofs.Common.{◌≡◌, Some, false, option_map, rules, sym, ap, ◌∙◌, subst}
+use Rattle.std.proofs.Common.{◌≡◌, Some, false, option_map, sym, ap, ◌∙◌, subst}
 use Rattle.pt_types.specs.declared.operations.ObjectClass.TheVariants.{Barrier as BarrierClass}
 use Rattle.pt_model.specs.Objects.{is_class, kind_of}
 use Rattle.pt_model.specs.Queries.{client_at}
@@ -9,6 +9,7 @@ use Rattle.pt_state.specs.Adds.{past}
 use Rattle.pt_touched.specs.Candidates.{candidate, candidate_by, mutex_candidate, rwlock_candidate}
 use Rattle.pt_machine.specs.Services.{IsService}
 use Rattle.pt_machine.proofs.ServiceLemmas.{call-service}
+use Rattle.std.specs.Option.{option_copied}
 use Rattle.pt_machine.proofs.body.Body.service_at.Goals as goal
 
 pub returns-in-Mutex : goal.returns-in-Mutex
@@ -16,7 +17,12 @@ returns-in-Mutex g c =
     let s = c.args.self.now in
     let h = past s in
     let o = c.args.o in
-    let stored : object_value s.objects o ≡ Some (row.Mutex c.in-Mutex.mutex) = search rules in
+    let stored : object_value s.objects o ≡ Some (row.Mutex c.in-Mutex.mutex) =
+    ap (object_value c.args.self.now.objects) (sym c.o.view_is)
+    ∙ ap (λ t. object_value t.objects c.o.inside.0) (sym c.self.view_is)
+    ∙ sym c.at.ensures
+    ∙ ap option_copied c.in_ok-mutex.was
+    ∙ ap Some c.in-Mutex.is in
     let other : is_class (kind_of h o) BarrierClass ≡ false =
     ap (λ k. is_class k BarrierClass)
     (sym (c.requires.object_rows.look.kinds o) ∙ ap (option_map kind_in_row) stored) in
@@ -32,7 +38,12 @@ returns-in-Rwlock g c =
     let s = c.args.self.now in
     let h = past s in
     let o = c.args.o in
-    let stored : object_value s.objects o ≡ Some (row.Rwlock c.in-Rwlock.lock) = search rules in
+    let stored : object_value s.objects o ≡ Some (row.Rwlock c.in-Rwlock.lock) =
+    ap (object_value c.args.self.now.objects) (sym c.o.view_is)
+    ∙ ap (λ t. object_value t.objects c.o.inside.0) (sym c.self.view_is)
+    ∙ sym c.at.ensures
+    ∙ ap option_copied c.in_ok-mutex.was
+    ∙ ap Some c.in-Rwlock.is in
     let other : is_class (kind_of h o) BarrierClass ≡ false =
     ap (λ k. is_class k BarrierClass)
     (sym (c.requires.object_rows.look.kinds o) ∙ ap (option_map kind_in_row) stored) in
@@ -51,3 +62,27 @@ rwlock_candidate-requires-clause-read g c = c.requires
 
 pub mutex_candidate-requires-clause-read : goal.mutex_candidate-requires-clause-read
 mutex_candidate-requires-clause-read g c = c.requires
+
+pub mutex_candidate-requires-clause-stored : goal.mutex_candidate-requires-clause-stored
+mutex_candidate-requires-clause-stored g c =
+    ap (object_value c.args.self.now.objects) (sym c.o.view_is)
+    ∙ ap (λ t. object_value t.objects c.o.inside.0) (sym c.self.view_is)
+    ∙ sym c.at.ensures
+    ∙ ap option_copied c.in_ok-mutex.was
+    ∙ ap Some c.in-Mutex.is
+
+pub rwlock_candidate-requires-clause-stored : goal.rwlock_candidate-requires-clause-stored
+rwlock_candidate-requires-clause-stored g c =
+    ap (object_value c.args.self.now.objects) (sym c.o.view_is)
+    ∙ ap (λ t. object_value t.objects c.o.inside.0) (sym c.self.view_is)
+    ∙ sym c.at.ensures
+    ∙ ap option_copied c.in_ok-mutex.was
+    ∙ ap Some c.in-Rwlock.is
+
+pub barrier_service-requires-clause-stored : goal.barrier_service-requires-clause-stored
+barrier_service-requires-clause-stored g c =
+    ap (object_value c.args.self.now.objects) (sym c.o.view_is)
+    ∙ ap (λ t. object_value t.objects c.o.inside.0) (sym c.self.view_is)
+    ∙ sym c.at.ensures
+    ∙ ap option_copied c.in_ok-mutex.was
+    ∙ ap Some c.in-Barrier.is
