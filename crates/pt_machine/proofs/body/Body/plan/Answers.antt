@@ -1,4 +1,4 @@
-use Rattle.std.proofs.Common.{◌≡◌, arith, sym, ap, ◌∙◌, subst}
+use Rattle.std.proofs.Common.{◌≡◌, ℕ, ◌+◌, ◌-◌, ◌≤◌, arith, sym, ap, ◌∙◌, subst}
 use Rattle.pt_model.specs.declared.entry.Entry.{Entry}
 use Rattle.pt_model.specs.Room.{need}
 use Rattle.pt_model.specs.Steps.{Step}
@@ -8,6 +8,21 @@ use Rattle.pt_state.specs.Needed.{added_by, used_by}
 use Rattle.pt_machine.proofs.NeedLimits.{need-most}
 use Rattle.pt_machine.proofs.NeedSteps.{need-event}
 use Rattle.pt_machine.proofs.body.Body.plan.Goals as goal
+
+-- what is reserved after an entry, by what it adds and uses
+needs-next : (now before added used a u next : ℕ) → now ≡ before → added ≡ a → used ≡ u
+    → next + u ≡ before + a → now + added - used ≡ next
+needs-next now before added used a u next same adds uses step = omega arith
+
+-- it uses no more than there is
+uses-less : (now before added used a u next : ℕ) → now ≡ before → added ≡ a → used ≡ u
+    → next + u ≡ before + a → used ≤ now + added
+uses-less now before added used a u next same adds uses step = omega arith
+
+-- and there is never more than so much
+needs-few : (now before added used : ℕ) → now ≡ before → before ≤ 8192 → added ≤ 3
+    → now + added - used ≤ 8195
+needs-few now before added used same most small = omega arith
 
 pub change_by-change-requires-clause-step : goal.change_by-change-requires-clause-step
 change_by-change-requires-clause-step g c =
@@ -27,13 +42,9 @@ overflow_sub-result g c =
     let enters = c.answer_at_once-answer.ensures in
     let before : c.self.inside.need ≡ need h =
     c.self.invariant.3.needs ∙ ap (λ s. need (past s)) c.self.view_is in
-    omega (
-      arith,
-      before,
-      c.change_by-change.ensures.adds ∙ ap added_by enters,
-      c.change_by-change.ensures.uses ∙ ap (used_by h) enters,
-      need-event h c.args.event.now c.requires.read.follows c.requires.step,
-    )
+    uses-less _ _ _ _ _ _ _ before (c.change_by-change.ensures.adds ∙ ap added_by enters)
+    (c.change_by-change.ensures.uses ∙ ap (used_by h) enters)
+    (need-event h c.args.event.now c.requires.read.follows c.requires.step)
 
 pub returns : goal.returns
 returns g c = record {
@@ -44,13 +55,10 @@ returns g c = record {
       record {
         asks = c.request-request.ensures;
         enters = enters;
-        needs = omega (
-          arith,
-          before,
-          c.change_by-change.ensures.adds ∙ ap added_by enters,
-          c.change_by-change.ensures.uses ∙ ap (used_by h) enters,
-          need-event h c.args.event.now c.requires.read.follows c.requires.step,
-        );
+        needs = needs-next _ _ _ _ _ _ _ before
+            (c.change_by-change.ensures.adds ∙ ap added_by enters)
+            (c.change_by-change.ensures.uses ∙ ap (used_by h) enters)
+            (need-event h c.args.event.now c.requires.read.follows c.requires.step);
         touches = c.change_by-change.ensures.touches ∙ ap (touched_by h) enters;
         at_once = c.is_at_once.ensures.granted;
         unopposed = c.is_at_once.ensures.unopposed;
@@ -58,7 +66,7 @@ returns g c = record {
   small = let s = c.args.self.now in
       let before : c.self.inside.need ≡ need (past s) =
       c.self.invariant.3.needs ∙ ap (λ s. need (past s)) c.self.view_is in
-      omega (arith, before, need-most s c.requires.read, c.change_by-change.ensures.small);
+      needs-few _ _ _ _ before (need-most s c.requires.read) c.change_by-change.ensures.small;
 }
 
 pub request-request-requires-clause-read : goal.request-request-requires-clause-read

@@ -21,9 +21,6 @@ push_arrival-requires-clause-planned g c = c.requires.planned
 pub push_arrival-requires-clause-waits : goal.push_arrival-requires-clause-waits
 push_arrival-requires-clause-waits g c = c.requires.waits
 
-pub arrival_service-requires : goal.arrival_service-requires
-arrival_service-requires g c = c.push_arrival.ensures.read
-
 pub push_first-requires-clause-read : goal.push_first-requires-clause-read
 push_first-requires-clause-read g c = c.push_arrival.ensures.read
 

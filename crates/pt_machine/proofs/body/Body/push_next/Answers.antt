@@ -131,9 +131,6 @@ first_due-requires-clause-read g c = c.requires.read
 pub push_first-requires-clause-read : goal.push_first-requires-clause-read
 push_first-requires-clause-read g c = c.requires.read
 
-pub first_service-requires : goal.first_service-requires
-first_service-requires g c = c.requires.read
-
 pub push_overdue-requires-clause-read : goal.push_overdue-requires-clause-read
 push_overdue-requires-clause-read g c = c.requires.read
 

@@ -25,6 +25,3 @@ returns-in-Some g c =
 
 pub read_verdict-requires-clause-read : goal.read_verdict-requires-clause-read
 read_verdict-requires-clause-read g c = rw c.self.view_is c.requires.read
-
-pub is_held_back-blocked-requires : goal.is_held_back-blocked-requires
-is_held_back-blocked-requires g c = c.requires.read
