@@ -6,6 +6,7 @@ use Rattle.std.specs.Prelude.{◌==◌, nat_le, find, option_map}
 use Rattle.std.proofs.lemmas.Bool.{lt-leb}
 use Rattle.std.proofs.lemmas.List.{map-append, take-append-drop}
 use Rattle.std.proofs.lemmas.List.Elements.{filter-append}
+use Rattle.std.proofs.Math.ListN.{drop_of_length-le}
 use Rattle.pt_model.specs.Records.{Told}
 use Rattle.pt_records.specs.declared.answers.Answered.{Answered}
 use Rattle.pt_records.specs.Logs.{logged, since, Rises, first_to, first_said, said_by}
@@ -58,6 +59,14 @@ late : (n k i : ℕ) (xs : List Answered) (d : Answered) → Rises n (map logged
 late n k i [] d r lt le = absurd (omega (arith, lt))
 late n k zero (x ∷ xs) d r lt le = (le, r.1)
 late n k (suc i) (x ∷ xs) d r lt le = late x.at k i xs d r.1 (omega (arith, lt)) le
+
+-- none comes after the last one
+pub since-end : (k i : ℕ) (xs : List Answered) → i ≡ length xs → AllSince k (drop i xs)
+since-end k i xs e =
+    subst (λ ys. AllSince k ys) (sym (drop_of_length-le xs (omega (arith, e)))) refl
+
+pub end-within : (i : ℕ) (xs : List Answered) → i ≡ length xs → i ≤ length xs
+end-within i xs e = omega (arith, e)
 
 -- none of these was given since place k
 abbrev pub NoneSince : ℕ → List Answered → Type 0

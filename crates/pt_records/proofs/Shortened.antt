@@ -1,16 +1,16 @@
 -- Answers in short: they stay readable as more come, and what a log reads of them.
 use Rattle.std.proofs.Common.{ℕ, zero, suc, ◌≡◌, ◌-◌, List, [], ◌∷◌, ◌++◌, length}
 use Rattle.std.proofs.Common.{take, drop, slice_index_or, refl, sym, ap, ◌∙◌, arith, subst}
-use Rattle.std.proofs.Common.{length-append, length-drop}
+use Rattle.std.proofs.Common.{length-append, length-drop, ◌+◌, Vec, vec_len, vec_capacity}
 use Rattle.std.specs.List.{All}
 use Rattle.std.proofs.lemmas.List.{append-nil, get_or_append_left, map-append, drop-map}
-use Rattle.std.proofs.lemmas.List.{take_all}
+use Rattle.std.proofs.lemmas.List.{get_or_at, take_all}
 use Rattle.std.proofs.lemmas.List.Elements.{All-append}
 use Rattle.pt_records.specs.declared.answers.Answered.{Answered}
 use Rattle.pt_records.specs.declared.short.Short.{Short}
 use Rattle.pt_records.specs.declared.short.Short.TheVariants.{Near, Whole}
 use Rattle.pt_records.specs.AnswerLogs.{lengthened, lengthened_all, IsThere, AreReadable}
-use Rattle.pt_records.specs.AnswerLogs.{ShortensAlone}
+use Rattle.pt_records.specs.AnswerLogs.{Shortens, ShortensAlone, no_answer}
 
 -- what a short answer refers to stays there, as more answers are stored whole
 there-stays : (ws more : List Answered) (s : Short) → IsThere ws s → IsThere (ws ++ more) s
@@ -62,6 +62,20 @@ pub readable_alone : (b : ℕ) (ws : List Answered) (shorts : List Short) (s : S
     → AreReadable b ws shorts → ShortensAlone b a s → AreReadable b ws (shorts ++ s ∷ [])
 readable_alone b ws shorts s a r one =
     readable-push b ws ws [] shorts s (sym (append-nil ws)) r (one.there ws)
+
+-- an answer that is stored whole
+pub shortens-whole : {A : Type 0} (b : ℕ) (a : Answered) (old new : Vec Answered A) (i : ℕ)
+    → i ≡ vec_len old → new.items ≡ old.items ++ a ∷ [] → vec_len new ≡ vec_len old + 1
+    → vec_capacity new ≡ vec_capacity old → Shortens b a old new (Whole i)
+shortens-whole b a old new i e grown len cap = record {
+  same = ap (λ us. slice_index_or us i no_answer) grown
+      ∙ get_or_at old.items a [] no_answer i (sym old.ok.0 ∙ sym e);
+  there = omega (arith, e, len, new.ok.0);
+  more = a ∷ [];
+  grown = grown;
+  len = omega (arith, len);
+  capacity = cap;
+}
 
 -- all but the first
 pub readable-tail : (b : ℕ) (ws : List Answered) (s : Short) (shorts : List Short)

@@ -1,6 +1,6 @@
 use Rattle.std.proofs.Common.{◌-◌, ◌<◌, ◌≤◌, arith, subst}
 use Rattle.pt_records.specs.AnswerLogs.{no_answer}
-use Rattle.pt_records.proofs.LogParts.{since-found, all-since}
+use Rattle.pt_records.proofs.LogParts.{since-found, all-since, since-end, end-within}
 use Rattle.pt_records.proofs.answers.answered_since.Goals as goal
 
 pub returns-then-given_at-place-clause-rest : goal.returns-then-given_at-place-clause-rest
@@ -20,4 +20,12 @@ loop-i-preserved g c =
           (omega (arith, c.loop-i-test.true, c.loop-i.invariant.within))
           (subst (λ k. c.args.place ≤ k) c.given_at.ensures
           c.if-given_at-place.false);
+    }
+
+pub loop-i-init : goal.loop-i-init
+loop-i-init g c =
+    let xs = c.args.answers.now.items in
+    record {
+      within = end-within c.len-i.result xs c.len-i.ensures;
+      rest = since-end c.args.place c.len-i.result xs c.len-i.ensures;
     }

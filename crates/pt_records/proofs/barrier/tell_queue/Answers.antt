@@ -1,12 +1,24 @@
 use Rattle.std.proofs.Common.{◌≡◌, ℕ, ◌<◌, ◌∷◌, ◌++◌, [], length, map, append-nil, ap, sym, ◌∙◌}
-use Rattle.std.proofs.Common.{subst, arith, length-append, ◌-◌, ◌==◌}
+use Rattle.std.proofs.Common.{subst, arith, length-append, ◌-◌, ◌==◌, ◌+◌, ◌≤◌, List, refl}
 use Rattle.std.specs.Prelude.{IsSome}
 use Rattle.std.proofs.lemmas.Bool.Decides.{nat_tests}
+use Rattle.pt_waitq.specs.declared.waiter.Waiter.{Waiter}
+use Rattle.pt_records.specs.declared.answers.Answered.{Answered}
 use Rattle.pt_records.specs.Arrivals.{answer_to, passed_to, with_serial}
 use Rattle.pt_records.proofs.QueueClears.{emptied-one, first-out, first-split, none-left}
 use Rattle.pt_records.proofs.QueueClears.{others-stay, serial-first, some-first, told-first, taken}
 use Rattle.pt_records.proofs.TripLemmas.{closed-end, closed-more}
 use Rattle.pt_records.proofs.barrier.tell_queue.Goals as goal
+
+one-fewer : (left : ℕ) (old new : List Waiter) (first : Waiter) → left ≡ length old
+    → old ≡ first ∷ new → left - 1 ≡ length new
+one-fewer left old new first is split = omega (arith, is, ap length split)
+
+room-told : (xs ys : List Answered) (a : Answered) (old new : List Waiter) (first : Waiter)
+    (room : ℕ) → length xs + length old ≤ room → ys ≡ xs ++ a ∷ [] → old ≡ first ∷ new
+    → length ys + length new ≤ room
+room-told xs ys a old new first room less told split =
+    omega (arith, less, ap length told, length-append xs (a ∷ []), ap length split)
 
 -- one is left, so there is a first one
 pub unwrap-first-requires : goal.unwrap-first-requires
@@ -55,7 +67,7 @@ loop-left-preserved g c =
     (g.met.Q.WaitList.once c.loop-left.queues first.client b)
     ∙ ap (λ vs. first ∷ vs) (sym (out b)) in
     let fewer : c.loop-left.left - 1 ≡ length (queue' b) =
-    omega (arith, kept.left, ap length split) in
+    one-fewer c.loop-left.left (queue b) (queue' b) first kept.left split in
     let last : (c.loop-left.left - 1 == 0) ≡ (length (queue' b) == 0) =
     ap (λ n. n == 0) fewer in
     let rest = with_serial (map (passed_to at) (queue' b)) in
@@ -70,13 +82,8 @@ loop-left-preserved g c =
           (c.push.ensures.items
           ∙ ap (λ x. c.loop-left.answers.items ++ x ∷ []) c.answer_to-answer.ensures) split
           ∙ kept.told;
-      room = omega (
-        arith,
-        kept.room,
-        ap length c.push.ensures.items,
-        length-append c.loop-left.answers.items (a ∷ []),
-        ap length split,
-      );
+      room = room-told c.loop-left.answers.items c.push.new.self.items a (queue b) (queue' b) first
+          c.args.answers.now.capacity kept.room c.push.ensures.items split;
       capacity = c.push.ensures.capacity ∙ kept.capacity;
       left = fewer;
       closed = closed-more c.args.clients.now c.loop-left.clients c.close_by.new.clients _ _ rest a
@@ -108,4 +115,17 @@ returns g c =
         admitted = kept.admitted;
         made = kept.made;
       };
+    }
+
+pub loop-left-init : goal.loop-left-init
+loop-left-init g c =
+    record {
+      told = refl;
+      room = c.requires;
+      capacity = refl;
+      left = c.len-left.ensures;
+      closed = record { look = λ d. refl; many = refl; once = λ once. once };
+      others = λ q ne. refl;
+      admitted = λ d. refl;
+      made = λ o. refl;
     }

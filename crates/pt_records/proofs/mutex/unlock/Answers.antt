@@ -2,6 +2,7 @@ use Rattle.pt_mutex.specs.MutexState.{released}
 use Rattle.pt_records.specs.declared.objects.Object.TheVariants.{Mutex}
 use Rattle.pt_records.proofs.ChainsKept.{keeps-written}
 use Rattle.pt_records.proofs.ObjectChanges.{writes-mutex}
+use Rattle.pt_records.proofs.RowKinds.{no-mutex, no-object, object-found}
 use Rattle.pt_records.proofs.mutex.unlock.Goals as goal
 
 pub returns-in-Mutex-clause-mutex : goal.returns-in-Mutex-clause-mutex
@@ -14,3 +15,25 @@ returns-in-Mutex-clause-mutex g c =
 pub returns-in-Mutex-clause-chains : goal.returns-in-Mutex-clause-chains
 returns-in-Mutex-clause-chains g c =
     λ x e. keeps-written c.args.objects.now c.m.inside.0 (Mutex c.release.new.self)
+
+pub release-requires : goal.release-requires
+release-requires g c =
+    c.requires.owned c.in-Mutex.mutex
+    (object-found c.args.objects.now c.m.inside.0 c.args.m c.m.view_is c.in-Some.object.now
+    c.in-Some.ensures.value (Mutex c.in-Mutex.mutex) c.in-Mutex.is)
+
+pub returns-in_default-object : goal.returns-in_default-object
+returns-in_default-object g c =
+    let other = no-mutex c.args.objects.now c.m.inside.0 c.args.m c.m.view_is c.in-Some.object.now
+    c.in-Some.ensures.value c.in_default-object.not-Mutex in
+    record { mutex = λ x e. absurd (other x e); chains = λ x e. absurd (other x e) }
+
+pub returns-in_default-clause-mutex : goal.returns-in_default-clause-mutex
+returns-in_default-clause-mutex g c = λ x e.
+    absurd (no-object c.args.objects.now c.m.inside.0 c.args.m c.m.view_is
+    c.in_default.ensures.value (Mutex x) e)
+
+pub returns-in_default-clause-chains : goal.returns-in_default-clause-chains
+returns-in_default-clause-chains g c = λ x e.
+    absurd (no-object c.args.objects.now c.m.inside.0 c.args.m c.m.view_is
+    c.in_default.ensures.value (Mutex x) e)
