@@ -2,7 +2,8 @@
 use Rattle.std.proofs.Common.{◌≡◌, ℕ, ◌+◌, ◌-◌, ◌<◌, ◌≤◌, List, [], ◌∷◌, ◌++◌, length, take, drop}
 use Rattle.std.proofs.Common.{Vec, vec_len, vec_capacity, min, Result, Ok, Err, OnOk, get_or}
 use Rattle.std.proofs.Common.{Option, None, MatchOption, sym, ap, ◌∙◌, subst, arith}
-use Rattle.std.proofs.lemmas.List.{append-nil, nil_from_length, length-map, get_or-map, take_all, length-drop}
+use Rattle.std.proofs.lemmas.List.{append-nil, nil_from_length, length-map, get_or-map, take_all}
+use Rattle.std.proofs.lemmas.List.{length-drop}
 use Rattle.std.proofs.lemmas.List.Elements.{All-drop}
 use Rattle.pt_types.specs.Limits.{most_places}
 use Rattle.pt_records.specs.declared.answers.Answered.{Answered}

@@ -28,7 +28,8 @@ returns-in-Rwlock-clause-row g c =
     lock-changed c.args.objects.now c.r.inside.0 c.args.r c.r.view_is c.in-Some.object.now
     c.in-Some.ensures.value
     (λ x z. ChangesRow x z c.args.c (Some (reads_of x c.args.c + 1)))
-    (λ x. with_reads x c.args.c (reads_of x c.args.c + 1)) c.in-Rwlock.lock c.acquire_read.new.self c.in-Rwlock.is
+    (λ x. with_reads x c.args.c (reads_of x c.args.c + 1))
+    c.in-Rwlock.lock c.acquire_read.new.self c.in-Rwlock.is
     c.acquire_read.ensures.change c.acquire_read.ensures.row
 
 pub returns-in_default-object : goal.returns-in_default-object

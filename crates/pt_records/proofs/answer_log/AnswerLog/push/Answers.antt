@@ -1,7 +1,8 @@
 use Rattle.std.proofs.Common.{refl, sym, subst}
 use Rattle.pt_records.specs.AnswerLogs.{AreReadable}
 use Rattle.pt_records.proofs.Shortened.{readable_alone}
-use Rattle.pt_records.proofs.LogRoom.{one-more, room-left, room-less, room-after, shorts-left, seen-push}
+use Rattle.pt_records.proofs.LogRoom.{one-more, room-left, room-less, room-after, shorts-left}
+use Rattle.pt_records.proofs.LogRoom.{seen-push}
 use Rattle.pt_records.proofs.answer_log.AnswerLog.push.Goals as goal
 
 pub invariant_of-self : goal.invariant_of-self
