@@ -24,3 +24,5 @@ pub mod Calls
 pub mod Wholes
 -- Widened: records whose lists stay, with as much memory or more
 pub mod Widened
+-- Seen: what is seen of a stored history while its fields change
+pub mod Seen

@@ -1,6 +1,8 @@
 use Rattle.std.proofs.Common.{◌∙◌, arith}
 use Rattle.pt_history.proofs.Names.{short-name, wide, as-wide, near-start, room-one, found-there}
 use Rattle.pt_history.proofs.Names.{text-there, text-appended}
+use Rattle.pt_history.specs.Records.{HasText}
+use Rattle.pt_history.proofs.Seen.{if-none, none-holds}
 use Rattle.pt_history.proofs.texts.one_text.Goals as goal
 
 pub overflow_cast-hint : goal.overflow_cast-hint
@@ -36,3 +38,15 @@ returns-clause-some g c =
     let e = c.append.ensures in
     text-appended old c.append.new.texts _ _ _ name.bytes name.name
     (c.in_ok-from.ensures ∙ c.len.ensures ∙ old.ok.0) e.items e.len e.capacity
+
+pub returns-clause-none : goal.returns-clause-none
+returns-clause-none g c = λ e. if-none _ e
+
+pub returns-clause-same : goal.returns-clause-same
+returns-clause-same g c = λ e. if-none _ e
+
+pub returns-in_err-from-clause-some : goal.returns-in_err-from-clause-some
+returns-in_err-from-clause-some g c =
+    none-holds c.from_residual.result
+    (λ p. HasText c.args.texts.now c.args.texts.now c.args.name.now p.0 p.1)
+    c.from_residual.ensures

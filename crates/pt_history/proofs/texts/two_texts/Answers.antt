@@ -1,6 +1,8 @@
 use Rattle.std.proofs.Common.{◌∙◌, arith}
 use Rattle.pt_history.proofs.Names.{short-name, wide, as-wide, near-start, next-wide, next-near}
 use Rattle.pt_history.proofs.Names.{room-one, room-two, found-there, texts-there, texts-appended}
+use Rattle.pt_history.specs.Records.{HasTexts}
+use Rattle.pt_history.proofs.Seen.{if-none, none-holds}
 use Rattle.pt_history.proofs.texts.two_texts.Goals as goal
 
 pub overflow_cast-hint : goal.overflow_cast-hint
@@ -67,3 +69,16 @@ returns-clause-some g c =
     texts-appended old c.append.new.texts c.append-2.new.texts _ _ _ _ _ one.bytes one.name
     other.bytes other.name (c.in_ok-from.ensures ∙ c.len.ensures ∙ old.ok.0)
     e.items e.len e.capacity f.items f.len f.capacity
+
+pub returns-clause-none : goal.returns-clause-none
+returns-clause-none g c = λ e. if-none _ e
+
+pub returns-clause-same : goal.returns-clause-same
+returns-clause-same g c = λ e. if-none _ e
+
+pub returns-in_err-from-clause-some : goal.returns-in_err-from-clause-some
+returns-in_err-from-clause-some g c =
+    none-holds c.from_residual.result
+    (λ p. HasTexts c.args.texts.now c.args.texts.now c.args.one.now c.args.other.now p.0 p.1
+    p.2)
+    c.from_residual.ensures

@@ -5,10 +5,9 @@ use Rattle.pt_history.specs.declared.compact.ForcedEntry.TheVariants.{Grant, Tri
 use Rattle.pt_model.specs.Histories.{is_forced}
 use Rattle.pt_history.specs.Stored.{Stored, IsCounted, entries_of}
 use Rattle.pt_model.specs.StartRows.{rows_of}
-use Rattle.pt_history.proofs.Kept.{entries-more, seen-more, counted-more}
-use Rattle.pt_history.proofs.Kept.{recorded-more}
-use Rattle.pt_history.proofs.Pushed.{memory-left, room-left, within-more, some-room}
-use Rattle.pt_history.proofs.Pushed.{some-memory}
+use Rattle.pt_history.proofs.Kept.{entries-more, seen-more, counted-more, recorded-more}
+use Rattle.pt_history.proofs.Pushed.{memory-left, room-left, within-more, some-room, some-memory}
+use Rattle.pt_history.proofs.Seen.{entries-left}
 use Rattle.pt_history.proofs.stored.History.push_forced.Goals as goal
 
 -- it is no outer entry
@@ -66,3 +65,10 @@ pub overflow_sub-self-2 : goal.overflow_sub-self-2
 overflow_sub-self-2 g c =
     some-memory c.self.inside.room c.args.self.now.room c.self.inside.memory
     (ap (λ (s : Stored). s.room) c.self.view_is) c.requires c.self.invariant.0.enough
+
+pub push_reserved-requires : goal.push_reserved-requires
+push_reserved-requires g c =
+    let i = c.self.inside in
+    entries-left i.start.at i.entries.len i.room i.memory i.limit i.entries.cap
+    c.args.self.now.room c.self.invariant.0 (ap (λ (s : Stored). s.room) c.self.view_is)
+    c.requires

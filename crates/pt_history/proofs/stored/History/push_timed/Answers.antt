@@ -5,8 +5,8 @@ use Rattle.pt_model.specs.StartRows.{rows_of}
 use Rattle.pt_history.proofs.Counts.{one_most, outer-most}
 use Rattle.pt_history.proofs.Kept.{length-entries, entries-more, seen-more, counted-more}
 use Rattle.pt_history.proofs.Kept.{recorded-more}
-use Rattle.pt_history.proofs.Pushed.{memory-left, room-left, within-more, some-room}
-use Rattle.pt_history.proofs.Pushed.{some-memory}
+use Rattle.pt_history.proofs.Pushed.{memory-left, room-left, within-more, some-room, some-memory}
+use Rattle.pt_history.proofs.Seen.{entries-left, seen-kept, counted-kept, recorded-kept}
 use Rattle.pt_history.proofs.stored.History.push_timed.Goals as goal
 
 pub overflow_add-self : goal.overflow_add-self
@@ -63,3 +63,27 @@ pub overflow_sub-self-2 : goal.overflow_sub-self-2
 overflow_sub-self-2 g c =
     some-memory c.self.inside.room c.args.self.now.room c.self.inside.memory
     (ap (λ (s : Stored). s.room) c.self.view_is) c.requires c.self.invariant.0.enough
+
+pub push_reserved-requires : goal.push_reserved-requires
+push_reserved-requires g c =
+    let i = c.self.inside in
+    entries-left i.start.at i.entries.len i.room i.memory i.limit i.entries.cap
+    c.args.self.now.room c.self.invariant.0 (ap (λ (s : Stored). s.room) c.self.view_is)
+    c.requires
+
+pub returns-in_default : goal.returns-in_default
+returns-in_default g c =
+    let i = c.self.inside in
+    seen-kept i.records c.store_short_timed-stored.new.self c.in_default.ensures i.entries.items
+    c.args.self.now (rows_of i.start) i.start.at i.limit i.room c.self.view_is
+
+pub invariant_of-self : goal.invariant_of-self
+invariant_of-self g c =
+    let i = c.self.inside in
+    let new = c.store_short_timed-stored.new.self in (
+      c.self.invariant.0,
+      counted-kept i.records new c.in_default.ensures i.entries.items (rows_of i.start) i.start.at
+          i.outer c.self.invariant.1,
+      recorded-kept i.records new c.in_default.ensures i.entries.items i.memory c.self.invariant.2,
+      c.self.invariant.3,
+    )

@@ -1,4 +1,7 @@
 use Rattle.std.proofs.Common.{refl, arith}
+use Rattle.pt_model.specs.StartRows.{rows_of}
+use Rattle.pt_history.specs.Stored.{entries_of}
+use Rattle.pt_history.proofs.Seen.{seen-sealed}
 use Rattle.pt_history.proofs.stored.History.seal.Goals as goal
 
 pub invariant_of-self : goal.invariant_of-self
@@ -17,3 +20,10 @@ invariant_of-self g c = (
   }),
   c.base-self-inside.ensures,
 )
+
+pub returns : goal.returns
+returns g c =
+    let i = c.self.inside in
+    seen-sealed c.args.self.now (rows_of i.start) (rows_of c.args.start)
+    (entries_of i.start.at i.records i.entries.items) c.args.start.at i.limit i.room
+    c.clear-2.new.self c.clear.new.self.items c.self.view_is c.clear.ensures.items
