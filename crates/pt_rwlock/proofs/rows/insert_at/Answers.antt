@@ -30,3 +30,7 @@ pub returns-in-Ok-clause-order : goal.returns-in-Ok-clause-order
 returns-in-Ok-clause-order g c =
     subst IsInOrder (sym (returns-in-Ok-clause-rows g c))
     (order-inserted c.args.rows.now.items c.args.client 0 c.requires.ordered)
+
+pub returns-in-Err-clause-order : goal.returns-in-Err-clause-order
+returns-in-Err-clause-order g c =
+    subst IsInOrder (sym c.in-Err.ensures.items) c.requires.ordered
