@@ -1,6 +1,7 @@
 -- What is seen of a stored history while its fields change, and of an entry that is read again.
 use Rattle.std.proofs.Common.{◌≡◌, ℕ, ◌+◌, ◌<◌, ◌≤◌, List, [], length, ap, sym, ◌∙◌}
 use Rattle.std.proofs.Common.{Option, Some, None, slice_index_or, subst, arith}
+use Rattle.std.proofs.Common.{refl, vec_len}
 use Rattle.std.specs.Prelude.{IfSome}
 use Rattle.std.proofs.lemmas.List.{get_or_read}
 use Rattle.pt_types.specs.declared.call.Call.{Call}
@@ -12,8 +13,8 @@ use Rattle.pt_history.specs.declared.compact.Answer.{Answer}
 use Rattle.pt_history.specs.declared.compact.Compact.{Compact}
 use Rattle.pt_history.specs.declared.compact.TimeLimit.{TimeLimit}
 use Rattle.pt_history.specs.declared.records.Records.{Records}
-use Rattle.pt_history.specs.Compact.{Parts, answered, limit_at}
-use Rattle.pt_history.specs.Records.{ShowsIfSome}
+use Rattle.pt_history.specs.Compact.{Parts, answered, base_of, limit_at}
+use Rattle.pt_history.specs.Records.{HasRoom, ShowsIfSome}
 use Rattle.pt_history.specs.Stored.{Stored, IsWithin, IsCounted, IsRecorded, begun, entries_of}
 use Rattle.pt_history.proofs.Kept.{viewed}
 
@@ -51,6 +52,31 @@ within-seen n len room other limit most e f g fits = omega (arith, e, f, g, fits
 pub begun-seen : (start : StartRows) (es : List Entry) (limit : ℕ) → start ≡ no_rows → es ≡ []
     → viewed start es limit 0 ≡ begun limit
 begun-seen start es limit e f = rw (e, f)
+
+pub begun-within : (at len limit capacity : ℕ) → at ≡ 0 → len ≡ 0
+    → IsWithin at len 0 0 limit capacity
+begun-within at len limit capacity e f = record {
+  fits = omega (arith, f);
+  enough = omega arith;
+  held = omega (arith, f);
+  places = omega (arith, e);
+}
+
+pub begun-counted : (start : StartRows) (es : List Entry) → start ≡ no_rows → es ≡ []
+    → IsCounted start es 0
+begun-counted start es e f = rw (e, f) (record { before = omega arith; all = refl })
+
+pub begun-recorded : {A : Type 0} (r : Records A) (cs : List Compact) → cs ≡ [] → HasRoom r 0
+    → vec_len r.wholes ≡ 0 → IsRecorded r cs 0
+begun-recorded r cs e room few =
+    rw e (record {
+      stored = λ k d l. absurd (omega arith);
+      room = room;
+      few = omega (arith, few);
+    })
+
+pub begun-base : (at : ℕ) → at ≡ 0 → 0 ≡ base_of at
+begun-base at e = omega (arith, e)
 
 -- the client and the outcome of a call, if it was stored
 pub told-if : {A : Type 0} (b client who : ℕ) (call : Call) (a : Answer) (outcome : Option Outcome)

@@ -1,7 +1,7 @@
 use Rattle.std.proofs.Common.{◌∙◌, arith}
+use Rattle.pt_history.specs.Records.{HasText}
 use Rattle.pt_history.proofs.Names.{short-name, wide, as-wide, near-start, room-one, found-there}
 use Rattle.pt_history.proofs.Names.{text-there, text-appended}
-use Rattle.pt_history.specs.Records.{HasText}
 use Rattle.pt_history.proofs.Seen.{if-none, none-holds}
 use Rattle.pt_history.proofs.texts.one_text.Goals as goal
 

@@ -1,7 +1,7 @@
 use Rattle.std.proofs.Common.{◌∙◌, arith}
+use Rattle.pt_history.specs.Records.{HasTexts}
 use Rattle.pt_history.proofs.Names.{short-name, wide, as-wide, near-start, next-wide, next-near}
 use Rattle.pt_history.proofs.Names.{room-one, room-two, found-there, texts-there, texts-appended}
-use Rattle.pt_history.specs.Records.{HasTexts}
 use Rattle.pt_history.proofs.Seen.{if-none, none-holds}
 use Rattle.pt_history.proofs.texts.two_texts.Goals as goal
 

@@ -1,8 +1,8 @@
 use Rattle.std.proofs.Common.{ap, ◌∙◌}
-use Rattle.pt_records.specs.declared.answers.Answered.{Answered}
-use Rattle.pt_records.proofs.TripLemmas.{closes-client}
 use Rattle.pt_table.specs.ClientRows.{client_value}
+use Rattle.pt_records.specs.declared.answers.Answered.{Answered}
 use Rattle.pt_records.specs.Arrivals.{closed_by}
+use Rattle.pt_records.proofs.TripLemmas.{closes-client}
 use Rattle.pt_records.proofs.CallerWrites.{changes-none}
 use Rattle.pt_records.proofs.barrier.close_by.Goals as goal
 

@@ -1,8 +1,8 @@
 use Rattle.std.proofs.Common.{sym, ap, ◌∙◌}
 use Rattle.std.specs.Option.{option_copied_mut}
 use Rattle.pt_records.specs.Writes.{waiting_by}
-use Rattle.pt_records.proofs.CallerWrites.{writes-by}
 use Rattle.pt_records.specs.declared.clients.Caller.{Caller}
+use Rattle.pt_records.proofs.CallerWrites.{writes-by}
 use Rattle.pt_records.proofs.RowKinds.{client-one}
 use Rattle.pt_records.proofs.cond.wait_at.Goals as goal
 

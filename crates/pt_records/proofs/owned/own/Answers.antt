@@ -1,8 +1,8 @@
 use Rattle.std.proofs.Common.{Some, ap, ◌∙◌}
-use Rattle.pt_records.proofs.Owning.{owned-more}
-use Rattle.pt_records.proofs.Unowned.{unowned-with}
 use Rattle.pt_table.specs.ObjectRows.{has_object}
 use Rattle.pt_table.specs.Linked.{is_linked}
+use Rattle.pt_records.proofs.Owning.{owned-more}
+use Rattle.pt_records.proofs.Unowned.{unowned-with}
 use Rattle.pt_records.proofs.RowKinds.{client-found, no-client}
 use Rattle.pt_records.proofs.owned.own.Goals as goal
 

@@ -1,9 +1,9 @@
+use Rattle.std.proofs.Common.{Some}
 use Rattle.pt_rwlock.specs.RwlockState.{with_row, ChangesRow, reads_of}
 use Rattle.pt_records.specs.declared.objects.Object.TheVariants.{Rwlock}
 use Rattle.pt_records.proofs.ChainsKept.{keeps-written}
 use Rattle.pt_records.proofs.ObjectChanges.{writes-lock, whenever-err}
 use Rattle.pt_records.proofs.RowKinds.{no-lock, no-object, lock-changed}
-use Rattle.std.proofs.Common.{Some}
 use Rattle.pt_records.proofs.rwlock.make_row.Goals as goal
 
 pub returns-in_err-make_row-clause-err : goal.returns-in_err-make_row-clause-err

@@ -1,10 +1,10 @@
+use Rattle.std.proofs.Common.{◌≡◌, ◌-◌, Some, false}
 use Rattle.pt_rwlock.specs.RwlockState.{released, ChangesRow, reads_of}
+use Rattle.pt_types.specs.MutexTable.{is_number}
 use Rattle.pt_records.specs.declared.objects.Object.TheVariants.{Rwlock}
 use Rattle.pt_records.proofs.ChainsKept.{keeps-written}
 use Rattle.pt_records.proofs.ObjectChanges.{writes-lock}
 use Rattle.pt_records.proofs.RowKinds.{no-lock, no-object, object-found, lock-changed}
-use Rattle.std.proofs.Common.{◌≡◌, ◌-◌, Some, false}
-use Rattle.pt_types.specs.MutexTable.{is_number}
 use Rattle.pt_records.proofs.rwlock.release_lock.Goals as goal
 
 pub returns-in-Rwlock-clause-lock : goal.returns-in-Rwlock-clause-lock

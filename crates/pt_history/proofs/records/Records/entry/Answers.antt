@@ -1,13 +1,13 @@
-use Rattle.std.proofs.Common.{subst, ℕ, ◌+◌, List, ap, sym, ◌∙◌}
-use Rattle.pt_history.specs.declared.compact.Compact.{Compact}
-use Rattle.pt_history.specs.Compact.{IsStored, answered, decoded}
-use Rattle.pt_history.specs.Records.{parts_of}
+use Rattle.std.proofs.Common.{subst, ℕ, ◌+◌, List, ap, sym, ◌∙◌, ◌<◌}
 use Rattle.std.proofs.lemmas.List.{get_or_read}
 use Rattle.pt_types.specs.declared.call.Call.{Call as CallWords}
 use Rattle.pt_types.specs.declared.call.Call.TheVariants.{BarrierInit}
 use Rattle.pt_model.specs.declared.entry.Entry.TheVariants.{Call as CallEntry}
 use Rattle.pt_model.specs.declared.entry.Entry.TheVariants.{Moment as MomentEntry}
 use Rattle.pt_model.specs.declared.entry.Entry.TheVariants.{Trip as TripEntry}
+use Rattle.pt_history.specs.declared.compact.Compact.{Compact}
+use Rattle.pt_history.specs.Compact.{IsStored, answered, decoded}
+use Rattle.pt_history.specs.Records.{parts_of}
 use Rattle.pt_history.proofs.records.Records.entry.Goals as goal
 
 pub name-requires : goal.name-requires
@@ -78,3 +78,15 @@ returns-in-Whole g c =
     (subst (λ (x : Compact). IsStored p x) c.in-Whole.is c.requires.stored)
     c.index-in-Whole.ensures (TripEntry 0)
     ∙ sym (ap (decoded c.args.base (parts_of c.args.self.now)) c.in-Whole.is))
+
+pub index-requires : goal.index-requires
+index-requires g c =
+    let p = parts_of c.args.self.now in
+    subst (λ (n : ℕ). c.in-Moment.index < n) (sym c.args.self.now.moments.ok.0)
+    (subst (λ (x : Compact). IsStored p x) c.in-Moment.is c.requires.stored)
+
+pub index-requires-in-Whole : goal.index-requires-in-Whole
+index-requires-in-Whole g c =
+    let p = parts_of c.args.self.now in
+    subst (λ (n : ℕ). c.in-Whole.index < n) (sym c.args.self.now.wholes.ok.0)
+    (subst (λ (x : Compact). IsStored p x) c.in-Whole.is c.requires.stored)

@@ -1,10 +1,10 @@
 use Rattle.std.proofs.Common.{◌≡◌, ◌+◌, ℕ, ap, cond, refl, subst, arith}
+use Rattle.pt_model.specs.Histories.{is_forced}
+use Rattle.pt_model.specs.StartRows.{rows_of}
 use Rattle.pt_history.specs.Compact.{forced_entry}
 use Rattle.pt_history.specs.declared.compact.ForcedEntry.{ForcedEntry}
 use Rattle.pt_history.specs.declared.compact.ForcedEntry.TheVariants.{Grant, Trip, Yield, Expire}
-use Rattle.pt_model.specs.Histories.{is_forced}
 use Rattle.pt_history.specs.Stored.{Stored, IsCounted, entries_of}
-use Rattle.pt_model.specs.StartRows.{rows_of}
 use Rattle.pt_history.proofs.Kept.{entries-more, seen-more, counted-more, recorded-more}
 use Rattle.pt_history.proofs.Pushed.{memory-left, room-left, within-more, some-room, some-memory}
 use Rattle.pt_history.proofs.Seen.{entries-left}

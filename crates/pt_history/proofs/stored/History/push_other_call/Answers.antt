@@ -1,7 +1,7 @@
 use Rattle.std.proofs.Common.{◌≡◌, ap, refl, arith}
 use Rattle.pt_model.specs.declared.entry.Entry.TheVariants.{Call as CallEntry}
-use Rattle.pt_history.specs.Stored.{Stored, entries_of}
 use Rattle.pt_model.specs.StartRows.{rows_of}
+use Rattle.pt_history.specs.Stored.{Stored, entries_of}
 use Rattle.pt_history.proofs.Counts.{one_most, outer-most}
 use Rattle.pt_history.proofs.Kept.{length-entries, entries-more, seen-more, counted-more}
 use Rattle.pt_history.proofs.Kept.{recorded-more}

@@ -1,6 +1,6 @@
 use Rattle.std.proofs.Common.{length, ap, sym, ◌∙◌}
-use Rattle.pt_history.specs.Stored.{Stored}
 use Rattle.pt_model.specs.StartRows.{rows_of}
+use Rattle.pt_history.specs.Stored.{Stored}
 use Rattle.pt_history.proofs.Room.{seen-length}
 use Rattle.pt_history.proofs.Seen.{within-seen}
 use Rattle.pt_history.proofs.stored.History.room.Goals as goal

@@ -1,6 +1,6 @@
+use Rattle.std.proofs.Common.{length}
 use Rattle.pt_records.proofs.LogRoom.{more-asked, room-asked, ok-less, room-enough, room-within}
 use Rattle.pt_records.proofs.LogRoom.{room-short}
-use Rattle.std.proofs.Common.{length}
 use Rattle.pt_records.proofs.answer_log.AnswerLog.reserve.Goals as goal
 
 pub returns-then-many-self-clause-ok : goal.returns-then-many-self-clause-ok

@@ -1,8 +1,8 @@
 use Rattle.std.proofs.Common.{ℕ, ◌+◌, ◌==◌, cond, List, Some, ap, sym, ◌∙◌}
-use Rattle.pt_rwlock.specs.RowPlaces.{place_in}
 use Rattle.std.specs.Map.{lookup}
 use Rattle.std.specs.Ordering.{nat_cmp}
 use Rattle.std.specs.BTreeMap.{is_at}
+use Rattle.pt_rwlock.specs.RowPlaces.{place_in}
 use Rattle.pt_rwlock.proofs.rows.Rows.add_read.Goals as goal
 
 pub set-requires-clause-place : goal.set-requires-clause-place

@@ -1,8 +1,8 @@
 use Rattle.std.proofs.Common.{ℕ, ◌==◌, cond, List, Some, ap, sym, ◌∙◌, subst}
-use Rattle.pt_rwlock.specs.RowPlaces.{IsInOrder, place_in}
 use Rattle.std.specs.Map.{lookup}
 use Rattle.std.specs.Ordering.{nat_cmp}
 use Rattle.std.specs.BTreeMap.{is_at, insert_entry}
+use Rattle.pt_rwlock.specs.RowPlaces.{IsInOrder, place_in}
 use Rattle.pt_rwlock.proofs.SeenRows.{whenever-err}
 use Rattle.pt_rwlock.proofs.rows.Rows.insert.Goals as goal
 
