@@ -1,11 +1,17 @@
 -- Forget: what is left of a list as elements are taken away from its end to its start.
 use Rattle.std.proofs.Common.{◌≡◌, ℕ, zero, suc, ◌-◌, ◌<◌, ◌≤◌, Bool, true, false, cond, List, []}
 use Rattle.std.proofs.Common.{◌∷◌, ◌++◌, length, take, drop, filter, get_or, refl, sym, ap, ◌∙◌}
-use Rattle.std.proofs.Common.{subst, arith}
+use Rattle.std.proofs.Common.{subst, arith, length-append, length-take}
 use Rattle.std.specs.List.{remove}
 
 pub one-less : (i n : ℕ) → i ≤ n → i - 1 ≤ n
 one-less i n h = omega arith
+
+pub goes-down : (i : ℕ) → 0 < i → i - 1 < i
+goes-down i some = omega arith
+
+pub at-most : (i n : ℕ) → i ≡ n → i ≤ n
+at-most i n e = omega arith
 
 module _ {X : Type 0} (p : X → Bool) where
   all-kept : (old : List X)
@@ -18,6 +24,13 @@ module _ {X : Type 0} (p : X → Bool) where
       → old ≡ take i old ++ filter p (drop i old)
   kept-first old i e =
       subst (λ n. old ≡ take n old ++ filter p (drop n old)) (sym e) (all-kept old)
+
+  -- there is an element ahead of an index
+  pub stands-ahead : (old xs : List X) (i len : ℕ) → 0 < i → i ≤ length old
+      → xs ≡ take i old ++ filter p (drop i old) → len ≡ length xs → i - 1 < len
+  stands-ahead old xs i len some le e fits =
+      let parts = length-append (take i old) (filter p (drop i old)) in
+      omega (arith, ap length e, parts, length-take i old)
 
   stays : (old xs : List X) (k : ℕ) (x : X) → k < length old
       → xs ≡ take (suc k) old ++ filter p (drop (suc k) old) → x ≡ get_or xs k x → p x ≡ true

@@ -14,6 +14,9 @@ use Rattle.pt_waitq.specs.Highest.{IsBound, IsHighestChain}
 abbrev pub IsRaised : ℕ → Option ℕ → Option ℕ → Type 0
 IsRaised p h raised = MatchOption h (raised ≡ Some p) (λ i. raised ≡ Some (max i p))
 
+one-less : (n : ℕ) → n - 1 ≤ n
+one-less n = omega arith
+
 -- the counts after the one at p became n
 abbrev pub IsStepped : List ℕ → List ℕ → ℕ → ℕ → Type 0
 IsStepped old new p n =
@@ -78,6 +81,19 @@ module _ (old new : List ℕ) (p n : ℕ) (within : p < most_priority)
   lowered-bound (Some h) le a =
       (a.0, λ i lt above. stays-zero le i lt (a.2 i lt above))
 
+  -- a chain that is made shorter and isn't empty then
+  pub stays-highest : (h : Option ℕ) → n ≤ slice_index old p → slice_index new p ≢ 0
+      → IsHighestChain old h → IsHighestChain new h
+  stays-highest None le some a = λ i lt. stays-zero le i lt (a i lt)
+  stays-highest (Some h) le some a =
+      (a.0, λ z. go (p == h) refl z, λ i lt above. stays-zero le i lt (a.2 i lt above))
+    where
+      go : (b : Bool) → (p == h) ≡ b → slice_index new h ≡ 0 → ⊥
+      go true e z =
+          let same : p ≡ h = grind (arith, nat_tests) in
+          some (ap (slice_index new) same ∙ z)
+      go false e z = a.1 (sym (off h a.0 e) ∙ z)
+
 -- the highest of each kind, after one more of this kind
 abbrev pub AreRaised : Bool → ℕ → Option ℕ → Option ℕ → Option ℕ → Option ℕ → Type 0
 AreRaised true p w r w' r' = IsRaised p w w' × (r' ≡ r)
@@ -115,6 +131,50 @@ take-bound true old new p w r within step a =
     lowered-bound old.writers.counts new.writers.counts p _ within step w (omega arith) a.0
 take-bound false old new p w r within step a =
     lowered-bound old.readers.counts new.readers.counts p _ within step r (omega arith) a.1
+
+-- one of a kind is taken out
+module _ (k : Bool) (old new : Queue) (p : ℕ) (w r : Option ℕ) (within : p < most_priority)
+    (other : side_of (not k) new ≡ side_of (not k) old)
+    (step : IsStepped (side_of k old).counts (side_of k new).counts p
+    (slice_index (side_of k old).counts p - 1))
+    (a : IsHighestChain old.writers.counts w × IsHighestChain old.readers.counts r) where
+  pub writers-change : k ≡ true → (w' : Option ℕ) → IsHighestChain new.writers.counts w'
+      → IsHighestChain new.writers.counts w' × IsHighestChain new.readers.counts r
+  writers-change is w' h =
+      let same = subst (λ l. side_of (not l) new ≡ side_of (not l) old) is other in
+      (h, subst (λ (s : Side). IsHighestChain s.counts r) (sym same) a.1)
+
+  pub readers-change : k ≡ false → (r' : Option ℕ) → IsHighestChain new.readers.counts r'
+      → IsHighestChain new.writers.counts w × IsHighestChain new.readers.counts r'
+  readers-change is r' h =
+      let same = subst (λ l. side_of (not l) new ≡ side_of (not l) old) is other in
+      (subst (λ (s : Side). IsHighestChain s.counts w) (sym same) a.0, h)
+
+  step-of : (l : Bool) → k ≡ l → IsStepped (side_of l old).counts (side_of l new).counts p
+      (slice_index (side_of l old).counts p - 1)
+  step-of l is =
+      subst (λ m. IsStepped (side_of m old).counts (side_of m new).counts p
+      (slice_index (side_of m old).counts p - 1)) is step
+
+  pub writers-stay : k ≡ true → slice_index new.writers.counts p ≢ 0
+      → IsHighestChain new.writers.counts w × IsHighestChain new.readers.counts r
+  writers-stay is some =
+      writers-change is w
+      (stays-highest old.writers.counts new.writers.counts p _ within (step-of true is) w
+      (one-less (slice_index old.writers.counts p)) some a.0)
+
+  pub readers-stay : k ≡ false → slice_index new.readers.counts p ≢ 0
+      → IsHighestChain new.writers.counts w × IsHighestChain new.readers.counts r
+  readers-stay is some =
+      readers-change is r
+      (stays-highest old.readers.counts new.readers.counts p _ within (step-of false is) r
+      (one-less (slice_index old.readers.counts p)) some a.1)
+
+pub some-wait : (was now : Queue) → was ≡ now → 1 ≤ now.len → was.len ≢ 0
+some-wait was now same some z = let len = ap (λ (q : Queue). q.len) same in omega (arith, len)
+
+pub some-left : (n : ℕ) → n ≢ 0 → false ≡ (n == 0)
+some-left n some = grind (arith, nat_tests, some)
 
 -- no one waits
 pub none-highest : (q : Queue) → HasNone q

@@ -60,3 +60,7 @@ mod GrowthLemmas
 mod ForgetLemmas
 -- SlotLemmas: what is read of nodes after one is written
 mod SlotLemmas
+-- RoomLemmas: what fits a list as room is made and elements are put in
+mod RoomLemmas
+-- JoinedLemmas: what is done to a queue's box, once all that wait are in it
+mod JoinedLemmas

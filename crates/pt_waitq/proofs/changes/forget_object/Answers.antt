@@ -1,5 +1,6 @@
-use Rattle.std.proofs.Common.{ℕ, ◌==◌, not, length, sym, ap, ◌∙◌}
-use Rattle.pt_waitq.proofs.ForgetLemmas.{one-less, kept-more, kept-less, kept-last}
+use Rattle.std.proofs.Common.{ℕ, ◌==◌, not, length, refl, sym, ap, ◌∙◌}
+use Rattle.pt_waitq.proofs.ForgetLemmas.{one-less, goes-down, at-most}
+use Rattle.pt_waitq.proofs.ForgetLemmas.{kept-first, stands-ahead, kept-more, kept-less, kept-last}
 use Rattle.pt_waitq.proofs.changes.forget_object.Goals as goal
 
 pub loop-i-preserved-then-eq : goal.loop-i-preserved-then-eq
@@ -28,3 +29,32 @@ pub returns : goal.returns
 returns g c =
     kept-last (λ (x : ℕ). not (x == c.args.object)) c.args.objects.now.items c.loop-i.objects.items
     c.loop-i.i c.loop-i-test.false c.loop-i.invariant.1
+
+pub loop-i-init : goal.loop-i-init
+loop-i-init g c =
+    let old = c.args.objects.now in
+    let all = c.len-i.ensures ∙ old.ok.0 in (
+      at-most c.len-i.result (length old.items) all,
+      kept-first (λ (x : ℕ). not (x == c.args.object)) old.items c.len-i.result all,
+      refl,
+    )
+
+pub index-requires : goal.index-requires
+index-requires g c =
+    let now = c.loop-i.objects in
+    let kept = c.loop-i.invariant in
+    stands-ahead (λ (x : ℕ). not (x == c.args.object)) c.args.objects.now.items now.items
+    c.loop-i.i now.len c.loop-i-test.true kept.0 kept.1 now.ok.0
+
+pub remove-requires : goal.remove-requires
+remove-requires g c =
+    let now = c.loop-i.objects in
+    let kept = c.loop-i.invariant in
+    stands-ahead (λ (x : ℕ). not (x == c.args.object)) c.args.objects.now.items now.items
+    c.loop-i.i now.len c.loop-i-test.true kept.0 kept.1 now.ok.0
+
+pub loop-i-smaller : goal.loop-i-smaller
+loop-i-smaller g c = goes-down c.loop-i.i c.loop-i-test.true
+
+pub loop-i-smaller-then-eq : goal.loop-i-smaller-then-eq
+loop-i-smaller-then-eq g c = goes-down c.loop-i.i c.loop-i-test.true

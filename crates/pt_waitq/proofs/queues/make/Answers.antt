@@ -67,3 +67,9 @@ returns-clause-queue g c = λ queue is.
     ∙ made-more c.queues.inside.log.items (true, o) in
     sym (queue-made os now.entries (spare now) (spare now) _ _ o kept new queue
     (ap (λ ns. lookup (nat_eq o) (queues_by ns now.entries)) (sym next) ∙ is))
+
+pub invariant_of-queues : goal.invariant_of-queues
+invariant_of-queues g c =
+    let now = c.reserve.new.rows.map in
+    queues-set (made_by c.queues.inside.log.items) c.queues.inside.rows.map.entries now.entries _
+    (spare now) _ _ c.queues.invariant (ap numbers c.reserve.ensures.rows) c.reserve.ensures.more

@@ -1,9 +1,12 @@
-use Rattle.std.proofs.Common.{◌+◌, Some, refl, sym, subst, arith}
-use Rattle.std.specs.Option.{option_map}
-use Rattle.pt_waitq.specs.Chains.{IsPut}
-use Rattle.pt_waitq.specs.Boxes.{no_queue, lone_queue, queue_by}
-use Rattle.pt_waitq.proofs.LoneLemmas.{put-first}
-use Rattle.pt_waitq.proofs.SeenLemmas.{lone-count, lone-put, unboxed}
+use Rattle.std.proofs.Common.{◌+◌, ◌<◌, ◌^◌, Some, refl, sym, ap, ◌∙◌, subst, arith}
+use Rattle.std.specs.Option.{option_map, option_copied_mut, option_to_list}
+use Rattle.pt_waitq.specs.declared.sides.Queue.{Queue}
+use Rattle.pt_waitq.specs.Chains.{HasNone, IsPut}
+use Rattle.pt_waitq.specs.Boxes.{no_queue, lone_queue, queue_by, IsKept}
+use Rattle.pt_waitq.proofs.LoneLemmas.{put-first, put-same}
+use Rattle.pt_waitq.proofs.SeenLemmas.{lone-count, lone-put, lone-waits, seen-lone, unboxed}
+use Rattle.pt_waitq.proofs.JoinedLemmas.{popped-empty, each-front, one-popped, none-popped}
+use Rattle.pt_waitq.proofs.JoinedLemmas.{one-more, joined-same, joined-waits, same-count}
 use Rattle.pt_waitq.proofs.boxed.BoxedQueue.put_in.Goals as goal
 
 pub returns-then-is_none-clause-put : goal.returns-then-is_none-clause-put
@@ -45,3 +48,99 @@ returns-then-is_chain-clause-put g c =
     (lone-put (λ b. b.value) own.boxed own.head own.tail own.count own.writer own.p
     c.args.self.now c.self.view_is c.self.invariant c.args.writer c.args.p c.args.node some same.0
     same.1)
+
+pub invariant_of-self : goal.invariant_of-self
+invariant_of-self g c =
+    let node = Some c.args.node in
+    let box = option_map (λ b. b.value) c.pop.result in
+    let own = c.self.inside in
+    let none = unboxed (λ b. b.value) own.boxed own.head own.tail own.count own.writer own.p
+    c.args.self.now c.self.view_is c.self.invariant c.if-is_none.ensures in
+    let spare = c.requires.spare (ap (λ (q : Queue). q.len) (sym none)) in
+    let empty = popped-empty (λ b. b.value) c.pop.new.self.items c.args.spares.now.items
+    c.pop.result c.pop.ensures.items (c.pop.ensures.variant.1 spare) c.requires.empty in
+    subst (λ h. IsKept box h c.to-self-inside-then-is_none.result 1 c.args.p)
+    (sym c.to-self-inside.ensures)
+    (subst (λ t. IsKept box node t 1 c.args.p) (sym c.to-self-inside-then-is_none.ensures)
+    (c.requires.index, one-more 1 0 refl, refl, empty))
+
+pub returns-then-is_none-clause-empty : goal.returns-then-is_none-clause-empty
+returns-then-is_none-clause-empty g c =
+    each-front (λ b. HasNone b.value) c.pop.new.self.items (option_to_list c.pop.result)
+    c.args.spares.now.items c.pop.ensures.items c.requires.empty
+
+pub returns-then-is_none-clause-len : goal.returns-then-is_none-clause-len
+returns-then-is_none-clause-len g c =
+    let own = c.self.inside in
+    let none = ap (λ (q : Queue). q.len) (sym (unboxed (λ b. b.value) own.boxed own.head own.tail
+    own.count own.writer own.p c.args.self.now c.self.view_is c.self.invariant
+    c.if-is_none.ensures)) in
+    one-popped c.pop.result _ _ c.args.self.now.len
+    (c.pop.ensures.variant.1 (c.requires.spare none)) none c.pop.ensures.len
+
+pub returns-then-is_chain-clause-len : goal.returns-then-is_chain-clause-len
+returns-then-is_chain-clause-len g c =
+    let own = c.self.inside in
+    let some = c.if-not-is_none.ensures in
+    let waits = lone-waits (λ b. b.value) own.boxed own.head own.tail own.count own.writer own.p
+    c.args.self.now c.self.view_is c.self.invariant some in
+    let lone = seen-lone (λ b. b.value) own.boxed own.head own.tail own.count own.writer own.p
+    c.args.self.now c.self.view_is c.self.invariant some in
+    none-popped _ c.args.self.now.len (λ z. waits (sym lone.len ∙ z))
+
+pub put_in-requires-clause-room : goal.put_in-requires-clause-room
+put_in-requires-clause-room g c =
+    let own = c.self.inside in
+    let box = sym c.as_mut.ensures.value ∙ ap option_copied_mut c.unwrap.ensures in
+    let was = queue_by (option_map (λ b. b.value) own.boxed) own.head own.tail own.count own.writer
+    own.p in
+    let same = joined-same (λ b. b.value) c.join.new.boxed c.unwrap.result.now box was
+    c.args.self.now c.deref_mut.result.now c.self.view_is c.deref_mut.ensures.value
+    c.join.ensures.same in
+    subst (λ n. n + 1 < 2 ^ 32)
+    (same-count c.args.writer c.args.p c.args.self.now c.deref_mut.result.now c.requires.index same)
+    c.requires.room
+
+pub put_in-requires-clause-len : goal.put_in-requires-clause-len
+put_in-requires-clause-len g c =
+    let own = c.self.inside in
+    let box = sym c.as_mut.ensures.value ∙ ap option_copied_mut c.unwrap.ensures in
+    let was = queue_by (option_map (λ b. b.value) own.boxed) own.head own.tail own.count own.writer
+    own.p in
+    let same = joined-same (λ b. b.value) c.join.new.boxed c.unwrap.result.now box was
+    c.args.self.now c.deref_mut.result.now c.self.view_is c.deref_mut.ensures.value
+    c.join.ensures.same in
+    subst (λ n. n + 1 < 2 ^ 64) (sym same.len) c.requires.len
+
+pub returns-clause-put : goal.returns-clause-put
+returns-clause-put g c =
+    let own = c.self.inside in
+    let box = sym c.as_mut.ensures.value ∙ ap option_copied_mut c.unwrap.ensures in
+    let was = queue_by (option_map (λ b. b.value) own.boxed) own.head own.tail own.count own.writer
+    own.p in
+    let same = joined-same (λ b. b.value) c.join.new.boxed c.unwrap.result.now box was
+    c.args.self.now c.deref_mut.result.now c.self.view_is c.deref_mut.ensures.value
+    c.join.ensures.same in
+    subst (λ h. IsPut c.args.writer c.args.p c.args.node c.put_in.result c.args.self.now
+    (queue_by (Some c.put_in.new.self) h own.tail own.count own.writer own.p))
+    (sym c.join.ensures.none)
+    (put-same c.args.writer c.args.p c.args.node c.args.self.now c.deref_mut.result.now
+    c.put_in.new.self c.requires.index same c.put_in.result c.put_in.ensures)
+
+pub invariant_of-self-2 : goal.invariant_of-self-2
+invariant_of-self-2 g c =
+    let own = c.self.inside in
+    subst (λ h. IsKept (Some c.put_in.new.self) h own.tail own.count own.p)
+    (sym c.join.ensures.none)
+    (one-more c.put_in.new.self.len c.deref_mut.result.now.len c.put_in.ensures.len)
+
+pub returns-clause-len : goal.returns-clause-len
+returns-clause-len g c =
+    let own = c.self.inside in
+    let box = sym c.as_mut.ensures.value ∙ ap option_copied_mut c.unwrap.ensures in
+    let was = queue_by (option_map (λ b. b.value) own.boxed) own.head own.tail own.count own.writer
+    own.p in
+    none-popped _ c.args.self.now.len
+    (joined-waits (λ b. b.value) c.join.new.boxed c.unwrap.result.now box was
+    c.args.self.now c.deref_mut.result.now c.self.view_is c.deref_mut.ensures.value
+    c.join.ensures.same c.join.ensures.some)

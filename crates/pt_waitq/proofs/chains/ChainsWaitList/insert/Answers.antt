@@ -193,3 +193,7 @@ returns-clause-admitted g c = λ d.
     ∙ (put-admits (numbers homes) es (o, w) d
     (home-listed homes w.client c.home_of-node.result home)
     ∙ ap (λ s. is_admitted s d) c.self.view_is)
+
+pub insert-requires-clause-there : goal.insert-requires-clause-there
+insert-requires-clause-there g c =
+    c.self.invariant.0.homed.there c.client.inside.0 c.home_of-node.result c.home_of-node.ensures

@@ -5,7 +5,8 @@ use Rattle.std.specs.Option.{option_map}
 use Rattle.pt_types.specs.Limits.{most_priority}
 use Rattle.pt_waitq.specs.declared.waiter.Waiter.{Waiter}
 use Rattle.pt_waitq.specs.Queues.{stands_in, without}
-use Rattle.pt_waitq.specs.Waits.{queue_of, queue_in, is_listed, is_admitted, has_waiter, AllStand}
+use Rattle.pt_waitq.specs.Waits.{queue_of, queue_in, is_listed, is_admitted, is_made, has_waiter}
+use Rattle.pt_waitq.specs.Waits.{AllStand}
 use Rattle.pt_waitq.specs.ListLemmas.{Each-in, filter-rest}
 use Rattle.pt_waitq.specs.WaitingLemmas.{queue_of-without}
 use Rattle.pt_waitq.specs.Chains.{numbers, waiting_by, home_of, entry_of, AreChains}
@@ -343,3 +344,7 @@ returns-clause-admitted g c = λ d.
     ap (λ ds. is_listed d (numbers homes) || has_waiter d ds) logged
     ∙ (take-admits (numbers homes) es w.client d (home-listed homes w.client place.node home)
     ∙ ap (λ s. is_admitted s d) c.self.view_is)
+
+pub returns-clause-made : goal.returns-clause-made
+returns-clause-made g c = λ q.
+    ap (is_listed q) c.remove-emptied.ensures.numbers ∙ ap (λ w. is_made w q) c.self.view_is

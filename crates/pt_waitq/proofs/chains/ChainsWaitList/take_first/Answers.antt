@@ -5,7 +5,7 @@ use Rattle.std.specs.Option.{option_map}
 use Rattle.pt_types.specs.Limits.{most_priority}
 use Rattle.pt_waitq.specs.declared.waiter.Waiter.{Waiter}
 use Rattle.pt_waitq.specs.Queues.{head_of, without}
-use Rattle.pt_waitq.specs.Waits.{queue_of, is_listed, is_admitted, has_waiter, AllStand}
+use Rattle.pt_waitq.specs.Waits.{queue_of, is_listed, is_admitted, is_made, has_waiter, AllStand}
 use Rattle.pt_waitq.specs.ListLemmas.{Each-in}
 use Rattle.pt_waitq.specs.WaitingLemmas.{queue_of-without}
 use Rattle.pt_waitq.specs.Chains.{numbers, waiting_by, AreChains, HasNone}
@@ -315,3 +315,7 @@ returns-clause-admitted g c = λ d.
     ap (λ ds. is_listed d (numbers homes) || has_waiter d ds) logged
     ∙ (take-admits (numbers homes) es w.client d (home-listed homes w.client n h.home)
     ∙ ap (λ s. is_admitted s d) c.self.view_is)
+
+pub returns-clause-made : goal.returns-clause-made
+returns-clause-made g c = λ q.
+    ap (is_listed q) c.remove-freed.ensures.numbers ∙ ap (λ w. is_made w q) c.self.view_is

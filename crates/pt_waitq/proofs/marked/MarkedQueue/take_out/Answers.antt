@@ -1,7 +1,8 @@
 use Rattle.std.proofs.Common.{cond, subst, arith}
 use Rattle.pt_waitq.specs.Chains.{side_of}
 use Rattle.pt_waitq.specs.Highest.{IsBound}
-use Rattle.pt_waitq.proofs.HighestLemmas.{take-bound}
+use Rattle.pt_waitq.proofs.HighestLemmas.{take-bound, some-wait, some-left, writers-change}
+use Rattle.pt_waitq.proofs.HighestLemmas.{readers-change, writers-stay, readers-stay}
 use Rattle.pt_waitq.proofs.marked.MarkedQueue.take_out.Goals as goal
 
 pub lowered-self-inside-requires : goal.lowered-self-inside-requires
@@ -26,3 +27,55 @@ lowered-self-inside-requires-then-self-p-eq0-2 c =
     let bound = take-bound c.args.writer old new p w r c.requires.index c.take_out.ensures.counts
     (c.self.invariant (λ z. omega (arith, z, c.requires.len))) in
     subst (λ k. IsBound (side_of k new).counts (cond k w r)) c.if-writer.false bound
+
+pub invariant_of-self : goal.invariant_of-self
+invariant_of-self c = λ some. absurd (some c.if-self-eq0.true)
+
+pub invariant_of-self-then-self-p-eq0 : goal.invariant_of-self-then-self-p-eq0
+invariant_of-self-then-self-p-eq0 c = λ _.
+    let own = c.self.inside in
+    let done = c.take_out.ensures in
+    writers-change c.args.writer own.queue c.take_out.new.queue c.args.p own.writer own.reader
+    c.requires.index done.other done.counts
+    (c.self.invariant (some-wait own.queue c.args.self.now c.self.view_is c.requires.len))
+    c.if-writer.true c.lowered-self-inside.result c.lowered-self-inside.ensures
+
+pub invariant_of-self-then-self-p-eq0-2 : goal.invariant_of-self-then-self-p-eq0-2
+invariant_of-self-then-self-p-eq0-2 c = λ _.
+    let own = c.self.inside in
+    let done = c.take_out.ensures in
+    let lowered = c.lowered-self-inside-then-self-p-eq0-2 in
+    readers-change c.args.writer own.queue c.take_out.new.queue c.args.p own.writer own.reader
+    c.requires.index done.other done.counts
+    (c.self.invariant (some-wait own.queue c.args.self.now c.self.view_is c.requires.len))
+    c.if-writer.false lowered.result lowered.ensures
+
+pub invariant_of-self-else-self-p-eq0 : goal.invariant_of-self-else-self-p-eq0
+invariant_of-self-else-self-p-eq0 c = λ _.
+    let own = c.self.inside in
+    let done = c.take_out.ensures in
+    writers-stay c.args.writer own.queue c.take_out.new.queue c.args.p own.writer own.reader
+    c.requires.index done.other done.counts
+    (c.self.invariant (some-wait own.queue c.args.self.now c.self.view_is c.requires.len))
+    c.if-writer.true c.if-self-p-eq0.false
+
+pub invariant_of-self-else-self-p-eq0-2 : goal.invariant_of-self-else-self-p-eq0-2
+invariant_of-self-else-self-p-eq0-2 c = λ _.
+    let own = c.self.inside in
+    let done = c.take_out.ensures in
+    readers-stay c.args.writer own.queue c.take_out.new.queue c.args.p own.writer own.reader
+    c.requires.index done.other done.counts
+    (c.self.invariant (some-wait own.queue c.args.self.now c.self.view_is c.requires.len))
+    c.if-writer.false c.if-self-p-eq0-2.false
+
+pub returns-then-self-p-eq0-clause-last : goal.returns-then-self-p-eq0-clause-last
+returns-then-self-p-eq0-clause-last c = some-left c.take_out.new.queue.len c.if-self-eq0.false
+
+pub returns-then-self-p-eq0-2-clause-last : goal.returns-then-self-p-eq0-2-clause-last
+returns-then-self-p-eq0-2-clause-last c = some-left c.take_out.new.queue.len c.if-self-eq0.false
+
+pub returns-else-self-p-eq0-clause-last : goal.returns-else-self-p-eq0-clause-last
+returns-else-self-p-eq0-clause-last c = some-left c.take_out.new.queue.len c.if-self-eq0.false
+
+pub returns-else-self-p-eq0-2-clause-last : goal.returns-else-self-p-eq0-2-clause-last
+returns-else-self-p-eq0-2-clause-last c = some-left c.take_out.new.queue.len c.if-self-eq0.false
