@@ -1,7 +1,7 @@
 -- Growth: what stands as room is made for one more client or queue.
 use Rattle.std.proofs.Common.{◌≡◌, ℕ, ◌==◌, ◌+◌, ◌≤◌, min, Bool, true, false, ◌||◌, List, [], ◌∷◌}
-use Rattle.std.proofs.Common.{◌++◌, Option, refl, sym, ap, ◌∙◌, subst, arith}
-use Rattle.std.specs.Prelude.{Result, Ok, Err, IfOk, OnErr, IsErr}
+use Rattle.std.proofs.Common.{◌++◌, ◌<◌, Option, None, refl, sym, ap, ◌∙◌, subst, arith}
+use Rattle.std.specs.Prelude.{Result, Ok, Err, IfOk, OnOk, OnErr, IsErr, IfSome}
 use Rattle.std.specs.List.{AllByRecursion as Each}
 use Rattle.std.proofs.lemmas.Bool.{false≢true}
 use Rattle.pt_waitq.specs.declared.waiter.Waiter.{Waiter}
@@ -92,6 +92,16 @@ each-more {X} P xs ys zs x same e a b =
 pub if-err : {X E : Type 0} (r : Result X E) (P : X → Type 0) → IsErr r → IfOk r P
 if-err (Ok x) P h = absurd (false≢true h)
 if-err (Err e) P h = tt
+
+pub if-none : {X : Type 0} (o : Option X) (P : X → Type 0) → o ≡ None → IfSome o P
+if-none o P none = subst (λ x. IfSome x P) (sym none) tt
+
+pub on-ok : {X E : Type 0} (r : Result X E) (P : Type 0) → P → OnOk r P
+on-ok (Ok x) P h = h
+on-ok (Err e) P h = tt
+
+pub few-more : (len n : ℕ) → len ≡ n → len < 4294967295 → n + 1 < 4294967296
+few-more len n e less = omega arith
 
 pub on-err : {X E : Type 0} (r : Result X E) (P : Type 0) → P → OnErr r P
 on-err (Ok x) P h = tt

@@ -2,12 +2,12 @@
 use Rattle.std.proofs.Common.{◌≡◌, ◌≢◌, ℕ, ◌+◌, ◌-◌, ◌==◌, nat_le, ◌<◌, ◌≤◌, max, Bool, true, false}
 use Rattle.std.proofs.Common.{cond, not, List, Option, Some, None, refl, sym, ap, ◌∙◌, subst, arith}
 use Rattle.std.proofs.Common.{eq-eqb}
-use Rattle.std.specs.Prelude.{slice_index, MatchOption}
+use Rattle.std.specs.Prelude.{◌&&◌, is_some, slice_index, slice_index_or, MatchOption}
 use Rattle.std.proofs.lemmas.Bool.Decides.{nat_tests}
 use Rattle.pt_types.specs.Limits.{most_priority}
 use Rattle.pt_waitq.specs.declared.sides.Side.{Side}
 use Rattle.pt_waitq.specs.declared.sides.Queue.{Queue}
-use Rattle.pt_waitq.specs.Chains.{side_of, HasNone}
+use Rattle.pt_waitq.specs.Chains.{side_of, HasNone, IsTaken}
 use Rattle.pt_waitq.specs.Highest.{IsBound, IsHighestChain}
 
 -- the highest index after one more at p
@@ -172,6 +172,30 @@ module _ (k : Bool) (old new : Queue) (p : ℕ) (w r : Option ℕ) (within : p <
 
 pub some-wait : (was now : Queue) → was ≡ now → 1 ≤ now.len → was.len ≢ 0
 some-wait was now same some z = let len = ap (λ (q : Queue). q.len) same in omega (arith, len)
+
+-- the whole queue, once one is taken out of one of its sides
+pub taken-whole : (k : Bool) (p : ℕ) (before next : Option ℕ) (old now new : Queue) → old ≡ now
+    → new.len + 1 ≡ old.len → side_of (not k) new ≡ side_of (not k) old
+    → IsStepped (side_of k old).counts (side_of k new).counts p
+    (slice_index (side_of k old).counts p - 1)
+    → ((i : ℕ) → i < most_priority → slice_index_or (side_of k new).tails i None
+    ≡ cond ((p == i) && not (is_some next)) before (slice_index_or (side_of k old).tails i None))
+    → ((i : ℕ) → i < most_priority → slice_index_or (side_of k new).heads i None
+    ≡ cond ((p == i) && not (is_some before)) next (slice_index_or (side_of k old).heads i None))
+    → IsTaken k p before next now new
+taken-whole k p before next old now new same len other counts tails heads =
+    subst (λ q. IsTaken k p before next q new) same (record {
+      len = len;
+      other = λ i lt.
+          record {
+            count = ap (λ (s : Side). slice_index s.counts i) other;
+            tail = ap (λ (s : Side). slice_index_or s.tails i None) other;
+            head = ap (λ (s : Side). slice_index_or s.heads i None) other;
+          };
+      counts = counts;
+      tails = tails;
+      heads = heads;
+    })
 
 pub some-left : (n : ℕ) → n ≢ 0 → false ≡ (n == 0)
 some-left n some = grind (arith, nat_tests, some)

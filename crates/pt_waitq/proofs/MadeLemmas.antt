@@ -12,7 +12,9 @@ use Rattle.pt_waitq.specs.declared.nodes.Node.{Node}
 use Rattle.pt_waitq.specs.declared.sides.Queue.{Queue}
 use Rattle.pt_waitq.specs.Waits.{is_listed, queue_of, AllStand}
 use Rattle.pt_waitq.specs.Chains.{numbers, first_in, last_in, side_of, IsChain, chain_of, nodes_of}
-use Rattle.pt_waitq.specs.Chains.{next_in, before_in, index_of, AreChains, HasNone, HasNoWaiter}
+use Rattle.pt_waitq.specs.Chains.{next_in, before_in, index_of, waiting_by, AreChains, HasNone}
+use Rattle.pt_waitq.specs.Chains.{HasNoWaiter}
+use Rattle.pt_waitq.specs.Boxes.{AreBoxes}
 use Rattle.pt_waitq.proofs.ChangeLemmas.{stand-more, stand-fewer}
 use Rattle.pt_waitq.proofs.ChainLemmas.{listed-lookup, unmade-none, queue-none}
 use Rattle.pt_waitq.proofs.FirstLemmas.{no-waiter}
@@ -34,6 +36,39 @@ made-absent homes nodes queues es o a none =
     unmade-none o (numbers queues) es a.stand.made (listed-lookup o queues ∙ ap is_some none)
 
 -- a queue is made, or there is no memory for it, or it gives its box back
+-- no client and no queue
+pub chains-none : (homes : List (ℕ × ℕ)) (nodes : List (Option Node)) (queues : List (ℕ × Queue))
+    (log : List (Option ℕ × Waiter)) → homes ≡ [] → nodes ≡ [] → queues ≡ [] → log ≡ []
+    → AreChains homes nodes queues (waiting_by log)
+chains-none homes nodes queues log h n q l =
+    subst (λ x. AreChains x nodes queues (waiting_by log)) (sym h)
+    (subst (λ x. AreChains [] x queues (waiting_by log)) (sym n)
+    (subst (λ x. AreChains [] [] x (waiting_by log)) (sym q)
+    (subst (λ x. AreChains [] [] [] (waiting_by x)) (sym l) (record {
+      stand = record { once = tt; made = tt };
+      homed =
+          record {
+            there = λ c m e. absurd (cc e);
+            apart = λ c d m e f. absurd (cc e);
+            own = λ m c e. absurd (cc e);
+            few = omega arith;
+          };
+      own = λ c. refl;
+      levels = tt;
+      len = λ o r e. absurd (cc e);
+      sorted = λ o k p. refl;
+      chains = λ o r e k p lt. absurd (cc e);
+    }))))
+
+pub boxes-none : (homes : List (ℕ × ℕ)) (queues : List (ℕ × Queue))
+    (log : List (Option ℕ × Waiter)) (spares room : ℕ) → homes ≡ [] → log ≡ [] → spares ≡ 0
+    → AreBoxes (length homes) (length (numbers queues)) (waiting_by log) spares room 0
+boxes-none homes queues log spares room h l s =
+    subst (λ x. AreBoxes (length x) (length (numbers queues)) (waiting_by log) spares room 0) (sym
+    h)
+    (subst (λ x. AreBoxes 0 (length (numbers queues)) (waiting_by x) spares room 0) (sym l)
+    (record { count = omega (arith, s); enough = omega arith; fit = omega arith }))
+
 module _ (homes : List (ℕ × ℕ)) (nodes : List (Option Node)) (queues queues' : List (ℕ × Queue))
     (es : List (ℕ × Waiter)) (o : ℕ) (b : Bool) (a : AreChains homes nodes queues es)
     (absent : Each (λ e. (e.0 == o) ≡ false) es)

@@ -203,6 +203,20 @@ others-by os rows rows' o same x other =
     lookup-by os rows' x
     ∙ (ap (λ q. cond (is_listed x os) (Some q) None) (same x other) ∙ sym (lookup-by os rows x))
 
+-- no queue is made
+pub queues-none : (log : List (Bool × ℕ)) (rows : List (ℕ × Queue)) (spare : ℕ)
+    (opened : List Bool) → log ≡ [] → rows ≡ [] → AreQueues (made_by log) rows spare opened 0
+queues-none log rows spare opened none empty =
+    subst (λ l. AreQueues (made_by l) rows spare opened 0) (sym none)
+    (subst (λ rs. AreQueues [] rs spare opened 0) (sym empty) (record {
+      once = tt;
+      made = λ o e. absurd (false≢true e);
+      noted = λ o e. absurd (false≢true e);
+      count = refl;
+      few = omega arith;
+      room = omega arith;
+    }))
+
 pub listed-last : (o x : ℕ) (os : List ℕ)
     → is_listed x (os ++ o ∷ []) ≡ (is_listed x os || (o == x))
 listed-last o x os =

@@ -92,6 +92,14 @@ pub listed-at : {X : Type 0} (es : List (ℕ × X)) (o : ℕ) (found : Option �
 listed-at es o found i at is =
     subst (λ f. IfSome f (λ j. slice_get (numbers es) j ≡ Some o)) is at
 
+-- what a row that was found says
+pub found-row : {X : Type 0} (P : X → Type 0) (f : Option X) (x y : X) → Some x ≡ f → f ≡ Some y
+    → P x → P y
+found-row P f x y found is p = subst P (ap (λ o. unwrap_or o x) (found ∙ is)) p
+
+pub no-row : {X P : Type 0} (f : Option X) (y : X) → None ≡ f → f ≡ Some y → P
+no-row f y none is = absurd (cc (none, is))
+
 -- the number that an entry has
 pub number-at : {X : Type 0} (es : List (ℕ × X)) (i o n : ℕ) (x : X)
     → Some (n, x) ≡ slice_get es i → n ≡ o → slice_get (numbers es) i ≡ Some o

@@ -23,6 +23,12 @@ room-beside a a' n b more room h e f m = omega arith
 pub room-one : (a n room : ℕ) → a + (n + 1) ≤ room → a < room
 room-one a n room h = omega arith
 
+pub room-next : (a room : ℕ) → a + 1 ≤ room → a < room
+room-next a room h = omega arith
+
+pub room-emptied : (a b n m room : ℕ) → a + b ≤ room → a ≡ n → m < n → b < room
+room-emptied a b n m room h e less = omega arith
+
 -- one of those beside it was taken out
 pub room-freed : (a b n m room : ℕ) → a + b ≤ room → b ≡ n → m < n → a < room
 room-freed a b n m room h e less = omega arith

@@ -1,7 +1,8 @@
 -- What is seen of a queue by its box and by its lone chain, if that isn't put into the box.
 use Rattle.std.proofs.Common.{◌≡◌, ℕ, ◌≤◌, ◌<◌, Bool, true, false, Option, Some, None, is_some}
 use Rattle.std.proofs.Common.{◌≢◌, ◌+◌, ◌-◌, ◌||◌, cond, inr, refl, sym, ap, ◌∙◌, subst, arith}
-use Rattle.std.specs.Prelude.{◌↔◌, slice_index, unwrap_or, IsSome, IsTrue, MatchOption}
+use Rattle.std.specs.Prelude.{◌↔◌, slice_index, unwrap_or, IfSome, IsSome, IsTrue}
+use Rattle.std.specs.Prelude.{MatchOption}
 use Rattle.std.specs.Option.{option_map}
 use Rattle.std.proofs.lemmas.Bool.{false≢true}
 use Rattle.pt_types.specs.Limits.{most_priority}
@@ -12,6 +13,12 @@ use Rattle.pt_waitq.specs.Boxes.{no_queue, lone_queue, queue_by, IsKept, IsLone,
 use Rattle.pt_waitq.proofs.BoxLemmas.{none-without}
 use Rattle.pt_waitq.proofs.LoneLemmas.{lone-queue, own-count, stands-lone, taken-lone}
 use Rattle.pt_waitq.proofs.LoneLemmas.{taken-more, put-more}
+
+some-less : (n : ℕ) → n ≢ 0 → n ≢ 1 → n - 1 ≢ 0
+some-less n waits more z = omega (arith, z, waits, more)
+
+pub one-least : (n : ℕ) → n ≢ 0 → 1 ≤ n
+one-least n waits = omega (arith, waits)
 
 module _ {X : Type 0} (f : X → Queue) (o : Option X) (head tail : Option ℕ) (n : ℕ) (k : Bool)
     (p : ℕ) (queue : Queue) (view : queue_by (option_map f o) head tail n k p ≡ queue)
@@ -52,6 +59,30 @@ module _ {X : Type 0} (f : X → Queue) (o : Option X) (head tail : Option ℕ) 
           ap (λ x. unwrap_or (option_map f x) no_queue) (sym e) ∙ seen-as None d
       go None e (Some h) d =
           absurd (subst (λ x. MatchOption (option_map f x) ⊥ HasNone) e (kept-as (Some h) d).3)
+
+  -- with no lone chain what is seen is in the box
+  pub seen-boxed : is_some head ≡ false → (b : X) → o ≡ Some b → f b ≡ queue
+  seen-boxed none b is = go head refl
+    where
+      go : (l : Option ℕ) → head ≡ l → f b ≡ queue
+      go (Some h) d = absurd (false≢true (sym none ∙ ap is_some d))
+      go None d =
+          ap (λ x. unwrap_or (option_map f x) no_queue) (sym is) ∙ seen-as None d
+
+  pub boxed-waits : is_some head ≡ false → (b : X) → o ≡ Some b → (f b).len ≢ 0
+  boxed-waits none b is = go head refl
+    where
+      go : (l : Option ℕ) → head ≡ l → (f b).len ≢ 0
+      go (Some h) d = absurd (false≢true (sym none ∙ ap is_some d))
+      go None d = subst (λ x. IfSome (option_map f x) (λ q. q.len ≢ 0)) is (kept-as None d)
+
+  -- a lone chain stays one with another end
+  pub kept-lone : (t : Option ℕ) (m : ℕ) → is_some head ≡ true → IsSome t → m ≢ 0
+      → IsKept (option_map f o) head t m p
+  kept-lone t m some there waits =
+      let h = some-lone some in
+      let kept = kept-as (Some h.0) h.1 in
+      subst (λ l. IsKept (option_map f o) l t m p) (sym h.1) (kept.0, waits, there, kept.3)
 
   pub none-first : is_some o ≡ false → IsFirst queue None
   none-first none =
@@ -159,6 +190,13 @@ module _ {X : Type 0} (f : X → Queue) (o : Option X) (head tail : Option ℕ) 
         go None None e t = absurd (false≢true e)
         go (Some m) None e t = refl
         go b (Some m) e t = t
+
+    pub kept-less : IsKept (option_map f o) new_head new_tail (n - 1) p
+    kept-less =
+        let kept = kept-as (Some alone.0) alone.1 in
+        let waits = lone-waits some in
+        subst (λ l. IsKept (option_map f o) l new_tail (n - 1) p) (sym head-there.1)
+        (kept.0, some-less n waits more, tail-there, kept.3)
 
     pub lone-less : IsEmptied w i before next queue
         (queue_by (option_map f o) new_head new_tail (n - 1) k p) None

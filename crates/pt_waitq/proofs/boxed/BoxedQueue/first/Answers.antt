@@ -2,6 +2,7 @@ use Rattle.std.proofs.Common.{sym, ap, ◌∙◌, subst, is_some}
 use Rattle.pt_waitq.specs.Chains.{IsFirst}
 use Rattle.pt_waitq.proofs.LoneLemmas.{first-lone}
 use Rattle.pt_waitq.proofs.SeenLemmas.{lone-waits, lone-within, none-first, seen-lone}
+use Rattle.pt_waitq.proofs.SeenLemmas.{seen-boxed}
 use Rattle.pt_waitq.proofs.boxed.BoxedQueue.first.Goals as goal
 
 pub returns-in-Some : goal.returns-in-Some
@@ -23,3 +24,11 @@ returns-in-None g c =
     let own = c.self.inside in
     none-first (λ b. b.value) own.boxed own.head own.tail own.count own.writer own.p
     c.args.self.now c.self.view_is c.self.invariant (ap is_some c.in-None.is)
+
+pub returns-in-Some-boxed : goal.returns-in-Some-boxed
+returns-in-Some-boxed g c =
+    let own = c.self.inside in
+    let none = ap is_some (sym c.get.ensures ∙ c.in_default.is) in
+    let seen = seen-boxed (λ b. b.value) own.boxed own.head own.tail own.count own.writer own.p
+    c.args.self.now c.self.view_is c.self.invariant none c.in-Some-boxed.queue c.in-Some-boxed.is in
+    subst (λ q. IsFirst q c.first.result) (c.deref.ensures ∙ seen) c.first.ensures

@@ -3,6 +3,7 @@ use Rattle.pt_waitq.specs.Boxes.{IsLone}
 use Rattle.pt_waitq.specs.Chains.{IsFirstWriter}
 use Rattle.pt_waitq.proofs.LoneWriters.{first-lone-writer, no-lone-writer}
 use Rattle.pt_waitq.proofs.SeenLemmas.{lone-waits, lone-within, none-first-writer, seen-lone}
+use Rattle.pt_waitq.proofs.SeenLemmas.{seen-boxed}
 use Rattle.pt_waitq.proofs.boxed.BoxedQueue.first_writer.Goals as goal
 
 pub returns-then-self : goal.returns-then-self
@@ -36,3 +37,12 @@ returns-in-None g c =
     let own = c.self.inside in
     none-first-writer (λ b. b.value) own.boxed own.head own.tail own.count own.writer own.p
     c.args.self.now c.self.view_is c.self.invariant (ap is_some c.in-None.is)
+
+pub returns-in-Some-boxed : goal.returns-in-Some-boxed
+returns-in-Some-boxed g c =
+    let own = c.self.inside in
+    let none = ap is_some (sym c.get.ensures ∙ c.in_default.is) in
+    let seen = seen-boxed (λ b. b.value) own.boxed own.head own.tail own.count own.writer own.p
+    c.args.self.now c.self.view_is c.self.invariant none c.in-Some-boxed.queue c.in-Some-boxed.is in
+    subst (λ q. IsFirstWriter q c.first_writer.result) (c.deref.ensures ∙ seen)
+    c.first_writer.ensures

@@ -4,6 +4,10 @@ use Rattle.std.proofs.lemmas.Bool.{false≢true}
 use Rattle.pt_waitq.specs.Boxes.{IsLone}
 use Rattle.pt_waitq.proofs.LoneWriters.{lone-reader-from, lone-writer-below, lone-writer-from}
 use Rattle.pt_waitq.proofs.SeenLemmas.{lone-waits, lone-within, no-writer-from, seen-lone}
+use Rattle.std.specs.Prelude.{◌↔◌, IsTrue}
+use Rattle.pt_waitq.specs.declared.sides.Queue.{Queue}
+use Rattle.pt_waitq.specs.Chains.{HasWriterFrom}
+use Rattle.pt_waitq.proofs.SeenLemmas.{seen-boxed, boxed-waits}
 use Rattle.pt_waitq.proofs.boxed.BoxedQueue.has_writer_from.Goals as goal
 
 pub returns-then-self : goal.returns-then-self
@@ -43,3 +47,20 @@ returns-in-None g c =
     let own = c.self.inside in
     no-writer-from (λ b. b.value) own.boxed own.head own.tail own.count own.writer own.p
     c.args.self.now c.self.view_is c.self.invariant (ap is_some c.in-None.is) c.args.p
+
+pub has_writer_from-requires : goal.has_writer_from-requires
+has_writer_from-requires g c =
+    let own = c.self.inside in
+    let waits = boxed-waits (λ b. b.value) own.boxed own.head own.tail own.count own.writer own.p
+    c.args.self.now c.self.view_is c.self.invariant c.if-not-is_none.ensures c.in-Some.queue
+    c.in-Some.is in
+    λ z. waits (ap (λ (q : Queue). q.len) (sym c.deref.ensures) ∙ z)
+
+pub returns-in-Some : goal.returns-in-Some
+returns-in-Some g c =
+    let own = c.self.inside in
+    let seen = seen-boxed (λ b. b.value) own.boxed own.head own.tail own.count own.writer own.p
+    c.args.self.now c.self.view_is c.self.invariant c.if-not-is_none.ensures c.in-Some.queue
+    c.in-Some.is in
+    subst (λ q. IsTrue c.has_writer_from.result ↔ HasWriterFrom q c.args.p)
+    (c.deref.ensures ∙ seen) c.has_writer_from.ensures

@@ -7,6 +7,8 @@ use Rattle.pt_waitq.proofs.LoneLemmas.{put-first, put-same}
 use Rattle.pt_waitq.proofs.SeenLemmas.{lone-count, lone-put, lone-waits, seen-lone, unboxed}
 use Rattle.pt_waitq.proofs.JoinedLemmas.{popped-empty, each-front, one-popped, none-popped}
 use Rattle.pt_waitq.proofs.JoinedLemmas.{one-more, joined-same, joined-waits, same-count}
+use Rattle.std.specs.Prelude.{◌≢◌, IfSome}
+use Rattle.pt_waitq.proofs.SeenLemmas.{kept-lone}
 use Rattle.pt_waitq.proofs.boxed.BoxedQueue.put_in.Goals as goal
 
 pub returns-then-is_none-clause-put : goal.returns-then-is_none-clause-put
@@ -144,3 +146,27 @@ returns-clause-len g c =
     (joined-waits (λ b. b.value) c.join.new.boxed c.unwrap.result.now box was
     c.args.self.now c.deref_mut.result.now c.self.view_is c.deref_mut.ensures.value
     c.join.ensures.same c.join.ensures.some)
+
+pub invariant_of-self-then-is_chain : goal.invariant_of-self-then-is_chain
+invariant_of-self-then-is_chain g c =
+    let own = c.self.inside in
+    let box = option_map (λ b. b.value) own.boxed in
+    subst (λ t. IsKept box own.head t (own.count + 1) own.p)
+    (sym c.to-self-inside-then-is_chain.ensures)
+    (kept-lone (λ b. b.value) own.boxed own.head own.tail own.count own.writer own.p
+    c.args.self.now c.self.view_is c.self.invariant (Some c.args.node) (own.count + 1)
+    c.if-not-is_none.ensures refl
+    (one-more (own.count + 1) own.count refl))
+
+pub returns-clause-empty : goal.returns-clause-empty
+returns-clause-empty g c = c.requires.empty
+
+pub put_in-requires-clause-index : goal.put_in-requires-clause-index
+put_in-requires-clause-index g c = c.requires.index
+
+pub put_in-requires-clause-empty : goal.put_in-requires-clause-empty
+put_in-requires-clause-empty g c = λ z.
+    let own = c.self.inside in
+    let box = sym c.as_mut.ensures.value ∙ ap option_copied_mut c.unwrap.ensures in
+    let some = subst (λ o. IfSome o (λ b. b.value.len ≢ 0)) box c.join.ensures.some in
+    absurd (some (ap (λ (q : Queue). q.len) (sym c.deref_mut.ensures.value) ∙ z))

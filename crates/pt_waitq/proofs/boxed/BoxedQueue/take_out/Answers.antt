@@ -4,6 +4,7 @@ use Rattle.pt_waitq.specs.Boxes.{no_queue, queue_by, IsKept, IsEmptied}
 use Rattle.pt_waitq.proofs.JoinedLemmas.{joined-same, same-count, emptied-joined, lessened-joined}
 use Rattle.pt_waitq.proofs.JoinedLemmas.{some-by}
 use Rattle.pt_waitq.proofs.SeenLemmas.{lone-emptied, lone-less}
+use Rattle.pt_waitq.proofs.SeenLemmas.{kept-less, lone-waits, one-least}
 use Rattle.pt_waitq.proofs.boxed.BoxedQueue.take_out.Goals as goal
 
 pub returns-then-is_last : goal.returns-then-is_last
@@ -104,3 +105,43 @@ invariant_of-self-else-take_out g c =
     let own = c.self.inside in
     subst (λ h. IsKept (Some c.take_out.new.self) h own.tail own.count own.p)
     (sym c.join.ensures.none) (some-by c.take_out.new.self.len c.if-take_out.ensures.last)
+
+pub take_out-requires-clause-len : goal.take_out-requires-clause-len
+take_out-requires-clause-len g c =
+    let own = c.self.inside in
+    let box = sym c.as_mut.ensures.value ∙ ap option_copied_mut c.unwrap-queue.ensures in
+    let was = queue_by (option_map (λ b. b.value) own.boxed) own.head own.tail own.count own.writer
+    own.p in
+    let same = joined-same (λ b. b.value) c.join.new.boxed c.unwrap-queue.result.now box was
+    c.args.self.now c.deref_mut.result.now c.self.view_is c.deref_mut.ensures.value
+    c.join.ensures.same in
+    subst (λ n. 1 ≤ n) (sym same.len) c.requires.len
+
+pub overflow_sub-self : goal.overflow_sub-self
+overflow_sub-self g c =
+    let own = c.self.inside in
+    one-least own.count (lone-waits (λ b. b.value) own.boxed own.head own.tail own.count own.writer
+    own.p
+    c.args.self.now c.self.view_is c.self.invariant c.if-not-is_none.ensures)
+
+pub invariant_of-self : goal.invariant_of-self
+invariant_of-self g c =
+    let own = c.self.inside in
+    subst (λ h. IsKept (option_map (λ x. x.value) c.take.new.self) h own.tail own.count own.p)
+    (sym c.none-self-inside.ensures)
+    (subst (λ b. IsKept (option_map (λ x. x.value) b) None own.tail own.count own.p)
+    (sym c.take.ensures.after) tt)
+
+pub invariant_of-self-then-is_of_more : goal.invariant_of-self-then-is_of_more
+invariant_of-self-then-is_of_more g c =
+    let own = c.self.inside in
+    let more = c.if-is_of_more.ensures refl in
+    let box = option_map (λ b. b.value) own.boxed in
+    subst (λ t. IsKept box c.unless_after-self-inside.result t (own.count - 1) own.p)
+    (sym c.unless_after-self-inside-then-is_of_more.ensures)
+    (subst (λ h. IsKept box h (cond (is_some c.args.next) own.tail c.args.before) (own.count - 1)
+    own.p) (sym c.unless_after-self-inside.ensures)
+    (kept-less (λ b. b.value) own.boxed own.head own.tail own.count own.writer own.p
+    c.args.self.now c.self.view_is c.self.invariant c.args.writer c.args.p c.args.before
+    c.args.next c.requires.index
+    c.if-not-is_none.ensures more.0 more.1 c.requires.stands))

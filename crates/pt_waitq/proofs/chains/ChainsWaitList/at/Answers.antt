@@ -6,6 +6,7 @@ use Rattle.pt_waitq.specs.Chains.{waiting_by, entry_of}
 use Rattle.pt_waitq.proofs.ChangeLemmas.{found-only, found-nowhere, found-in, nowhere-in, read-as}
 use Rattle.pt_waitq.proofs.ChainLemmas.{entry-there, entry-nowhere}
 use Rattle.pt_waitq.proofs.StepLemmas.{place-entry}
+use Rattle.pt_waitq.proofs.GrowthLemmas.{if-none}
 use Rattle.pt_waitq.proofs.chains.ChainsWaitList.at.Goals as goal
 
 pub returns-in_err-place-clause-nowhere : goal.returns-in_err-place-clause-nowhere
@@ -39,3 +40,6 @@ returns-clause-found g c =
     c.self.invariant.0.stand.once found in
     found-in client _ (queue_in c.args.self.now) (Some (place.object, place.waiter))
     (read-as _ _ es es _ c.self.view_is c.self.invariant.0.stand refl) only
+
+pub returns-in_err-place-clause-found : goal.returns-in_err-place-clause-found
+returns-in_err-place-clause-found g c = if-none c.from_residual.result _ c.from_residual.ensures

@@ -197,3 +197,10 @@ returns-clause-admitted g c = λ d.
 pub insert-requires-clause-there : goal.insert-requires-clause-there
 insert-requires-clause-there g c =
     c.self.invariant.0.homed.there c.client.inside.0 c.home_of-node.result c.home_of-node.ensures
+
+pub returns-clause-made : goal.returns-clause-made
+returns-clause-made g c = λ q.
+    ap (is_listed q) c.insert-last.ensures.numbers ∙ ap (λ w. is_made w q) c.self.view_is
+
+pub insert-last-requires-clause-empty : goal.insert-last-requires-clause-empty
+insert-last-requires-clause-empty g c = c.self.invariant.2

@@ -19,6 +19,7 @@ use Rattle.pt_waitq.proofs.StepLemmas.{place-entry, waiting-more, stands-there, 
 use Rattle.pt_waitq.proofs.StepLemmas.{beside-there, take-admits, home-listed}
 use Rattle.pt_waitq.proofs.BoxLemmas.{if-boxed, some-mapped, room-back, boxes-taken}
 use Rattle.pt_waitq.proofs.EmptiedLemmas.{step-emptied}
+use Rattle.pt_waitq.proofs.GrowthLemmas.{if-none}
 use Rattle.pt_waitq.proofs.chains.ChainsWaitList.remove.Goals as goal
 
 pub returns-in_err-place-clause-nowhere : goal.returns-in_err-place-clause-nowhere
@@ -348,3 +349,6 @@ returns-clause-admitted g c = λ d.
 pub returns-clause-made : goal.returns-clause-made
 returns-clause-made g c = λ q.
     ap (is_listed q) c.remove-emptied.ensures.numbers ∙ ap (λ w. is_made w q) c.self.view_is
+
+pub returns-in_err-place-clause-found : goal.returns-in_err-place-clause-found
+returns-in_err-place-clause-found g c = if-none c.from_residual.result _ c.from_residual.ensures

@@ -3,6 +3,7 @@ use Rattle.pt_waitq.specs.Chains.{side_of}
 use Rattle.pt_waitq.specs.Highest.{IsBound}
 use Rattle.pt_waitq.proofs.HighestLemmas.{take-bound, some-wait, some-left, writers-change}
 use Rattle.pt_waitq.proofs.HighestLemmas.{readers-change, writers-stay, readers-stay}
+use Rattle.pt_waitq.proofs.HighestLemmas.{taken-whole}
 use Rattle.pt_waitq.proofs.marked.MarkedQueue.take_out.Goals as goal
 
 pub lowered-self-inside-requires : goal.lowered-self-inside-requires
@@ -79,3 +80,31 @@ returns-else-self-p-eq0-clause-last c = some-left c.take_out.new.queue.len c.if-
 
 pub returns-else-self-p-eq0-2-clause-last : goal.returns-else-self-p-eq0-2-clause-last
 returns-else-self-p-eq0-2-clause-last c = some-left c.take_out.new.queue.len c.if-self-eq0.false
+
+pub returns-then-self-p-eq0-clause-taken : goal.returns-then-self-p-eq0-clause-taken
+returns-then-self-p-eq0-clause-taken c =
+    let done = c.take_out.ensures in
+    taken-whole c.args.writer c.args.p c.args.before c.args.next c.self.inside.queue
+    c.args.self.now c.take_out.new.queue c.self.view_is done.len done.other done.counts done.tails
+    done.heads
+
+pub returns-then-self-p-eq0-2-clause-taken : goal.returns-then-self-p-eq0-2-clause-taken
+returns-then-self-p-eq0-2-clause-taken c =
+    let done = c.take_out.ensures in
+    taken-whole c.args.writer c.args.p c.args.before c.args.next c.self.inside.queue
+    c.args.self.now c.take_out.new.queue c.self.view_is done.len done.other done.counts done.tails
+    done.heads
+
+pub returns-else-self-p-eq0-clause-taken : goal.returns-else-self-p-eq0-clause-taken
+returns-else-self-p-eq0-clause-taken c =
+    let done = c.take_out.ensures in
+    taken-whole c.args.writer c.args.p c.args.before c.args.next c.self.inside.queue
+    c.args.self.now c.take_out.new.queue c.self.view_is done.len done.other done.counts done.tails
+    done.heads
+
+pub returns-else-self-p-eq0-2-clause-taken : goal.returns-else-self-p-eq0-2-clause-taken
+returns-else-self-p-eq0-2-clause-taken c =
+    let done = c.take_out.ensures in
+    taken-whole c.args.writer c.args.p c.args.before c.args.next c.self.inside.queue
+    c.args.self.now c.take_out.new.queue c.self.view_is done.len done.other done.counts done.tails
+    done.heads
