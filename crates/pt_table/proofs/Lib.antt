@@ -44,3 +44,7 @@ mod Relinked
 mod Sorted
 -- ChainCallers: for callers: chains and rows as rows are linked, written, added or taken out
 pub mod ChainCallers
+-- Kept: what stands of a table with no row, and of one whose rows and numbers are as they were
+mod Kept
+-- Nth: the row at an index of the list, in the slot that is listed there
+mod Nth

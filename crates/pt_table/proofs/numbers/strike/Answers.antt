@@ -4,6 +4,8 @@ use Rattle.std.specs.Map.{lookup}
 use Rattle.pt_table.specs.Slots.{left_of, Distinct, IsLeftAt}
 use Rattle.pt_table.proofs.Rising.{rises-struck}
 use Rattle.pt_table.proofs.Struck.{left-struck, one-less}
+use Rattle.std.proofs.Common.{◌<◌}
+use Rattle.pt_table.proofs.Nth.{listed-within}
 use Rattle.pt_table.proofs.numbers.strike.Goals as goal
 
 pub returns-clause-left : goal.returns-clause-left
@@ -39,3 +41,9 @@ returns-clause-slot g c =
 
 pub returns-clause-len : goal.returns-clause-len
 returns-clause-len g c = refl
+
+pub index_mut-requires : goal.index_mut-requires
+index_mut-requires g c =
+    let old = c.args.order.now in
+    subst (λ n. c.args.index < n) (sym old.ok.0)
+    (listed-within old.items c.args.index _ c.requires.listed.1)

@@ -7,6 +7,7 @@ use Rattle.pt_table.proofs.Lookups.{none_of, none_some}
 use Rattle.pt_table.proofs.Added.{still, new_number, numbered_added, view_added}
 use Rattle.pt_table.proofs.Refused.{limit_taken, memory_taken, taken_limit, memory_limit}
 use Rattle.pt_table.proofs.Refused.{is_full, is_below, not_full}
+use Rattle.pt_table.proofs.Kept.{granted}
 use Rattle.pt_table.proofs.clients.Clients.add.Goals as goal
 
 pub returns-then-has : goal.returns-then-has
@@ -102,3 +103,11 @@ returns-clause-err g c = tt
 
 pub returns-clause-handed : goal.returns-clause-handed
 returns-clause-handed g c = tt
+
+pub put-requires-clause-row_room : goal.put-requires-clause-row_room
+put-requires-clause-row_room g c =
+    granted c.make_room.result c.if-is_err.ensures.value c.make_room.ensures.row_room
+
+pub put-requires-clause-number_room : goal.put-requires-clause-number_room
+put-requires-clause-number_room g c =
+    granted c.make_room.result c.if-is_err.ensures.value c.make_room.ensures.number_room

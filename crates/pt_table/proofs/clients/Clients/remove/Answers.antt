@@ -2,6 +2,7 @@ use Rattle.std.proofs.Common.{◌∙◌, ap, sym}
 use Rattle.std.specs.Option.{option_map}
 use Rattle.pt_table.proofs.Listed.{slot_has_row, row_absent}
 use Rattle.pt_table.proofs.Removed.{view_absent, row_removed, numbered_removed, view_removed}
+use Rattle.pt_table.proofs.Kept.{numbered-same}
 use Rattle.pt_table.proofs.clients.Clients.remove.Goals as goal
 
 pub take_out-requires : goal.take_out-requires
@@ -38,3 +39,8 @@ returns-clause-rows g c =
     view_removed c.self.invariant c.args.self.now c.self.view_is c.args.number
     c.take_out.new.rows.slots c.pack.new.self.entries c.in_ok-row.row
     c.in_ok-row.ensures.row (c.pack.ensures ∙ c.in_ok-row.ensures.left)
+
+pub invariant_of-self : goal.invariant_of-self
+invariant_of-self g c =
+    let kept = c.in_err-row.ensures in
+    numbered-same _ _ _ _ _ _ kept.rows_kept kept.numbers_kept c.self.invariant

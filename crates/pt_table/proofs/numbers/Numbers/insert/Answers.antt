@@ -1,10 +1,13 @@
 use Rattle.std.proofs.Common.{◌∙◌, ◌++◌, ◌∷◌, [], Some, ap, arith, length, nat_eq, subst, sym}
+use Rattle.std.proofs.Common.{◌<◌, vec_len, vec_capacity}
+use Rattle.std.specs.Bool.{OnTrue}
 use Rattle.std.specs.Map.{lookup}
 use Rattle.std.proofs.lemmas.List.{length-append}
-use Rattle.pt_table.specs.Slots.{left_of, Distinct}
+use Rattle.pt_table.specs.Slots.{left_of, Distinct, Rises, Numbering}
 use Rattle.pt_table.proofs.Lookups.{Distinct-append}
 use Rattle.pt_table.proofs.Rising.{rises-added}
 use Rattle.pt_table.proofs.Struck.{left-added}
+use Rattle.pt_table.proofs.Kept.{room-left}
 use Rattle.pt_table.proofs.numbers.Numbers.insert.Goals as goal
 
 pub invariant_of-self : goal.invariant_of-self
@@ -37,3 +40,14 @@ returns g c =
     ap left_of c.push_reserved.ensures.items
     ∙ left-added c.self.inside.order.items c.args.number c.args.slot
     ∙ ap (λ v. v.entries ++ (c.args.number, c.args.slot) ∷ []) c.self.view_is
+
+pub push_reserved-requires : goal.push_reserved-requires
+push_reserved-requires g c =
+    let old = c.self.inside.order in
+    room-left (vec_len old) (vec_capacity old)
+    (subst (λ (n : Numbering). 0 < n.room) (sym c.self.view_is) c.requires.room)
+
+pub rises_with-self-inside-requires : goal.rises_with-self-inside-requires
+rises_with-self-inside-requires g c =
+    subst (λ xs. OnTrue c.self.inside.rises (Rises xs)) (sym c.as_slice.ensures.value)
+    c.self.invariant.rising

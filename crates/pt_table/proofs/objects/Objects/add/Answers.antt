@@ -14,6 +14,7 @@ use Rattle.pt_table.proofs.Named.{number_free, unnamed, named_added}
 use Rattle.pt_table.proofs.Lookups.{none_some}
 use Rattle.pt_table.proofs.Refused.{limit_taken, memory_taken, taken_limit, memory_limit}
 use Rattle.pt_table.proofs.Refused.{is_full, is_below, not_full}
+use Rattle.pt_table.proofs.Kept.{granted}
 use Rattle.pt_table.proofs.objects.Objects.add.Goals as goal
 
 -- each name is found still as room was made
@@ -154,3 +155,18 @@ returns-clause-err g c = tt
 
 pub returns-clause-handed : goal.returns-clause-handed
 returns-clause-handed g c = tt
+
+pub put_named-requires-clause-row_room : goal.put_named-requires-clause-row_room
+put_named-requires-clause-row_room g c =
+    granted c.make_room_named.result c.if-is_err.ensures.value c.make_room_named.ensures.row_room
+
+pub put_named-requires-clause-number_room : goal.put_named-requires-clause-number_room
+put_named-requires-clause-number_room g c =
+    granted c.make_room_named.result c.if-is_err.ensures.value c.make_room_named.ensures.number_room
+
+pub put_named-requires-clause-name_room : goal.put_named-requires-clause-name_room
+put_named-requires-clause-name_room g c =
+    granted c.make_room_named.result c.if-is_err.ensures.value c.make_room_named.ensures.name_room
+
+pub put_named-requires-clause-place : goal.put_named-requires-clause-place
+put_named-requires-clause-place g c = c.place_of-place.ensures

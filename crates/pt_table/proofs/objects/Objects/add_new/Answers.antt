@@ -7,6 +7,7 @@ use Rattle.pt_table.specs.NameSlots.{IsFiled}
 use Rattle.pt_table.specs.ObjectRows.{object_named, out_of_chains}
 use Rattle.pt_table.proofs.Added.{new_number, numbered_added, view_added}
 use Rattle.pt_table.proofs.Named.{number_free, unnamed, named_added}
+use Rattle.pt_table.proofs.Kept.{numbered-same, named-same}
 use Rattle.pt_table.proofs.objects.Objects.add_new.Goals as goal
 
 pub put_named-requires-clause-number_new : goal.put_named-requires-clause-number_new
@@ -55,3 +56,16 @@ returns-clause-ok g c =
     ∙ (ap (λ link. c.args.self.now ++ row c.copied.result link ∷ [])
     (c.of.ensures ∙ c.out.ensures)
     ∙ ap (λ name. c.args.self.now ++ row name out_of_chains ∷ []) c.copied.ensures)
+
+pub put_named-requires-clause-number_room : goal.put_named-requires-clause-number_room
+put_named-requires-clause-number_room g c = c.in_ok-make_room_named.ensures.number_room
+
+pub put_named-requires-clause-name_room : goal.put_named-requires-clause-name_room
+put_named-requires-clause-name_room g c = c.in_ok-make_room_named.ensures.name_room
+
+pub invariant_of-self : goal.invariant_of-self
+invariant_of-self g c =
+    let kept = c.make_room_named.ensures in (
+      numbered-same _ _ _ _ _ _ kept.rows kept.numbers c.self.invariant.0,
+      named-same _ _ _ _ _ _ kept.rows kept.cells kept.others c.self.invariant.1,
+    )

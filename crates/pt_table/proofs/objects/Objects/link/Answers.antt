@@ -1,6 +1,7 @@
-use Rattle.std.proofs.Common.{◌∙◌, Some, cond, ap}
+use Rattle.std.proofs.Common.{◌==◌, ◌∙◌, Some, cond, ap}
 use Rattle.pt_table.specs.Linked.{is_linked, is_number, next_number, number_before}
 use Rattle.pt_table.proofs.Entered.{put-first, keeps-first, head-linked}
+use Rattle.pt_table.proofs.Kept.{or-else}
 use Rattle.pt_table.proofs.objects.Objects.link.Goals as goal
 
 pub set_before-requires : goal.set_before-requires
@@ -33,3 +34,11 @@ returns-clause-others g c = λ numbers l other others m apart.
     (λ n. c.set_before.ensures.before n
     ∙ ap (cond (is_number c.args.head n) (Some c.args.number)) (c.set_own.ensures.before n))
     numbers l other others m apart
+
+pub returns-clause-rows : goal.returns-clause-rows
+returns-clause-rows g c = c.set_before.ensures.rows ∙ c.set_own.ensures.rows
+
+pub returns-clause-linked : goal.returns-clause-linked
+returns-clause-linked g c = λ n.
+    c.set_before.ensures.linked n
+    ∙ (c.set_own.ensures.linked n ∙ or-else (c.args.number == n) (is_linked c.args.self.now n))

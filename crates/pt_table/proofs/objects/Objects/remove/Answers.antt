@@ -1,8 +1,10 @@
 use Rattle.std.proofs.Common.{◌∙◌, ap, sym}
 use Rattle.std.specs.Option.{option_map}
+use Rattle.pt_table.specs.NameSlots.{Naming}
 use Rattle.pt_table.proofs.Listed.{slot_has_row, row_absent}
 use Rattle.pt_table.proofs.Removed.{view_absent, row_removed, numbered_removed, view_removed}
 use Rattle.pt_table.proofs.Named.{named_removed}
+use Rattle.pt_table.proofs.Kept.{numbered-same, named-same}
 use Rattle.pt_table.proofs.objects.Objects.remove.Goals as goal
 
 pub take_named-requires : goal.take_named-requires
@@ -43,3 +45,11 @@ returns-clause-rows g c =
     view_removed c.self.invariant.0 c.args.self.now c.self.view_is c.args.number
     c.take_named.new.rows.slots c.take_named.new.numbers.entries c.in_ok-row.row
     c.in_ok-row.ensures.row c.in_ok-row.ensures.left
+
+pub invariant_of-self : goal.invariant_of-self
+invariant_of-self g c =
+    let kept = c.in_err-row.ensures in (
+      numbered-same _ _ _ _ _ _ kept.rows_kept kept.numbers_kept c.self.invariant.0,
+      named-same _ _ _ _ _ _ kept.rows_kept (ap (λ (n : Naming). n.cells) kept.names_kept)
+          (ap (λ (n : Naming). n.others) kept.names_kept) c.self.invariant.1,
+    )

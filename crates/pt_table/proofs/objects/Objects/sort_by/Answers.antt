@@ -52,3 +52,6 @@ returns-clause-linked g c =
     c.sort_numbers.ensures.same in
     linked-again c.args.self.now c.args.head ns ms c.gather-count.ensures.chain moved
     c.link_each.new.self c.link_each.result c.link_each.ensures.chain c.link_each.ensures.linked
+
+pub returns-clause-rows : goal.returns-clause-rows
+returns-clause-rows g c = c.link_each.ensures.rows
