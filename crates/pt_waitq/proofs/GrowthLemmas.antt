@@ -100,6 +100,12 @@ pub on-ok : {X E : Type 0} (r : Result X E) (P : Type 0) → P → OnOk r P
 on-ok (Ok x) P h = h
 on-ok (Err e) P h = tt
 
+pub ok-not : {X E : Type 0} (r : Result X E) (P : Type 0) (e : E) → r ≡ Err e → OnOk r P
+ok-not r P e is = subst (λ x. OnOk x P) (sym is) tt
+
+pub err-not : {X E : Type 0} (r : Result X E) (P : Type 0) (x : X) → r ≡ Ok x → OnErr r P
+err-not r P x is = subst (λ y. OnErr y P) (sym is) tt
+
 pub few-more : (len n : ℕ) → len ≡ n → len < 4294967295 → n + 1 < 4294967296
 few-more len n e less = omega arith
 

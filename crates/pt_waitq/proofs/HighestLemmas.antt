@@ -1,14 +1,16 @@
 -- The highest chain that isn't empty, as one of the counts changes.
 use Rattle.std.proofs.Common.{◌≡◌, ◌≢◌, ℕ, ◌+◌, ◌-◌, ◌==◌, nat_le, ◌<◌, ◌≤◌, max, Bool, true, false}
 use Rattle.std.proofs.Common.{cond, not, List, Option, Some, None, refl, sym, ap, ◌∙◌, subst, arith}
-use Rattle.std.proofs.Common.{eq-eqb}
+use Rattle.std.proofs.Common.{eq-eqb, length, take, length-take, get_or-take}
 use Rattle.std.specs.Prelude.{◌&&◌, is_some, slice_index, slice_index_or, MatchOption}
 use Rattle.std.proofs.lemmas.Bool.Decides.{nat_tests}
+use Rattle.pt_lanes.specs.Counts.{IsHighest}
 use Rattle.pt_types.specs.Limits.{most_priority}
 use Rattle.pt_waitq.specs.declared.sides.Side.{Side}
 use Rattle.pt_waitq.specs.declared.sides.Queue.{Queue}
 use Rattle.pt_waitq.specs.Chains.{side_of, HasNone, IsTaken}
-use Rattle.pt_waitq.specs.Highest.{IsBound, IsHighestChain}
+use Rattle.pt_waitq.specs.Boxes.{IsLone}
+use Rattle.pt_waitq.specs.Highest.{NoneAbove, IsBound, IsHighestChain}
 
 -- the highest index after one more at p
 abbrev pub IsRaised : ℕ → Option ℕ → Option ℕ → Type 0
@@ -204,3 +206,77 @@ some-left n some = grind (arith, nat_tests, some)
 pub none-highest : (q : Queue) → HasNone q
     → IsHighestChain q.writers.counts None × IsHighestChain q.readers.counts None
 none-highest q h = (λ p lt. h.counts true p lt, λ p lt. h.counts false p lt)
+
+-- what is highest among the counts below one that is zero
+module _ (counts : List ℕ) (i : ℕ) (all : length counts ≡ most_priority)
+    (bound : (i < most_priority) × NoneAbove counts i) (zero : slice_index counts i ≡ 0) where
+  shorter : length (take i counts) ≡ i
+  shorter = let within = bound.0 in omega (arith, length-take i counts, all, within)
+
+  same : (j : ℕ) → j < i → slice_index (take i counts) j ≡ slice_index counts j
+  same j less = get_or-take i counts j 0 less
+
+  none-from : (j : ℕ) → j < most_priority → i ≤ j → slice_index counts j ≡ 0
+  none-from j lt le = go (nat_le j i) refl
+    where
+      go : (b : Bool) → nat_le j i ≡ b → slice_index counts j ≡ 0
+      go true e =
+          let own : j ≡ i = grind (arith, nat_tests, le) in
+          ap (slice_index counts) own ∙ zero
+      go false e = bound.1 j lt (grind (arith, nat_tests))
+
+  zero-at : (j : ℕ) → j < most_priority → (j < i → slice_index counts j ≡ 0)
+      → slice_index counts j ≡ 0
+  zero-at j lt below = go (nat_le i j) refl
+    where
+      go : (b : Bool) → nat_le i j ≡ b → slice_index counts j ≡ 0
+      go true e = none-from j lt (grind (arith, nat_tests))
+      go false e = below (grind (arith, nat_tests))
+
+  pub lowered-highest : (found : Option ℕ) → IsHighest (take i counts) found
+      → IsHighestChain counts found
+  lowered-highest None h = λ j lt.
+      zero-at j lt (λ less. sym (same j less) ∙ h j (omega (arith, less, shorter)))
+  lowered-highest (Some k) h =
+      let within = bound.0 in
+      let there = h.0.0 in
+      let less : k < i = omega (arith, there, shorter) in (
+        omega (arith, less, within),
+        λ z. h.0.1 (same k less ∙ z),
+        λ j lt above. zero-at j lt (λ below. go j below above (slice_index counts j == 0) refl),
+      )
+    where
+      go : (j : ℕ) → j < i → k < j → (b : Bool) → (slice_index counts j == 0) ≡ b
+          → slice_index counts j ≡ 0
+      go j below above true e = grind (arith, nat_tests, e)
+      go j below above false e =
+          let some : slice_index counts j ≢ 0 = grind (arith, nat_tests, e) in
+          let le = h.1 j (omega (arith, below, shorter), λ z. some (sym (same j below) ∙ z)) in
+          absurd (omega (arith, le, above))
+
+-- a lone chain is the highest of its kind
+alone-highest : (counts : List ℕ) (p n : ℕ) → p < most_priority → n ≢ 0
+    → ((i : ℕ) → i < most_priority → slice_index counts i ≡ cond (p == i) n 0)
+    → IsHighestChain counts (Some p)
+alone-highest counts p n within some count = (
+  within,
+  λ z. some (sym (ap (λ b. cond b n 0) (eq-eqb p p refl)) ∙ (sym (count p within) ∙ z)),
+  λ i lt above.
+      let apart : (p == i) ≡ false = grind (arith, nat_tests, above) in
+      count i lt ∙ ap (λ b. cond b n 0) apart,
+)
+
+pub lone-highest : (k : Bool) (p n : ℕ) (head tail : Option ℕ) (q : Queue) (w r : Option ℕ)
+    → p < most_priority → n ≢ 0 → IsLone k p head tail n q → w ≡ cond k (Some p) None
+    → r ≡ cond k None (Some p)
+    → IsHighestChain q.writers.counts w × IsHighestChain q.readers.counts r
+lone-highest true p n head tail q w r within some is writer reader = (
+  subst (IsHighestChain q.writers.counts) (sym writer)
+      (alone-highest q.writers.counts p n within some is.count),
+  subst (IsHighestChain q.readers.counts) (sym reader) (λ i lt. (is.other i lt).count),
+)
+lone-highest false p n head tail q w r within some is writer reader = (
+  subst (IsHighestChain q.writers.counts) (sym writer) (λ i lt. (is.other i lt).count),
+  subst (IsHighestChain q.readers.counts) (sym reader)
+      (alone-highest q.readers.counts p n within some is.count),
+)

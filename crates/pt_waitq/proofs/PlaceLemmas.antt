@@ -1,8 +1,9 @@
 -- A map's entry that is found at its index.
 use Rattle.std.proofs.Common.{◌≡◌, ℕ, zero, suc, ◌==◌, true, false, cond, List, [], ◌∷◌}
 use Rattle.std.proofs.Common.{Some, Option, None, arith, refl, sym, ap, nat_eq, ◌<◌, length}
-use Rattle.std.proofs.Common.{slice_index_or, subst, ◌∙◌}
-use Rattle.std.specs.Option.{option_map}
+use Rattle.std.proofs.Common.{slice_index_or, is_some, subst, ◌∙◌}
+use denote.Ref.{MutBor}
+use Rattle.std.specs.Option.{option_map, option_copied_mut}
 use Rattle.std.proofs.lemmas.Bool.Decides.{nat_tests}
 use Rattle.std.proofs.lemmas.List.Quantifiers.{position-Some}
 use Rattle.std.specs.List.{AllByRecursion as Each, IsDistinct, position}
@@ -91,6 +92,10 @@ pub listed-at : {X : Type 0} (es : List (ℕ × X)) (o : ℕ) (found : Option �
     → slice_get (numbers es) i ≡ Some o
 listed-at es o found i at is =
     subst (λ f. IfSome f (λ j. slice_get (numbers es) j ≡ Some o)) is at
+
+pub lent-there : {X : Type 0} (o : Option (MutBor X)) → is_some o ≡ is_some (option_copied_mut o)
+lent-there None = refl
+lent-there (Some x) = refl
 
 -- what a row that was found says
 pub found-row : {X : Type 0} (P : X → Type 0) (f : Option X) (x y : X) → Some x ≡ f → f ≡ Some y

@@ -11,6 +11,9 @@ use Rattle.pt_waitq.proofs.PlaceLemmas.{numbers-set, found-at, found-set, others
 use Rattle.pt_waitq.proofs.OpenedLemmas.{listed-by, room-by, queues-opened, queues-set, numbers-by}
 use Rattle.pt_waitq.proofs.OpenedLemmas.{others-by}
 use Rattle.pt_waitq.proofs.OpenedRows.{row-if, row-of, equal-most}
+use Rattle.pt_waitq.proofs.PlaceLemmas.{lent-there}
+use Rattle.pt_waitq.proofs.ChainLemmas.{listed-lookup}
+use Rattle.pt_waitq.proofs.OpenedRows.{at-listed}
 use Rattle.pt_waitq.proofs.queues.insert.Goals as goal
 
 pub row_index-index-requires-clause-room : goal.row_index-index-requires-clause-room
@@ -138,3 +141,14 @@ returns-clause-spares g c = λ old was.
     ap (λ q. unwrap_or q old) (sym (at ∙ lent) ∙ first) in
     subst (λ q. vec_len c.put_in.new.spares + cond (q.len == 0) 1 0 ≡ vec_len c.args.spares.now)
     before c.put_in.ensures.len
+
+pub unwrap-queue-requires : goal.unwrap-queue-requires
+unwrap-queue-requires g c =
+    let o = c.args.object in
+    let now = c.row_index-index.new.rows.map.entries in
+    let index = c.row_index-index.result in
+    let listed = c.row_index-index.ensures.at in
+    let at = found-at now index o c.get_index_mut.ensures.unique listed in
+    lent-there c.get_index_mut.result
+    ∙ (ap is_some (c.get_index_mut.ensures.value ∙ sym at)
+    ∙ (sym (listed-lookup o now) ∙ at-listed (numbers now) index o listed))

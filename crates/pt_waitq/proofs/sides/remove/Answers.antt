@@ -4,6 +4,8 @@ use Rattle.std.specs.Option.{option_copied_mut, option_map}
 use Rattle.pt_waitq.specs.Chains.{side_of}
 use Rattle.pt_waitq.specs.Boxes.{IsEmptied}
 use Rattle.pt_waitq.proofs.PlaceLemmas.{listed-at, numbers-set, found-at, found-set, others-set}
+use Rattle.std.proofs.Common.{is_some}
+use Rattle.pt_waitq.proofs.PlaceLemmas.{lent-there}
 use Rattle.pt_waitq.proofs.sides.remove.Goals as goal
 
 pub take_out-requires-clause-stands : goal.take_out-requires-clause-stands
@@ -52,3 +54,12 @@ returns-clause-queue g c = λ old new was is.
     subst (λ q. IsEmptied c.args.writer c.args.p c.args.before c.args.next q new box) before
     (subst (λ q. IsEmptied c.args.writer c.args.p c.args.before c.args.next
     c.unwrap-queue.result.now q box) after c.take_out.ensures)
+
+pub unwrap-queue-requires : goal.unwrap-queue-requires
+unwrap-queue-requires g c =
+    let there = listed-at c.args.queues.now.map.entries c.args.object c.index_from.result
+    c.unwrap-index.result c.index_from.ensures.found c.unwrap-index.ensures in
+    let at = found-at c.args.queues.now.map.entries c.unwrap-index.result c.args.object
+    c.get_index_mut.ensures.unique there in
+    lent-there c.get_index_mut.result
+    ∙ (ap is_some (c.get_index_mut.ensures.value ∙ sym at) ∙ c.requires.there)

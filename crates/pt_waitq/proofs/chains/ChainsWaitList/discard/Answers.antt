@@ -6,6 +6,7 @@ use Rattle.pt_waitq.proofs.ChangeLemmas.{queue-change, read-as}
 use Rattle.pt_waitq.proofs.InsertLemmas.{length-numbers}
 use Rattle.pt_waitq.proofs.BoxLemmas.{boxes-kept}
 use Rattle.pt_waitq.proofs.MadeLemmas.{discard-made, discard-stand, chains-discarded}
+use Rattle.pt_waitq.specs.Waits.{is_admitted}
 use Rattle.pt_waitq.proofs.chains.ChainsWaitList.discard.Goals as goal
 
 pub discard-requires : goal.discard-requires
@@ -55,3 +56,6 @@ returns-clause-queues g c = λ q.
     let now = discard-stand _ _ c.self.inside.queues _ es c.object.inside.0
     c.self.invariant.0 c.discard.ensures.queues empty in
     queue-change _ _ _ es es _ c.self.view_is stand now (λ ws. ws) q refl
+
+pub returns-clause-admitted : goal.returns-clause-admitted
+returns-clause-admitted g c = λ d. ap (λ w. is_admitted w d) c.self.view_is

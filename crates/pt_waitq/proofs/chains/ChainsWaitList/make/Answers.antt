@@ -8,6 +8,11 @@ use Rattle.pt_waitq.proofs.InsertLemmas.{length-numbers}
 use Rattle.pt_waitq.proofs.BoxLemmas.{none-without, length-made, boxes-grown}
 use Rattle.pt_waitq.proofs.MadeLemmas.{made-absent, made-stand, chains-made}
 use Rattle.pt_waitq.proofs.GrowthLemmas.{boxes-same, spares-few, few-objects, enough-objects}
+use Rattle.std.proofs.Common.{◌==◌, ◌||◌, ◌++◌, ◌∷◌, [], cond}
+use Rattle.pt_waitq.specs.Waits.{is_listed}
+use Rattle.pt_waitq.proofs.ChangeLemmas.{listed-more}
+use Rattle.pt_waitq.proofs.GrowthLemmas.{on-ok, on-err, ok-not, err-not}
+use Rattle.pt_waitq.proofs.chains.ChainsWaitList.make.Goals.{then-make, else-make}
 use Rattle.pt_waitq.proofs.chains.ChainsWaitList.make.Goals as goal
 
 pub make-requires : goal.make-requires
@@ -94,3 +99,29 @@ grow-requires-clause-len g c =
 
 pub grow-requires-clause-empty : goal.grow-requires-clause-empty
 grow-requires-clause-empty g c = c.self.invariant.2
+
+pub returns-clause-ok : goal.returns-clause-ok
+returns-clause-ok g c =
+    let old = numbers c.self.inside.queues in
+    let o = c.object.inside.0 in
+    elim c.if-make.branch [
+      | then-make w ↦ on-ok c.if-make.result _ (λ q.
+          ap (is_listed q) (c.make.ensures.numbers
+          ∙ ap (λ b. cond b (old ++ o ∷ []) old) w.if-make.true)
+          ∙ (listed-more o q old
+          ∙ (ap (λ x. (x == q) || is_listed q old) c.object.view_is
+          ∙ ap (λ v. (c.args.object == q) || is_made v q) c.self.view_is)))
+      | else-make w ↦ ok-not c.if-make.result _ _ w.result-is
+    ]
+
+pub returns-clause-err : goal.returns-clause-err
+returns-clause-err g c =
+    let old = numbers c.self.inside.queues in
+    let o = c.object.inside.0 in
+    elim c.if-make.branch [
+      | then-make w ↦ err-not c.if-make.result _ _ w.result-is
+      | else-make w ↦ on-err c.if-make.result _ (λ q.
+          ap (is_listed q) (c.make.ensures.numbers
+          ∙ ap (λ b. cond b (old ++ o ∷ []) old) w.if-make.false)
+          ∙ ap (λ v. is_made v q) c.self.view_is)
+    ]

@@ -352,3 +352,6 @@ returns-clause-made g c = λ q.
 
 pub returns-in_err-place-clause-found : goal.returns-in_err-place-clause-found
 returns-in_err-place-clause-found g c = if-none c.from_residual.result _ c.from_residual.ensures
+
+pub put_back-requires-clause-empty : goal.put_back-requires-clause-empty
+put_back-requires-clause-empty g c = c.self.invariant.2

@@ -319,3 +319,6 @@ returns-clause-admitted g c = λ d.
 pub returns-clause-made : goal.returns-clause-made
 returns-clause-made g c = λ q.
     ap (is_listed q) c.remove-freed.ensures.numbers ∙ ap (λ w. is_made w q) c.self.view_is
+
+pub put_back-requires-clause-empty : goal.put_back-requires-clause-empty
+put_back-requires-clause-empty g c = c.self.invariant.2
