@@ -1,7 +1,9 @@
 -- What stands of a table with no row, and of one whose rows and numbers are as they were.
-use Rattle.std.proofs.Common.{◌≡◌, ℕ, ◌+◌, ◌-◌, ◌<◌, ◌≤◌, false, List, [], Option, sym, subst}
+use Rattle.std.proofs.Common.{◌≡◌, ℕ, ◌+◌, ◌-◌, ◌<◌, ◌≤◌, false, List, [], Option, Some, None}
+use Rattle.std.proofs.Common.{is_some, sym, subst}
 use Rattle.std.proofs.Common.{Bool, true, cond, ◌||◌, refl, arith}
 use Rattle.std.specs.Prelude.{Result, Ok, Err, OnOk}
+use Rattle.std.specs.Option.{option_map}
 use Rattle.std.specs.Result.{is_err}
 use Rattle.std.proofs.lemmas.Bool.{false≢true}
 use Rattle.pt_table.specs.declared.objects.ObjectRow.{ObjectRow}
@@ -19,6 +21,11 @@ then-ok P (Err x) h f = tt
 pub or-else : (b other : Bool) → cond b true other ≡ (b || other)
 or-else true other = refl
 or-else false other = refl
+
+pub no-value : {X Y : Type 0} (o : Option X) (f : X → Y) → false ≡ is_some o
+    → None ≡ option_map f o
+no-value None f e = refl
+no-value (Some x) f e = absurd (false≢true e)
 
 pub some-room : (len room : ℕ) → len + 1 ≤ room → 0 < room - len
 some-room len room fits = omega arith
