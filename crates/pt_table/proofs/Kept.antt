@@ -14,6 +14,10 @@ pub granted : {T E P : Type 0} (r : Result T E) → false ≡ is_err r → OnOk 
 granted (Ok t) e h = h
 granted (Err x) e h = absurd (false≢true e)
 
+pub on-ok : {T E : Type 0} (P : Type 0) (r : Result T E) → P → OnOk r P
+on-ok P (Ok t) h = h
+on-ok P (Err x) h = tt
+
 pub then-ok : {T E Q : Type 0} (P : Type 0) (r : Result T E) → OnOk r P → (P → Q) → OnOk r Q
 then-ok P (Ok t) h f = f h
 then-ok P (Err x) h f = tt
