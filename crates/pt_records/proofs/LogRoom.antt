@@ -135,87 +135,87 @@ module _ {A : Type 0} where
   -- a log that is seen as these answers with this room
   module _ (b n : ℕ) (ws : Vec Answered A) (ss : Vec Short A) (seen : StoredLog)
       (is : record { items = lengthened_all b ws.items ss.items; capacity = vec_len ss + n } ≡ seen)
-      where
-    pub seen-many : length seen.items ≡ vec_len ss
-    seen-many = sym (ap (λ (s : StoredLog). length s.items) is) ∙ as-many b ws.items ss
+    where
+      pub seen-many : length seen.items ≡ vec_len ss
+      seen-many = sym (ap (λ (s : StoredLog). length s.items) is) ∙ as-many b ws.items ss
 
-    pub seen-room : seen.capacity ≡ vec_len ss + n
-    seen-room = sym (ap (λ (s : StoredLog). s.capacity) is)
+      pub seen-room : seen.capacity ≡ vec_len ss + n
+      seen-room = sym (ap (λ (s : StoredLog). s.capacity) is)
 
-    pub room-seen : length seen.items + n ≡ seen.capacity
-    room-seen = omega (arith, seen-many, seen-room)
+      pub room-seen : length seen.items + n ≡ seen.capacity
+      room-seen = omega (arith, seen-many, seen-room)
 
-    -- there is room for one more
-    pub room-left : length seen.items < seen.capacity → 1 ≤ n
-    room-left less = omega (arith, less, seen-many, seen-room)
+      -- there is room for one more
+      pub room-left : length seen.items < seen.capacity → 1 ≤ n
+      room-left less = omega (arith, less, seen-many, seen-room)
 
-    pub shorts-left : length seen.items < seen.capacity → HasRoom ss ws n
-        → vec_len ss < vec_capacity ss
-    shorts-left less r = omega (arith, room-left less, r.shorts)
+      pub shorts-left : length seen.items < seen.capacity → HasRoom ss ws n
+          → vec_len ss < vec_capacity ss
+      shorts-left less r = omega (arith, room-left less, r.shorts)
 
-    pub wholes-left : length seen.items < seen.capacity → HasRoom ss ws n
-        → vec_len ws < vec_capacity ws
-    wholes-left less r = omega (arith, room-left less, r.wholes)
+      pub wholes-left : length seen.items < seen.capacity → HasRoom ss ws n
+          → vec_len ws < vec_capacity ws
+      wholes-left less r = omega (arith, room-left less, r.wholes)
 
-    -- one more answer leaves as much room in all
-    pub room-after : (ts : Vec Short A) → vec_len ts ≡ vec_len ss + 1 → 1 ≤ n
-        → vec_len ts + (n - 1) ≡ seen.capacity
-    room-after ts more one = omega (arith, more, one, seen-room)
+      -- one more answer leaves as much room in all
+      pub room-after : (ts : Vec Short A) → vec_len ts ≡ vec_len ss + 1 → 1 ≤ n
+          → vec_len ts + (n - 1) ≡ seen.capacity
+      room-after ts more one = omega (arith, more, one, seen-room)
 
-    -- the same answers are seen elsewhere
-    pub seen-same : (vs : List Answered) (ts : List Short) → vs ≡ ws.items → ts ≡ ss.items
-        → lengthened_all b vs ts ≡ seen.items
-    seen-same vs ts e f = rw (e, f) (ap (λ (s : StoredLog). s.items) is)
+      -- the same answers are seen elsewhere
+      pub seen-same : (vs : List Answered) (ts : List Short) → vs ≡ ws.items → ts ≡ ss.items
+          → lengthened_all b vs ts ≡ seen.items
+      seen-same vs ts e f = rw (e, f) (ap (λ (s : StoredLog). s.items) is)
 
-    -- and one more
-    pub seen-push : (ts : List Short) (s : Short) (a : Answered) → ts ≡ ss.items ++ s ∷ []
-        → AreReadable b ws.items ss.items → ShortensAlone b a s
-        → lengthened_all b ws.items ts ≡ seen.items ++ a ∷ []
-    seen-push ts s a e r one =
-        ap (lengthened_all b ws.items) e
-        ∙ (lengthened-push b ws.items ws.items [] ss.items s a (sym (append-nil ws.items)) r
-        (one.same ws.items)
-        ∙ ap (λ (s : StoredLog). s.items ++ a ∷ []) is)
+      -- and one more
+      pub seen-push : (ts : List Short) (s : Short) (a : Answered) → ts ≡ ss.items ++ s ∷ []
+          → AreReadable b ws.items ss.items → ShortensAlone b a s
+          → lengthened_all b ws.items ts ≡ seen.items ++ a ∷ []
+      seen-push ts s a e r one =
+          ap (lengthened_all b ws.items) e
+          ∙ (lengthened-push b ws.items ws.items [] ss.items s a (sym (append-nil ws.items)) r
+          (one.same ws.items)
+          ∙ ap (λ (s : StoredLog). s.items ++ a ∷ []) is)
 
-    -- as much room stays, and at least as much comes
-    pub room-kept : (ts : Vec Short A) → vec_len ts ≡ vec_len ss → seen.capacity ≤ vec_len ts + n
-    room-kept ts e = omega (arith, e, seen-room)
+      -- as much room stays, and at least as much comes
+      pub room-kept : (ts : Vec Short A) → vec_len ts ≡ vec_len ss → seen.capacity ≤ vec_len ts + n
+      room-kept ts e = omega (arith, e, seen-room)
 
-    pub room-grown : (ts : Vec Short A) (k : ℕ) → vec_len ts ≡ vec_len ss
-        → seen.capacity ≤ length seen.items + k → seen.capacity ≤ vec_len ts + k
-    room-grown ts k e more = omega (arith, e, more, seen-many)
+      pub room-grown : (ts : Vec Short A) (k : ℕ) → vec_len ts ≡ vec_len ss
+          → seen.capacity ≤ length seen.items + k → seen.capacity ≤ vec_len ts + k
+      room-grown ts k e more = omega (arith, e, more, seen-many)
 
-    -- the answers that are forgotten leave their room
-    pub room-cleared : (k : ℕ) → seen.capacity ≤ k + n + length seen.items
-    room-cleared k = omega (arith, seen-many, seen-room)
+      -- the answers that are forgotten leave their room
+      pub room-cleared : (k : ℕ) → seen.capacity ≤ k + n + length seen.items
+      room-cleared k = omega (arith, seen-many, seen-room)
 
-    -- so many more fit, and no more than these
-    pub room-enough : (k : ℕ) → k ≤ n → length seen.items + k ≤ seen.capacity
-    room-enough k less = omega (arith, less, seen-many, seen-room)
+      -- so many more fit, and no more than these
+      pub room-enough : (k : ℕ) → k ≤ n → length seen.items + k ≤ seen.capacity
+      room-enough k less = omega (arith, less, seen-many, seen-room)
 
-    pub room-within : (k : ℕ) → n ≤ k → seen.capacity ≤ length seen.items + k
-    room-within k less = omega (arith, less, seen-many, seen-room)
+      pub room-within : (k : ℕ) → n ≤ k → seen.capacity ≤ length seen.items + k
+      room-within k less = omega (arith, less, seen-many, seen-room)
 
-    pub room-short : (k : ℕ) → n < k → length seen.items + k ≤ seen.capacity → ⊥
-    room-short k less enough = omega (arith, less, enough, seen-many, seen-room)
+      pub room-short : (k : ℕ) → n < k → length seen.items + k ≤ seen.capacity → ⊥
+      room-short k less enough = omega (arith, less, enough, seen-many, seen-room)
 
-    -- an index of an answer is one of a short answer
-    pub index-within : (i : ℕ) → i < length seen.items → i < vec_len ss
-    index-within i less = omega (arith, less, seen-many)
+      -- an index of an answer is one of a short answer
+      pub index-within : (i : ℕ) → i < length seen.items → i < vec_len ss
+      index-within i less = omega (arith, less, seen-many)
 
-    pub start-within : (i : ℕ) (ts : List Short) → i ≤ length seen.items
-        → length ts ≡ vec_len ss → i ≤ length ts
-    start-within i ts less e = omega (arith, less, e, seen-many)
+      pub start-within : (i : ℕ) (ts : List Short) → i ≤ length seen.items
+          → length ts ≡ vec_len ss → i ≤ length ts
+      start-within i ts less e = omega (arith, less, e, seen-many)
 
-    -- what is read of the answer at an index
-    pub place-at : (vs : List Answered) (s : Short) (a : Answered) (i : ℕ) → vs ≡ ws.items
-        → s ≡ get_or ss.items i s → i < length seen.items → a ≡ lengthened b vs s
-        → a.at ≡ (get_or seen.items i no_answer).at
-    place-at vs s a i e f less made =
-        let inside : i < length ss.items = omega (arith, less, seen-many, ss.ok.0) in
-        ap (λ (x : Answered). x.at)
-        (made
-        ∙ (ap (λ us. lengthened b us s) e
-        ∙ (ap (lengthened b ws.items) f
-        ∙ (sym (get_or-map (lengthened b ws.items) ss.items i s no_answer inside)
-        ∙ ap (λ (l : StoredLog). get_or l.items i no_answer) is))))
+      -- what is read of the answer at an index
+      pub place-at : (vs : List Answered) (s : Short) (a : Answered) (i : ℕ) → vs ≡ ws.items
+          → s ≡ get_or ss.items i s → i < length seen.items → a ≡ lengthened b vs s
+          → a.at ≡ (get_or seen.items i no_answer).at
+      place-at vs s a i e f less made =
+          let inside : i < length ss.items = omega (arith, less, seen-many, ss.ok.0) in
+          ap (λ (x : Answered). x.at)
+          (made
+          ∙ (ap (λ us. lengthened b us s) e
+          ∙ (ap (lengthened b ws.items) f
+          ∙ (sym (get_or-map (lengthened b ws.items) ss.items i s no_answer inside)
+          ∙ ap (λ (l : StoredLog). get_or l.items i no_answer) is))))

@@ -58,11 +58,11 @@ pub returns-in-Err : goal.returns-in-Err
 returns-in-Err g c = record {
   ok = tt;
   err = record {
-        stored = refl;
-        read = c.requires.ready.read;
-        held = refl;
-        told = refl;
-      };
+    stored = refl;
+    read = c.requires.ready.read;
+    held = refl;
+    told = refl;
+  };
   reason = c.in-Err.ensures.refusal;
   queued = c.requires.queued;
   timed = subst (AreTimed (past c.args.state.now)) (sym c.in-Err.ensures.err) c.requires.timed;

@@ -29,11 +29,11 @@ pub returns-in-Err : goal.returns-in-Err
 returns-in-Err g c = record {
   ok = tt;
   err = record {
-        stored = refl;
-        read = c.requires.ready.read;
-        held = refl;
-        told = refl;
-      };
+    stored = refl;
+    read = c.requires.ready.read;
+    held = refl;
+    told = refl;
+  };
   reason = c.in-Err.ensures.refusal;
   queued = queued-kept (past c.args.state.now) _ _ _ _ _ _ c.in-Err.ensures.queues
       c.in-Err.ensures.admitted c.in-Err.ensures.err c.requires.queued;

@@ -126,7 +126,7 @@ returns g c = record {
         first = both.first;
         next = service (past both.mid) both.its.call;
         follows = must-follow old both.mid c.args.c c.args.call.now ready granted both.first
-        both.its
+            both.its
             both.found;
         second = both.second;
       });
