@@ -10,3 +10,5 @@ mod PlaceLemmas
 mod StaleLemmas
 -- TimerLemmas: the deadlines in their orders, as one is set or taken away
 mod TimerLemmas
+-- OrderLemmas: what a step on the keys of an order leaves
+mod OrderLemmas
