@@ -32,3 +32,9 @@ mod Stored
 mod Asked
 -- Alone: an event that no entry follows answers its own call, or none
 mod Alone
+-- Stays: what holds of an engine whose parts stay
+mod Stays
+-- Raised: what is counted, once one line more came, or its row was made
+mod Raised
+-- Room: room for one line more
+mod Room

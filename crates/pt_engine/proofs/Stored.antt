@@ -1,7 +1,8 @@
 -- The lines that are stored, once one of them is written.
-use Rattle.std.proofs.Common.{◌≡◌, ℕ, nat_eq, Option, Some, None, refl}
+use Rattle.std.proofs.Common.{◌≡◌, ℕ, ◌<◌, nat_eq, List, length, Option, Some, None, refl}
 use Rattle.std.specs.Prelude.{option_map, slice_get}
 use Rattle.std.specs.Cmp.{nat_eq_equiv}
+use Rattle.std.proofs.lemmas.Option.{slice_get_within}
 use Rattle.indexmap.specs.IndexMap.{IndexMap, IsUnique, set_value_at}
 use Rattle.indexmap.proofs.CallerLemmas.{updates-with_value_at}
 use Rattle.pt_engine.specs.declared.line_id.LineId.{LineId}
@@ -22,3 +23,13 @@ stored_at m i c line unique key = go (slice_get m.entries i) refl key
         let is : k ≡ c = cc in
         (updates-with_value_at m i line nat_eq_equiv unique c v
         (rw (← is) at)).0
+
+-- where a row is, is a place in the list
+pub index_within : {X : Type 0} (xs : List (ℕ × X)) (i c : ℕ)
+    → option_map (λ (e : ℕ × X). e.0) (slice_get xs i) ≡ Some c → i < length xs
+index_within {X} xs i c key = go (slice_get xs i) refl key
+  where
+    go : (o : Option (ℕ × X)) → slice_get xs i ≡ o
+        → option_map (λ (e : ℕ × X). e.0) o ≡ Some c → i < length xs
+    go None at e = absurd cc
+    go (Some row) at e = slice_get_within xs i row at

@@ -1,5 +1,6 @@
 -- Texts of answers.
-use Rattle.std.proofs.Common.{◌≡◌, ℕ, List, [], ◌∷◌, ◌++◌, refl, sym, ap, ◌∙◌}
+use Rattle.std.proofs.Common.{◌≡◌, ℕ, ◌<◌, List, [], ◌∷◌, ◌++◌, length, refl, sym, ap}
+use Rattle.std.proofs.Common.{◌∙◌, arith}
 use Rattle.std.proofs.lemmas.List.{append_assoc}
 use Rattle.pt_model.specs.Searches.{Each}
 use Rattle.pt_model.specs.Records.{Told}
@@ -22,3 +23,7 @@ same_text asked calls (t ∷ ts) each =
     ap (λ o. told_line o t.outcome ++ latest_text asked ts) (each.0.1.0 ∙ sym each.0.1.1)
     ∙ ap (λ xs. told_line (line_at calls t.place) t.outcome ++ xs)
     (same_text asked calls ts each.1)
+
+-- one answer less is left
+pub fewer : {X : Type 0} (xs ys : List X) (x : X) → xs ≡ x ∷ ys → length ys < length xs
+fewer xs ys x is = let more = ap length is in omega (arith, more)

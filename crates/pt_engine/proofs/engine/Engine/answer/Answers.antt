@@ -1,5 +1,5 @@
 use Rattle.std.proofs.Common.{◌≡◌, ◌<◌, ◌∙◌, suc, Err, sym, ap, subst}
-use Rattle.pt_engine.specs.Scripts.{event_for, event_of_body, lines_of_who}
+use Rattle.pt_engine.specs.Scripts.{event_for, event_of_body, lines_of_who, number_of}
 use Rattle.pt_engine.specs.Names.{Known}
 use Rattle.pt_engine.specs.Says.{counted}
 use Rattle.pt_engine.specs.Engines.{Heard, known_by}
@@ -51,3 +51,8 @@ returns-in-Err-clause-ok g c =
     (record { who = who; number = c.in_ok-number.field-0.number }) c.in-Err.refusal
     c.args.out.now.items c.refuse.new.out.items grows))
     c.refuse.ensures.ok
+
+pub answer_body-requires-clause-client : goal.answer_body-requires-clause-client
+answer_body-requires-clause-client g c =
+    c.in_ok-number.ensures.client
+    ∙ sym (ap (λ (k : Known). number_of k.clients c.args.line.who) c.in_ok-number.ensures.ok)

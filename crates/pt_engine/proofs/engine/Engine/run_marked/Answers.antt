@@ -1,9 +1,11 @@
-use Rattle.std.proofs.Common.{refl, sym, ap, subst}
+use Rattle.std.proofs.Common.{refl, sym, ap, subst, ◌<◌, ◌∙◌}
 use Rattle.pt_core.specs.Cores.{shown}
-use Rattle.pt_engine.specs.Engines.{IsAsked, known_by}
+use Rattle.pt_engine.specs.Engines.{IsAsked, known_by, Heard}
 use Rattle.pt_engine.proofs.Accepted.{accepted, refused}
 use Rattle.pt_engine.proofs.Alone.{answers_alone, answers_only}
 use Rattle.pt_engine.proofs.Asked.{kept_lines, told_alike}
+use Rattle.pt_engine.specs.Scripts.{lines_of_who, number_of}
+use Rattle.pt_engine.proofs.Stays.{stays_sound}
 use Rattle.pt_engine.proofs.engine.Engine.run_marked.Goals as goal
 
 pub invariant_of-self-in_err-greet-in-Ok : goal.invariant_of-self-in_err-greet-in-Ok
@@ -82,3 +84,33 @@ returns-in_ok-refuse-in-Err-clause-ok g c =
     c.in-Err.refusal c.args.out.now.items c.refuse.new.out.items (ap known_by (sym c.self.view_is))
     c.self.invariant.0.limit (ap shown c.in-Err.ensures.unchanged) refl c.in-Err.ensures.err
     c.in_ok-refuse-in-Err.ensures.ok
+
+pub invariant_of-self : goal.invariant_of-self
+invariant_of-self g c =
+    stays_sound c.self.inside.core c.self.inside.core c.self.inside.asked.entries
+    c.reserve.new.self.entries c.self.inside.calls.items refl c.reserve.ensures.entries
+    c.self.invariant
+
+pub invariant_of-self-in-Err : goal.invariant_of-self-in-Err
+invariant_of-self-in-Err g c =
+    stays_sound c.self.inside.core c.apply_event.new.self c.self.inside.asked.entries
+    c.reserve.new.self.entries c.self.inside.calls.items c.in-Err.ensures.unchanged
+    c.reserve.ensures.entries c.self.invariant
+
+pub invariant_of-self-in_err-refuse-in-Err : goal.invariant_of-self-in_err-refuse-in-Err
+invariant_of-self-in_err-refuse-in-Err g c =
+    stays_sound c.self.inside.core c.apply_event.new.self c.self.inside.asked.entries
+    c.reserve.new.self.entries c.self.inside.calls.items c.in-Err.ensures.unchanged
+    c.reserve.ensures.entries c.self.invariant
+
+pub note-requires-clause-room : goal.note-requires-clause-room
+note-requires-clause-room g c = c.in_ok-reserve.ensures.room
+
+pub note-requires-clause-counted : goal.note-requires-clause-counted
+note-requires-clause-counted g c =
+    subst (λ (h : Heard). 0 < lines_of_who h.seen c.args.line.now.who) (sym c.self.view_is)
+    c.requires.counted
+
+pub note-requires-clause-first : goal.note-requires-clause-first
+note-requires-clause-first g c = λ is.
+    ap (λ (h : Heard). number_of h.clients c.args.line.now.who) c.self.view_is ∙ c.requires.first is

@@ -1,6 +1,6 @@
 use Rattle.std.proofs.Common.{◌<◌, ◌∙◌, ◌^◌, suc, sym, ap, subst}
 use Rattle.pt_grammar.specs.declared.client.Who.TheVariants.{Named}
-use Rattle.pt_engine.specs.Names.{Counted, lines_in, row_of}
+use Rattle.pt_engine.specs.Names.{Counted, lines_in, row_of, IsAt}
 use Rattle.pt_engine.proofs.names.Counts.raise_named.Goals as goal
 
 pub count_at-requires-clause-few : goal.count_at-requires-clause-few
@@ -18,3 +18,8 @@ returns-clause-number g c =
     ap (λ (k : Counted). lines_in (row_of k.rows name)) c.self.view_is
     ∙ c.in_ok-index.ensures.alike.lines (Named name) in
     c.count_at.ensures.number ∙ ap suc same
+
+pub count_at-requires-clause-at : goal.count_at-requires-clause-at
+count_at-requires-clause-at g c =
+    subst (λ (k : Counted). IsAt k.rows c.in_ok-index.index c.args.name.now) (sym c.self.view_is)
+    c.in_ok-index.ensures.at
