@@ -1,6 +1,6 @@
 -- What is counted, once one line more came, or its row was made.
 use Rattle.std.proofs.Common.{◌≡◌, ℕ, suc, ◌+◌, ◌<◌, cond, List, [], ◌∷◌, ◌++◌, Option, Some, None}
-use Rattle.std.proofs.Common.{length, is_some, false, map, refl, sym, ap, subst, ◌∙◌, arith}
+use Rattle.std.proofs.Common.{length, is_some, false, refl, sym, ap, subst, ◌∙◌, arith}
 use Rattle.std.proofs.Common.{length-append, ◌^◌, Fits, w64}
 use Rattle.std.proofs.lemmas.List.Sums.{count_by-le-length}
 use Rattle.pt_engine.specs.declared.names.Row.{Row}

@@ -1,5 +1,5 @@
 use Rattle.std.proofs.Common.{◌∙◌, ap, map}
-use Rattle.std.proofs.Common.{ℕ, suc, ◌<◌, ◌^◌, List, [], ◌∷◌, ◌++◌, length, sym, subst}
+use Rattle.std.proofs.Common.{suc, ◌<◌, ◌^◌, List, [], ◌∷◌, ◌++◌, length, sym, subst}
 use Rattle.pt_engine.specs.Scripts.{number_of, lines_of_who}
 use Rattle.pt_engine.specs.Names.{Known}
 use Rattle.pt_engine.proofs.Rows.{client_known}
