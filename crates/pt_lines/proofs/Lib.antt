@@ -4,3 +4,5 @@ pub mod CutLemmas
 pub mod DigitLemmas
 -- AppendLemmas: bytes that are appended one piece after another
 pub mod AppendLemmas
+-- FrontLemmas: the front of the bytes that a cutter holds, and what is left behind it
+pub mod FrontLemmas

@@ -1,5 +1,5 @@
 use Rattle.std.proofs.Common.{◌∙◌, arith}
-use Rattle.pt_lines.proofs.AppendLemmas.{append-byte}
+use Rattle.pt_lines.proofs.AppendLemmas.{append-byte, append-all}
 use Rattle.pt_lines.proofs.appending.append_block.Goals as goal
 
 pub loop-place-preserved : goal.loop-place-preserved
@@ -11,3 +11,8 @@ loop-place-preserved g c = record {
   len = omega arith;
   capacity = c.push_reserved.ensures.capacity ∙ c.loop-place.invariant.capacity;
 }
+
+pub returns-clause-items : goal.returns-clause-items
+returns-clause-items g c =
+    append-all c.args.out.now.items c.loop-place.out.items c.args.block c.loop-place.place
+    (omega arith) c.loop-place.invariant.items

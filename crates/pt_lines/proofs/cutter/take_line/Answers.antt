@@ -1,5 +1,9 @@
 use Rattle.std.proofs.Common.{◌≡◌, ◌≤◌, ◌<◌, ℕ, List, ap, arith, length, take, drop, length-drop}
+use Rattle.std.proofs.Common.{subst, refl}
 use Rattle.pt_lines.proofs.CutLemmas.{first_in_front, first_line, none_at, too_long}
+use Rattle.pt_grammar.specs.Lines.{NoNewline}
+use Rattle.pt_lines.proofs.FrontLemmas.{few_held, front_before, front_within, least_within}
+use Rattle.pt_lines.proofs.FrontLemmas.{left_less, one_more, short_front}
 use Rattle.pt_lines.proofs.cutter.take_line.Goals as goal
 
 pub returns-in-Some-clause-some : goal.returns-in-Some-clause-some
@@ -32,3 +36,56 @@ pub returns-in-None-clause-fewer : goal.returns-in-None-clause-fewer
 returns-in-None-clause-fewer g c =
     shorter 129 c.args.held.now.items c.advance-in-None.new.self.items
     c.advance-in-None.ensures.items (omega arith) (omega arith)
+
+pub returns-in-Some-clause-fewer : goal.returns-in-Some-clause-fewer
+returns-in-Some-clause-fewer g c =
+    let held = c.args.held.now.items in
+    let found =
+    first_in_front held c.min-count.result c.in-Some.end
+    (rw c.as_slice-text.ensures at c.in-Some.ensures) in
+    left_less c.in-Some.end held c.advance.new.self.items c.advance.ensures.items found.0.within
+
+pub advance-requires : goal.advance-requires
+advance-requires g c =
+    let held = c.args.held.now.items in
+    let found =
+    first_in_front held c.min-count.result c.in-Some.end
+    (rw c.as_slice-text.ensures at c.in-Some.ensures) in
+    one_more c.in-Some.end (length held) found.0.within
+
+pub slice_bounds-line_of-end : goal.slice_bounds-line_of-end
+slice_bounds-line_of-end g c =
+    let held = c.args.held.now.items in
+    let found =
+    first_in_front held c.min-count.result c.in-Some.end
+    (rw c.as_slice-text.ensures at c.in-Some.ensures) in
+    front_before c.in-Some.end c.as_slice-text.result.now held c.as_slice-text.ensures
+    found.0.within
+
+pub line_of-line-requires : goal.line_of-line-requires
+line_of-line-requires g c =
+    let held = c.args.held.now.items in
+    let found =
+    first_in_front held c.min-count.result c.in-Some.end
+    (rw c.as_slice-text.ensures at c.in-Some.ensures) in
+    short_front c.in-Some.end c.min-count.result c.len.result c.as_slice-text.result.now held
+    c.as_slice-text.ensures found.0.within found.1 c.min-count.ensures
+
+pub slice_bounds-memchr-end : goal.slice_bounds-memchr-end
+slice_bounds-memchr-end g c =
+    front_within c.min-count.result c.len.result c.as_slice-text.result.now
+    c.args.held.now.items c.as_slice-text.ensures c.len.ensures.value
+    (least_within c.min-count.result c.len.result 129 c.min-count.ensures)
+
+pub returns-in-None-2-clause-none : goal.returns-in-None-2-clause-none
+returns-in-None-2-clause-none g c =
+    let held = c.args.held.now.items in
+    let few =
+    few_held c.min-count.result c.len.result held c.min-count.ensures c.len.ensures.value
+    c.if-count-gt-MOST_IN_LINE.false in (
+      subst NoNewline few.1
+          (none_at (take c.min-count.result held)
+          (rw c.as_slice-text.ensures at c.in-None-2.ensures)),
+      few.0,
+      refl,
+    )

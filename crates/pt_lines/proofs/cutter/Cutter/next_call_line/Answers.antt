@@ -1,7 +1,8 @@
-use Rattle.std.proofs.Common.{◌≡◌, ◌+◌, ◌∙◌, ap, take, drop}
+use Rattle.std.proofs.Common.{◌≡◌, ◌+◌, ◌∙◌, ap, take, drop, ◌<◌, length, subst, sym}
 use Rattle.pt_grammar.specs.Lines.{Held}
 use Rattle.pt_grammar.specs.Reading.{call_read}
 use Rattle.pt_lines.proofs.CutLemmas.{called_in_place, front_dropped}
+use Rattle.pt_lines.proofs.FrontLemmas.{one_more, front_before}
 use Rattle.pt_lines.proofs.cutter.Cutter.next_call_line.Goals as goal
 
 pub returns-clause-some : goal.returns-clause-some
@@ -42,3 +43,18 @@ returns-in_err-cut g c =
       same = c.in_err-cut.ensures.given;
       fewer = tt;
     })
+
+pub advance-requires : goal.advance-requires
+advance-requires g c =
+    let within =
+    subst (λ (h : Held). c.in-Some.end < length h.rest) (sym c.self.view_is)
+    c.in-Some.ensures.within in
+    one_more c.in-Some.end (length c.self.inside.held.items) within
+
+pub slice_bounds-read_call-end : goal.slice_bounds-read_call-end
+slice_bounds-read_call-end g c =
+    let within =
+    subst (λ (h : Held). c.in-Some.end < length h.rest) (sym c.self.view_is)
+    c.in-Some.ensures.within in
+    front_before c.in-Some.end c.as_slice-text.result.now c.self.inside.held.items
+    c.as_slice-text.ensures within

@@ -1,7 +1,8 @@
-use Rattle.std.proofs.Common.{◌≡◌, ◌+◌, ◌∙◌, ap, take, drop}
+use Rattle.std.proofs.Common.{◌≡◌, ◌+◌, ◌∙◌, ap, take, drop, ◌<◌, length, subst, sym}
 use Rattle.pt_grammar.specs.Lines.{Held}
 use Rattle.pt_grammar.specs.Script.{short_read}
 use Rattle.pt_lines.proofs.CutLemmas.{front_dropped, read_in_place, short_is_read}
+use Rattle.pt_lines.proofs.FrontLemmas.{one_more, front_before}
 use Rattle.pt_lines.proofs.cutter.Cutter.next_script_line.Goals as goal
 
 pub returns-clause-some : goal.returns-clause-some
@@ -43,3 +44,18 @@ returns-in_err-cut g c =
       same = c.in_err-cut.ensures.given;
       fewer = tt;
     })
+
+pub advance-requires : goal.advance-requires
+advance-requires g c =
+    let within =
+    subst (λ (h : Held). c.in-Some.end < length h.rest) (sym c.self.view_is)
+    c.in-Some.ensures.within in
+    one_more c.in-Some.end (length c.self.inside.held.items) within
+
+pub slice_bounds-read_short-end : goal.slice_bounds-read_short-end
+slice_bounds-read_short-end g c =
+    let within =
+    subst (λ (h : Held). c.in-Some.end < length h.rest) (sym c.self.view_is)
+    c.in-Some.ensures.within in
+    front_before c.in-Some.end c.as_slice-text.result.now c.self.inside.held.items
+    c.as_slice-text.ensures within
