@@ -1,7 +1,9 @@
 -- Texts that a writer took a front of.
-use Rattle.std.specs.Prelude.{Result, Ok, Err, OnErr}
-use Rattle.std.proofs.Common.{◌≡◌, ℕ, ◌≤◌, List, [], ◌∷◌, ◌++◌, length, take, drop, append-nil}
-use Rattle.std.proofs.Common.{append_assoc, sym, ap, refl, ◌∙◌}
+use Rattle.std.specs.Prelude.{Result, Ok, Err, OnOk, OnErr, IfOk, IfErr}
+use Rattle.std.specs.Result.{IsErrAnd}
+use Rattle.std.proofs.Common.{◌≡◌, ℕ, ◌-◌, ◌≤◌, List, [], ◌∷◌, ◌++◌, length, take, drop}
+use Rattle.std.proofs.Common.{append_assoc, append-nil, sym, ap, subst, refl, ◌∙◌, arith}
+use Rattle.std.proofs.Common.{length-append, length-drop, take_all}
 use Rattle.std.proofs.lemmas.List.{take-append-drop, take-append-le, drop-append-le}
 use Rattle.std.proofs.Math.Seq.{take-append_seam, drop-append_seam}
 use Rattle.pt_session.specs.Outputs.{IsCutShort}
@@ -24,6 +26,28 @@ begun old bytes text rest joins grows = record {
       ∙ ap (take (length old)) joins
       ∙ take-append_seam old bytes);
 }
+
+-- what was taken and what is left, once some more of it is taken
+pub joined : (old bytes text new rest : List ℕ) (n : ℕ) → new ≡ text ++ take n rest
+    → text ++ rest ≡ old ++ bytes
+    → new ++ take (length rest - n) (drop n rest) ≡ old ++ bytes
+joined old bytes text new rest n more joins =
+    ap (λ xs. new ++ xs)
+    (take_all (length rest - n) (drop n rest) (omega (arith, length-drop n rest)))
+    ∙ (ap (λ xs. xs ++ drop n rest) more
+    ∙ (append_assoc text (take n rest) (drop n rest)
+    ∙ (ap (λ xs. text ++ xs) (take-append-drop n rest)
+    ∙ joins)))
+
+-- what was taken only grows
+pub grown : (old text new more : List ℕ) → new ≡ text ++ more → length old ≤ length text
+    → length old ≤ length new
+grown old text new more adds grows = omega (arith, ap length adds, length-append text more)
+
+-- a text that is the same
+pub begun_same : (old bytes text new : List ℕ) → IsCutShort old bytes text → new ≡ text
+    → IsCutShort old bytes new
+begun_same old bytes text new b same = subst (IsCutShort old bytes) (sym same) b
 
 -- a server that has written no line
 pub none_begun : (old : List ℕ) → IsServiceBegun old old
@@ -66,3 +90,25 @@ closed_begun old text n b = record {
 pub on_err : {T E : Type 0} (r : Result T E) (P : Type 0) → P → OnErr r P
 on_err (Ok x) P p = tt
 on_err (Err e) P p = p
+
+-- what holds of each error
+pub each_err : {T E : Type 0} (r : Result T E) (P : E → Type 0) → ((e : E) → P e) → IfErr r P
+each_err (Ok x) P all = tt
+each_err (Err e) P all = all e
+
+-- an error that is returned is this one
+pub told_err : {T E : Type 0} (r : Result T E) (e : E) (P : E → Type 0)
+    → IsErrAnd r (λ f. f ≡ e) → P e → IfErr r P
+told_err (Ok x) e P told holds = absurd told
+told_err (Err f) e P told holds = subst P (sym told) holds
+
+-- where there is an error, nothing is said of what is good
+pub no_ok : {T E : Type 0} (r : Result T E) (e : E) (P : Type 0) → IsErrAnd r (λ f. f ≡ e)
+    → OnOk r P
+no_ok (Ok x) e P told = absurd told
+no_ok (Err f) e P told = tt
+
+pub no_good : {T E : Type 0} (r : Result T E) (e : E) (P : T → Type 0) → IsErrAnd r (λ f. f ≡ e)
+    → IfOk r P
+no_good (Ok x) e P told = absurd told
+no_good (Err f) e P told = tt
