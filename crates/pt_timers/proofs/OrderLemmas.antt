@@ -1,6 +1,7 @@
 -- What a step on the keys of an order, or on its canceled keys, leaves of both.
 use Rattle.std.proofs.Common.{◌≡◌, ℕ, ◌+◌, ◌<◌, ◌≤◌, ◌&&◌, ◌||◌, not, Bool, true, false, List}
-use Rattle.std.proofs.Common.{Option, Some, None, Result, Ok, Err, IsOk, OnOk, OnErr, is_err, sym, ap}
+use Rattle.std.proofs.Common.{Option, Some, None, Result, Ok, Err}
+use Rattle.std.proofs.Common.{IsOk, OnOk, OnErr, is_err, sym, ap}
 use Rattle.std.proofs.Common.{◌∙◌, max, refl, subst, arith, Less, Equal, Greater}
 use Rattle.std.proofs.lemmas.Bool.{false≢true}
 use Rattle.std.proofs.lemmas.Bool.Decides.{nat_tests}

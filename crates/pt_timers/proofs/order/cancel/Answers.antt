@@ -62,6 +62,6 @@ returns-then-capacity-len-clause-live g c =
           w.push.ensures.err
     ] in
     λ q.
-        one-out ks (heap_items c.drop_key.new.keys) (heap_items c.then-capacity-len.canceled) x
-        c.drop_key.ensures.left q
-        ∙ ap (λ cs. not (same_key x q) && is_live ks cs q) same
+    one-out ks (heap_items c.drop_key.new.keys) (heap_items c.then-capacity-len.canceled) x
+    c.drop_key.ensures.left q
+    ∙ ap (λ cs. not (same_key x q) && is_live ks cs q) same
