@@ -1,7 +1,7 @@
 -- Texts that a writer took a front of.
 use Rattle.std.specs.Prelude.{Result, Ok, Err, OnOk, OnErr, IfOk, IfErr}
 use Rattle.std.specs.Result.{IsErrAnd}
-use Rattle.std.proofs.Common.{◌≡◌, ℕ, ◌-◌, ◌≤◌, List, [], ◌∷◌, ◌++◌, length, take, drop}
+use Rattle.std.proofs.Common.{◌≡◌, ℕ, ◌-◌, ◌≤◌, List, [], ◌++◌, length, take, drop}
 use Rattle.std.proofs.Common.{append_assoc, append-nil, sym, ap, subst, refl, ◌∙◌, arith}
 use Rattle.std.proofs.Common.{length-append, length-drop, take_all}
 use Rattle.std.proofs.lemmas.List.{take-append-drop, take-append-le, drop-append-le}
