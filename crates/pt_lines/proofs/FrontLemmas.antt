@@ -1,4 +1,4 @@
--- The front of the bytes that a cutter holds, and what is left behind it.
+-- The front of the bytes that a cutter holds, and what is left after it.
 use Rattle.std.proofs.Common.{◌≡◌, ℕ, ◌+◌, ◌<◌, ◌≤◌, ◌==◌, Bool, true, false, cond, List, []}
 use Rattle.std.proofs.Common.{◌∷◌, ◌++◌, length, take, drop, min, refl}
 use Rattle.std.proofs.Common.{ap, sym, ◌∙◌, arith, length-drop}
@@ -19,7 +19,7 @@ front_within n count xs ys same is within =
 pub least_within : (n count most : ℕ) → n ≡ min count most → n ≤ count
 least_within n count most is = omega (arith, is)
 
--- what is left behind a line
+-- what is left after a line
 pub left_less : (n : ℕ) (xs ys : List ℕ) → ys ≡ drop (n + 1) xs → n < length xs
     → length ys < length xs
 left_less n xs ys is within = omega (arith, ap length is, length-drop (n + 1) xs)

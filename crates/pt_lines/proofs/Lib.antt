@@ -4,5 +4,5 @@ pub mod CutLemmas
 pub mod DigitLemmas
 -- AppendLemmas: bytes that are appended one piece after another
 pub mod AppendLemmas
--- FrontLemmas: the front of the bytes that a cutter holds, and what is left behind it
+-- FrontLemmas: the front of the bytes that a cutter holds, and what is left after it
 pub mod FrontLemmas
