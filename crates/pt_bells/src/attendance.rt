@@ -15,10 +15,19 @@ struct Attached {
 
 /// Which session takes whose answers, and the sessions whose calls wait, in the order in which they
 /// began to.
-#[derive(Drop)]
 pub struct Attendance {
     attached: Vec<Attached>,
     waiting: Vec<SessionId>,
+}
+
+// Not derived, so that those that drop it prove nothing of its parts.
+impl Drop for Attendance {
+    fn drop(self) {
+        let Attendance {
+            attached: _,
+            waiting: _,
+        } = self;
+    }
 }
 
 impl Attendance {

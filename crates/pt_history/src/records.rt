@@ -15,13 +15,25 @@ use std::alloc::{AllocError, Allocator};
 const MOST_KEPT: usize = 262_144;
 
 /// The parts that stored entries refer to by index.
-#[derive(Drop)]
 pub(crate) struct Records<A: Allocator + Copy> {
     pub(crate) texts: Vec<u8, A>,
     pub(crate) hints: Hints<A>,
     pub(crate) limits: Vec<TimeLimit, A>,
     pub(crate) moments: Vec<Moment, A>,
     pub(crate) wholes: Vec<Entry, A>,
+}
+
+// Not derived, so that those that drop records prove nothing of their parts.
+impl<A: Allocator + Copy> Drop for Records<A> {
+    fn drop(self) {
+        let Records {
+            texts: _,
+            hints: _,
+            limits: _,
+            moments: _,
+            wholes: _,
+        } = self;
+    }
 }
 
 impl<A: Allocator + Copy> Records<A> {
@@ -89,9 +101,16 @@ impl<A: Allocator + Copy> Records<A> {
     pub(crate) fn take_memory(&mut self, other: Records<A>)
         ensures { KeepsParts self.old self.new }
     {
-        take_memory(&mut self.texts, other.texts);
-        take_memory(&mut self.limits, other.limits);
-        take_memory(&mut self.moments, other.moments);
-        take_memory(&mut self.wholes, other.wholes);
+        let Records {
+            texts,
+            hints: _,
+            limits,
+            moments,
+            wholes,
+        } = other;
+        take_memory(&mut self.texts, texts);
+        take_memory(&mut self.limits, limits);
+        take_memory(&mut self.moments, moments);
+        take_memory(&mut self.wholes, wholes);
     }
 }

@@ -56,7 +56,6 @@ impl<L: Ledger, A: Allocator + Copy> Model for Pass<L, A> {
 }
 
 /// What a client leaves. Contracts also see the place of its Death.
-#[derive(Drop)]
 pub struct Left<L: Ledger, A: Allocator + Copy = Global> {
     pub(crate) client: ClientId,
     pub(crate) priority: Priority,
@@ -84,8 +83,21 @@ impl<L: Ledger, A: Allocator + Copy> Model for Left<L, A> {
         × (p.share.amount ≡ 1 + p.deaths + vec_len p.receipts) };
 }
 
+// Not derived, so that those that drop what clients leave prove nothing of its parts.
+impl<L: Ledger, A: Allocator + Copy> Drop for Left<L, A> {
+    fn drop(self) {
+        let Left {
+            client: _,
+            priority: _,
+            receipts: _,
+            died_at: _,
+            deaths: _,
+            share: _,
+        } = self;
+    }
+}
+
 /// The right to submit moments. Contracts see the moments that were submitted, in order.
-#[derive(Drop)]
 pub struct ClockPass<L: Ledger, A: Allocator + Copy = Global> {
     pub(crate) moments: Vec<Tick, A>,
     pub(crate) share: Share<L>,
@@ -100,6 +112,16 @@ impl<L: Ledger, A: Allocator + Copy> Model for ClockPass<L, A> {
     ghost view = { λ p. record { moments = p.moments.items } };
 
     ghost invariant = { λ p. (p.share.parts ≡ 1) × (p.share.amount ≡ vec_len p.moments) };
+}
+
+// Not derived, so that those that drop this right prove nothing of its parts.
+impl<L: Ledger, A: Allocator + Copy> Drop for ClockPass<L, A> {
+    fn drop(self) {
+        let ClockPass {
+            moments: _,
+            share: _,
+        } = self;
+    }
 }
 
 impl<L: Ledger, A: Allocator + Copy> Pass<L, A> {

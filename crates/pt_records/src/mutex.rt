@@ -5,7 +5,7 @@ ghost use Rattle.std.specs.Prelude.{false};
 ghost use Rattle.pt_model.specs.Found.{passes};
 ghost use Rattle.pt_records.specs.Chained.{is_robust_free};
 ghost use Rattle.std.specs.Prelude.{ℕ};
-ghost use Rattle.pt_records.specs.Counts.{is_last_lock, is_robust_held};
+ghost use Rattle.pt_records.specs.Counts.{is_last_lock};
 ghost use Rattle.pt_types.specs.MutexTable.{lock_verdict as lock_table, may_lock as may_lock_it};
 ghost use Rattle.pt_types.specs.MutexTable.{owns};
 ghost use Rattle.pt_mutex.specs.MutexState.{MutexState, acquired, can_acquire, released, restored};
@@ -27,16 +27,6 @@ use pt_mutex::MutexObj;
 use pt_table::{Clients, Objects};
 use pt_types::{ClientId, Consistency, How, ObjectId, Verdict};
 use std::alloc::Allocator;
-
-/// Whether an object is a robust mutex with an owner.
-pub fn is_robust_mutex<A: Allocator + Copy>(object: &Object<A>) -> bool
-    ensures { result ≡ is_robust_held object.now }
-{
-    match object {
-        Object::Mutex(m) => m.is_robust() && m.owner().is_some(),
-        _ => false,
-    }
-}
 
 /// Whether an object is a robust mutex on which the client has one lock.
 /// [XSH pthread_mutex_unlock]

@@ -21,7 +21,6 @@ use std::sync::Wait;
 use std::sync::ledger::Ledger;
 
 /// A reading side: its input, its end of the ring, and why the reading ended, if it has.
-#[derive(Drop)]
 pub(crate) struct ReadingSide<R: Source> {
     session: SessionId,
     mode: ClockMode,
@@ -43,6 +42,19 @@ impl<R: Source> Model for ReadingSide<R> {
     ghost invariant = { λ s.
         HasRead s.mode s.cause (input R.given R.ended R.failures R.reads s.from.reader)
         s.from.reads s.from.cutter (sent s.pusher.ring) };
+}
+
+// Not derived, so that those that drop a reading side prove nothing of its parts.
+impl<R: Source + Drop> Drop for ReadingSide<R> {
+    fn drop(self) {
+        let ReadingSide {
+            session: _,
+            mode: _,
+            from: _,
+            pusher: _,
+            cause: _,
+        } = self;
+    }
 }
 
 impl<R: Source> ReadingSide<R> {
@@ -173,7 +185,13 @@ impl<R: Source> ReadingSide<R> {
     {
         let cause = self.read_all(rt, shared);
         shared.end_input(rt, self.session);
-        let ReadingSide { from, pusher, .. } = self;
+        let ReadingSide {
+            from,
+            pusher,
+            session: _,
+            mode: _,
+            cause: _,
+        } = self;
         ReadEnd {
             read: pusher.read,
             cause,
