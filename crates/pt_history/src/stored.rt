@@ -11,7 +11,6 @@ use std::marker::Model;
 
 /// What a history begins with, and the entries since in the order in which they came. Places go on
 /// from the Start's.
-#[derive(Drop)]
 pub struct History<A: Allocator + Copy = Global> {
     start: Start<A>,
     /// The number from which the numbers of the entries count.
@@ -70,6 +69,22 @@ impl<A: Allocator + Copy> Model for History<A> {
         × IsCounted (rows_of h.start) (entries_of h.start.at h.records h.entries.items) h.outer
         × IsRecorded h.records h.entries.items h.memory
         × (h.base ≡ base_of h.start.at) };
+}
+
+// Not derived, so that those that drop a history prove nothing of its parts.
+impl<A: Allocator + Copy> Drop for History<A> {
+    fn drop(self) {
+        let History {
+            start: _,
+            base: _,
+            entries: _,
+            memory: _,
+            records: _,
+            outer: _,
+            limit: _,
+            room: _,
+        } = self;
+    }
 }
 
 impl<A: Allocator + Copy> History<A> {
@@ -204,8 +219,18 @@ impl<A: Allocator + Copy> History<A> {
     pub fn take_memory(&mut self, other: History<A>)
         ensures { self.new ≡ self.old }
     {
-        take_memory(&mut self.entries, other.entries);
-        self.records.take_memory(other.records);
+        let History {
+            start: _,
+            base: _,
+            entries,
+            memory: _,
+            records,
+            outer: _,
+            limit: _,
+            room: _,
+        } = other;
+        take_memory(&mut self.entries, entries);
+        self.records.take_memory(records);
     }
 
     /// What the history begins with.

@@ -50,7 +50,6 @@ impl<T> ObjectRow<T> {
 ///
 /// Contracts see the rows in the order in which they were added. The server adds objects by rising
 /// number, so this is the order of their numbers too.
-#[derive(Drop)]
 pub struct Objects<T, A: Allocator + Copy = Global> {
     rows: Slab<ObjectRow<T>, A>,
     numbers: Numbers<A>,
@@ -69,6 +68,17 @@ impl<T, A: Allocator + Copy> Model for Objects<T, A> {
 
     ghost invariant = { λ o. AreObjects o.rows.slots o.numbers.entries
         o.names.cells o.names.others };
+}
+
+// Not derived, so that those that drop objects prove nothing of their parts.
+impl<T: Drop, A: Allocator + Copy> Drop for Objects<T, A> {
+    fn drop(self) {
+        let Objects {
+            rows: _,
+            numbers: _,
+            names: _,
+        } = self;
+    }
 }
 
 impl<T, A: Allocator + Copy> Objects<T, A> {
