@@ -14,8 +14,8 @@ import textwrap
 
 TOP = pathlib.Path(__file__).resolve().parent.parent
 CRATES = (
-    "pt_types pt_core pt_hub pt_shared pt_session pt_serve pt_script pt_fields pt_grammar pt_lines "
-    "pt_io pt_engine pt_history pt_hints pt_table pt_waitq pt_timers pt_mutex pt_rwlock pt_cond "
+    "pt_types pt_core pt_hub pt_session pt_serve pt_script pt_fields pt_grammar pt_lines pt_io "
+    "pt_engine pt_history pt_hints pt_table pt_waitq pt_timers pt_mutex pt_rwlock pt_cond "
     "pt_barrier"
 ).split()
 HEAD = """# Definitions
@@ -143,7 +143,7 @@ def spoken_of():
         text = (folder / "lib.rt").read_text()
         lists = [many or one for many, one in EXPORT.findall(text)]
         exported = {name.strip() for names in lists for name in names.split(",")}
-        for path in sorted(folder.glob("*.rt")):
+        for path in sorted(folder.rglob("*.rt")):
             meant = imported(path.read_text())
             for item, contract in clauses(path, exported):
                 for word in words(contract):

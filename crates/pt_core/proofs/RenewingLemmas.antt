@@ -18,7 +18,7 @@ use Rattle.pt_model.proofs.Induction.{start-seal}
 use Rattle.pt_model.proofs.Steps.{step-event}
 use Rattle.pt_state.specs.declared.state.State.{State}
 use Rattle.pt_state.specs.Adds.{Adds, past}
-use Rattle.pt_seal.specs.Sealed.{SealsWithRoom, StaysOrGrows}
+use Rattle.pt_state.specs.Sealed.{SealsWithRoom, StaysOrGrows}
 use Rattle.pt_machine.specs.Renewed.{AddsSealed}
 use Rattle.pt_machine.proofs.UnsealedBodies.{past-renewed}
 use Rattle.pt_history.specs.Stored.{Stored, past_of}

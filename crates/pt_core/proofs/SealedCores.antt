@@ -24,8 +24,8 @@ use Rattle.pt_model.proofs.Induction.{start-seal}
 use Rattle.pt_model.proofs.Legality.{behind-settled}
 use Rattle.pt_state.specs.declared.state.State.{State}
 use Rattle.pt_state.specs.Adds.{past}
-use Rattle.pt_seal.specs.Sealed.{Seals}
-use Rattle.pt_seal.proofs.SealedTables.{past-sealed}
+use Rattle.pt_state.specs.Sealed.{Seals}
+use Rattle.pt_state.proofs.SealedTables.{past-sealed}
 use Rattle.pt_core.specs.Cores.{Kept, kept}
 use Rattle.pt_core.specs.Sealing.{sealed, seal_refusal}
 use Rattle.pt_core.specs.Wholes.{IsWhole}

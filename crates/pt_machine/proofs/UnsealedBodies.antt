@@ -15,7 +15,7 @@ use Rattle.pt_model.proofs.Seats.{move-sealed}
 use Rattle.pt_history.specs.Stored.{past_of}
 use Rattle.pt_state.specs.declared.state.State.{State}
 use Rattle.pt_state.specs.Adds.{past}
-use Rattle.pt_seal.specs.Sealed.{SealsWithRoom}
+use Rattle.pt_state.specs.Sealed.{SealsWithRoom}
 use Rattle.pt_machine.specs.Queued.{IsQueued}
 use Rattle.pt_machine.specs.Reserved.{IsReserved}
 use Rattle.pt_machine.specs.Timed.{AreTimed}

@@ -13,13 +13,13 @@ ghost use Rattle.pt_history.specs.Stored.{past_of};
 ghost use Rattle.pt_records.specs.Logs.{log, logged};
 ghost use Rattle.pt_state.specs.Adds.{Stays, past};
 ghost use Rattle.pt_state.specs.Reads.{AreTables};
-ghost use Rattle.pt_seal.specs.Sealed.{SealsWithRoom, StaysOrGrows};
+ghost use Rattle.pt_state.specs.Sealed.{SealsWithRoom, StaysOrGrows};
 ghost use Rattle.pt_machine.specs.LastTouched.{IsTouched};
 ghost use Rattle.pt_machine.specs.Renewed.{AddsSealed};
 
 use crate::body::Body;
 use pt_model::Event;
-use pt_seal::{Unsealed, seal_with_room, take_memory, unseal};
+use pt_state::{Unsealed, seal_with_room, take_memory, unseal};
 use pt_types::{ClientId, ObjectId, Refusal};
 use pt_waitq::WaitList;
 use std::alloc::{Allocator, Global};

@@ -6,10 +6,10 @@ ghost use Rattle.pt_model.specs.Forced.{forced};
 ghost use Rattle.pt_model.specs.Histories.{place};
 ghost use Rattle.pt_state.specs.Adds.{past};
 ghost use Rattle.pt_state.specs.Reads.{AreTables};
-ghost use Rattle.pt_seal.specs.Sealed.{Seals};
+ghost use Rattle.pt_state.specs.Sealed.{Seals};
 
 use crate::body::Body;
-use pt_seal::seal;
+use pt_state::seal;
 use pt_types::Refusal;
 use pt_waitq::WaitList;
 use std::alloc::Allocator;

@@ -6,7 +6,7 @@ ghost use Rattle.pt_types.specs.Times.{deadline_nanos};
 ghost use Rattle.pt_serve.specs.Clocks.{is_due, IsLookedAt};
 
 use pt_hub::ClockPass;
-use pt_shared::Shared;
+use pt_session::Shared;
 use pt_types::{Clock, Deadline, Moment};
 use std::sync::Wait;
 use std::sync::ledger::Ledger;

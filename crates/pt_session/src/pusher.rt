@@ -4,8 +4,8 @@ ghost use Rattle.std.specs.Prelude.{◌≡◌, [], length};
 ghost use Rattle.rtrb.specs.Ring.{sent};
 
 use crate::kinds::Reading;
+use crate::shared::Shared;
 use pt_hub::SessionId;
-use pt_shared::Shared;
 use rtrb::Producer;
 use std::sync::Wait;
 use std::sync::atomic::AtomicU64;

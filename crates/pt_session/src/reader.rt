@@ -8,9 +8,9 @@ ghost use Rattle.pt_session.specs.Steps.{HasRead, StopsPushing};
 
 use crate::kinds::{ClockMode, EndCause, Reading};
 use crate::pusher::Pusher;
+use crate::shared::Shared;
 use pt_io::Source;
 use pt_lines::{CallLine, Cut, Cutter};
-use pt_shared::Shared;
 use pt_types::Refusal;
 use std::alloc::Global;
 use std::mem;

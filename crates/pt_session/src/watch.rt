@@ -5,9 +5,9 @@ ghost use Rattle.rtrb.specs.Ring.{received, SameConsumer};
 
 use crate::kinds::Reading;
 use crate::patience::Patience;
+use crate::shared::Shared;
 use crate::turns::Turns;
 use pt_hub::SessionId;
-use pt_shared::Shared;
 use rtrb::Consumer;
 use std::hint::spin_loop;
 use std::sync::Wait;

@@ -5,7 +5,7 @@ ghost use Rattle.std.specs.Prelude.{◌≡◌, ◌^◌};
 use super::play::add;
 use super::{Word, call};
 use pt_hub::{ClockPass, Closed, Hub, Left, Pass, SessionId};
-use pt_shared::Shared;
+use pt_session::Shared;
 use pt_types::{Outcome, Priority};
 use std::alloc::Global;
 use std::marker::Brand;

@@ -4,8 +4,7 @@ ghost use Rattle.std.specs.Prelude.{◌≡◌, ◌^◌};
 
 use pt_hub::{ClockPass, Hub, SessionId};
 use pt_io::Faulty;
-use pt_session::{ClockMode, EndCause, Gate, SessionEnd, session};
-use pt_shared::Shared;
+use pt_session::{ClockMode, EndCause, Gate, SessionEnd, Shared, session};
 use std::alloc::Global;
 use std::marker::Brand;
 use std::sync::Wait;

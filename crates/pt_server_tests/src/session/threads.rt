@@ -4,8 +4,7 @@ ghost use Rattle.std.specs.Prelude.{◌≡◌, ◌^◌};
 
 use pt_hub::{Hub, SessionId};
 use pt_io::Counted;
-use pt_session::{ClockMode, EndCause, Gate, session};
-use pt_shared::Shared;
+use pt_session::{ClockMode, EndCause, Gate, Shared, session};
 use pt_types::{Clock, Deadline};
 use std::alloc::Global;
 use std::io::{Read, Write};

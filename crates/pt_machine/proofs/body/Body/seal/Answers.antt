@@ -4,7 +4,7 @@ use Rattle.pt_model.specs.Forced.{forced}
 use Rattle.pt_model.specs.Seals.{seal}
 use Rattle.pt_model.specs.Steps.{Follows}
 use Rattle.pt_state.specs.Adds.{past}
-use Rattle.pt_seal.proofs.SealedTables.{past-sealed}
+use Rattle.pt_state.proofs.SealedTables.{past-sealed}
 use Rattle.pt_machine.specs.LastTouched.{IsTouched}
 use Rattle.pt_machine.specs.Queued.{IsQueued}
 use Rattle.pt_machine.specs.Reserved.{IsReserved}

@@ -1,0 +1,216 @@
+//! What a client and a clock do under the lock.
+
+ghost use Rattle.std.specs.Prelude.{◌≡◌, ◌∷◌, ◌++◌, [], None, true, option_map, IfOk, IfErr, OnOk};
+ghost use Rattle.std.specs.Prelude.{OnErr, IfSome, IfNone};
+ghost use Rattle.pt_types.specs.Times.{deadline_nanos};
+ghost use Rattle.pt_model.specs.declared.entry.Event.TheVariants as event;
+ghost use Rattle.pt_model.specs.Queries.{least_deadline as least_deadline_in};
+ghost use Rattle.pt_model.specs.Room.{refusal_with_seals};
+ghost use Rattle.pt_core.specs.Cores.{past};
+ghost use Rattle.pt_hub.specs.Desks.{kept, IsRefusedAs, call_refusal};
+ghost use Rattle.pt_hub.specs.Hubs.{Joins, Leaves, Sends, Takes, Ticks, answered, has_ended};
+ghost use Rattle.pt_hub.specs.Hubs.{takeable};
+ghost use Rattle.pt_hub.specs.Asking.{Asks, asked_receipts};
+ghost use Rattle.pt_session.specs.Stays.{Found, Made};
+
+use crate::shared::Shared;
+use pt_hub::{Answer, ClockPass, Left, Pass, Sent, SessionId};
+use pt_types::{Call, Clock, Deadline, Moment, Priority, Refusal};
+use std::sync::Wait;
+use std::sync::ledger::Ledger;
+
+impl<L: Ledger> Shared<L> {
+    /// A client joins, whose answers this session takes.
+    pub fn join<R: Wait>(
+        &self,
+        rt: &R,
+        session: SessionId,
+        priority: Priority,
+    ) -> Result<Pass<L>, Refusal>
+        ensures pass { IfOk result (λ pass. (pass.priority ≡ priority) × (pass.receipts ≡ [])) }
+        ensures ok { IfOk result (λ pass. Made (λ old new. Joins old priority new pass)) }
+        ensures err { IfErr result (λ refusal. Found (λ hub. IsRefusedAs
+            (refusal_with_seals (kept hub.desk).limit (past (kept hub.desk)) (event.Join priority))
+            refusal)) }
+    {
+        let mut room = self.enter(rt);
+        room.law_fits();
+        let place = room.hub.len();
+        match room.hub.join(priority) {
+            Ok(pass) => {
+                room.law_fits();
+                room.attendance.attach(session, pass.client());
+                self.leave(room, place, &None);
+                Ok(pass)
+            }
+            Err(refusal) => Err(refusal),
+        }
+    }
+
+    /// A client makes a call, which is in its receipts from then on.
+    pub fn call<R: Wait>(&self, rt: &R, pass: &mut Pass<L>, call: Call) -> Result<Sent, Refusal>
+        ensures pass { IfOk result (λ sent. pass.new ≡ record pass.old {
+          receipts = pass.old.receipts
+              ++ record { place = sent.place; call = call; answer = None } ∷ [];
+        }) }
+        ensures ok { IfOk result (λ sent.
+            Made (λ old new. Sends old pass.old call new pass.new sent)) }
+        ensures err { IfErr result (λ refusal. Found (λ hub.
+            IsRefusedAs (call_refusal hub.desk pass.old.client call) refusal)) }
+        ensures unchanged { OnErr result (pass.new ≡ pass.old) }
+    {
+        let mut room = self.enter(rt);
+        room.law_fits();
+        let place = room.hub.len();
+        match room.hub.call(pass, call) {
+            Ok(sent) => {
+                room.law_fits();
+                self.leave(room, place, &Some(pass.client()));
+                Ok(sent)
+            }
+            Err(refusal) => Err(refusal),
+        }
+    }
+
+    /// The client's answer that isn't taken, if its last receipt waits for it. The receipt has it
+    /// from then on.
+    pub fn take<R: Wait>(&self, rt: &R, pass: &mut Pass<L>) -> Option<Answer>
+        ensures pass { IfSome result (λ answer. pass.new
+            ≡ record pass.old { receipts = answered pass.old.receipts answer.outcome }) }
+        ensures some { IfSome result (λ answer.
+            Made (λ old new. Takes old pass.old new pass.new answer)) }
+        ensures none { IfNone result (Found (λ hub. takeable hub pass.old ≡ None)) }
+        ensures same { IfNone result (pass.new ≡ pass.old) }
+    {
+        let mut room = self.enter(rt);
+        room.law_fits();
+        match room.hub.take(pass) {
+            Some(answer) => {
+                room.law_fits();
+                Some(answer)
+            }
+            None => None,
+        }
+    }
+
+    /// A client makes a call, which is in its receipts from then on, and takes its answer if that
+    /// is there at once: `call` and then `take`, with no other event between them.
+    pub fn ask<R: Wait>(
+        &self,
+        rt: &R,
+        pass: &mut Pass<L>,
+        call: Call,
+    ) -> Result<(Sent, Option<Answer>), Refusal>
+        ensures pass { IfOk result (λ r. pass.new ≡ record pass.old {
+          receipts = asked_receipts (pass.old.receipts
+              ++ record { place = r.0.place; call = call; answer = None } ∷ []) r.1;
+        }) }
+        ensures ok { IfOk result (λ r.
+            Made (λ old new. Asks old pass.old call new pass.new r.0 r.1)) }
+        ensures err { IfErr result (λ refusal. Found (λ hub.
+            IsRefusedAs (call_refusal hub.desk pass.old.client call) refusal)) }
+        ensures unchanged { OnErr result (pass.new ≡ pass.old) }
+    {
+        let mut room = self.enter(rt);
+        room.law_fits();
+        let place = room.hub.len();
+        match room.hub.ask(pass, call) {
+            Ok(asked) => {
+                room.law_fits();
+                self.leave_asked(room, place, pass.client(), asked.1.is_none());
+                Ok(asked)
+            }
+            Err(refusal) => Err(refusal),
+        }
+    }
+
+    /// Waits for the answer to the client's last call. `None` if the session's input ends first.
+    pub fn wait_for_answer<R: Wait>(
+        &self,
+        rt: &R,
+        session: SessionId,
+        pass: &mut Pass<L>,
+    ) -> Option<Answer>
+        ensures pass { IfSome result (λ answer. pass.new
+            ≡ record pass.old { receipts = answered pass.old.receipts answer.outcome }) }
+        ensures some { IfSome result (λ answer.
+            Made (λ old new. Takes old pass.old new pass.new answer)) }
+        ensures none { IfNone result (Found (λ hub.
+            (takeable hub pass.old ≡ None) × (has_ended hub session.0 ≡ true))) }
+        ensures same { IfNone result (pass.new ≡ pass.old) }
+    {
+        for _ in rt.forever() {
+            let rings = self.rings(session);
+            let mut room = self.enter(rt);
+            room.law_fits();
+            if let Some(answer) = room.hub.take(pass) {
+                room.law_fits();
+                room.attendance.note_wait(pass.client(), false);
+                return Some(answer);
+            }
+            if room.hub.input_ended(session) {
+                return None;
+            }
+            room.attendance.note_wait(pass.client(), true);
+            drop(room);
+            self.sleep(rt, session, rings);
+        }
+        unreachable!()
+    }
+
+    /// A client dies.
+    pub fn die<R: Wait>(&self, rt: &R, pass: Pass<L>) -> Left<L>
+        ensures left { (result.client ≡ pass.client) × (result.priority ≡ pass.priority)
+            × (result.receipts ≡ pass.receipts) }
+        ensures dies { Made (λ old new. Leaves old new pass result) }
+    {
+        let mut room = self.enter(rt);
+        room.attendance.detach(pass.client());
+        room.law_fits();
+        let place = room.hub.len();
+        let left = room.hub.die(pass);
+        room.law_fits();
+        self.leave(room, place, &None);
+        left
+    }
+
+    /// A reading of a clock is handed in.
+    pub fn moment<R: Wait>(
+        &self,
+        rt: &R,
+        pass: &mut ClockPass<L>,
+        clock: Clock,
+        moment: Moment,
+    ) -> Result<(), Refusal>
+        ensures told { OnOk result (pass.new.moments
+            ≡ pass.old.moments ++ record { clock = clock; moment = moment } ∷ []) }
+        ensures ok { OnOk result (Made (λ old new. Ticks old clock moment new)) }
+        ensures err { IfErr result (λ refusal. Found (λ hub. IsRefusedAs
+            (refusal_with_seals (kept hub.desk).limit (past (kept hub.desk))
+            (event.Moment clock moment))
+            refusal)) }
+        ensures unchanged { OnErr result (pass.new ≡ pass.old) }
+    {
+        let mut room = self.enter(rt);
+        room.law_fits();
+        let place = room.hub.len();
+        match room.hub.moment(pass, clock, moment) {
+            Ok(()) => {
+                room.law_fits();
+                self.leave(room, place, &None);
+                Ok(())
+            }
+            Err(refusal) => Err(refusal),
+        }
+    }
+
+    /// The least deadline by this clock of the open calls that are not moved, as it was written.
+    pub fn least_deadline<R: Wait>(&self, rt: &R, clock: Clock) -> Option<Deadline>
+        ensures { Found (λ hub. option_map deadline_nanos result
+            ≡ least_deadline_in (past (kept hub.desk)) clock) }
+    {
+        let room = self.enter(rt);
+        room.law_fits();
+        room.hub.least_deadline(clock)
+    }
+}

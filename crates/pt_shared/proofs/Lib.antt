@@ -1,2 +1,0 @@
--- Stays: what the lock lends is what the lock was had with
-mod Stays

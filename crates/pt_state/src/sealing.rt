@@ -1,0 +1,38 @@
+//! A state whose entries are dropped.
+
+ghost use Rattle.std.specs.Prelude.{◌≡◌, ◌≤◌, OnErr, OnOk};
+ghost use Rattle.pt_types.specs.Limits.{most_places};
+ghost use Rattle.pt_model.specs.Histories.{place};
+ghost use Rattle.pt_state.specs.Adds.{past};
+ghost use Rattle.pt_state.specs.Reads.{AreTables};
+ghost use Rattle.pt_state.specs.Sealed.{Seals};
+
+use crate::state::State;
+use std::alloc::{AllocError, Allocator};
+
+mod calls;
+mod clients;
+mod objects;
+mod readers;
+mod renewing;
+mod start;
+
+pub use renewing::{Unsealed, seal_with_room, take_memory, unseal};
+pub use start::start_of;
+
+/// Drops the entries and the answers: the history goes on from its seal, with the place that comes
+/// next. Clients, objects and clocks stay as they are, and so does the room. An error if a growth
+/// is refused: then nothing changes.
+pub fn seal<A: Allocator + Copy>(state: &mut State<A>) -> Result<(), AllocError>
+    requires read { AreTables state.old }
+    requires places { place (past state.old) ≤ most_places }
+    ensures ok { OnOk result (Seals state.old state.new) }
+    ensures err { OnErr result (state.new ≡ state.old) }
+{
+    // The rows of the Start are copied from the objects by their indices.
+    state.objects.pack();
+    let start = start_of(state)?;
+    state.stored.seal(start);
+    state.answers.clear();
+    Ok(())
+}

@@ -1,0 +1,105 @@
+//! A state whose entries are put aside, so that it can go back to them.
+
+ghost use Rattle.std.specs.Prelude.{◌≡◌, ◌≤◌, [], IfErr, IfOk, OnErr, map};
+ghost use Rattle.pt_types.specs.Limits.{most_places};
+ghost use Rattle.pt_model.specs.Histories.{Begin, place};
+ghost use Rattle.pt_model.specs.Seals.{seal};
+ghost use Rattle.pt_model.specs.StartRows.{reads_of};
+ghost use Rattle.pt_model.specs.Steps.{Follows};
+ghost use Rattle.pt_history.specs.Stored.{past_of};
+ghost use Rattle.pt_records.specs.Logs.{log, logged};
+ghost use Rattle.pt_state.specs.Adds.{past};
+ghost use Rattle.pt_state.specs.Reads.{AreTables};
+ghost use Rattle.pt_state.specs.Sealed.{SealsWithRoom, StaysOrGrows};
+
+use crate::sealing::start::start_of;
+use crate::state::State;
+use pt_history::History;
+use pt_records::AnswerLog;
+use pt_types::Refusal;
+use std::alloc::{AllocError, Allocator, Global};
+use std::mem::replace;
+
+/// The history and the answers that a seal puts aside.
+#[derive(Drop)]
+pub struct Unsealed<A: Allocator + Copy = Global> {
+    pub stored: History<A>,
+    pub answers: AnswerLog<A>,
+}
+
+// A history that begins with the seal of a state's history, with room for so many entries. ENOMEM
+// if a growth is refused.
+fn sealed_history<A: Allocator + Copy>(state: &State<A>, room: u64) -> Result<History<A>, Refusal>
+    requires read { AreTables state.now }
+    requires places { place (past state.now) ≤ most_places }
+    requires room { room ≤ state.now.stored.limit }
+    ensures starts { IfOk result (λ h. reads_of h.start ≡ seal (past state.now)) }
+    ensures entries { IfOk result (λ h. h.entries ≡ []) }
+    ensures limit { IfOk result (λ h. h.limit ≡ state.now.stored.limit) }
+    ensures room { IfOk result (λ h. h.room ≡ room) }
+    ensures reason { IfErr result (λ refusal. refusal ≡ Refusal.Enomem) }
+{
+    let mut stored = state.stored.successor(state.alloc)?;
+    let Ok(()) = stored.reserve_for(room) else {
+        return Err(Refusal::Enomem);
+    };
+    match start_of(state) {
+        Ok(start) => {
+            stored.seal(start);
+            Ok(stored)
+        }
+        Err(AllocError) => Err(Refusal::Enomem),
+    }
+}
+
+/// Puts the entries and the answers aside: the history goes on from its seal, with room for so many
+/// entries and answers. Clients, objects and clocks stay as they are. ENOMEM if a growth is
+/// refused: then nothing changes.
+pub fn seal_with_room<A: Allocator + Copy>(
+    state: &mut State<A>,
+    room: u64,
+) -> Result<Unsealed<A>, Refusal>
+    requires read { AreTables state.old }
+    requires places { place (past state.old) ≤ most_places }
+    requires room { room ≤ state.old.stored.limit }
+    ensures ok { IfOk result (λ unsealed. SealsWithRoom state.old state.new room) }
+    ensures stored { IfOk result (λ unsealed. unsealed.stored ≡ state.old.stored) }
+    ensures answers { IfOk result (λ unsealed. unsealed.answers ≡ state.old.answers) }
+    ensures err { OnErr result (state.new ≡ state.old) }
+    ensures reason { IfErr result (λ refusal. refusal ≡ Refusal.Enomem) }
+{
+    let Ok(answers) = AnswerLog::with_room(state.alloc, room as usize) else {
+        return Err(Refusal::Enomem);
+    };
+    // The rows of the Start are copied from the objects by their indices.
+    state.objects.pack();
+    let stored = sealed_history(state, room)?;
+    Ok(Unsealed {
+        stored: replace(&mut state.stored, stored),
+        answers: replace(&mut state.answers, answers),
+    })
+}
+
+/// Goes back to the entries and the answers that were put aside, if no entry came since.
+pub fn unseal<A: Allocator + Copy>(state: &mut State<A>, unsealed: Unsealed<A>)
+    requires read { AreTables state.old }
+    requires begins { past state.old ≡ Begin (seal (past_of unsealed.stored)) }
+    requires follows { Follows (past_of unsealed.stored) }
+    requires told { map logged unsealed.answers.items ≡ log (past_of unsealed.stored) }
+    ensures stored { state.new.stored ≡ unsealed.stored }
+    ensures answers { state.new.answers ≡ unsealed.answers }
+    ensures read { AreTables state.new }
+{
+    state.stored = unsealed.stored;
+    state.answers = unsealed.answers;
+}
+
+/// Moves entries and answers into the memory of those that were put aside, and that are needed no
+/// more. So a seal gives no memory back that the history would soon ask for again.
+pub fn take_memory<A: Allocator + Copy>(state: &mut State<A>, unsealed: Unsealed<A>)
+    requires { AreTables state.old }
+    ensures { StaysOrGrows state.old state.new }
+{
+    state.stored.take_memory(unsealed.stored);
+    state.answers.take_memory(unsealed.answers);
+}
