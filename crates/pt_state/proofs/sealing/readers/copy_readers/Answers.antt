@@ -2,7 +2,8 @@ use Rattle.std.proofs.Common.{◌+◌, ◌++◌, drop, ap, refl, sym, ◌∙◌}
 use Rattle.std.specs.Prelude.{option_copied}
 use Rattle.pt_state.specs.Copies.{readers_at, readers_in}
 use Rattle.pt_state.proofs.Walks.{walked-on, walked-past, walked-through}
-use Rattle.pt_state.proofs.sealing.readers.copy_readers.Goals.{in-Some+in_ok-add_readers, in_default}
+use Rattle.pt_state.proofs.sealing.readers.copy_readers.Goals.{in-Some+in_ok-add_readers}
+use Rattle.pt_state.proofs.sealing.readers.copy_readers.Goals.{in_default}
 use Rattle.pt_state.proofs.sealing.readers.copy_readers.Goals as goal
 
 pub loop-i-preserved : goal.loop-i-preserved

@@ -72,7 +72,7 @@ returns-then-is_err g c =
     record {
       ok = tt;
       taken = (λ e. absurd (memory_taken e), λ there. absurd (false≢true (sym absent ∙ there)));
-      at_limit = (λ e. absurd (memory_limit e), λ full. absurd (not_full (length c.args.self.now) most_objects below full.1));
+      at_limit = (λ e. absurd (memory_limit e), λ full. absurd (not_full _ _ below full.1));
       err =
           ap (λ s. rows_listed s c.make_room_named.new.numbers.entries)
           c.make_room_named.ensures.rows
@@ -148,7 +148,7 @@ returns-clause-at_limit g c =
     let below : length c.args.self.now < most_objects =
     is_below c.len.result (length c.args.self.now) most_objects c.len.ensures.len
     c.if-len-ge-MOST_OBJECTS.false in
-    (λ e. absurd (none_some e), λ full. absurd (not_full (length c.args.self.now) most_objects below full.1))
+    (λ e. absurd (none_some e), λ full. absurd (not_full _ _ below full.1))
 
 pub returns-clause-err : goal.returns-clause-err
 returns-clause-err g c = tt
