@@ -5,9 +5,9 @@ use Rattle.std.proofs.lemmas.Bool.{false≢true}
 use Rattle.std.proofs.lemmas.Bool.Decides.{nat_tests}
 use Rattle.pt_types.specs.declared.time.Clock.{Clock}
 use Rattle.pt_waitq.specs.declared.waiter.Waiter.{Waiter}
-use Rattle.pt_waitq.specs.Queues.{queues_of, stands_in, without}
+use Rattle.pt_waitq.specs.Queues.{queues_of, stands_in, without, QueuesView}
 use Rattle.pt_waitq.specs.Members.{Members}
-use Rattle.pt_waitq.specs.Waits.{Waits, no_waits, seen_in}
+use Rattle.pt_waitq.specs.Waits.{no_waits, seen_in}
 use Rattle.pt_waitq.proofs.MemberLemmas.{members-out}
 use Rattle.pt_model.specs.Starts.{nothing}
 use Rattle.pt_model.specs.declared.entry.Entry.TheVariants.{Join, Death, Moment, Yield}
@@ -35,13 +35,12 @@ queued-none =
     }
 
 -- before the first entry there is no call, no room and no queue
-pub queued-begin : (h : History) (waits : Waits) → h ≡ Begin nothing → waits ≡ no_waits
-    → IsQueued h (seen_in waits)
-queued-begin h waits begins empty =
-    subst (λ (g : History). IsQueued g (seen_in waits))
+pub queued-begin : (h : History) (view : QueuesView) → h ≡ Begin nothing
+    → view ≡ seen_in no_waits → IsQueued h view
+queued-begin h view begins empty =
+    subst (λ (g : History). IsQueued g view)
     (sym begins)
-    (subst (λ (ws : Waits). IsQueued (Begin nothing) (seen_in ws))
-    (sym empty) queued-none)
+    (subst (λ (v : QueuesView). IsQueued (Begin nothing) v) (sym empty) queued-none)
 
 -- a reading of the clock changes no queue
 pub queued-moment : (h : History) (z : Clock) (t : ℕ) (queue : ℕ → List Waiter)

@@ -10,6 +10,7 @@ ghost use Rattle.pt_state.specs.Serving.{IsFor, entry_of};
 ghost use Rattle.pt_model.specs.Answers.{open_place as open_place_in};
 ghost use Rattle.pt_state.specs.Reads.{AreTables};
 ghost use Rattle.pt_history.specs.Stored.{begun};
+ghost use Rattle.pt_waitq.specs.Waits.{no_waits, seen_in};
 
 use crate::clock;
 use crate::planning::Plan;
@@ -18,7 +19,7 @@ use pt_model::Event;
 use pt_state::{Forced, State};
 use pt_timers::Timers;
 use pt_types::{ClientId, ObjectId, Refusal};
-use pt_waitq::{Chains, WaitList};
+use pt_waitq::WaitList;
 use std::alloc::{Allocator, Global};
 use std::marker::Model;
 
@@ -56,6 +57,24 @@ impl<Q: WaitList, A: Allocator + Copy> Model for Body<Q, A> {
 }
 
 impl<Q: WaitList, A: Allocator + Copy> Body<Q, A> {
+    /// No entry, of at most so many, over queues to which no client is admitted and of which none
+    /// is made. It takes no memory.
+    pub fn new(queues: Q, alloc: A, limit: u32) -> Body<Q, A>
+        requires { Q.seen queues ≡ seen_in no_waits }
+        ensures stored { result.stored ≡ begun limit }
+        ensures answers { length result.answers.items ≡ 0 }
+        ensures read { AreTables result }
+    {
+        Body {
+            state: State::new(alloc, limit),
+            queues,
+            timers: Timers::new(alloc),
+            touched: None,
+            entering: None,
+            need: 0,
+        }
+    }
+
     /// The entry of an event, with its plan. ENOMEM if a growth is refused: then nothing is
     /// pushed. An entry that needs no memory, as a Death and a Moment, is never refused.
     #[inline(always)]
@@ -104,23 +123,5 @@ impl<Q: WaitList, A: Allocator + Copy> Body<Q, A> {
         ensures { result ≡ open_place_in (past self.now) c }
     {
         self.state.open_place(c)
-    }
-}
-
-impl<A: Allocator + Copy> Body<Chains<A>, A> {
-    /// No entry, of at most so many. It takes no memory.
-    pub fn new(alloc: A, limit: u32) -> Body<Chains<A>, A>
-        ensures stored { result.stored ≡ begun limit }
-        ensures answers { length result.answers.items ≡ 0 }
-        ensures read { AreTables result }
-    {
-        Body {
-            state: State::new(alloc, limit),
-            queues: Chains::new(alloc),
-            timers: Timers::new(alloc),
-            touched: None,
-            entering: None,
-            need: 0,
-        }
     }
 }

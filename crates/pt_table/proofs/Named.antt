@@ -13,7 +13,8 @@ use Rattle.pt_table.specs.declared.objects.ObjectRow.{ObjectRow}
 use Rattle.pt_table.specs.ObjectRows.{object_at, object_named, has_object, is_taken}
 use Rattle.pt_table.specs.Slots.{row_in_slot, rows_listed, Listed, IsNumbered}
 use Rattle.pt_table.specs.NameSlots.{name_in, Cells, IsFiled, IsFirst, IsNamed, IsOther}
-use Rattle.pt_table.specs.NameSlots.{IsRowIn, IsRowInMap, IsRowNamed}
+use Rattle.pt_table.specs.NameSlots.{AreKept, IsRowIn, IsRowInMap, IsRowNamed}
+use Rattle.pt_table.proofs.Kept.{named-same}
 use Rattle.pt_table.proofs.Lookups.{some_inj, none_some, none_of}
 use Rattle.pt_table.proofs.Listed.{first_row}
 use Rattle.pt_table.proofs.Written.{same_in}
@@ -267,7 +268,7 @@ pub named_added : {T : Type 0} {slots : List (Option (ObjectRow T))} {numbers : 
     → (rows : List (ObjectRow T)) → rows_listed slots numbers ≡ rows
     → (roomy : List (Option (ObjectRow T))) (roomy_cells : Cells)
     (roomy_others : List (List ℕ × ℕ))
-    → roomy ≡ slots → roomy_cells ≡ cells → roomy_others ≡ others
+    → roomy ≡ slots → roomy_cells ≡ cells → AreKept others roomy_others
     → (new : List (Option (ObjectRow T))) (cells' : Cells) (others' : List (List ℕ × ℕ))
     → (row : ObjectRow T) (key : ℕ) → row_in_slot new key ≡ Some row
     → ((s : ℕ) → s ≢ key → row_in_slot new s ≡ row_in_slot roomy s)
@@ -278,7 +279,7 @@ pub named_added : {T : Type 0} {slots : List (Option (ObjectRow T))} {numbers : 
 named_added h k rows view roomy roomy_cells roomy_others same same_cells same_others new cells'
     others' row key here others filed still free =
     let as_named : IsNamed roomy roomy_cells roomy_others =
-    rw (same, same_cells, same_others) k in
+    named-same _ _ _ _ _ _ same same_cells same_others k in
     let no_slot : (s : ℕ) → name_in roomy s ≢ Some row.name =
     rw same (name_free h k rows view row.name free) in
     IsNamed-added new row key cells' others' as_named here others no_slot filed still

@@ -8,6 +8,10 @@ use Rattle.pt_types.specs.Keys.{key}
 use Rattle.pt_table.specs.declared.objects.ObjectRow.{ObjectRow}
 use Rattle.pt_table.specs.Slots.{row_in_slot}
 
+-- each name has the slot that it had, in whatever order they are
+abbrev pub AreKept : List (List ℕ × ℕ) → List (List ℕ × ℕ) → Type 0
+AreKept old new = (t : List ℕ) → lookup (same_name t) new ≡ lookup (same_name t) old
+
 -- the name has no slot now, and the other names have theirs
 abbrev pub IsForgotten : List (List ℕ × ℕ) → List ℕ → List (List ℕ × ℕ) → Type 0
 IsForgotten old name new =

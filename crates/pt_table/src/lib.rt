@@ -1,5 +1,5 @@
 //! The tables of clients and of objects: rows found by their number, and objects by their name too,
-//! over `slab` and `indexmap`.
+//! over `slab` and a map of names.
 //!
 //! Contracts see a table as the list of its rows in the order in which they were added, as a finite
 //! map from numbers, and for objects from names, that has a limit. They pin the answer and the

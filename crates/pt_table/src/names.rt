@@ -3,11 +3,11 @@
 ghost use Rattle.std.specs.Prelude.{◌≡◌, ◌≢◌, ◌<◌, ℕ, List, Some, OnOk, false};
 ghost use Rattle.pt_types.specs.Names.{same_name};
 ghost use Rattle.pt_table.specs.NameSlots.{place_of, is_shared, CanFile, IsFiled, IsFirst, IsOther};
-ghost use Rattle.pt_table.specs.NameSlots.{IsForgotten};
+ghost use Rattle.pt_table.specs.NameSlots.{AreKept, IsForgotten};
 
-use indexmap::IndexMap;
 use pt_types::Name;
 use std::alloc::{AllocError, Allocator};
+use std::collections::HashMap;
 use std::hash::{BuildHasherDefault, FoldHasher};
 use std::marker::Model;
 
@@ -18,7 +18,7 @@ const COUNT: usize = 16384;
 const MOST_SLOTS: usize = 65536;
 
 /// Slots of names.
-type NameMap<A> = IndexMap<Name, usize, BuildHasherDefault<FoldHasher>, A>;
+type NameMap<A> = HashMap<Name, usize, BuildHasherDefault<FoldHasher>, A>;
 
 /// Where the rows of names lie.
 ///
@@ -35,7 +35,7 @@ pub(crate) struct Names<A: Allocator + Copy> {
 }
 
 impl<A: Allocator + Copy> Model for Names<A> {
-    ghost use Rattle.indexmap.specs.IndexMap.{spare};
+    ghost use Rattle.std.specs.HashMap.{spare};
     ghost use Rattle.pt_table.specs.NameSlots.{Naming};
 
     ghost Value = { Naming };
@@ -61,7 +61,7 @@ impl<A: Allocator + Copy> Names<A> {
         Names {
             firsts: [None; COUNT],
             shared: [false; COUNT],
-            others: IndexMap::new(alloc),
+            others: HashMap::new(alloc),
         }
     }
 
@@ -97,7 +97,7 @@ impl<A: Allocator + Copy> Names<A> {
     #[inline(never)]
     fn reserve_other(&mut self) -> Result<(), AllocError>
         ensures cells { self.new.cells ≡ self.old.cells }
-        ensures others { self.new.others ≡ self.old.others }
+        ensures others { AreKept self.old.others self.new.others }
         ensures room { OnOk result (0 < self.new.room) }
     {
         self.others.reserve(1)
@@ -113,7 +113,7 @@ impl<A: Allocator + Copy> Names<A> {
     ) -> Result<(), AllocError>
         requires { place ≡ place_of name.now }
         ensures cells { self.new.cells ≡ self.old.cells }
-        ensures others { self.new.others ≡ self.old.others }
+        ensures others { AreKept self.old.others self.new.others }
         ensures room { OnOk result (CanFile self.new name.now slot) }
     {
         if self.firsts[place].is_none() && slot < MOST_SLOTS {
@@ -133,7 +133,8 @@ impl<A: Allocator + Copy> Names<A> {
             → IsFiled self.new.cells self.new.others t s }
     {
         self.shared[place_of(name)] = true;
-        self.others.insert(name.copied(), slot).unwrap();
+        let inserted: Result<_, _> = self.others.insert(name.copied(), slot);
+        inserted.unwrap();
     }
 
     /// Adds a name, given the index of its cell, with its slot, if there is room.
@@ -160,7 +161,7 @@ impl<A: Allocator + Copy> Names<A> {
         ensures cells { self.new.cells ≡ self.old.cells }
         ensures others { IsForgotten self.old.others name.now self.new.others }
     {
-        let _ = self.others.swap_remove(name);
+        let _ = self.others.remove(name);
     }
 
     /// Takes a name out, whose row lies in a slot.

@@ -11,7 +11,7 @@ ghost use Rattle.pt_table.specs.Slots.{row_in_any, row_in_slot, without_number, 
 ghost use Rattle.pt_table.specs.Slots.{HasRowIfListed, IsNumbered, Leaves, SameBut};
 ghost use Rattle.pt_table.specs.NameSlots.{CanFile, IsFiled, IsNamed, IsRowIn, IsRowInMap};
 ghost use Rattle.pt_table.specs.NameSlots.{place_of};
-ghost use Rattle.pt_table.specs.NameSlots.{IsRowNamed};
+ghost use Rattle.pt_table.specs.NameSlots.{AreKept, IsRowNamed};
 
 use crate::names::Names;
 use crate::numbers::Numbers;
@@ -195,7 +195,7 @@ pub(crate) fn make_room_named<T, A: Allocator + Copy>(
     ensures rows { rows.new.slots ≡ rows.old.slots }
     ensures numbers { numbers.new.entries ≡ numbers.old.entries }
     ensures cells { names.new.cells ≡ names.old.cells }
-    ensures others { names.new.others ≡ names.old.others }
+    ensures others { AreKept names.old.others names.new.others }
     ensures row_room { OnOk result (HasRoomFor rows.new 1) }
     ensures number_room { OnOk result (0 < numbers.new.room) }
     ensures name_room { OnOk result (CanFile names.new name.now rows.new.vacant_key) }

@@ -20,7 +20,7 @@ returns-clause-filed g c =
     let name = c.args.name.now in
     let shared = c.self.inside.shared in
     let place = c.place_of.result in
-    let updates = rw c.unwrap.ensures at c.insert.ensures.updates in
+    let updates = rw c.unwrap.ensures at c.insert-inserted.ensures.updates in
     let own = ap (λ n. same_name n name) c.copied.ensures ∙ (bytes_eq-Decides name name).1 refl in (
       ap (λ q. slice_index_or (set shared place true) q false) (sym c.place_of.ensures)
           ∙ get_or-set_same shared place true false
@@ -35,11 +35,11 @@ returns-clause-kept g c =
     let inside = c.self.inside in
     let cells : Cells = record { firsts = inside.firsts; shared = inside.shared } in
     let others = inside.others.entries in
-    let updates = rw c.unwrap.ensures at c.insert.ensures.updates in
+    let updates = rw c.unwrap.ensures at c.insert-inserted.ensures.updates in
     λ t s other filed.
     let apart = ap (λ n. same_name n t) c.copied.ensures ∙ other in
     filed_shared cells c.place_of.result (omega (arith, c.self.told, c.place_of.ensures))
-    others c.insert.new.self.entries t s
+    others c.insert-inserted.new.self.entries t s
     (λ had.
     updates.0 t ∙ ap (λ b. cond b (Some c.args.slot) (lookup (same_name t) others)) apart
     ∙ had)

@@ -21,7 +21,7 @@ returns-then-slot-lt-MOST_SLOTS g c =
     let firsts = c.self.inside.firsts in
     record {
       cells = refl;
-      others = refl;
+      others = λ t. refl;
       room =
           inl (
             ap (λ (v : Naming). first_of v.cells c.args.name.now) (sym c.self.view_is)

@@ -3,7 +3,7 @@ use Rattle.std.proofs.Common.{length, refl, Option}
 use Rattle.std.proofs.lemmas.Bool.{false≢true}
 use Rattle.pt_types.specs.Names.{same_name}
 use Rattle.pt_types.specs.declared.name.Name.{Name}
-use Rattle.pt_table.specs.NameSlots.{Cells, IsFiled, IsNamed}
+use Rattle.pt_table.specs.NameSlots.{AreKept, Cells, IsFiled, IsNamed}
 use Rattle.pt_table.specs.ObjectRows.{object_named, out_of_chains}
 use Rattle.pt_table.specs.Slots.{rows_listed}
 use Rattle.pt_types.specs.Limits.{most_objects}
@@ -14,17 +14,14 @@ use Rattle.pt_table.proofs.Named.{number_free, unnamed, named_added}
 use Rattle.pt_table.proofs.Lookups.{none_some}
 use Rattle.pt_table.proofs.Refused.{limit_taken, memory_taken, taken_limit, memory_limit}
 use Rattle.pt_table.proofs.Refused.{is_full, is_below, not_full}
-use Rattle.pt_table.proofs.Kept.{granted}
+use Rattle.pt_table.proofs.Kept.{granted, named-same}
 use Rattle.pt_table.proofs.objects.Objects.add.Goals as goal
 
 -- each name is found still as room was made
 named : {T : Type 0} (slots roomy : List (Option (ObjectRow T))) (cells new : Cells)
-    (others left : List (List ℕ × ℕ)) → roomy ≡ slots → new ≡ cells → left ≡ others
+    (others left : List (List ℕ × ℕ)) → roomy ≡ slots → new ≡ cells → AreKept others left
     → IsNamed slots cells others → IsNamed roomy new left
-named slots roomy cells new others left same same_cells same_others h =
-    subst (λ s. IsNamed s new left) (sym same)
-    (subst (λ k. IsNamed slots k left) (sym same_cells)
-    (subst (IsNamed slots cells) (sym same_others) h))
+named slots roomy cells new others left = named-same slots roomy cells new others left
 
 pub returns-then-is_taken : goal.returns-then-is_taken
 returns-then-is_taken g c =

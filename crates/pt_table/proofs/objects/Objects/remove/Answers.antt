@@ -1,5 +1,7 @@
 use Rattle.std.proofs.Common.{◌∙◌, ap, sym}
 use Rattle.std.specs.Option.{option_map}
+use Rattle.std.specs.Map.{lookup}
+use Rattle.pt_types.specs.Names.{same_name}
 use Rattle.pt_table.specs.NameSlots.{Naming}
 use Rattle.pt_table.proofs.Listed.{slot_has_row, row_absent}
 use Rattle.pt_table.proofs.Removed.{view_absent, row_removed, numbered_removed, view_removed}
@@ -51,5 +53,6 @@ invariant_of-self g c =
     let kept = c.in_err-row.ensures in (
       numbered-same _ _ _ _ _ _ kept.rows_kept kept.numbers_kept c.self.invariant.0,
       named-same _ _ _ _ _ _ kept.rows_kept (ap (λ (n : Naming). n.cells) kept.names_kept)
-          (ap (λ (n : Naming). n.others) kept.names_kept) c.self.invariant.1,
+          (λ t. ap (λ (n : Naming). lookup (same_name t) n.others) kept.names_kept)
+          c.self.invariant.1,
     )

@@ -8,14 +8,14 @@ use Rattle.pt_machine.specs.Timed.{set_at}
 use Rattle.pt_machine.proofs.LastTouches.{touched-begin}
 use Rattle.pt_machine.proofs.NeedSteps.{reserved-begin}
 use Rattle.pt_machine.proofs.QueuedArrivals.{queued-begin}
-use Rattle.pt_machine.proofs.body.Body+Chains+A+A.new.Goals as goal
+use Rattle.pt_machine.proofs.body.Body.new.Goals as goal
 
 pub invariant_of-result : goal.invariant_of-result
 invariant_of-result g c =
     let begins : past c.new.result ≡ Begin nothing =
     ap past_of c.new.ensures.stored ∙ ap Begin rows-none in (
-      queued-begin (past c.new.result) c.new-2.result begins c.new-2.ensures,
-      λ p. c.new-3.ensures p ∙ ap (λ (h : History). set_at h p) (sym begins),
+      queued-begin (past c.new.result) _ begins c.requires,
+      λ p. c.new-2.ensures p ∙ ap (λ (h : History). set_at h p) (sym begins),
       touched-begin (past c.new.result) begins,
       reserved-begin (past c.new.result) begins,
     )
