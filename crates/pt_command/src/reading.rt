@@ -12,7 +12,7 @@ const USAGE: u8 = 2;
 const MEMORY: u8 = 5;
 
 /// Whose clock deadlines are compared with.
-#[derive(Clone, Copy, PartialEq, Eq)]
+#[derive(Clone, Copy)]
 pub enum ClockWord {
     /// The connections': they send moment lines.
     Lines,

@@ -5,7 +5,7 @@ use pt_model::Event;
 use pt_types::ClientId;
 
 /// What is noted of an event, once it is accepted.
-#[derive(PartialEq, Eq, Drop)]
+#[derive(Drop)]
 pub enum Mark {
     Client,
     Call(ClientId),

@@ -22,7 +22,7 @@ pub struct Row {
 }
 
 /// A line that was counted.
-#[derive(Clone, Copy, PartialEq, Eq)]
+#[derive(Clone, Copy)]
 pub struct CountedLine {
     /// Its number among the lines of its client, from 1.
     pub number: u64,

@@ -15,7 +15,7 @@ const MOST: usize = 8;
 /// The name of a client in a script: 1 to 8 ASCII letters or digits.
 ///
 /// Contracts see it as its bytes. What fills its block up has no meaning.
-#[derive(Clone, Drop)]
+#[derive(Drop)]
 pub struct ClientName {
     block: [u8; MOST],
     len: u8,
@@ -256,7 +256,7 @@ impl Hash for ClientName {
 }
 
 /// Whose a line of a script is.
-#[derive(Clone, PartialEq, Eq, Hash, Drop)]
+#[derive(PartialEq, Eq, Drop)]
 pub enum Who {
     /// A client's.
     Named(ClientName),

@@ -8,7 +8,7 @@ use crate::verbs::find_verb;
 use pt_types::{Call, Clock, Deadline, Name, NamedVerb};
 
 /// The word of a call that a name and a deadline follow.
-#[derive(Clone, Copy, PartialEq, Eq)]
+#[derive(Clone, Copy)]
 pub enum TimedVerb {
     Timedlock,
     Timedrdlock,
@@ -16,7 +16,7 @@ pub enum TimedVerb {
 }
 
 /// The word of a call that a name, a clock and a deadline follow.
-#[derive(Clone, Copy, PartialEq, Eq)]
+#[derive(Clone, Copy)]
 pub enum ClockedVerb {
     Clocklock,
     Clockrdlock,
@@ -24,7 +24,7 @@ pub enum ClockedVerb {
 }
 
 /// The first word of a line, by what follows it.
-#[derive(Clone, Copy, PartialEq, Eq)]
+#[derive(Clone, Copy)]
 pub enum Verb {
     Hello,
     Moment(Clock),

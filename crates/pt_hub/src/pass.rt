@@ -6,7 +6,7 @@ use std::marker::Model;
 use std::sync::ledger::{Ledger, Share};
 
 /// A call that a client made: its place, and its answer once it was taken.
-#[derive(PartialEq, Eq, Drop)]
+#[derive(Drop)]
 pub struct Receipt {
     pub place: u64,
     pub call: Call,

@@ -15,7 +15,7 @@ use pt_types::operations::LockKind;
 use pt_types::{ClientId, Clock, ObjectId};
 
 /// What a waiting call is for; a wait also has its mutex.  [XSH, the call's page]
-#[derive(Clone, Copy, PartialEq, Eq)]
+#[derive(Clone, Copy)]
 pub enum Role {
     ForMutex,
     ForRead,
@@ -25,7 +25,7 @@ pub enum Role {
 }
 
 /// A call that came without a reply, with what held as it came.
-#[derive(Clone, Copy, PartialEq, Eq)]
+#[derive(Clone, Copy)]
 pub struct WaitingCall {
     /// The place of its entry.
     pub place: u64,
@@ -42,7 +42,7 @@ pub struct WaitingCall {
 }
 
 /// When a wait was moved to its mutex, and why.  [XSH pthread_cond_broadcast]
-#[derive(Clone, Copy, PartialEq, Eq)]
+#[derive(Clone, Copy)]
 pub struct Move {
     /// The place of the entry that moved it.
     pub at: u64,

@@ -1,7 +1,7 @@
 //! Whether two events are the same, written out variant by variant.
 //!
-//! The derived `==` has so many variants that a function which uses it is past the limits of the
-//! prover's search.
+//! A derived `==` would have so many variants that a function which uses it is past the limits of
+//! the prover's search.
 #![tactic(auto)]
 
 ghost use Rattle.std.specs.Prelude.{◌≡◌, ◌≢◌, false, true};

@@ -20,7 +20,7 @@ pub const MOST_READS: u64 = 1 << 40;
 const PIECE: usize = 4096;
 
 /// How a script ended that was read to its end.
-#[derive(Clone, Copy, PartialEq, Eq)]
+#[derive(Clone, Copy)]
 pub struct ScriptEnd {
     /// How many lines it had, refused ones too.
     pub lines: u64,

@@ -9,7 +9,7 @@ pub trait Gate {
 }
 
 /// A gate that lets every line through.
-#[derive(Clone, Copy, PartialEq, Eq)]
+#[derive(Clone, Copy)]
 pub struct OpenGate;
 
 impl Gate for OpenGate {

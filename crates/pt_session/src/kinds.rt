@@ -4,7 +4,7 @@ use pt_lines::CallLine;
 use pt_types::Refusal;
 
 /// Whose clock it is.  [profile]
-#[derive(Clone, Copy, PartialEq, Eq)]
+#[derive(Clone, Copy)]
 pub enum ClockMode {
     /// The connections': their moment lines are submitted.
     Lines,
@@ -16,7 +16,7 @@ pub enum ClockMode {
 pub type Reading = Result<CallLine, Refusal>;
 
 /// Why a session, or a side of one, ended.  [profile]
-#[derive(Clone, Copy, PartialEq, Eq)]
+#[derive(Clone, Copy)]
 pub enum EndCause {
     /// The input reported its end.
     InputEnded,

@@ -23,7 +23,7 @@ use std::sync::Wait;
 use std::sync::ledger::Ledger;
 
 /// How many lines were submitted and answered, and why the work ended before its input did.
-#[derive(Clone, Copy, PartialEq, Eq)]
+#[derive(Clone, Copy)]
 pub(crate) struct Tally {
     pub submitted: u64,
     pub answered: u64,
