@@ -57,8 +57,8 @@ impl<Q: WaitList, A: Allocator + Copy> Model for Body<Q, A> {
 }
 
 impl<Q: WaitList, A: Allocator + Copy> Body<Q, A> {
-    /// No entry, of at most so many, over queues to which no client is admitted and of which none
-    /// is made. It takes no memory.
+    /// No entry, of at most so many. The queues have no client, and none is made. It takes no
+    /// memory.
     pub fn new(queues: Q, alloc: A, limit: u32) -> Body<Q, A>
         requires { Q.seen queues ≡ seen_in no_waits }
         ensures stored { result.stored ≡ begun limit }
