@@ -1,9 +1,9 @@
 use Rattle.std.proofs.Common.{◌≡◌, ◌<◌, ◌∙◌, ℕ, false, List, None, [], ◌∷◌, ◌++◌, ap, sym, subst}
-use Rattle.std.proofs.Common.{length, refl, Option}
+use Rattle.std.proofs.Common.{length, refl}
 use Rattle.std.proofs.lemmas.Bool.{false≢true}
 use Rattle.pt_types.specs.Names.{same_name}
 use Rattle.pt_types.specs.declared.name.Name.{Name}
-use Rattle.pt_table.specs.NameSlots.{AreKept, Cells, IsFiled, IsNamed}
+use Rattle.pt_table.specs.NameSlots.{IsFiled}
 use Rattle.pt_table.specs.ObjectRows.{object_named, out_of_chains}
 use Rattle.pt_table.specs.Slots.{rows_listed}
 use Rattle.pt_types.specs.Limits.{most_objects}
@@ -16,12 +16,6 @@ use Rattle.pt_table.proofs.Refused.{limit_taken, memory_taken, taken_limit, memo
 use Rattle.pt_table.proofs.Refused.{is_full, is_below, not_full}
 use Rattle.pt_table.proofs.Kept.{granted, named-same}
 use Rattle.pt_table.proofs.objects.Objects.add.Goals as goal
-
--- each name is found still as room was made
-named : {T : Type 0} (slots roomy : List (Option (ObjectRow T))) (cells new : Cells)
-    (others left : List (List ℕ × ℕ)) → roomy ≡ slots → new ≡ cells → AreKept others left
-    → IsNamed slots cells others → IsNamed roomy new left
-named slots roomy cells new others left = named-same slots roomy cells new others left
 
 pub returns-then-is_taken : goal.returns-then-is_taken
 returns-then-is_taken g c =
@@ -55,7 +49,7 @@ invariant_of-self g c =
     let same = c.make_room_named.ensures in (
       still c.self.invariant.0 c.args.self.now c.self.view_is new.rows.slots
           new.numbers.entries same.rows same.numbers,
-      named inside.rows.slots new.rows.slots inside.names.cells new.names.cells
+      named-same inside.rows.slots new.rows.slots inside.names.cells new.names.cells
           inside.names.others new.names.others same.rows same.cells same.others
           c.self.invariant.1,
     )
