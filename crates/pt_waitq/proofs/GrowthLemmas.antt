@@ -1,25 +1,41 @@
 -- Growth: what stands as room is made for one more client or queue.
 use Rattle.std.proofs.Common.{◌≡◌, ℕ, ◌==◌, ◌+◌, ◌≤◌, min, Bool, true, false, ◌||◌, List, [], ◌∷◌}
-use Rattle.std.proofs.Common.{◌++◌, ◌<◌, Option, None, refl, sym, ap, ◌∙◌, subst, arith}
+use Rattle.std.proofs.Common.{◌++◌, ◌<◌, Option, Some, None, is_some, cond, refl, sym, ap, ◌∙◌}
+use Rattle.std.proofs.Common.{subst, arith, length}
 use Rattle.std.specs.Prelude.{Result, Ok, Err, IfOk, OnOk, OnErr, IsErr, IfSome}
+use Rattle.std.specs.Option.{option_and_then}
 use Rattle.std.specs.List.{AllByRecursion as Each}
 use Rattle.std.proofs.lemmas.Bool.{false≢true}
 use Rattle.pt_waitq.specs.declared.waiter.Waiter.{Waiter}
 use Rattle.pt_waitq.specs.declared.nodes.Node.{Node}
 use Rattle.pt_waitq.specs.declared.sides.Queue.{Queue}
 use Rattle.pt_waitq.specs.Waits.{is_listed, has_waiter}
-use Rattle.pt_waitq.specs.Chains.{numbers, AreChains}
+use Rattle.pt_waitq.specs.Chains.{numbers, home_of, entry_in, AreChains}
 use Rattle.pt_waitq.specs.Boxes.{busy, AreBoxes}
-use Rattle.pt_waitq.specs.ListLemmas.{any-append}
-use Rattle.pt_waitq.proofs.HomeLemmas.{numbers-more}
+use Rattle.pt_waitq.proofs.ChainLemmas.{listed-lookup, chains-agree}
 
--- the same homes and nodes
+-- the same nodes, and each client has the one that it had
 pub chains-same : (homes hs : List (ℕ × ℕ)) (nodes ns : List (Option Node))
-    (queues : List (ℕ × Queue)) (es : List (ℕ × Waiter)) → hs ≡ homes → ns ≡ nodes
+    (queues : List (ℕ × Queue)) (es : List (ℕ × Waiter))
+    → ((d : ℕ) → home_of hs d ≡ home_of homes d) → length hs ≡ length homes → ns ≡ nodes
     → AreChains homes nodes queues es → AreChains hs ns queues es
-chains-same homes hs nodes ns queues es same alike a =
-    subst (λ xs. AreChains xs ns queues es) (sym same)
-    (subst (λ xs. AreChains homes xs queues es) (sym alike) a)
+chains-same homes hs nodes ns queues es same count alike a =
+    subst (λ xs. AreChains hs xs queues es) (sym alike)
+    (chains-agree homes hs nodes nodes queues es (λ d i. same d.1.client) (λ d i m e. refl)
+    (λ d. ap (option_and_then (entry_in nodes)) (same d))
+    (record {
+      there = λ d n e. a.homed.there d n (sym (same d) ∙ e);
+      apart = λ d e n h k. a.homed.apart d e n (sym (same d) ∙ h) (sym (same e) ∙ k);
+      own = λ n d e. same d ∙ a.homed.own n d e;
+      few = let few = a.homed.few in omega (arith, few, count);
+    })
+    a)
+
+-- the same clients
+pub still-listed : (homes hs : List (ℕ × ℕ)) (d : ℕ) → home_of hs d ≡ home_of homes d
+    → is_listed d (numbers hs) ≡ is_listed d (numbers homes)
+still-listed homes hs d same =
+    listed-lookup d hs ∙ (ap is_some same ∙ sym (listed-lookup d homes))
 
 -- no box more, and no less room
 pub boxes-same : (clients clients' objects : ℕ) (es : List (ℕ × Waiter))
@@ -63,20 +79,18 @@ at-most n = omega arith
 
 -- one client more is admitted
 pub one-admitted : (homes hs : List (ℕ × ℕ)) (es : List (ℕ × Waiter)) (k n d : ℕ)
-    → hs ≡ homes ++ (k, n) ∷ []
+    → home_of hs d ≡ cond (k == d) (Some n) (home_of homes d)
     → (is_listed d (numbers hs) || has_waiter d es)
     ≡ ((k == d) || (is_listed d (numbers homes) || has_waiter d es))
 one-admitted homes hs es k n d e =
-    let more = any-append (λ (m : ℕ). m == d) (numbers homes) (k ∷ []) in
-    ap (λ xs. is_listed d xs || has_waiter d es) (ap numbers e ∙ numbers-more homes (k, n))
-    ∙ (ap (λ b. b || has_waiter d es) more
-    ∙ swap (is_listed d (numbers homes)) (k == d) (has_waiter d es))
+    ap (λ b. b || has_waiter d es) (listed-lookup d hs ∙ ap is_some e)
+    ∙ (go (k == d) (home_of homes d)
+    ∙ ap (λ b. (k == d) || (b || has_waiter d es)) (sym (listed-lookup d homes)))
   where
-    swap : (x y z : Bool) → ((x || (y || false)) || z) ≡ (y || (x || z))
-    swap true true z = refl
-    swap true false z = refl
-    swap false true z = refl
-    swap false false z = refl
+    go : (b : Bool) (f : Option ℕ) → (is_some (cond b (Some n) f) || has_waiter d es)
+        ≡ (b || (is_some f || has_waiter d es))
+    go true f = refl
+    go false f = refl
 
 -- one more at the end
 pub each-more : {X : Type 0} (P : X → Type 0) (xs ys zs : List X) (x : X) → ys ≡ xs

@@ -1,10 +1,9 @@
 -- Nodes as clients come and go.
 use Rattle.std.proofs.Common.{◌≡◌, ◌≢◌, ℕ, ◌==◌, ◌<◌, ◌≤◌, ◌+◌, ◌^◌, Bool, true, false, cond, ◌&&◌}
 use Rattle.std.proofs.Common.{◌||◌, not, List, [], ◌∷◌, ◌++◌, length, Option, Some, None, is_some}
-use Rattle.std.proofs.Common.{nat_eq, refl, sym, ap, ◌∙◌, arith, eq-eqb}
+use Rattle.std.proofs.Common.{refl, sym, ap, ◌∙◌, arith, eq-eqb}
 use Rattle.std.specs.Prelude.{IsSome, IfSome}
 use Rattle.std.specs.Option.{option_and_then, option_map}
-use Rattle.std.specs.Map.{lookup}
 use Rattle.std.proofs.lemmas.Bool.Decides.{nat_tests}
 use Rattle.std.proofs.lemmas.Bool.{false≢true}
 use Rattle.pt_waitq.specs.declared.waiter.Waiter.{Waiter}
@@ -56,24 +55,6 @@ entry-changed homes nodes nodes' c n x a at h d = go (home_of homes d) refl (c =
     go (Some m) e false q =
         h m ∙ ap (λ b. cond b x (entry_in nodes m)) (apart m e q (n == m) refl)
 
--- a key that is added
-pub lookup-more : {X : Type 0} (c d : ℕ) (x : X) (es : List (ℕ × X)) → lookup (nat_eq c) es ≡ None
-    → lookup (nat_eq d) (es ++ (c, x) ∷ []) ≡ cond (nat_eq d c) (Some x) (lookup (nat_eq d) es)
-lookup-more c d x [] h = refl
-lookup-more {X} c d x (e ∷ es) h =
-    go (nat_eq d e.0) (nat_eq c e.0) (nat_eq d c) refl refl refl h (lookup-more c d x es)
-  where
-    go : (s t u : Bool) → nat_eq d e.0 ≡ s → nat_eq c e.0 ≡ t → nat_eq d c ≡ u
-        → cond t (Some e.1) (lookup (nat_eq c) es) ≡ None
-        → (lookup (nat_eq c) es ≡ None → lookup (nat_eq d) (es ++ (c, x) ∷ [])
-        ≡ cond (nat_eq d c) (Some x) (lookup (nat_eq d) es))
-        → cond s (Some e.1) (lookup (nat_eq d) (es ++ (c, x) ∷ []))
-        ≡ cond u (Some x) (cond s (Some e.1) (lookup (nat_eq d) es))
-    go s true u p q r h ih = cc
-    go true false true p q r h ih = absurd (grind (arith, nat_tests))
-    go true false false p q r h ih = refl
-    go false false u p q r h ih = ih h ∙ ap (λ b. cond b (Some x) (lookup (nat_eq d) es)) r
-
 pub length-more : {X : Type 0} (es : List X) (e : X) → length (es ++ e ∷ []) ≡ length es + 1
 length-more [] e = refl
 length-more (x ∷ es) e = let h = length-more es e in omega (arith, h)
@@ -82,22 +63,20 @@ length-more (x ∷ es) e = let h = length-more es e in omega (arith, h)
 module _ (homes homes' : List (ℕ × ℕ)) (nodes nodes' : List (Option Node))
     (queues : List (ℕ × Queue)) (es : List (ℕ × Waiter)) (c n : ℕ)
     (a : AreChains homes nodes queues es) (none : home_of homes c ≡ None)
-    (is : homes' ≡ homes ++ (c, n) ∷ []) (vacant : node_in nodes n ≡ None)
+    (now : (d : ℕ) → home_of homes' d ≡ cond (c == d) (Some n) (home_of homes d))
+    (longer : length homes' ≡ length homes + 1) (vacant : node_in nodes n ≡ None)
     (idle : entry_in nodes' n ≡ None) (its : client_in nodes' n ≡ Some c)
     (others : (m : ℕ) → m ≢ n → node_in nodes' m ≡ node_in nodes m)
     (few : length homes + 1 < 2 ^ 32) where
-  now : (d : ℕ) → home_of homes' d ≡ cond (nat_eq d c) (Some n) (home_of homes d)
-  now d = ap (λ hs. home_of hs d) is ∙ lookup-more c d n homes none
-
   older : (d m : ℕ) → home_of homes d ≡ Some m → m ≢ n
   older d m e same =
       none_is (node_in nodes m) (ap (node_in nodes) same ∙ vacant) (a.homed.there d m e)
 
   come-kept : (d : ℕ × Waiter) → In d es
       → home_of homes' d.1.client ≡ home_of homes d.1.client
-  come-kept d i = now d.1.client ∙ go (nat_eq d.1.client c) refl
+  come-kept d i = now d.1.client ∙ go (c == d.1.client) refl
     where
-      go : (b : Bool) → nat_eq d.1.client c ≡ b
+      go : (b : Bool) → c == d.1.client ≡ b
           → cond b (Some n) (home_of homes d.1.client) ≡ home_of homes d.1.client
       go false q = refl
       go true q =
@@ -107,9 +86,9 @@ module _ (homes homes' : List (ℕ × ℕ)) (nodes nodes' : List (Option Node))
 
   come-own : (d : ℕ) → entry_of homes' nodes' d ≡ entry_of homes nodes d
   come-own d =
-      ap (option_and_then (entry_in nodes')) (now d) ∙ go (nat_eq d c) refl (home_of homes d) refl
+      ap (option_and_then (entry_in nodes')) (now d) ∙ go (c == d) refl (home_of homes d) refl
     where
-      go : (b : Bool) → nat_eq d c ≡ b → (o : Option ℕ) → home_of homes d ≡ o
+      go : (b : Bool) → c == d ≡ b → (o : Option ℕ) → home_of homes d ≡ o
           → option_and_then (entry_in nodes') (cond b (Some n) o)
           ≡ option_and_then (entry_in nodes) o
       go true q None e = idle
@@ -121,7 +100,7 @@ module _ (homes homes' : List (ℕ × ℕ)) (nodes nodes' : List (Option Node))
           ap (option_and_then entry_at) (others m (older d m e))
 
   come-there : (d m : ℕ) → home_of homes' d ≡ Some m → IsSome (node_in nodes' m)
-  come-there d m h = go (nat_eq d c) (sym (now d) ∙ h)
+  come-there d m h = go (c == d) (sym (now d) ∙ h)
     where
       go : (b : Bool) → cond b (Some n) (home_of homes d) ≡ Some m → IsSome (node_in nodes' m)
       go true e =
@@ -131,9 +110,9 @@ module _ (homes homes' : List (ℕ × ℕ)) (nodes nodes' : List (Option Node))
 
   come-apart : (d e m : ℕ) → home_of homes' d ≡ Some m → home_of homes' e ≡ Some m → d ≡ e
   come-apart d e m h k =
-      go (nat_eq d c) (nat_eq e c) refl refl (sym (now d) ∙ h) (sym (now e) ∙ k)
+      go (c == d) (c == e) refl refl (sym (now d) ∙ h) (sym (now e) ∙ k)
     where
-      go : (s t : Bool) → nat_eq d c ≡ s → nat_eq e c ≡ t
+      go : (s t : Bool) → c == d ≡ s → c == e ≡ t
           → cond s (Some n) (home_of homes d) ≡ Some m
           → cond t (Some n) (home_of homes e) ≡ Some m → d ≡ e
       go true true p q u v = grind (arith, nat_tests)
@@ -151,20 +130,20 @@ module _ (homes homes' : List (ℕ × ℕ)) (nodes nodes' : List (Option Node))
           (others m (λ same. false≢true (sym q ∙ eq-eqb m n same))))
           ∙ e)
 
-      by : (m == n) ≡ false → (b : Bool) → nat_eq d c ≡ b
+      by : (m == n) ≡ false → (b : Bool) → c == d ≡ b
           → cond b (Some n) (home_of homes d) ≡ Some m
       by q false r = old q
       by q true r =
           let same : d ≡ c = grind (arith, nat_tests) in
           absurd (none_some m (sym none ∙ (ap (home_of homes) (sym same) ∙ old q)))
 
-      go : (b : Bool) → (m == n) ≡ b → cond (nat_eq d c) (Some n) (home_of homes d) ≡ Some m
+      go : (b : Bool) → (m == n) ≡ b → cond (c == d) (Some n) (home_of homes d) ≡ Some m
       go true q =
           let same : m ≡ n = grind (arith, nat_tests) in
           let one = some_same c d (sym its ∙ (ap (client_in nodes') (sym same) ∙ e)) in
-          ap (λ b. cond b (Some n) (home_of homes d)) (eq-eqb d c (sym one))
+          ap (λ b. cond b (Some n) (home_of homes d)) (eq-eqb c d one)
           ∙ ap (λ k. Some k) (sym same)
-      go false q = by q (nat_eq d c) refl
+      go false q = by q (c == d) refl
 
   pub chains-admitted : AreChains homes' nodes' queues es
   chains-admitted =
@@ -174,7 +153,7 @@ module _ (homes homes' : List (ℕ × ℕ)) (nodes nodes' : List (Option Node))
         there = come-there;
         apart = come-apart;
         own = come-mine;
-        few = let more = ap length is ∙ length-more homes (c, n) in omega (arith, more);
+        few = omega (arith, longer);
       })
       a
 
@@ -295,23 +274,20 @@ module _ (homes homes' : List (ℕ × ℕ)) (nodes nodes' : List (Option Node))
           ap (λ n. has_waiter n es) (sym same) ∙ none
       go false e = ap (λ b. b || has_waiter d es) (sym (listed-lookup d homes))
 
-pub numbers-more : {X : Type 0} (es : List (ℕ × X)) (e : ℕ × X)
-    → numbers (es ++ e ∷ []) ≡ numbers es ++ e.0 ∷ []
-numbers-more [] e = refl
-numbers-more (x ∷ es) e = ap (λ ns. x.0 ∷ ns) (numbers-more es e)
-
 -- a client comes, where room was made before
 pub chains-joined : (homes room homes' : List (ℕ × ℕ))
     (nodes roomy nodes' : List (Option Node)) (queues : List (ℕ × Queue)) (es : List (ℕ × Waiter))
     (c n : ℕ) → AreChains homes nodes queues es → home_of homes c ≡ None
-    → length homes + 1 < 2 ^ 32 → room ≡ homes → roomy ≡ nodes
-    → homes' ≡ room ++ (c, n) ∷ [] → node_in roomy n ≡ None
+    → length homes + 1 < 2 ^ 32 → ((d : ℕ) → home_of room d ≡ home_of homes d)
+    → length room ≡ length homes → roomy ≡ nodes
+    → ((d : ℕ) → home_of homes' d ≡ cond (c == d) (Some n) (home_of room d))
+    → length homes' ≡ length room + 1 → node_in roomy n ≡ None
     → entry_in nodes' n ≡ None → client_in nodes' n ≡ Some c
     → ((m : ℕ) → m ≢ n → node_in nodes' m ≡ node_in roomy m)
     → AreChains homes' nodes' queues es
-chains-joined homes room homes' nodes roomy nodes' queues es c n a none few same still longer
-    vacant idle its others =
+chains-joined homes room homes' nodes roomy nodes' queues es c n a none few same count still now
+    longer vacant idle its others =
     chains-admitted homes homes' nodes nodes' queues es c n a none
-    (longer ∙ ap (λ hs. hs ++ (c, n) ∷ []) same)
+    (λ d. now d ∙ ap (cond (c == d) (Some n)) (same d)) (longer ∙ ap (λ l. l + 1) count)
     (ap (λ ns. node_in ns n) (sym still) ∙ vacant) idle its
     (λ m h. others m h ∙ ap (λ ns. node_in ns m) still) few

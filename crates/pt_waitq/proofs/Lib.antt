@@ -34,8 +34,6 @@ mod MadeLemmas
 mod ReadLemmas
 -- HighestLemmas: the highest chain that isn't empty, as one of the counts changes
 mod HighestLemmas
--- PlaceLemmas: an entry of a map that is found at its index
-mod PlaceLemmas
 -- BusyLemmas: how many queues have a waiter
 mod BusyLemmas
 -- BoxLemmas: enough boxes for all that wait
@@ -50,6 +48,10 @@ mod SeenLemmas
 mod EmptiedLemmas
 -- FirstOut: the first of a queue, as it is taken out
 mod FirstOut
+-- RowLemmas: what is said of a queue's row by its slot
+mod RowLemmas
+-- RowChanges: a row that is written, added, or taken away
+mod RowChanges
 -- OpenedLemmas: the queues that are made, as one is made, opened or discarded
 mod OpenedLemmas
 -- OpenedRows: what is read of a queue that is made, from its row or from none

@@ -194,6 +194,33 @@ queues-set os rows rows' spare spare' opened len a same still =
           omega (arith, room, still, ap length same, length-numbers rows, length-numbers rows');
     }
 
+-- rows of the same numbers, and more room
+pub queues-kept : (os : List ℕ) (rows rows' : List (ℕ × Queue)) (spare spare' : ℕ)
+    (opened : List Bool) (len : ℕ) → AreQueues os rows spare opened len
+    → ((x : ℕ) → lookup (nat_eq x) rows' ≡ lookup (nat_eq x) rows) → length rows' ≡ length rows
+    → spare ≤ spare' → AreQueues os rows' spare' opened len
+queues-kept os rows rows' spare spare' opened len a same count still =
+    record {
+      once = a.once;
+      made = λ x i. a.made x (was x ∙ i);
+      noted = λ x i. a.noted x (was x ∙ i);
+      count = a.count;
+      few = a.few;
+      room = let room = a.room in omega (arith, room, still, count);
+    }
+  where
+    was : (x : ℕ) → is_listed x (numbers rows) ≡ is_listed x (numbers rows')
+    was x = listed-lookup x rows ∙ (ap is_some (sym (same x)) ∙ sym (listed-lookup x rows'))
+
+-- the same chains
+pub queues-same : (os : List ℕ) (rows rows' : List (ℕ × Queue))
+    → ((x : ℕ) → lookup (nat_eq x) rows' ≡ lookup (nat_eq x) rows)
+    → queues_by os rows' ≡ queues_by os rows
+queues-same [] rows rows' same = refl
+queues-same (o ∷ os) rows rows' same =
+    ap (λ f. (o, unwrap_or f no_queue) ∷ queues_by os rows') (same o)
+    ∙ ap (λ qs. (o, queue_at rows o) ∷ qs) (queues-same os rows rows' same)
+
 -- other queues stay as they are
 pub others-by : (os : List ℕ) (rows rows' : List (ℕ × Queue)) (o : ℕ)
     → ((x : ℕ) → (o == x) ≡ false → queue_at rows' x ≡ queue_at rows x)

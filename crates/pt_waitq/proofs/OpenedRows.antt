@@ -1,8 +1,8 @@
 -- What is read of a queue that is made, from its row or from none.
-use Rattle.std.proofs.Common.{◌≡◌, ℕ, zero, suc, ◌==◌, ◌+◌, ◌≤◌, Bool, true, false, cond, ◌||◌}
-use Rattle.std.proofs.Common.{List, [], ◌∷◌, ◌++◌, length, Option, Some, None, is_some, nat_eq}
-use Rattle.std.proofs.Common.{eq-eqb, refl, sym, ap, ◌∙◌, subst, arith, inr}
-use Rattle.std.specs.Prelude.{◌↔◌, IfSome, IsSome, IsTrue, unwrap_or, slice_get}
+use Rattle.std.proofs.Common.{◌≡◌, ℕ, ◌==◌, ◌≤◌, Bool, true, false, cond, ◌||◌}
+use Rattle.std.proofs.Common.{List, [], Option, Some, None, is_some, nat_eq}
+use Rattle.std.proofs.Common.{refl, sym, ap, ◌∙◌, subst, arith, inr}
+use Rattle.std.specs.Prelude.{◌↔◌, IfSome, IsSome, IsTrue, unwrap_or}
 use Rattle.std.specs.Option.{option_map}
 use Rattle.std.specs.Map.{lookup}
 use Rattle.std.proofs.lemmas.Bool.Decides.{nat_tests}
@@ -12,13 +12,10 @@ use Rattle.pt_waitq.specs.Waits.{is_listed}
 use Rattle.pt_waitq.specs.Chains.{numbers, IsFirst, IsFirstWriter, HasWriterFrom}
 use Rattle.pt_waitq.specs.Boxes.{no_queue}
 use Rattle.pt_waitq.specs.Opened.{queue_at, queues_by, is_open, AreQueues}
-use Rattle.pt_waitq.proofs.HomeLemmas.{length-more, lookup-more, numbers-more}
-use Rattle.pt_waitq.proofs.InsertLemmas.{length-numbers}
-use Rattle.pt_waitq.proofs.ChainLemmas.{listed-lookup, is-listed, some_same}
+use Rattle.pt_waitq.proofs.ChainLemmas.{listed-lookup, is-listed}
 use Rattle.pt_waitq.proofs.StepLemmas.{some-if}
 use Rattle.pt_waitq.proofs.BoxLemmas.{none-without}
 use Rattle.pt_waitq.proofs.OpenedLemmas.{lookup-by, said-by, unnoted-none, told, told-row}
-use Rattle.pt_waitq.proofs.OpenedLemmas.{listed-last}
 
 none_some : {X : Type 0} (f : Option X) (x : X) → f ≡ None → f ≡ Some x → ⊥
 none_some f x n e = cc
@@ -74,52 +71,6 @@ module _ (os : List ℕ) (rows : List (ℕ × Queue)) (spare : ℕ) (opened : Li
           let there = listed-lookup o rows ∙ ap is_some e in
           absurd (false≢true (sym t ∙ a.made o there))
 
-last-at : (ns : List ℕ) (o : ℕ) → slice_get (ns ++ o ∷ []) (length ns) ≡ Some o
-last-at [] o = refl
-last-at (n ∷ ns) o = last-at ns o
-
--- a row that is added has no chain with a waiter
-module _ (rows rows' : List (ℕ × Queue)) (o : ℕ) (q : Queue) (added : rows' ≡ rows ++ (o, q) ∷ [])
-    (empty : q ≡ no_queue) (none : lookup (nat_eq o) rows ≡ None) where
-  found : (x : ℕ) → lookup (nat_eq x) rows' ≡ cond (nat_eq x o) (Some q) (lookup (nat_eq x) rows)
-  found x = ap (lookup (nat_eq x)) added ∙ lookup-more o x q rows none
-
-  pub row-same : (x : ℕ) → queue_at rows' x ≡ queue_at rows x
-  row-same x = ap (λ f. unwrap_or f no_queue) (found x) ∙ go (nat_eq x o) refl
-    where
-      go : (b : Bool) → nat_eq x o ≡ b
-          → unwrap_or (cond b (Some q) (lookup (nat_eq x) rows)) no_queue ≡ queue_at rows x
-      go true t =
-          let same : x ≡ o = grind (arith, nat_tests) in
-          let gone = ap (λ y. lookup (nat_eq y) rows) same ∙ none in
-          empty ∙ sym (ap (λ f. unwrap_or f no_queue) gone)
-      go false t = refl
-
-  pub row-listed : (x : ℕ) → is_listed x (numbers rows') ≡ (is_listed x (numbers rows) || (o == x))
-  row-listed x =
-      ap (is_listed x) (ap numbers added ∙ numbers-more rows (o, q))
-      ∙ listed-last o x (numbers rows)
-
-  pub row-at : slice_get (numbers rows') (length rows) ≡ Some o
-  row-at =
-      ap (λ n. slice_get (numbers rows') n) (sym (length-numbers rows))
-      ∙ (ap (λ ns. slice_get ns (length (numbers rows)))
-      (ap numbers added ∙ numbers-more rows (o, q))
-      ∙ last-at (numbers rows) o)
-
-  pub row-more : length rows' ≡ length rows + 1
-  row-more = ap length added ∙ length-more rows (o, q)
-
--- a number at an index is listed
-pub at-listed : (ns : List ℕ) (i o : ℕ) → slice_get ns i ≡ Some o → is_listed o ns ≡ true
-at-listed [] i o h = cc
-at-listed (n ∷ ns) zero o h = rw (eq-eqb n o (some_same n o h)) refl
-at-listed (n ∷ ns) (suc i) o h = go (n == o) (at-listed ns i o h)
-  where
-    go : (b : Bool) → is_listed o ns ≡ true → (b || is_listed o ns) ≡ true
-    go true ih = refl
-    go false ih = ih
-
 -- what is asked of a queue holds of its row
 pub row-if : (P : Queue → Type 0) (os : List ℕ) (rows rows' qs : List (ℕ × Queue)) (o : ℕ)
     → is_listed o os ≡ true → queues_by os rows ≡ qs → IfSome (lookup (nat_eq o) qs) P
@@ -155,10 +106,6 @@ row-waits os rows qs o made view h = go (lookup (nat_eq o) rows) refl
     go None e =
         let no : 1 ≤ 0 = subst (λ f. 1 ≤ (unwrap_or f no_queue).len) e some in
         absurd (omega (arith, no))
-
-pub at-most-one : (b : Bool) → cond b 1 0 ≤ 1
-at-most-one true = omega arith
-at-most-one false = omega arith
 
 -- a number that is listed is listed with itself
 pub open-more : (rows : List (ℕ × Queue)) (o x : ℕ) → is_listed o (numbers rows) ≡ true

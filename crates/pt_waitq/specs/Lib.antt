@@ -19,3 +19,5 @@ pub mod Highest
 pub mod Boxes
 -- Opened: the queues that are made, of which those with a row have its chains
 pub mod Opened
+-- Rows: the chains of queues, each in a slot, and the slots by the queues' numbers
+pub mod Rows

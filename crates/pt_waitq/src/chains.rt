@@ -2,10 +2,10 @@
 ghost use Rattle.std.specs.Prelude.{◌≡◌};
 ghost use Rattle.pt_waitq.specs.Waits.{no_waits};
 
-use crate::link::{Link, NodeIndex};
+use crate::homes::Homes;
+use crate::link::Link;
 use crate::nodes::{self, Node};
 use crate::queues::{self, Queues};
-use crate::rows::Rows;
 use crate::spares::{self, Spares};
 use crate::wait_list::WaitList;
 use crate::waiter::Waiter;
@@ -19,7 +19,7 @@ use std::marker::Model;
 ///
 /// A queue counts its writers and its readers by priority.
 pub struct Chains<A: Allocator + Copy = Global> {
-    homes: Rows<NodeIndex, A>,
+    homes: Homes<A>,
     nodes: Slab<Node, A>,
     queues: Queues<A>,
     /// The boxes of no queue.
@@ -70,7 +70,7 @@ impl<A: Allocator + Copy> Chains<A> {
         ensures { result ≡ no_waits }
     {
         Chains {
-            homes: Rows::new(alloc),
+            homes: Homes::new(alloc),
             nodes: Slab::new(alloc),
             queues: Queues::new(alloc),
             spares: Vec::new(alloc),

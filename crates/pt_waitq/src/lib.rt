@@ -9,6 +9,7 @@ mod boxed;
 mod chains;
 mod changes;
 mod entries;
+mod homes;
 mod link;
 mod marked;
 mod nodes;

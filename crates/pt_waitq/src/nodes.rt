@@ -1,19 +1,19 @@
 //! A node for each client, linked to those next to it in its chain.
 
 ghost use Rattle.std.specs.Prelude.{◌≡◌, ◌≢◌, ◌+◌, ◌-◌, ◌<◌, ◌≤◌, ◌^◌, ◌==◌, Some, None, IsSome};
-ghost use Rattle.std.specs.Prelude.{IfSome, IfNone, false, OnOk, OnErr, unwrap_or, ◌++◌, ◌∷◌, []};
-ghost use Rattle.std.specs.Prelude.{slice_index, ◌&&◌, slice_index_or, is_some, if◌then◌else◌, ℕ};
-ghost use Rattle.std.specs.Prelude.{not, List, nat_eq, length};
+ghost use Rattle.std.specs.Prelude.{IfSome, IfNone, false, OnOk, []};
+ghost use Rattle.std.specs.Prelude.{◌&&◌, is_some, if◌then◌else◌, ℕ};
+ghost use Rattle.std.specs.Prelude.{not, nat_eq, length};
 ghost use Rattle.std.specs.Map.{lookup};
 ghost use Rattle.std.specs.Option.{option_map, option_and_then};
-ghost use Rattle.indexmap.specs.IndexMap.{spare};
+ghost use Rattle.std.specs.HashMap.{spare};
 ghost use Rattle.slab.specs.Slab.{HasRoomFor};
 ghost use Rattle.pt_waitq.specs.declared.waiter.Waiter.{Waiter};
 ghost use Rattle.pt_waitq.specs.Chains.{numbers, is_at, node_in, next_in, before_in, entry_in};
 ghost use Rattle.pt_waitq.specs.Chains.{home_of, entry_of, entry_at, client_in, AreOwn, AreHomes};
 
+use crate::homes::Homes;
 use crate::link::{Link, MOST_NODES, NodeIndex};
-use crate::rows::{Rows, row_of};
 use crate::waiter::Waiter;
 use pt_types::{ClientId, Priority};
 use slab::Slab;
@@ -202,7 +202,7 @@ pub(crate) fn remove<A: Allocator + Copy>(
 // the client's.
 #[inline(always)]
 fn node_by_distance<A: Allocator + Copy>(
-    homes: &Rows<NodeIndex, A>,
+    homes: &Homes<A>,
     nodes: &Slab<Node, A>,
     client: u64,
 ) -> Option<NodeIndex>
@@ -220,17 +220,17 @@ fn node_by_distance<A: Allocator + Copy>(
 // The node of a client, looked up.
 #[cold]
 #[inline(never)]
-fn node_by_number<A: Allocator + Copy>(homes: &Rows<NodeIndex, A>, client: u64) -> Option<NodeIndex>
+fn node_by_number<A: Allocator + Copy>(homes: &Homes<A>, client: u64) -> Option<NodeIndex>
     ensures { result ≡ home_of homes.now.map.entries client }
 {
-    row_of(homes, client).copied()
+    homes.map.get(&client).copied()
 }
 
 // The node of a client, if it has one. Clients whose numbers follow one another are found by the
 // distance of the number, without a look at the list of numbers.
 #[inline(always)]
 fn node_of<A: Allocator + Copy>(
-    homes: &Rows<NodeIndex, A>,
+    homes: &Homes<A>,
     nodes: &Slab<Node, A>,
     client: u64,
 ) -> Option<NodeIndex>
@@ -246,7 +246,7 @@ fn node_of<A: Allocator + Copy>(
 /// The index of a client's node, which it has.
 #[inline(always)]
 pub(crate) fn home_of<A: Allocator + Copy>(
-    homes: &Rows<NodeIndex, A>,
+    homes: &Homes<A>,
     nodes: &Slab<Node, A>,
     client: u64,
 ) -> NodeIndex
@@ -259,7 +259,7 @@ pub(crate) fn home_of<A: Allocator + Copy>(
 
 /// Where a client waits, if it does.
 pub(crate) fn place_of<A: Allocator + Copy>(
-    homes: &Rows<NodeIndex, A>,
+    homes: &Homes<A>,
     nodes: &Slab<Node, A>,
     client: u64,
 ) -> Option<Place>
@@ -310,10 +310,12 @@ pub(crate) fn place_at<A: Allocator + Copy>(nodes: &Slab<Node, A>, index: NodeIn
 
 /// Makes room for one more node, if there are not too many.
 pub(crate) fn make_room<A: Allocator + Copy>(
-    homes: &mut Rows<NodeIndex, A>,
+    homes: &mut Homes<A>,
     nodes: &mut Slab<Node, A>,
 ) -> Result<(), AllocError>
-    ensures homes { homes.new.map.entries ≡ homes.old.map.entries }
+    ensures homes { (d : ℕ)
+        → home_of homes.new.map.entries d ≡ home_of homes.old.map.entries d }
+    ensures count { length homes.new.map.entries ≡ length homes.old.map.entries }
     ensures few { OnOk result (length homes.old.map.entries + 1 < 2 ^ 32) }
     ensures nodes { nodes.new.slots ≡ nodes.old.slots }
     ensures home_room { OnOk result (0 < spare homes.new.map) }
@@ -348,7 +350,7 @@ fn idle(client: u64) -> Node
 
 /// Adds a node that is in no chain, and returns its index.
 pub(crate) fn admit<A: Allocator + Copy>(
-    homes: &mut Rows<NodeIndex, A>,
+    homes: &mut Homes<A>,
     nodes: &mut Slab<Node, A>,
     client: u64,
 ) -> NodeIndex
@@ -356,7 +358,10 @@ pub(crate) fn admit<A: Allocator + Copy>(
     requires home_room { 0 < spare homes.old.map }
     requires node_room { HasRoomFor nodes.old 1 }
     requires index { nodes.old.vacant_key < 2 ^ 32 - 1 }
-    ensures homes { homes.new.map.entries ≡ homes.old.map.entries ++ (client, result) ∷ [] }
+    ensures homes { (d : ℕ)
+        → home_of homes.new.map.entries d
+        ≡ (if client == d then Some result else home_of homes.old.map.entries d) }
+    ensures count { length homes.new.map.entries ≡ length homes.old.map.entries + 1 }
     ensures vacant { node_in nodes.old.slots result ≡ None }
     ensures entry { entry_in nodes.new.slots result ≡ None }
     ensures client { client_in nodes.new.slots result ≡ Some client }
@@ -365,14 +370,15 @@ pub(crate) fn admit<A: Allocator + Copy>(
         → node_in nodes.new.slots n ≡ node_in nodes.old.slots n }
 {
     let node = NodeIndex::new(nodes.insert_reserved(idle(client)));
-    homes.map.insert(client, node).unwrap();
+    let inserted: Result<_, _> = homes.map.insert(client, node);
+    inserted.unwrap();
     homes.note_first(client);
     node
 }
 
 /// Takes a client's node away.
 pub(crate) fn dismiss<A: Allocator + Copy>(
-    homes: &mut Rows<NodeIndex, A>,
+    homes: &mut Homes<A>,
     nodes: &mut Slab<Node, A>,
     client: u64,
 )
@@ -386,7 +392,7 @@ pub(crate) fn dismiss<A: Allocator + Copy>(
         node_in nodes.new.slots n ≡ None) }
     ensures len { length homes.new.map.entries ≤ length homes.old.map.entries }
 {
-    if let Some(node) = homes.map.swap_remove(&client) {
+    if let Some(node) = homes.map.remove(&client) {
         nodes.try_remove(node.get());
     }
 }

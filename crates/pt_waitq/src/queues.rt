@@ -2,24 +2,23 @@
 
 ghost use Rattle.std.specs.Prelude.{◌≡◌, ◌↔◌, ◌+◌, ◌-◌, ◌++◌, ◌∷◌, [], ℕ, ◌<◌, ◌≤◌, ◌^◌, ◌==◌};
 ghost use Rattle.std.specs.Prelude.{◌||◌, Some, None, IsSome, IfSome, IsTrue, unwrap_or, true};
-ghost use Rattle.std.specs.Prelude.{false, slice_get, slice_index, if◌then◌else◌, nat_eq, length};
+ghost use Rattle.std.specs.Prelude.{false, slice_index, if◌then◌else◌, nat_eq, length};
 ghost use Rattle.std.specs.Prelude.{vec_len, vec_capacity};
 ghost use Rattle.std.specs.List.{AllByRecursion as Each};
 ghost use Rattle.std.specs.Map.{lookup};
 ghost use Rattle.std.specs.Option.{option_map};
-ghost use Rattle.indexmap.specs.IndexMap.{spare};
 ghost use Rattle.pt_types.specs.Limits.{most_priority};
 ghost use Rattle.pt_waitq.specs.declared.sides.Queue.{Queue};
 ghost use Rattle.pt_waitq.specs.Boxes.{no_queue, IsEmptied};
 ghost use Rattle.pt_waitq.specs.Chains.{numbers, side_of, HasNone, IsPut, Unique, IsFirst};
 ghost use Rattle.pt_waitq.specs.Chains.{IsFirstWriter, HasWriterFrom};
 ghost use Rattle.pt_waitq.specs.Opened.{queue_at, is_open};
+ghost use Rattle.pt_waitq.specs.Rows.{rows_of};
 ghost use Rattle.pt_waitq.specs.Waits.{is_listed};
 
-use crate::boxed::BoxedQueue;
 use crate::link::{Link, NodeIndex};
 use crate::marked::MarkedQueue;
-use crate::rows::{Rows, index_of, note_again};
+use crate::rows::Rows;
 use crate::sides;
 use crate::spares::Spares;
 use http_server::Log;
@@ -38,7 +37,7 @@ const MOST_QUEUES: usize = 4294967295;
 /// discarded without a look at the rows.
 #[derive(Drop)]
 pub(crate) struct Queues<A: Allocator + Copy> {
-    rows: Rows<BoxedQueue<A>, A>,
+    rows: Rows<A>,
     /// For each value of a number's low bits, whether a queue with such a number ever had a row.
     opened: [bool; COUNT],
     /// How many queues there are. There is room for a row of each.
@@ -49,15 +48,15 @@ pub(crate) struct Queues<A: Allocator + Copy> {
 
 impl<A: Allocator + Copy> Model for Queues<A> {
     ghost use Rattle.std.specs.Prelude.{List, ℕ};
-    ghost use Rattle.indexmap.specs.IndexMap.{spare};
     ghost use Rattle.pt_waitq.specs.declared.sides.Queue.{Queue};
     ghost use Rattle.pt_waitq.specs.Opened.{made_by, queues_by, AreQueues};
+    ghost use Rattle.pt_waitq.specs.Rows.{rows_of};
 
     ghost Value = { List (ℕ × Queue) };
 
-    ghost view = { λ q. queues_by (made_by q.log.items) q.rows.map.entries };
+    ghost view = { λ q. queues_by (made_by q.log.items) (rows_of q.rows) };
 
-    ghost invariant = { λ q. AreQueues (made_by q.log.items) q.rows.map.entries (spare q.rows.map)
+    ghost invariant = { λ q. AreQueues (made_by q.log.items) (rows_of q.rows) q.rows.room
         q.opened q.len };
 }
 
@@ -99,62 +98,32 @@ fn set_open(opened: &mut [bool; COUNT], object: u64)
     opened[object as usize % COUNT] = true;
 }
 
-// Gives a queue its row, which has none, and returns the row's index.
-#[cold]
-#[inline(never)]
-fn add_row<A: Allocator + Copy>(rows: &mut Rows<BoxedQueue<A>, A>, object: u64) -> usize
-    requires none { lookup (nat_eq object) rows.old.map.entries ≡ None }
-    requires room { Unique (numbers rows.old.map.entries) → 0 < spare rows.old.map }
-    ensures at { slice_get (numbers rows.new.map.entries) result ≡ Some object }
-    ensures same { (x : ℕ) → queue_at rows.new.map.entries x ≡ queue_at rows.old.map.entries x }
-    ensures listed { (x : ℕ) → is_listed x (numbers rows.new.map.entries)
-        ≡ (is_listed x (numbers rows.old.map.entries) || (object == x)) }
-    ensures room { length rows.old.map.entries + spare rows.old.map
-        ≤ length rows.new.map.entries + spare rows.new.map }
-{
-    let index = rows.map.len();
-    rows.map.insert(object, BoxedQueue::new()).unwrap();
-    rows.note(object, index);
-    index
-}
-
-// The index of a queue's row, which it gets if it has none.
+// The slot of a queue's row, which it gets if it has none.
 #[inline(always)]
-fn row_index<A: Allocator + Copy>(
-    rows: &mut Rows<BoxedQueue<A>, A>,
+fn row_slot<A: Allocator + Copy>(
+    rows: &mut Rows<A>,
     opened: &mut [bool; COUNT],
     object: u64,
 ) -> usize
-    requires room { lookup (nat_eq object) rows.old.map.entries ≡ None
-        → Unique (numbers rows.old.map.entries) → 0 < spare rows.old.map }
-    requires noted { is_listed object (numbers rows.old.map.entries) ≡ true
+    requires room { lookup (nat_eq object) (rows_of rows.old) ≡ None
+        → Unique (numbers (rows_of rows.old)) → 0 < rows.old.room }
+    requires noted { is_listed object (numbers (rows_of rows.old)) ≡ true
         → is_open opened.old object ≡ true }
-    ensures at { slice_get (numbers rows.new.map.entries) result ≡ Some object }
-    ensures same { (x : ℕ) → queue_at rows.new.map.entries x ≡ queue_at rows.old.map.entries x }
-    ensures listed { (x : ℕ) → is_listed x (numbers rows.new.map.entries)
-        ≡ (is_listed x (numbers rows.old.map.entries) || (object == x)) }
-    ensures room { length rows.old.map.entries + spare rows.old.map
-        ≤ length rows.new.map.entries + spare rows.new.map }
+    ensures at { lookup (nat_eq object) rows.new.places ≡ Some result }
+    ensures same { (x : ℕ) → queue_at (rows_of rows.new) x ≡ queue_at (rows_of rows.old) x }
+    ensures listed { (x : ℕ) → is_listed x (numbers (rows_of rows.new))
+        ≡ (is_listed x (numbers (rows_of rows.old)) || (object == x)) }
+    ensures room { length (rows_of rows.old) + rows.old.room
+        ≤ length (rows_of rows.new) + rows.new.room }
     ensures own { is_open opened.new object ≡ true }
     ensures kept { (x : ℕ) → is_open opened.old x ≡ true → is_open opened.new x ≡ true }
 {
-    if let Some(index) = index_of(rows, object) {
-        return index;
+    if let Some(slot) = rows.slot_from(rows.hint(object), object) {
+        return slot;
     }
-    let index = add_row(rows, object);
+    let slot = rows.add(object);
     set_open(opened, object);
-    index
-}
-
-// Makes room for rows of so many queues, and returns whether there was memory.
-fn reserve<A: Allocator + Copy>(rows: &mut Rows<BoxedQueue<A>, A>, queues: usize) -> bool
-    ensures rows { rows.new.map.entries ≡ rows.old.map.entries }
-    ensures more { spare rows.old.map ≤ spare rows.new.map }
-    ensures enough { result ≡ true → queues
-        ≤ length rows.new.map.entries + spare rows.new.map }
-{
-    let more = queues.saturating_sub(rows.map.len());
-    rows.map.reserve(more).is_ok()
+    slot
 }
 
 // How many wait in a queue whose row is not at the place that its hint gives.
@@ -215,9 +184,8 @@ pub(crate) fn insert<A: Allocator + Copy>(
     ensures capacity { vec_capacity spares.new ≡ vec_capacity spares.old }
     ensures empty { Each (λ b. HasNone b.value) spares.new.items }
 {
-    let index = row_index(&mut queues.rows, &mut queues.opened, object);
-    let queue = queues.rows.map.get_index_mut(index).unwrap();
-    queue.put_in(spares, writer, p, node)
+    let slot = row_slot(&mut queues.rows, &mut queues.opened, object);
+    queues.rows.put_in(slot, spares, writer, p, node)
 }
 
 /// Takes a node out of a chain of a queue in which it is, if it was between these two. Returns the
@@ -264,7 +232,7 @@ pub(crate) fn make<A: Allocator + Copy>(queues: &mut Queues<A>, object: u64) -> 
     if queues.len >= MOST_QUEUES {
         return false;
     }
-    if !reserve(&mut queues.rows, queues.len + 1) {
+    if !queues.rows.reserve(queues.len + 1) {
         return false;
     }
     queues.log = queues.log.and(&true, &object);
@@ -272,38 +240,24 @@ pub(crate) fn make<A: Allocator + Copy>(queues: &mut Queues<A>, object: u64) -> 
     true
 }
 
-// Takes a queue's row away, if it has one. The last row takes its place.
-#[cold]
-#[inline(never)]
-fn take_row<A: Allocator + Copy>(rows: &mut Rows<BoxedQueue<A>, A>, object: u64)
-    ensures rows { (x : ℕ) → lookup (nat_eq x) rows.new.map.entries
-        ≡ (if object == x then None else lookup (nat_eq x) rows.old.map.entries) }
-    ensures room { length rows.old.map.entries + spare rows.old.map
-        ≤ length rows.new.map.entries + spare rows.new.map + 1 }
-{
-    let index = index_of(rows, object);
-    rows.map.swap_remove(&object);
-    note_again(rows, index);
-}
-
 // Takes a queue's row away, if such a queue ever had one.
 #[inline(always)]
 fn close<A: Allocator + Copy>(
-    rows: &mut Rows<BoxedQueue<A>, A>,
+    rows: &mut Rows<A>,
     opened: &[bool; COUNT],
     object: u64,
 )
     requires { is_open opened.now object ≡ false
-        → lookup (nat_eq object) rows.old.map.entries ≡ None }
-    ensures rows { (x : ℕ) → lookup (nat_eq x) rows.new.map.entries
-        ≡ (if object == x then None else lookup (nat_eq x) rows.old.map.entries) }
-    ensures room { length rows.old.map.entries + spare rows.old.map
-        ≤ length rows.new.map.entries + spare rows.new.map + 1 }
+        → lookup (nat_eq object) (rows_of rows.old) ≡ None }
+    ensures rows { (x : ℕ) → lookup (nat_eq x) (rows_of rows.new)
+        ≡ (if object == x then None else lookup (nat_eq x) (rows_of rows.old)) }
+    ensures room { length (rows_of rows.old) + rows.old.room
+        ≤ length (rows_of rows.new) + rows.new.room + 1 }
 {
     if !is_open(opened, object) {
         return;
     }
-    take_row(rows, object);
+    rows.take(object);
 }
 
 /// Takes a queue away, which is there.
@@ -333,13 +287,13 @@ pub(crate) fn first_of<A: Allocator + Copy>(queues: &Queues<A>, object: u64) -> 
     sides::first_of(&queues.rows, object)
 }
 
-/// The index that is noted for a queue's row. The row there may be another's.
+/// The slot in which a queue's row is looked for first. The row there may be another's.
 #[inline(always)]
 pub(crate) fn noted_row<A: Allocator + Copy>(queues: &Queues<A>, object: u64) -> usize {
     queues.rows.hint(object)
 }
 
-/// As `first_of`, for a queue that has a row, most likely. That is looked for at this index first.
+/// As `first_of`, for a queue that has a row, most likely. That is looked for in this slot first.
 #[inline(always)]
 pub(crate) fn first_in_row<A: Allocator + Copy>(
     queues: &Queues<A>,

@@ -6,17 +6,16 @@ ghost use Rattle.std.specs.Prelude.{slice_index, slice_index_or, is_some, if◌t
 ghost use Rattle.std.specs.Prelude.{not, nat_eq};
 ghost use Rattle.std.specs.Map.{lookup};
 ghost use Rattle.std.specs.Option.{option_map};
-ghost use Rattle.indexmap.specs.IndexMap.{spare};
 ghost use Rattle.pt_types.specs.Limits.{most_priority};
 ghost use Rattle.pt_waitq.specs.declared.sides.Queue.{Queue};
 ghost use Rattle.pt_waitq.specs.Boxes.{IsEmptied};
+ghost use Rattle.pt_waitq.specs.Rows.{rows_of};
 ghost use Rattle.pt_waitq.specs.Chains.{numbers, side_of};
 ghost use Rattle.pt_waitq.specs.Chains.{IsFirst, IsFirstWriter, HasWriterFrom};
 
-use crate::boxed::BoxedQueue;
 use crate::link::{Link, NodeIndex};
 use crate::marked::MarkedQueue;
-use crate::rows::{Rows, index_from, row_by_hint, row_from, row_of};
+use crate::rows::Rows;
 use pt_types::MOST_PRIORITY;
 use std::alloc::Allocator;
 
@@ -233,11 +232,11 @@ pub(crate) fn put_chain(
 }
 
 /// How many wait in a queue.
-pub(crate) fn len_of<A: Allocator + Copy>(queues: &Rows<BoxedQueue<A>, A>, object: u64) -> usize
+pub(crate) fn len_of<A: Allocator + Copy>(queues: &Rows<A>, object: u64) -> usize
     ensures { result
-        ≡ unwrap_or (option_map (λ q. q.len) (lookup (nat_eq object) queues.now.map.entries)) 0 }
+        ≡ unwrap_or (option_map (λ q. q.len) (lookup (nat_eq object) (rows_of queues.now))) 0 }
 {
-    match row_of(queues, object) {
+    match queues.get(object) {
         Some(boxed) => boxed.len(),
         None => 0,
     }
@@ -246,23 +245,23 @@ pub(crate) fn len_of<A: Allocator + Copy>(queues: &Rows<BoxedQueue<A>, A>, objec
 /// How many wait in a queue, if its row is at the place that its hint gives.
 #[inline(always)]
 pub(crate) fn len_by_hint<A: Allocator + Copy>(
-    queues: &Rows<BoxedQueue<A>, A>,
+    queues: &Rows<A>,
     object: u64,
 ) -> Option<usize>
     ensures { IfSome result (λ len. len
-        ≡ unwrap_or (option_map (λ q. q.len) (lookup (nat_eq object) queues.now.map.entries)) 0) }
+        ≡ unwrap_or (option_map (λ q. q.len) (lookup (nat_eq object) (rows_of queues.now))) 0) }
 {
-    match row_by_hint(queues, object) {
+    match queues.get_by_hint(object) {
         Some(boxed) => Some(boxed.len()),
         None => None,
     }
 }
 
 /// Takes a node out of a chain of a queue that there is, if it was between these two. Returns the
-/// queue's box if no one waits there any more. Its row is looked for at this index first.
+/// queue's box if no one waits there any more. Its row is looked for in this slot first.
 #[inline(always)]
 pub(crate) fn remove<A: Allocator + Copy>(
-    queues: &mut Rows<BoxedQueue<A>, A>,
+    queues: &mut Rows<A>,
     at: usize,
     object: u64,
     writer: bool,
@@ -271,78 +270,77 @@ pub(crate) fn remove<A: Allocator + Copy>(
     next: Link,
 ) -> Option<Box<MarkedQueue, A>>
     requires index { p < most_priority }
-    requires there { IsSome (lookup (nat_eq object) queues.old.map.entries) }
-    requires stands { IfSome (lookup (nat_eq object) queues.old.map.entries) (λ q.
+    requires there { IsSome (lookup (nat_eq object) (rows_of queues.old)) }
+    requires stands { IfSome (lookup (nat_eq object) (rows_of queues.old)) (λ q.
         1 ≤ slice_index (side_of writer q).counts p) }
-    requires len { IfSome (lookup (nat_eq object) queues.old.map.entries) (λ q. 1 ≤ q.len) }
-    ensures numbers { numbers queues.new.map.entries ≡ numbers queues.old.map.entries }
+    requires len { IfSome (lookup (nat_eq object) (rows_of queues.old)) (λ q. 1 ≤ q.len) }
+    ensures numbers { numbers (rows_of queues.new) ≡ numbers (rows_of queues.old) }
     ensures others { (x : ℕ)
         → (object == x) ≡ false
-        → lookup (nat_eq x) queues.new.map.entries ≡ lookup (nat_eq x) queues.old.map.entries }
+        → lookup (nat_eq x) (rows_of queues.new) ≡ lookup (nat_eq x) (rows_of queues.old) }
     ensures queue { (old new : Queue)
-        → lookup (nat_eq object) queues.old.map.entries ≡ Some old
-        → lookup (nat_eq object) queues.new.map.entries ≡ Some new
+        → lookup (nat_eq object) (rows_of queues.old) ≡ Some old
+        → lookup (nat_eq object) (rows_of queues.new) ≡ Some new
         → IsEmptied writer p before next old new (option_map (λ b. b.value) result) }
-    ensures more { spare queues.new.map ≡ spare queues.old.map }
+    ensures more { queues.new.room ≡ queues.old.room }
 {
-    let index = index_from(queues, at, object).unwrap();
-    let queue = queues.map.get_index_mut(index).unwrap();
-    queue.take_out(writer, p, before, next)
+    let slot = queues.slot_from(at, object).unwrap();
+    queues.take_out(slot, writer, p, before, next)
 }
 
 /// The node of the first of a queue.
 pub(crate) fn first_of<A: Allocator + Copy>(
-    queues: &Rows<BoxedQueue<A>, A>,
+    queues: &Rows<A>,
     object: u64,
 ) -> Option<NodeIndex>
-    ensures none { lookup (nat_eq object) queues.now.map.entries ≡ None → result ≡ None }
+    ensures none { lookup (nat_eq object) (rows_of queues.now) ≡ None → result ≡ None }
     ensures queue { (queue : Queue)
-        → lookup (nat_eq object) queues.now.map.entries ≡ Some queue
+        → lookup (nat_eq object) (rows_of queues.now) ≡ Some queue
         → IsFirst queue result }
 {
-    row_of(queues, object)?.first()
+    queues.get(object)?.first()
 }
 
-/// As `first_of`. The queue's row is looked for at this index first.
+/// As `first_of`. The queue's row is looked for in this slot first.
 #[inline(always)]
 pub(crate) fn first_from<A: Allocator + Copy>(
-    queues: &Rows<BoxedQueue<A>, A>,
+    queues: &Rows<A>,
     at: usize,
     object: u64,
 ) -> Option<NodeIndex>
-    ensures none { lookup (nat_eq object) queues.now.map.entries ≡ None → result ≡ None }
+    ensures none { lookup (nat_eq object) (rows_of queues.now) ≡ None → result ≡ None }
     ensures queue { (queue : Queue)
-        → lookup (nat_eq object) queues.now.map.entries ≡ Some queue
+        → lookup (nat_eq object) (rows_of queues.now) ≡ Some queue
         → IsFirst queue result }
 {
-    row_from(queues, at, object)?.first()
+    queues.get_from(at, object)?.first()
 }
 
 /// The node of the first of a queue that asks for a write lock.
 pub(crate) fn first_writer_of<A: Allocator + Copy>(
-    queues: &Rows<BoxedQueue<A>, A>,
+    queues: &Rows<A>,
     object: u64,
 ) -> Option<NodeIndex>
-    ensures none { lookup (nat_eq object) queues.now.map.entries ≡ None → result ≡ None }
+    ensures none { lookup (nat_eq object) (rows_of queues.now) ≡ None → result ≡ None }
     ensures queue { (queue : Queue)
-        → lookup (nat_eq object) queues.now.map.entries ≡ Some queue
+        → lookup (nat_eq object) (rows_of queues.now) ≡ Some queue
         → IsFirstWriter queue result }
 {
-    row_of(queues, object)?.first_writer()
+    queues.get(object)?.first_writer()
 }
 
 /// Whether a queue has a writer of the priority with this index or a higher one.
 pub(crate) fn has_writer_from<A: Allocator + Copy>(
-    queues: &Rows<BoxedQueue<A>, A>,
+    queues: &Rows<A>,
     object: u64,
     p: usize,
 ) -> bool
-    ensures none { lookup (nat_eq object) queues.now.map.entries ≡ None → result ≡ false }
+    ensures none { lookup (nat_eq object) (rows_of queues.now) ≡ None → result ≡ false }
     ensures queue { (queue : Queue)
-        → lookup (nat_eq object) queues.now.map.entries ≡ Some queue
+        → lookup (nat_eq object) (rows_of queues.now) ≡ Some queue
         → IsTrue result ↔ HasWriterFrom queue p }
 {
-    match row_of(queues, object) {
+    match queues.get(object) {
         Some(boxed) => boxed.has_writer_from(p),
         None => false,
     }

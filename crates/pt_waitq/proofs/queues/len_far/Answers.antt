@@ -3,6 +3,7 @@ use Rattle.std.specs.Prelude.{unwrap_or}
 use Rattle.std.specs.Option.{option_map}
 use Rattle.std.specs.Map.{lookup}
 use Rattle.pt_waitq.specs.Opened.{made_by}
+use Rattle.pt_waitq.specs.Rows.{rows_of}
 use Rattle.pt_waitq.proofs.OpenedLemmas.{unnoted-none}
 use Rattle.pt_waitq.proofs.OpenedRows.{len-by}
 use Rattle.pt_waitq.proofs.queues.len_far.Goals as goal
@@ -10,7 +11,7 @@ use Rattle.pt_waitq.proofs.queues.len_far.Goals as goal
 pub returns-then-not-is_open : goal.returns-then-not-is_open
 returns-then-not-is_open g c =
     let os = made_by c.queues.inside.log.items in
-    let rows = c.queues.inside.rows.map.entries in
+    let rows = rows_of c.queues.inside.rows in
     let off = sym c.is_open.ensures ∙ c.if-not-is_open.true in
     let none = unnoted-none os rows _ _ _ c.args.object c.queues.invariant off in
     ap (λ f. unwrap_or (option_map (λ q. q.len) f) 0) (sym none)
@@ -22,6 +23,6 @@ pub returns : goal.returns
 returns g c =
     let os = made_by c.queues.inside.log.items in
     c.len_of.ensures
-    ∙ len-by os c.queues.inside.rows.map.entries _ _ _ c.args.object c.queues.invariant
+    ∙ len-by os (rows_of c.queues.inside.rows) _ _ _ c.args.object c.queues.invariant
     ∙ ap (λ qs. unwrap_or (option_map (λ q. q.len) (lookup (nat_eq c.args.object) qs)) 0)
     c.queues.view_is

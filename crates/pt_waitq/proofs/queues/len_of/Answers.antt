@@ -3,6 +3,7 @@ use Rattle.std.specs.Prelude.{unwrap_or}
 use Rattle.std.specs.Option.{option_map}
 use Rattle.std.specs.Map.{lookup}
 use Rattle.pt_waitq.specs.Opened.{made_by}
+use Rattle.pt_waitq.specs.Rows.{rows_of}
 use Rattle.pt_waitq.proofs.OpenedRows.{len-by}
 use Rattle.pt_waitq.proofs.queues.len_of.Goals as goal
 
@@ -10,6 +11,6 @@ pub returns-in-Some : goal.returns-in-Some
 returns-in-Some g c =
     let os = made_by c.queues.inside.log.items in
     c.in-Some.ensures
-    ∙ len-by os c.queues.inside.rows.map.entries _ _ _ c.args.object c.queues.invariant
+    ∙ len-by os (rows_of c.queues.inside.rows) _ _ _ c.args.object c.queues.invariant
     ∙ ap (λ qs. unwrap_or (option_map (λ q. q.len) (lookup (nat_eq c.args.object) qs)) 0)
     c.queues.view_is

@@ -4,6 +4,7 @@ use Rattle.std.specs.Map.{lookup}
 use Rattle.pt_waitq.specs.Chains.{numbers, side_of}
 use Rattle.pt_waitq.specs.Boxes.{no_queue}
 use Rattle.pt_waitq.specs.Opened.{made_by}
+use Rattle.pt_waitq.specs.Rows.{rows_of}
 use Rattle.pt_waitq.proofs.OpenedLemmas.{listed-by, queues-set, numbers-by, others-by}
 use Rattle.pt_waitq.proofs.OpenedRows.{row-if, row-of, row-waits, set-there, equal-most}
 use Rattle.pt_waitq.proofs.queues.remove.Goals as goal
@@ -11,7 +12,7 @@ use Rattle.pt_waitq.proofs.queues.remove.Goals as goal
 pub remove-requires-clause-there : goal.remove-requires-clause-there
 remove-requires-clause-there g c =
     let os = made_by c.queues.inside.log.items in
-    let rows = c.queues.inside.rows.map.entries in
+    let rows = rows_of c.queues.inside.rows in
     let o = c.args.object in
     let made = listed-by os rows o
     (subst (λ qs. IsSome (lookup (nat_eq o) qs)) (sym c.queues.view_is) c.requires.there) in
@@ -20,7 +21,7 @@ remove-requires-clause-there g c =
 pub remove-requires-clause-stands : goal.remove-requires-clause-stands
 remove-requires-clause-stands g c =
     let os = made_by c.queues.inside.log.items in
-    let rows = c.queues.inside.rows.map.entries in
+    let rows = rows_of c.queues.inside.rows in
     let o = c.args.object in
     let made = listed-by os rows o
     (subst (λ qs. IsSome (lookup (nat_eq o) qs)) (sym c.queues.view_is) c.requires.there) in
@@ -30,7 +31,7 @@ remove-requires-clause-stands g c =
 pub remove-requires-clause-len : goal.remove-requires-clause-len
 remove-requires-clause-len g c =
     let os = made_by c.queues.inside.log.items in
-    let rows = c.queues.inside.rows.map.entries in
+    let rows = rows_of c.queues.inside.rows in
     let o = c.args.object in
     let made = listed-by os rows o
     (subst (λ qs. IsSome (lookup (nat_eq o) qs)) (sym c.queues.view_is) c.requires.there) in
@@ -38,26 +39,26 @@ remove-requires-clause-len g c =
 
 pub invariant_of-queues : goal.invariant_of-queues
 invariant_of-queues g c =
-    queues-set (made_by c.queues.inside.log.items) c.queues.inside.rows.map.entries _ _ _ _ _
+    queues-set (made_by c.queues.inside.log.items) (rows_of c.queues.inside.rows) _ _ _ _ _
     c.queues.invariant c.remove.ensures.numbers (equal-most _ _ c.remove.ensures.more)
 
 pub returns-clause-numbers : goal.returns-clause-numbers
 returns-clause-numbers g c =
     let os = made_by c.queues.inside.log.items in
     numbers-by os _
-    ∙ (sym (numbers-by os c.queues.inside.rows.map.entries) ∙ ap numbers c.queues.view_is)
+    ∙ (sym (numbers-by os (rows_of c.queues.inside.rows)) ∙ ap numbers c.queues.view_is)
 
 pub returns-clause-others : goal.returns-clause-others
 returns-clause-others g c = λ x other.
     let os = made_by c.queues.inside.log.items in
-    others-by os c.queues.inside.rows.map.entries _ c.args.object
+    others-by os (rows_of c.queues.inside.rows) _ c.args.object
     (λ y far. ap (λ f. unwrap_or f no_queue) (c.remove.ensures.others y far)) x other
     ∙ ap (lookup (nat_eq x)) c.queues.view_is
 
 pub returns-clause-queue : goal.returns-clause-queue
 returns-clause-queue g c = λ old new was is.
     let os = made_by c.queues.inside.log.items in
-    let rows = c.queues.inside.rows.map.entries in
+    let rows = rows_of c.queues.inside.rows in
     let o = c.args.object in
     let made = listed-by os rows o
     (subst (λ qs. IsSome (lookup (nat_eq o) qs)) (sym c.queues.view_is) c.requires.there) in

@@ -1,6 +1,6 @@
 use Rattle.std.specs.Prelude.{◌↔◌, IsTrue}
 use Rattle.pt_waitq.specs.Chains.{HasWriterFrom}
-use Rattle.pt_waitq.proofs.PlaceLemmas.{found-row, no-row}
+use Rattle.pt_waitq.proofs.RowLemmas.{found-row, no-row}
 use Rattle.pt_waitq.proofs.sides.has_writer_from.Goals as goal
 
 pub returns-in-Some-clause-queue : goal.returns-in-Some-clause-queue

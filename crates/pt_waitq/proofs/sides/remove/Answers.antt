@@ -1,65 +1,60 @@
-use Rattle.std.proofs.Common.{◌≡◌, ◌≤◌, sym, ap, ◌∙◌, subst, slice_index}
-use Rattle.std.specs.Prelude.{IfSome, unwrap_or}
-use Rattle.std.specs.Option.{option_copied_mut, option_map}
+use Rattle.std.proofs.Common.{◌∙◌, ◌≤◌, is_some, nat_eq, ap, sym, subst, slice_index}
+use Rattle.std.specs.Prelude.{IfSome}
+use Rattle.std.specs.Option.{option_map}
+use Rattle.std.specs.Map.{lookup}
 use Rattle.pt_waitq.specs.Chains.{side_of}
 use Rattle.pt_waitq.specs.Boxes.{IsEmptied}
-use Rattle.pt_waitq.proofs.PlaceLemmas.{listed-at, numbers-set, found-at, found-set, others-set}
-use Rattle.std.proofs.Common.{is_some}
-use Rattle.pt_waitq.proofs.PlaceLemmas.{lent-there}
+use Rattle.pt_waitq.specs.Rows.{chains_in}
+use Rattle.pt_waitq.proofs.ChainLemmas.{some_same}
+use Rattle.pt_waitq.proofs.RowLemmas.{placed-row, row-placed, rows-numbered}
 use Rattle.pt_waitq.proofs.sides.remove.Goals as goal
+
+pub unwrap-slot-requires : goal.unwrap-slot-requires
+unwrap-slot-requires g c =
+    let queues = c.args.queues.now in
+    ap is_some c.slot_from.ensures
+    ∙ row-placed queues.places queues.slots c.args.object c.requires.there
+
+pub take_out-requires-clause-there : goal.take_out-requires-clause-there
+take_out-requires-clause-there g c =
+    (c.args.object, sym c.slot_from.ensures ∙ c.unwrap-slot.ensures)
 
 pub take_out-requires-clause-stands : goal.take_out-requires-clause-stands
 take_out-requires-clause-stands g c =
-    let there = listed-at c.args.queues.now.map.entries c.args.object c.index_from.result
-    c.unwrap-index.result c.index_from.ensures.found c.unwrap-index.ensures in
-    let at = found-at c.args.queues.now.map.entries c.unwrap-index.result c.args.object
-    c.get_index_mut.ensures.unique there in
-    let lent = sym c.get_index_mut.ensures.value ∙ ap option_copied_mut c.unwrap-queue.ensures in
-    subst (λ o. IfSome o (λ q. 1 ≤ slice_index (side_of c.args.writer q).counts c.args.p))
-    (at ∙ lent) c.requires.stands
+    let queues = c.args.queues.now in
+    subst (λ f. IfSome f (λ q. 1 ≤ slice_index (side_of c.args.writer q).counts c.args.p))
+    (placed-row queues.places queues.slots c.args.object c.unwrap-slot.result
+    (sym c.slot_from.ensures ∙ c.unwrap-slot.ensures)) c.requires.stands
 
 pub take_out-requires-clause-len : goal.take_out-requires-clause-len
 take_out-requires-clause-len g c =
-    let there = listed-at c.args.queues.now.map.entries c.args.object c.index_from.result
-    c.unwrap-index.result c.index_from.ensures.found c.unwrap-index.ensures in
-    let at = found-at c.args.queues.now.map.entries c.unwrap-index.result c.args.object
-    c.get_index_mut.ensures.unique there in
-    let lent = sym c.get_index_mut.ensures.value ∙ ap option_copied_mut c.unwrap-queue.ensures in
-    subst (λ o. IfSome o (λ q. 1 ≤ q.len)) (at ∙ lent) c.requires.len
+    let queues = c.args.queues.now in
+    subst (λ f. IfSome f (λ q. 1 ≤ q.len))
+    (placed-row queues.places queues.slots c.args.object c.unwrap-slot.result
+    (sym c.slot_from.ensures ∙ c.unwrap-slot.ensures)) c.requires.len
 
 pub returns-clause-numbers : goal.returns-clause-numbers
 returns-clause-numbers g c =
-    numbers-set c.args.queues.now.map.entries c.unwrap-index.result c.take_out.new.self
+    rows-numbered c.args.queues.now c.take_out.new.self c.take_out.ensures.places
 
 pub returns-clause-others : goal.returns-clause-others
 returns-clause-others g c = λ x other.
-    let there = listed-at c.args.queues.now.map.entries c.args.object c.index_from.result
-    c.unwrap-index.result c.index_from.ensures.found c.unwrap-index.ensures in
-    others-set c.args.queues.now.map.entries c.unwrap-index.result c.args.object x
-    c.take_out.new.self there other
+    c.take_out.ensures.others c.args.object x (sym c.slot_from.ensures ∙ c.unwrap-slot.ensures)
+    other
 
 pub returns-clause-queue : goal.returns-clause-queue
 returns-clause-queue g c = λ old new was is.
-    let there = listed-at c.args.queues.now.map.entries c.args.object c.index_from.result
-    c.unwrap-index.result c.index_from.ensures.found c.unwrap-index.ensures in
-    let at = found-at c.args.queues.now.map.entries c.unwrap-index.result c.args.object
-    c.get_index_mut.ensures.unique there in
-    let lent = sym c.get_index_mut.ensures.value ∙ ap option_copied_mut c.unwrap-queue.ensures in
-    let set = found-set c.args.queues.now.map.entries c.unwrap-index.result c.args.object
-    c.take_out.new.self c.get_index_mut.ensures.unique there in
-    let before : c.unwrap-queue.result.now ≡ old =
-    ap (λ q. unwrap_or q old) (sym (at ∙ lent) ∙ was) in
+    let queues = c.args.queues.now in
+    let now = c.take_out.new.self in
+    let o = c.args.object in
+    let slot = c.unwrap-slot.result in
+    let at = sym c.slot_from.ensures ∙ c.unwrap-slot.ensures in
+    let before = some_same (chains_in queues.slots slot) old
+    (sym (placed-row queues.places queues.slots o slot at) ∙ was) in
+    let after = some_same (chains_in now.slots slot) new
+    (sym (placed-row now.places now.slots o slot
+    (ap (lookup (nat_eq o)) c.take_out.ensures.places ∙ at)) ∙ is) in
     let box = option_map (λ b. b.value) c.take_out.result in
-    let after : c.take_out.new.self ≡ new = ap (λ q. unwrap_or q new) (sym set ∙ is) in
     subst (λ q. IsEmptied c.args.writer c.args.p c.args.before c.args.next q new box) before
     (subst (λ q. IsEmptied c.args.writer c.args.p c.args.before c.args.next
-    c.unwrap-queue.result.now q box) after c.take_out.ensures)
-
-pub unwrap-queue-requires : goal.unwrap-queue-requires
-unwrap-queue-requires g c =
-    let there = listed-at c.args.queues.now.map.entries c.args.object c.index_from.result
-    c.unwrap-index.result c.index_from.ensures.found c.unwrap-index.ensures in
-    let at = found-at c.args.queues.now.map.entries c.unwrap-index.result c.args.object
-    c.get_index_mut.ensures.unique there in
-    lent-there c.get_index_mut.result
-    ∙ (ap is_some (c.get_index_mut.ensures.value ∙ sym at) ∙ c.requires.there)
+    (chains_in queues.slots slot) q box) after c.take_out.ensures.queue)

@@ -1,15 +1,15 @@
-use Rattle.std.proofs.Common.{◌==◌, ◌||◌, [], ◌∷◌, ◌++◌, length, vec_len, vec_capacity, refl, sym}
+use Rattle.std.proofs.Common.{◌==◌, ◌+◌, ◌||◌, Some, cond, length, vec_len, vec_capacity, refl, sym}
 use Rattle.std.proofs.Common.{ap, ◌∙◌}
 use Rattle.pt_waitq.specs.Waits.{is_admitted, is_made, queue_in, is_listed, has_waiter}
-use Rattle.pt_waitq.specs.Chains.{numbers, waiting_by, home_of}
+use Rattle.pt_waitq.specs.Chains.{numbers, waiting_by}
 use Rattle.pt_waitq.specs.Boxes.{busy}
 use Rattle.pt_waitq.proofs.ChainLemmas.{not-listed}
 use Rattle.pt_waitq.proofs.LinkLemmas.{or_parts}
 use Rattle.pt_waitq.proofs.BoxLemmas.{boxes-grown}
-use Rattle.pt_waitq.proofs.HomeLemmas.{length-more, chains-joined}
+use Rattle.pt_waitq.proofs.HomeLemmas.{chains-joined}
 use Rattle.pt_waitq.proofs.InsertLemmas.{length-numbers}
 use Rattle.pt_waitq.proofs.GrowthLemmas.{chains-same, boxes-same, spares-few, few-clients}
-use Rattle.pt_waitq.proofs.GrowthLemmas.{enough-clients, at-most, one-admitted}
+use Rattle.pt_waitq.proofs.GrowthLemmas.{enough-clients, at-most, one-admitted, still-listed}
 use Rattle.pt_waitq.proofs.chains.ChainsWaitList.admit.Goals as goal
 
 pub admit-requires-clause-new : goal.admit-requires-clause-new
@@ -18,7 +18,7 @@ admit-requires-clause-new g c =
     let k = c.client.inside.0 in
     let out = ap (λ s. is_admitted s k) c.self.view_is
     ∙ (ap (is_admitted c.args.self.now) c.client.view_is ∙ c.requires) in
-    ap (λ hs. home_of hs k) c.make_room.ensures.homes
+    c.make_room.ensures.homes k
     ∙ not-listed homes k
     (or_parts (is_listed k (numbers homes))
     (has_waiter k (waiting_by c.self.inside.log.items)) out).0
@@ -36,16 +36,15 @@ invariant_of-self-2 g c =
     let done = c.admit.ensures in
     let grown = c.in-Ok-grow.ensures in
     let queues = c.self.inside.queues in
-    let longer = ap length (done.homes ∙ ap (λ hs. hs ++ (k, c.admit.result) ∷ []) room.homes)
-    ∙ length-more homes (k, c.admit.result) in
+    let longer = done.count ∙ ap (λ l. l + 1) room.count in
     let enough = enough-clients (length homes) (length c.admit.new.homes.map.entries)
     (length (numbers queues)) c.in-Ok-grow.boxes c.len-2.result c.len.result c.min-wanted.result
-    grown.enough (c.len-2.ensures.len ∙ ap length room.homes)
+    grown.enough (c.len-2.ensures.len ∙ room.count)
     (c.len.ensures.len ∙ sym (length-numbers queues)) c.min-wanted.ensures longer in (
       chains-joined homes c.make_room.new.homes.map.entries c.admit.new.homes.map.entries
           c.self.inside.nodes.slots c.make_room.new.nodes.slots c.admit.new.nodes.slots queues es
-          k c.admit.result c.self.invariant.0 none c.in-Ok.ensures.few room.homes room.nodes
-          done.homes done.vacant done.entry done.client done.others,
+          k c.admit.result c.self.invariant.0 none c.in-Ok.ensures.few room.homes room.count room.nodes
+          done.homes done.count done.vacant done.entry done.client done.others,
       boxes-grown (length homes) _ (length (numbers queues)) _ es _ _ _ _ c.self.inside.boxes
           c.self.invariant.1 c.in-Ok-grow.boxes enough grown.len grown.room,
       c.grow.ensures.empty,
@@ -58,11 +57,11 @@ invariant_of-self g c =
     let room = c.make_room.ensures in
     let spares = c.self.inside.spares in (
       chains-same homes hs c.self.inside.nodes.slots c.make_room.new.nodes.slots
-          c.self.inside.queues (waiting_by c.self.inside.log.items) room.homes room.nodes
+          c.self.inside.queues (waiting_by c.self.inside.log.items) room.homes room.count room.nodes
           c.self.invariant.0,
       boxes-same (length homes) (length hs) (length (numbers c.self.inside.queues))
           (waiting_by c.self.inside.log.items) (vec_len spares) (vec_len spares)
-          (vec_capacity spares) (vec_capacity spares) c.self.inside.boxes (ap length room.homes)
+          (vec_capacity spares) (vec_capacity spares) c.self.inside.boxes room.count
           refl (at-most (vec_capacity spares)) c.self.invariant.1,
       c.self.invariant.2,
     )
@@ -75,11 +74,11 @@ invariant_of-self-in_default-grow g c =
     let old = c.self.inside.spares in
     let new = c.grow.new.spares in (
       chains-same homes hs c.self.inside.nodes.slots c.make_room.new.nodes.slots
-          c.self.inside.queues (waiting_by c.self.inside.log.items) room.homes room.nodes
+          c.self.inside.queues (waiting_by c.self.inside.log.items) room.homes room.count room.nodes
           c.self.invariant.0,
       boxes-same (length homes) (length hs) (length (numbers c.self.inside.queues))
           (waiting_by c.self.inside.log.items) (vec_len old) (vec_len new)
-          (vec_capacity old) (vec_capacity new) c.self.inside.boxes (ap length room.homes)
+          (vec_capacity old) (vec_capacity new) c.self.inside.boxes room.count
           c.in_default-grow.ensures.still c.grow.ensures.capacity c.self.invariant.1,
       c.grow.ensures.empty,
     )
@@ -87,7 +86,9 @@ invariant_of-self-in_default-grow g c =
 pub returns-in_default-clause-err : goal.returns-in_default-clause-err
 returns-in_default-clause-err g c = λ d.
     let es = waiting_by c.self.inside.log.items in
-    ap (λ hs. is_listed d (numbers hs) || has_waiter d es) c.make_room.ensures.homes
+    ap (λ b. b || has_waiter d es)
+    (still-listed c.self.inside.homes.map.entries c.make_room.new.homes.map.entries d
+    (c.make_room.ensures.homes d))
     ∙ ap (λ w. is_admitted w d) c.self.view_is
 
 pub returns-in_default-clause-queues : goal.returns-in_default-clause-queues
@@ -99,7 +100,9 @@ returns-in_default-clause-made g c = λ q. ap (λ w. is_made w q) c.self.view_is
 pub returns-in_default-grow-clause-err : goal.returns-in_default-grow-clause-err
 returns-in_default-grow-clause-err g c = λ d.
     let es = waiting_by c.self.inside.log.items in
-    ap (λ hs. is_listed d (numbers hs) || has_waiter d es) c.make_room.ensures.homes
+    ap (λ b. b || has_waiter d es)
+    (still-listed c.self.inside.homes.map.entries c.make_room.new.homes.map.entries d
+    (c.make_room.ensures.homes d))
     ∙ ap (λ w. is_admitted w d) c.self.view_is
 
 pub returns-in_default-grow-clause-queues : goal.returns-in_default-grow-clause-queues
@@ -114,7 +117,7 @@ grow-requires-clause-wanted g c =
     let queues = c.self.inside.queues in
     few-clients (length homes) (length (numbers queues)) c.self.inside.boxes c.len-2.result
     c.len.result c.min-wanted.result c.self.invariant.1.enough
-    (c.len-2.ensures.len ∙ ap length c.make_room.ensures.homes)
+    (c.len-2.ensures.len ∙ c.make_room.ensures.count)
     (c.len.ensures.len ∙ sym (length-numbers queues)) c.min-wanted.ensures
 
 pub grow-requires-clause-room : goal.grow-requires-clause-room
@@ -143,7 +146,8 @@ returns-clause-ok g c = λ d.
     let es = waiting_by c.self.inside.log.items in
     let k = c.client.inside.0 in
     one-admitted homes c.admit.new.homes.map.entries es k c.admit.result d
-    (c.admit.ensures.homes ∙ ap (λ hs. hs ++ (k, c.admit.result) ∷ []) c.make_room.ensures.homes)
+    (c.admit.ensures.homes d
+    ∙ ap (cond (k == d) (Some c.admit.result)) (c.make_room.ensures.homes d))
     ∙ (ap (λ n. (n == d) || (is_listed d (numbers homes) || has_waiter d es)) c.client.view_is
     ∙ ap (λ w. (c.args.client == d) || is_admitted w d) c.self.view_is)
 
