@@ -1,7 +1,7 @@
 -- Why an event is refused, and what follows if it isn't.
 use Rattle.std.proofs.Common.{◌≡◌, ℕ, Bool, false, true, cond, Option, Some, None, refl}
 use Rattle.std.proofs.Common.{sym, subst}
-use Rattle.std.specs.Prelude.{Result, Ok, Err, OnOk, MatchOption}
+use Rattle.std.specs.Prelude.{Result, Ok, Err, OnOk, OnErr, MatchOption}
 use Rattle.std.specs.Option.{option_or}
 use Rattle.std.specs.Result.{is_err}
 use Rattle.pt_types.specs.declared.call.Call.{Call as Asked}
@@ -23,6 +23,11 @@ use Rattle.pt_hub.proofs.SeenLemmas.{wanted}
 pub made : {T E P : Type 0} (r : Result T E) → false ≡ is_err r → OnOk r P → P
 made (Ok x) fine room = room
 made (Err e) fine room = absurd cc
+
+-- one that is refused changes nothing
+pub unmade : {T E P : Type 0} (r : Result T E) → true ≡ is_err r → OnErr r P → P
+unmade (Ok x) refused left = absurd cc
+unmade (Err e) refused left = left
 
 -- what was known of a desk is known of it as it is seen
 module _ (old now : Desk) (same : old ≡ now) (v : Event) (r : Refusal) where

@@ -26,8 +26,8 @@ pub mod AnswerLemmas
 pub mod ForkLemmas
 -- ReceiptLemmas: the receipts after a call that was made, and after its answer
 pub mod ReceiptLemmas
--- AccountRows: the accounts once one of them is written
-pub mod AccountRows
+-- OrderedAccounts: the accounts in the order of their clients' numbers
+pub mod OrderedAccounts
 -- AskedAnswers: the answer that a client may take once it has made a call
 pub mod AskedAnswers
 -- TakenSums: the sum over the first items of a list, with one item more

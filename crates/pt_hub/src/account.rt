@@ -1,16 +1,15 @@
 //! The accounts of living clients.
 
 ghost use Rattle.std.specs.Prelude.{◌≡◌, ◌+◌, ◌<◌, ◌≤◌, [], Some, None, true, IsSome, IfSome, OnOk};
-ghost use Rattle.std.specs.Prelude.{is_some, nat_eq, slice_get};
+ghost use Rattle.std.specs.Prelude.{is_some, nat_eq};
 ghost use Rattle.std.specs.Map.{lookup};
-ghost use Rattle.indexmap.specs.IndexMap.{spare};
+ghost use Rattle.std.specs.HashMap.{spare};
 ghost use Rattle.pt_types.specs.Limits.{most_entries, most_places};
 ghost use Rattle.pt_hub.specs.Desks.{Wrote, after_taking, awaiting, renewed, renewed_all};
 ghost use Rattle.pt_hub.specs.Desks.{renewed_if};
 
-use indexmap::IndexMap;
-use pt_hints::Hints;
 use std::alloc::{AllocError, Allocator};
+use std::collections::HashMap;
 use std::hash::{BuildHasherDefault, FoldHasher};
 use std::marker::Model;
 
@@ -25,36 +24,21 @@ pub struct Account {
 }
 
 /// Accounts by the numbers of their clients.
-type Map<A> = IndexMap<u64, Account, BuildHasherDefault<FoldHasher>, A>;
+type Map<A> = HashMap<u64, Account, BuildHasherDefault<FoldHasher>, A>;
 
 /// The account of each living client, by its number.
-///
-/// An account is found by a hint, if no client with the same low bits of its number joined since,
-/// or else by the hash of the number.
 #[derive(Drop)]
 pub(crate) struct Accounts<A: Allocator + Copy> {
-    hints: Hints<A>,
     map: Map<A>,
 }
 
 impl<A: Allocator + Copy> Model for Accounts<A> {
-    ghost use Rattle.indexmap.specs.IndexMap.{spare};
-    ghost use Rattle.pt_hub.specs.Accounts.{AccountsView};
+    ghost use Rattle.std.specs.HashMap.{spare};
+    ghost use Rattle.pt_hub.specs.Accounts.{AccountsView, in_order};
 
     ghost Value = { AccountsView };
 
-    ghost view = { λ a. record { entries = a.map.entries; room = spare a.map } };
-}
-
-// The number of the client whose account is at an index, and the index.
-fn keyed<A: Allocator + Copy>(map: &Map<A>, index: usize) -> Option<(u64, usize)> {
-    let (client, _) = map.get_index(index)?;
-    Some((*client, index))
-}
-
-// Makes more hints if there are too few for the accounts.
-fn grow<A: Allocator + Copy>(hints: &mut Hints<A>, map: &Map<A>) -> Result<(), AllocError> {
-    hints.grow_for(map.len(), |index| keyed(map, index))
+    ghost view = { λ a. record { entries = in_order a.map.entries; room = spare a.map } };
 }
 
 // One answer more is taken.
@@ -84,7 +68,7 @@ fn renew_all<A: Allocator + Copy>(map: &mut Map<A>)
 
 impl<A: Allocator + Copy> Accounts<A> {
     ghost use Rattle.std.specs.Prelude.{◌≡◌, ◌+◌, ◌<◌, ◌≤◌, [], Some, None, IsSome, IfSome, OnOk};
-    ghost use Rattle.std.specs.Prelude.{is_some, nat_eq, option_map, slice_get};
+    ghost use Rattle.std.specs.Prelude.{is_some, nat_eq};
     ghost use Rattle.std.specs.Map.{lookup};
     ghost use Rattle.pt_types.specs.Limits.{most_entries, most_places};
     ghost use Rattle.pt_hub.specs.Desks.{Wrote, after_taking, awaiting, renewed_all, renewed_if};
@@ -94,8 +78,7 @@ impl<A: Allocator + Copy> Accounts<A> {
         ensures { result.entries ≡ [] }
     {
         Accounts {
-            hints: Hints::new(alloc),
-            map: IndexMap::new(alloc),
+            map: HashMap::new(alloc),
         }
     }
 
@@ -104,35 +87,14 @@ impl<A: Allocator + Copy> Accounts<A> {
         ensures entries { self.new.entries ≡ self.old.entries }
         ensures room { OnOk result (0 < self.new.room) }
     {
-        self.map.reserve(1)?;
-        grow(&mut self.hints, &self.map)
-    }
-
-    // Where a client's account is, and the account, if its hint is right.
-    fn hinted(&self, client: u64) -> Option<(usize, Account)>
-        ensures at { IfSome result (λ r.
-            slice_get self.now.entries r.0 ≡ Some (client, r.1)) }
-        ensures found { IfSome result (λ r.
-            lookup (nat_eq client) self.now.entries ≡ Some r.1) }
-    {
-        let hint = self.hints.get(client).unwrap_or(0);
-        match self.map.get_index(hint) {
-            Some((number, account)) if *number == client => Some((hint, *account)),
-            _ => None,
-        }
+        self.map.reserve(1)
     }
 
     /// The client's account.
     pub fn read(&self, client: u64) -> Option<Account>
         ensures { result ≡ lookup (nat_eq client) self.now.entries }
     {
-        if let Some((_, account)) = self.hinted(client) {
-            return Some(account);
-        }
-        match self.map.get(&client) {
-            Some(account) => Some(*account),
-            None => None,
-        }
+        self.map.get(&client).copied()
     }
 
     /// A client that joins gets this account. It takes no memory.
@@ -140,23 +102,15 @@ impl<A: Allocator + Copy> Accounts<A> {
         requires { 0 < self.old.room }
         ensures { Wrote self.old.entries self.new.entries client (Some account) }
     {
-        self.hints.set(client, self.map.len());
-        let _ = self.map.insert(client, account);
+        let inserted: Result<_, _> = self.map.insert(client, account);
+        inserted.unwrap();
     }
 
     /// The client has no account any more.
     pub fn erase(&mut self, client: u64)
         ensures { Wrote self.old.entries self.new.entries client None }
     {
-        let _ = self.map.swap_remove(&client);
-    }
-
-    // The account at an index, which is this client's, is this one from now on.
-    fn write_at(&mut self, index: usize, client: u64, account: Account)
-        requires { option_map (λ e. e.0) (slice_get self.old.entries index) ≡ Some client }
-        ensures { Wrote self.old.entries self.new.entries client (Some account) }
-    {
-        *self.map.get_index_mut(index).unwrap() = account;
+        let _ = self.map.remove(&client);
     }
 
     /// A client with an account awaits an answer from now on. It takes no memory.
@@ -165,11 +119,6 @@ impl<A: Allocator + Copy> Accounts<A> {
         ensures { Wrote self.old.entries self.new.entries client
             (awaiting (lookup (nat_eq client) self.old.entries)) }
     {
-        if let Some((index, mut account)) = self.hinted(client) {
-            account.awaits = true;
-            self.write_at(index, client, account);
-            return;
-        }
         self.map.get_mut(&client).unwrap().awaits = true;
     }
 
@@ -181,11 +130,6 @@ impl<A: Allocator + Copy> Accounts<A> {
         ensures { Wrote self.old.entries self.new.entries client
             (after_taking (lookup (nat_eq client) self.old.entries)) }
     {
-        if let Some((index, mut account)) = self.hinted(client) {
-            take_one(&mut account);
-            self.write_at(index, client, account);
-            return;
-        }
         take_one(self.map.get_mut(&client).unwrap());
     }
 

@@ -30,12 +30,12 @@ use crate::marks;
 use crate::marks::Marks;
 use crate::pass::{ClockPass, Left, Pass, Tick};
 use crate::tally::Tally;
-use indexmap::IndexMap;
 use pt_bells::SessionId;
 use pt_core::Answers;
 use pt_model::Event;
 use pt_types::{ClientId, Clock, Deadline, Moment, Priority, Refusal};
 use std::alloc::{Allocator, Global};
+use std::collections::HashMap;
 use std::marker::Model;
 use std::sync::ledger::{Blank, Ledger};
 
@@ -104,7 +104,7 @@ impl<L: Ledger, A: Allocator + Copy> Hub<L, A> {
                 let share = tally.part();
                 let hub = Hub {
                     desk,
-                    marks: IndexMap::new(alloc),
+                    marks: HashMap::new(alloc),
                     opened: 0,
                     tally,
                     alloc,
