@@ -2,8 +2,6 @@
 pub mod Counted
 -- Rows: rows of names, after one that was written
 mod Rows
--- Places: where the rows of names are
-mod Places
 -- Texts: texts of answers
 mod Texts
 -- Opened: the core to which an event's entries are added
@@ -26,15 +24,13 @@ pub mod CallLines
 mod Later
 -- Waiting: the line of a call that is open is the event's own, or is stored
 mod Waiting
--- Stored: the lines that are stored, once one of them is written
-mod Stored
 -- Asked: each answer is under the event's own line, or under the one that is stored for its client
 mod Asked
 -- Alone: an event that no entry follows answers its own call, or none
 mod Alone
 -- Stays: what holds of an engine whose parts stay
 mod Stays
--- Raised: what is counted, once one line more came, or its row was made
+-- Raised: what is counted, once one line more came
 mod Raised
--- Room: room for one line more
-mod Room
+-- Keys: rows that are found by their keys, once one is written or added
+mod Keys

@@ -1,14 +1,12 @@
--- What is counted, once one line more came, or its row was made.
-use Rattle.std.proofs.Common.{◌≡◌, ℕ, suc, ◌+◌, ◌<◌, cond, List, [], ◌∷◌, ◌++◌, Option, Some, None}
-use Rattle.std.proofs.Common.{length, is_some, false, refl, sym, ap, subst, ◌∙◌, arith}
+-- What is counted, once one line more came.
+use Rattle.std.proofs.Common.{◌≡◌, ℕ, suc, ◌+◌, ◌<◌, cond, List, [], ◌∷◌, ◌++◌}
+use Rattle.std.proofs.Common.{length, sym, ap, subst, ◌∙◌, arith}
 use Rattle.std.proofs.Common.{length-append, ◌^◌, Fits, w64}
 use Rattle.std.proofs.lemmas.List.Sums.{count_by-le-length}
-use Rattle.pt_engine.specs.declared.names.Row.{Row}
 use Rattle.pt_grammar.specs.declared.client.Who.{Who}
-use Rattle.pt_grammar.specs.declared.client.Who.TheVariants.{Named, Star, Unknown}
 use Rattle.pt_engine.specs.Scripts.{lines_of_who, same_who}
-use Rattle.pt_engine.specs.Names.{Known, Counted, client_in, lines_counted, row_of}
-use Rattle.pt_engine.specs.Names.{AreAlike, AreCounted, AreRowsAlike, IsRaised}
+use Rattle.pt_engine.specs.Names.{Known, Counted, lines_counted}
+use Rattle.pt_engine.specs.Names.{AreCounted, IsRaised}
 use Rattle.pt_engine.proofs.Counted.{count_by_push}
 
 pub raised_counted : (old new : Counted) (total : ℕ) (known : Known) (who : Who) (seen : List Who)
@@ -33,31 +31,6 @@ pub few_counted : (k : Counted) (total : ℕ) (known : Known) (who : Who) (n : �
 few_counted k total known who n are few =
     let least = count_by-le-length (λ w. same_who w who) known.seen in
     subst (λ m. m < n) (sym (are.lines who)) (omega (arith, least, few))
-
--- the same is counted, once the rows count the same
-pub alike_rows : (old now : Counted) (rows : List (List ℕ × Row)) → old ≡ now
-    → AreRowsAlike old.rows rows
-    → AreAlike now (record { rows = rows; star = old.star; unknown = old.unknown })
-alike_rows old now rows is alike =
-    let new : Counted = record { rows = rows; star = old.star; unknown = old.unknown } in
-    subst (λ k. AreAlike k new) is (record { lines = by; clients = alike.clients })
-  where
-    by : (who : Who)
-        → lines_counted (record { rows = rows; star = old.star; unknown = old.unknown }) who
-        ≡ lines_counted old who
-    by (Named name) = alike.lines name
-    by Star = refl
-    by Unknown = refl
-
-pub alike_same : (old now : Counted) → old ≡ now → AreAlike now old
-alike_same old now is = record {
-  lines = λ who. ap (λ k. lines_counted k who) is;
-  clients = λ name. ap (λ (k : Counted). client_in (row_of k.rows name)) is;
-}
-
-pub none_of : {X : Type 0} (o : Option X) → false ≡ is_some o → o ≡ None
-none_of None is = refl
-none_of (Some x) is = absurd cc
 
 pub one_more_fits : (n m : ℕ) → m ≡ n → m < 2 ^ 53 → Fits w64 (n + 1)
 one_more_fits n m is few = omega (arith, is, few)

@@ -1,6 +1,5 @@
 -- Names: what is stored of the clients of a script.
 use Rattle.std.specs.Prelude.{◌≡◌, ℕ, suc, List, length, Option, Some, None, if◌then◌else◌}
-use Rattle.std.specs.Prelude.{slice_get}
 use Rattle.std.specs.Map.{lookup}
 use Rattle.std.specs.Str.{bytes_eq}
 use Rattle.pt_grammar.specs.declared.client.Who.{Who}
@@ -27,12 +26,6 @@ client_in (Some row) = row.client
 abbrev pub row_of : List (List ℕ × Row) → List ℕ → Option Row
 row_of rows name = lookup (bytes_eq name) rows
 
--- the row at an index is this name's
-pub record IsAt (rows : List (List ℕ × Row)) (index : ℕ) (name : List ℕ) : Type 0 where
-  pub row : Row
-  pub at : slice_get rows index ≡ Some (name, row)
-  pub own : row_of rows name ≡ Some row
-
 -- what is counted: the rows of names, and the lines of `*` and of `?`  [profile]
 pub record Counted : Type 0 where
   pub rows : List (List ℕ × Row)
@@ -50,26 +43,11 @@ abbrev pub client_counted : Counted → Who → Option ℕ
 client_counted k (Named name) = client_in (row_of k.rows name)
 client_counted k _ = None
 
--- as many lines of each name, and the same clients: a row of no line is as good as none
-pub record AreRowsAlike (old new : List (List ℕ × Row)) : Type 0 where
-  pub lines : (other : List ℕ) → lines_in (row_of new other) ≡ lines_in (row_of old other)
-  pub clients : (other : List ℕ) → client_in (row_of new other) ≡ client_in (row_of old other)
-
--- the same is counted of each client, named or not
+-- the same is counted of each client, named or not: a row of no line is as good as none
 pub record AreAlike (old new : Counted) : Type 0 where
   pub lines : (who : Who) → lines_counted new who ≡ lines_counted old who
   pub clients :
       (name : List ℕ) → client_in (row_of new.rows name) ≡ client_in (row_of old.rows name)
-
--- one line more of this name, and all else of the rows as it was
-pub record IsRowRaised (old : List (List ℕ × Row)) (name : List ℕ)
-    (new : List (List ℕ × Row)) : Type 0 where
-  pub lines :
-      (other : List ℕ)
-      → lines_in (row_of new other)
-      ≡ (if bytes_eq name other then suc (lines_in (row_of old other))
-      else lines_in (row_of old other))
-  pub clients : (other : List ℕ) → client_in (row_of new other) ≡ client_in (row_of old other)
 
 -- one more line of a client is counted, named or not
 pub record IsRaised (old : Counted) (who : Who) (new : Counted) : Type 0 where
@@ -79,15 +57,6 @@ pub record IsRaised (old : Counted) (who : Who) (new : Counted) : Type 0 where
       ≡ (if same_who who other then suc (lines_counted old other) else lines_counted old other)
   pub clients :
       (name : List ℕ) → client_in (row_of new.rows name) ≡ client_in (row_of old.rows name)
-
--- the client of this name has its number, and all else of the rows is as it was
-pub record IsRowGiven (old : List (List ℕ × Row)) (name : List ℕ) (c : ℕ)
-    (new : List (List ℕ × Row)) : Type 0 where
-  pub lines : (other : List ℕ) → lines_in (row_of new other) ≡ lines_in (row_of old other)
-  pub clients :
-      (other : List ℕ)
-      → client_in (row_of new other)
-      ≡ (if bytes_eq name other then Some c else client_in (row_of old other))
 
 -- a client's number is noted, and no line is counted
 pub record IsGiven (old : Counted) (name : List ℕ) (c : ℕ) (new : Counted) : Type 0 where

@@ -1,19 +1,22 @@
 //! The lines of calls that had to wait.
 
-ghost use Rattle.std.specs.Prelude.{◌≡◌, ◌<◌, [], Some, OnOk, IfErr, IfSome, slice_get};
-ghost use Rattle.std.specs.Option.{option_copied, option_map};
+ghost use Rattle.std.specs.Prelude.{◌≡◌, ◌<◌, [], Some, None, OnOk, IfErr, IfSome};
+ghost use Rattle.std.specs.Option.{option_copied};
 ghost use Rattle.pt_engine.specs.Engines.{latest_line, IsLatest};
+ghost use Rattle.pt_engine.specs.Places.{key_at};
 
 use crate::fault::ScriptFault;
 use crate::line_id::LineId;
-use indexmap::IndexMap;
 use pt_hints::Hints;
 use pt_types::ClientId;
 use std::alloc::{AllocError, Allocator, Global};
+use std::collections::HashMap;
 use std::hash::{BuildHasherDefault, FoldHasher};
 use std::marker::Model;
 
-type Lines<A> = IndexMap<u64, LineId, BuildHasherDefault<FoldHasher>, A>;
+type Lines<A> = Vec<(u64, LineId), A>;
+
+type Places<A> = HashMap<u64, usize, BuildHasherDefault<FoldHasher>, A>;
 
 /// The line that made the latest call of each client that had to wait, by the client's number.
 ///
@@ -22,32 +25,40 @@ type Lines<A> = IndexMap<u64, LineId, BuildHasherDefault<FoldHasher>, A>;
 #[derive(Drop)]
 pub struct Asked<A: Allocator + Copy = Global> {
     lines: Lines<A>,
+    /// The index of each client's line.
+    places: Places<A>,
     hints: Hints<A>,
     has_room: bool,
 }
 
 impl<A: Allocator + Copy> Model for Asked<A> {
-    ghost use Rattle.std.specs.Prelude.{◌<◌};
+    ghost use Rattle.std.specs.Prelude.{◌<◌, ◌-◌, min, nat_eq, vec_capacity, vec_len};
     ghost use Rattle.std.specs.Bool.{OnTrue};
-    ghost use Rattle.indexmap.specs.IndexMap.{spare};
+    ghost use Rattle.std.specs.HashMap.{spare};
     ghost use Rattle.pt_engine.specs.Engines.{Stored};
+    ghost use Rattle.pt_engine.specs.Places.{ArePlaces};
 
     ghost Value = { Stored };
 
-    ghost view = { λ a. record { entries = a.lines.entries; room = spare a.lines } };
+    ghost view = { λ a. record {
+      entries = a.lines.items;
+      room = min (vec_capacity a.lines - vec_len a.lines) (spare a.places);
+    } };
 
-    ghost invariant = { λ a. OnTrue a.has_room (0 < spare a.lines) };
+    ghost invariant = { λ a. ArePlaces nat_eq a.lines.items a.places.entries
+        × OnTrue a.has_room
+        (0 < min (vec_capacity a.lines - vec_len a.lines) (spare a.places)) };
 }
 
 // The number of the client whose line is at an index, and the index.
-fn keyed<A: Allocator + Copy>(lines: &Lines<A>, index: usize) -> Option<(u64, usize)> {
-    let (client, _) = lines.get_index(index)?;
+fn keyed(lines: &[(u64, LineId)], index: usize) -> Option<(u64, usize)> {
+    let (client, _) = lines.get(index)?;
     Some((*client, index))
 }
 
 // Makes more hints if there are too few for the lines.
 fn grow<A: Allocator + Copy>(hints: &mut Hints<A>, lines: &Lines<A>) -> Result<(), AllocError> {
-    hints.grow_for(lines.len(), |index| keyed(lines, index))
+    hints.grow_for(lines.len(), |index| keyed(lines.as_slice(), index))
 }
 
 impl<A: Allocator + Copy> Asked<A> {
@@ -56,7 +67,8 @@ impl<A: Allocator + Copy> Asked<A> {
         ensures { result.entries ≡ [] }
     {
         Asked {
-            lines: IndexMap::new(alloc),
+            lines: Vec::new(alloc),
+            places: HashMap::new(alloc),
             hints: Hints::new(alloc),
             has_room: false,
         }
@@ -70,7 +82,10 @@ impl<A: Allocator + Copy> Asked<A> {
         ensures room { OnOk result (0 < self.new.room) }
         ensures why { IfErr result (λ fault. fault ≡ ScriptFault.Memory) }
     {
-        if self.lines.reserve(1).is_err() || grow(&mut self.hints, &self.lines).is_err() {
+        if self.lines.reserve(1).is_err()
+            || self.places.reserve(1).is_err()
+            || grow(&mut self.hints, &self.lines).is_err()
+        {
             return Err(ScriptFault::Memory);
         }
         self.has_room = true;
@@ -97,7 +112,8 @@ impl<A: Allocator + Copy> Asked<A> {
     fn find(&self, client: ClientId) -> Option<&LineId>
         ensures { option_copied result ≡ latest_line self.now.entries client }
     {
-        self.lines.get(&client.0)
+        let index = self.places.get(&client.0)?;
+        Some(&self.lines[*index].1)
     }
 
     /// The client's line, if one is stored.
@@ -106,7 +122,7 @@ impl<A: Allocator + Copy> Asked<A> {
         ensures { option_copied result ≡ latest_line self.now.entries client }
     {
         let index = self.hints.get(client.0).unwrap_or(0);
-        match self.lines.get_index(index) {
+        match self.lines.get(index) {
             Some((number, line)) if *number == client.0 => Some(line),
             _ => self.find(client),
         }
@@ -115,11 +131,10 @@ impl<A: Allocator + Copy> Asked<A> {
     // The index to which the client's hint leads, if its line is there.
     #[inline(always)]
     fn hinted(&self, client: ClientId) -> Option<usize>
-        ensures { IfSome result (λ index.
-            option_map (λ e. e.0) (slice_get self.now.entries index) ≡ Some client) }
+        ensures { IfSome result (λ index. key_at self.now.entries index ≡ Some client) }
     {
         let index = self.hints.get(client.0).unwrap_or(0);
-        match self.lines.get_index(index) {
+        match self.lines.get(index) {
             Some((number, _)) if *number == client.0 => Some(index),
             _ => None,
         }
@@ -128,22 +143,40 @@ impl<A: Allocator + Copy> Asked<A> {
     // The line at an index, which is this client's, is this one from now on.
     #[inline(always)]
     fn store_at(&mut self, index: usize, client: ClientId, line: &LineId)
-        requires { option_map (λ e. e.0) (slice_get self.old.entries index) ≡ Some client }
+        requires { key_at self.old.entries index ≡ Some client }
         ensures { IsLatest self.old.entries client line.now self.new.entries }
     {
-        *self.lines.get_index_mut(index).unwrap() = line.copied();
+        self.lines[index].1 = line.copied();
     }
 
-    // The same of a client to whose line no hint leads. It isn't inlined, since few are such.
+    // Adds the line of a client of which none is stored.
+    fn add(&mut self, client: ClientId, line: &LineId)
+        requires room { 0 < self.old.room }
+        requires new { latest_line self.old.entries client ≡ None }
+        ensures { IsLatest self.old.entries client line.now self.new.entries }
+    {
+        let index = self.lines.len();
+        self.has_room = false;
+        self.hints.set(client.0, index);
+        let inserted: Result<_, _> = self.places.insert(client.0, index);
+        inserted.unwrap();
+        self.lines.push_reserved((client.0, line.copied()));
+    }
+
+    // Stores the line of a client to whose line no hint leads. It isn't inlined: few are such.
     #[cold]
     #[inline(never)]
     fn insert(&mut self, client: ClientId, line: &LineId)
         requires { 0 < self.old.room }
         ensures { IsLatest self.old.entries client line.now self.new.entries }
     {
-        self.has_room = false;
-        let (index, _) = self.lines.insert_full(client.0, line.copied()).unwrap();
-        self.hints.set(client.0, index);
+        match self.places.get(&client.0).copied() {
+            Some(index) => {
+                self.hints.set(client.0, index);
+                self.store_at(index, client, line);
+            }
+            None => self.add(client, line),
+        }
     }
 
     /// The client's line is this one from now on. It takes no memory.

@@ -1,16 +1,16 @@
 ghost use Rattle.std.specs.Prelude.{◌≡◌, ◌<◌, ◌++◌, ◌^◌, ◌∷◌, [], suc, length, Some, None};
 ghost use Rattle.std.specs.Prelude.{OnOk, OnErr, IfOk, IfErr, IsSome};
 ghost use Rattle.std.specs.Bool.{OnTrue};
-ghost use Rattle.pt_engine.specs.Names.{client_in, lines_in, row_of, IsAt, IsRowRaised};
-ghost use Rattle.pt_engine.specs.Names.{IsRowGiven, AreRowsAlike};
+ghost use Rattle.pt_engine.specs.Names.{client_in, lines_in, row_of};
+ghost use Rattle.pt_engine.specs.Places.{key_at};
 
 use crate::fault::ScriptFault;
 use http_server::Log;
-use indexmap::IndexMap;
 use pt_hints::{Hints, are_same};
 use pt_lines::{ClientName, Who};
 use pt_types::{ClientId, key_of};
 use std::alloc::{Allocator, Global};
+use std::collections::HashMap;
 use std::hash::{BuildHasherDefault, FoldHasher};
 use std::marker::Model;
 
@@ -30,24 +30,32 @@ pub struct CountedLine {
     pub client: Option<ClientId>,
 }
 
-type Rows<A> = IndexMap<ClientName, Row, BuildHasherDefault<FoldHasher>, A>;
+type Rows<A> = Vec<(ClientName, Row), A>;
+
+type Places<A> = HashMap<ClientName, usize, BuildHasherDefault<FoldHasher>, A>;
 
 // How many lines came of each client, with the number of each that joined. A row is found by a
 // hint, if no other name with that hint came since, or else by the hash of its name.
 #[derive(Drop)]
 struct Counts<A: Allocator + Copy> {
     rows: Rows<A>,
+    // The index of each name's row.
+    places: Places<A>,
     hints: Hints<A>,
     star: u64,
     unknown: u64,
 }
 
 impl<A: Allocator + Copy> Model for Counts<A> {
+    ghost use Rattle.std.specs.Str.{bytes_eq};
     ghost use Rattle.pt_engine.specs.Names.{Counted};
+    ghost use Rattle.pt_engine.specs.Places.{ArePlaces};
 
     ghost Value = { Counted };
 
-    ghost view = { λ k. record { rows = k.rows.entries; star = k.star; unknown = k.unknown } };
+    ghost view = { λ k. record { rows = k.rows.items; star = k.star; unknown = k.unknown } };
+
+    ghost invariant = { λ k. ArePlaces bytes_eq k.rows.items k.places.entries };
 }
 
 /// The clients of a script: how many lines of each came, and the number of each that joined.
@@ -75,8 +83,8 @@ impl<A: Allocator + Copy> Model for Names<A> {
 }
 
 // The key of the name whose row is at an index, and the index.
-fn keyed<A: Allocator + Copy>(rows: &Rows<A>, index: usize) -> Option<(u64, usize)> {
-    let (name, _) = rows.get_index(index)?;
+fn keyed(rows: &[(ClientName, Row)], index: usize) -> Option<(u64, usize)> {
+    let (name, _) = rows.get(index)?;
     Some((key_of(name.as_bytes()), index))
 }
 
@@ -84,7 +92,7 @@ fn keyed<A: Allocator + Copy>(rows: &Rows<A>, index: usize) -> Option<(u64, usiz
 fn grow<A: Allocator + Copy>(hints: &mut Hints<A>, rows: &Rows<A>) -> Result<(), ScriptFault>
     ensures why { IfErr result (λ fault. fault ≡ ScriptFault.Memory) }
 {
-    match hints.grow_for(rows.len(), |index| keyed(rows, index)) {
+    match hints.grow_for(rows.len(), |index| keyed(rows.as_slice(), index)) {
         Ok(()) => Ok(()),
         Err(_) => Err(ScriptFault::Memory),
     }
@@ -92,46 +100,12 @@ fn grow<A: Allocator + Copy>(hints: &mut Hints<A>, rows: &Rows<A>) -> Result<(),
 
 // Whether the row at an index is a name's.
 #[inline(always)]
-fn is_at<A: Allocator + Copy>(rows: &Rows<A>, index: usize, name: &ClientName) -> bool
-    ensures { OnTrue result (IsAt rows.now.entries index name.now) }
+fn is_at(rows: &[(ClientName, Row)], index: usize, name: &ClientName) -> bool
+    ensures { OnTrue result (key_at rows.now index ≡ Some name.now) }
 {
-    match rows.get_index(index) {
+    match rows.get(index) {
         Some((key, _)) => are_same(key.as_bytes(), name.as_bytes()),
         None => false,
-    }
-}
-
-// Counts a line of this name, whose row is at an index.
-#[inline(always)]
-fn count_at<A: Allocator + Copy>(rows: &mut Rows<A>, index: usize, name: &ClientName) -> CountedLine
-    requires at { IsAt rows.old.entries index name.now }
-    requires few { lines_in (row_of rows.old.entries name.now) < 2 ^ 53 }
-    ensures number { result.number ≡ suc (lines_in (row_of rows.old.entries name.now)) }
-    ensures client { result.client ≡ client_in (row_of rows.old.entries name.now) }
-    ensures raised { IsRowRaised rows.old.entries name.now rows.new.entries }
-{
-    let row = rows.get_index_mut(index).unwrap();
-    row.lines += 1;
-    CountedLine {
-        number: row.lines,
-        client: row.client,
-    }
-}
-
-// Makes the row of a name of which no line is counted, and returns its index.
-fn begin<A: Allocator + Copy>(rows: &mut Rows<A>, name: &ClientName) -> Result<usize, ScriptFault>
-    requires { row_of rows.old.entries name.now ≡ None }
-    ensures at { IfOk result (λ index. IsAt rows.new.entries index name.now) }
-    ensures alike { AreRowsAlike rows.old.entries rows.new.entries }
-    ensures why { IfErr result (λ fault. fault ≡ ScriptFault.Memory) }
-{
-    let row = Row {
-        lines: 0,
-        client: None,
-    };
-    match rows.insert_full(name.copied(), row) {
-        Ok((index, _)) => Ok(index),
-        Err(_) => Err(ScriptFault::Memory),
     }
 }
 
@@ -146,36 +120,50 @@ fn unnamed(number: u64) -> CountedLine
     }
 }
 
-// Gives the client of this name its number.
-fn give<A: Allocator + Copy>(rows: &mut Rows<A>, name: &ClientName, client: ClientId)
-    requires { IsSome (row_of rows.old.entries name.now) }
-    ensures { IsRowGiven rows.old.entries name.now client rows.new.entries }
-{
-    if let Some(row) = rows.get_mut(name) {
-        row.client = Some(client);
-    }
-}
-
 impl<A: Allocator + Copy> Counts<A> {
     ghost use Rattle.pt_engine.specs.Names.{client_counted, lines_counted, IsRaised, IsGiven};
     ghost use Rattle.pt_engine.specs.Names.{AreAlike};
+
+    // Adds the row of a name of which no line is counted, and returns its index.
+    fn begin(&mut self, name: &ClientName) -> Result<usize, ScriptFault>
+        requires { row_of self.old.rows name.now ≡ None }
+        ensures at { IfOk result (λ index. key_at self.new.rows index ≡ Some name.now) }
+        ensures alike { AreAlike self.old self.new }
+        ensures why { IfErr result (λ fault. fault ≡ ScriptFault.Memory) }
+    {
+        if self.rows.reserve(1).is_err() {
+            return Err(ScriptFault::Memory);
+        }
+        let row = Row {
+            lines: 0,
+            client: None,
+        };
+        let index = self.rows.len();
+        match self.places.insert(name.copied(), index) {
+            Ok(_) => {
+                self.rows.push_reserved((name.copied(), row));
+                Ok(index)
+            }
+            Err(_) => Err(ScriptFault::Memory),
+        }
+    }
 
     // The index of the row of a name to which no hint leads. The row is found by the hash of the
     // name, or made. It isn't inlined: the rows of most lines are found by their hints.
     #[cold]
     #[inline(never)]
     fn look_up(&mut self, name: &ClientName) -> Result<usize, ScriptFault>
-        ensures at { IfOk result (λ index. IsAt self.new.rows index name.now) }
+        ensures at { IfOk result (λ index. key_at self.new.rows index ≡ Some name.now) }
         ensures alike { AreAlike self.old self.new }
         ensures why { IfErr result (λ fault. fault ≡ ScriptFault.Memory) }
     {
         let key = key_of(name.as_bytes());
-        if let Some(index) = self.rows.get_index_of(name) {
+        if let Some(index) = self.places.get(name).copied() {
             self.hints.set(key, index);
             return Ok(index);
         }
         grow(&mut self.hints, &self.rows)?;
-        let index = begin(&mut self.rows, name)?;
+        let index = self.begin(name)?;
         self.hints.set(key, index);
         Ok(index)
     }
@@ -183,15 +171,32 @@ impl<A: Allocator + Copy> Counts<A> {
     // The index of a name's row, which is made if there is none.
     #[inline(always)]
     fn index_of(&mut self, name: &ClientName) -> Result<usize, ScriptFault>
-        ensures at { IfOk result (λ index. IsAt self.new.rows index name.now) }
+        ensures at { IfOk result (λ index. key_at self.new.rows index ≡ Some name.now) }
         ensures alike { AreAlike self.old self.new }
         ensures why { IfErr result (λ fault. fault ≡ ScriptFault.Memory) }
     {
         let index = self.hints.get(key_of(name.as_bytes())).unwrap_or(0);
-        if is_at(&self.rows, index, name) {
+        if is_at(self.rows.as_slice(), index, name) {
             return Ok(index);
         }
         self.look_up(name)
+    }
+
+    // Counts a line of this name, whose row is at an index.
+    #[inline(always)]
+    fn count_at(&mut self, index: usize, name: &ClientName) -> CountedLine
+        requires at { key_at self.old.rows index ≡ Some name.now }
+        requires few { lines_in (row_of self.old.rows name.now) < 2 ^ 53 }
+        ensures number { result.number ≡ suc (lines_in (row_of self.old.rows name.now)) }
+        ensures client { result.client ≡ client_in (row_of self.old.rows name.now) }
+        ensures raised { IsRaised self.old (Who.Named name.now) self.new }
+    {
+        let row = &mut self.rows[index].1;
+        row.lines += 1;
+        CountedLine {
+            number: row.lines,
+            client: row.client,
+        }
     }
 
     // Counts a line of this name.
@@ -206,7 +211,7 @@ impl<A: Allocator + Copy> Counts<A> {
         ensures why { IfErr result (λ fault. fault ≡ ScriptFault.Memory) }
     {
         let index = self.index_of(name)?;
-        Ok(count_at(&mut self.rows, index, name))
+        Ok(self.count_at(index, name))
     }
 
     // Counts a line.
@@ -237,7 +242,9 @@ impl<A: Allocator + Copy> Counts<A> {
         requires { IsSome (row_of self.old.rows name.now) }
         ensures { IsGiven self.old name.now client self.new }
     {
-        give(&mut self.rows, name, client);
+        if let Some(index) = self.places.get(name).copied() {
+            self.rows[index].1.client = Some(client);
+        }
     }
 }
 
@@ -250,7 +257,8 @@ impl<A: Allocator + Copy> Names<A> {
         ensures { result ≡ record { seen = []; clients = [] } }
     {
         let counts = Counts {
-            rows: IndexMap::new(alloc),
+            rows: Vec::new(alloc),
+            places: HashMap::new(alloc),
             hints: Hints::new(alloc),
             star: 0,
             unknown: 0,

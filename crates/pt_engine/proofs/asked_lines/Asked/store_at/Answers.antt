@@ -1,19 +1,25 @@
-use Rattle.std.proofs.Common.{◌≡◌, Some, slice_get, option_map, sym, subst}
+use Rattle.std.proofs.Common.{nat_eq, ap, ◌∙◌}
+use Rattle.std.proofs.lemmas.Bool.Decides.{Decides-eqb}
 use Rattle.pt_engine.specs.Engines.{Stored}
-use Rattle.pt_engine.proofs.Stored.{stored_at, index_within}
+use Rattle.pt_engine.specs.Places.{key_at}
+use Rattle.pt_engine.proofs.Keys.{found_write, placed_write}
 use Rattle.pt_engine.proofs.asked_lines.Asked.store_at.Goals as goal
+
+pub invariant_of-self : goal.invariant_of-self
+invariant_of-self g c =
+    let inside = c.self.inside in
+    let at = ap (λ (a : Stored). key_at a.entries c.args.index) c.self.view_is ∙ c.requires in (
+      placed_write nat_eq Decides-eqb inside.lines.items inside.places.entries
+          c.self.invariant.0 c.args.index c.args.client c.index_mut.result.now at
+          c.index_mut.ensures.value c.copied.result,
+      c.self.invariant.1,
+    )
 
 pub returns : goal.returns
 returns g c =
-    rw (← c.self.view_is, c.copied.ensures)
-    (stored_at c.self.inside.lines c.args.index c.args.client c.args.line.now
-    c.get_index_mut.ensures.unique
-    (subst (λ (v : Stored). option_map (λ e. e.0) (slice_get v.entries c.args.index)
-    ≡ Some c.args.client) (sym c.self.view_is) c.requires))
-
-pub unwrap-requires : goal.unwrap-requires
-unwrap-requires g c =
-    c.get_index_mut.ensures.found.1
-    (index_within c.self.inside.lines.entries c.args.index c.args.client
-    (subst (λ (v : Stored). option_map (λ e. e.0) (slice_get v.entries c.args.index)
-    ≡ Some c.args.client) (sym c.self.view_is) c.requires))
+    let inside = c.self.inside in
+    let at = ap (λ (a : Stored). key_at a.entries c.args.index) c.self.view_is ∙ c.requires in
+    rw (← c.self.view_is, ← c.copied.ensures)
+    (found_write nat_eq Decides-eqb inside.lines.items inside.places.entries
+    c.self.invariant.0 c.args.index c.args.client c.index_mut.result.now at
+    c.index_mut.ensures.value c.copied.result)
