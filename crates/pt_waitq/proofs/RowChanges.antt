@@ -101,7 +101,7 @@ module _ (places : List (ℕ × ℕ)) (slots : List (Option (ℕ × Queue))) (s 
 module _ (places places' : List (ℕ × ℕ)) (slots slots' : List (Option (ℕ × Queue))) (o s : ℕ)
     (a : AreRows places slots) (none : lookup (nat_eq o) places ≡ None)
     (placed : (x : ℕ)
-        → lookup (nat_eq x) places' ≡ cond (o == x) (Some s) (lookup (nat_eq x) places))
+    → lookup (nat_eq x) places' ≡ cond (o == x) (Some s) (lookup (nat_eq x) places))
     (vacant : row_in slots s ≡ None) (filled : row_in slots' s ≡ Some (o, no_queue))
     (others : (t : ℕ) → t ≢ s → row_in slots' t ≡ row_in slots t) where
   apart : (x t : ℕ) → lookup (nat_eq x) places ≡ Some t → t ≢ s
@@ -186,7 +186,7 @@ module _ (places places' : List (ℕ × ℕ)) (slots slots' : List (Option (ℕ 
 module _ (places places' : List (ℕ × ℕ)) (slots slots' : List (Option (ℕ × Queue))) (o s : ℕ)
     (a : AreRows places slots) (at : lookup (nat_eq o) places ≡ Some s)
     (placed : (x : ℕ)
-        → lookup (nat_eq x) places' ≡ cond (o == x) None (lookup (nat_eq x) places))
+    → lookup (nat_eq x) places' ≡ cond (o == x) None (lookup (nat_eq x) places))
     (gone : row_in slots' s ≡ None)
     (others : (t : ℕ) → t ≢ s → row_in slots' t ≡ row_in slots t) where
   far : (x t : ℕ) → lookup (nat_eq x) places ≡ Some t → (o == x) ≡ false → t ≢ s

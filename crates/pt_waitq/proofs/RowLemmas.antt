@@ -85,8 +85,8 @@ pub placed-listed : (places : List (ℕ × ℕ)) (slots : List (Option (ℕ × Q
     → lookup (nat_eq o) places ≡ Some s → is_listed o (numbers (rows_by places slots)) ≡ true
 placed-listed places slots o s at = listed-rows places slots o ∙ ap is_some at
 
-module _ (places : List (ℕ × ℕ)) (slots : List (Option (ℕ × Queue))) (a : AreRows places slots)
-    where
+module _ (places : List (ℕ × ℕ)) (slots : List (Option (ℕ × Queue)))
+    (a : AreRows places slots) where
   -- a row in a slot is the one of the number that it has
   pub row-here : (o s : ℕ) (q : Queue) → row_in slots s ≡ Some (o, q)
       → lookup (nat_eq o) (rows_by places slots) ≡ Some q

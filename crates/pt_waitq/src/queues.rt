@@ -242,11 +242,7 @@ pub(crate) fn make<A: Allocator + Copy>(queues: &mut Queues<A>, object: u64) -> 
 
 // Takes a queue's row away, if such a queue ever had one.
 #[inline(always)]
-fn close<A: Allocator + Copy>(
-    rows: &mut Rows<A>,
-    opened: &[bool; COUNT],
-    object: u64,
-)
+fn close<A: Allocator + Copy>(rows: &mut Rows<A>, opened: &[bool; COUNT], object: u64)
     requires { is_open opened.now object ≡ false
         → lookup (nat_eq object) (rows_of rows.old) ≡ None }
     ensures rows { (x : ℕ) → lookup (nat_eq x) (rows_of rows.new)

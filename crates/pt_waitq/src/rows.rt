@@ -251,8 +251,7 @@ impl<A: Allocator + Copy> Rows<A> {
     ) -> Option<Box<MarkedQueue, A>>
         requires index { p < most_priority }
         requires there { (number : ℕ) × (lookup (nat_eq number) self.old.places ≡ Some slot) }
-        requires stands {
-            1 ≤ slice_index (side_of writer (chains_in self.old.slots slot)).counts p }
+        requires waits { 1 ≤ slice_index (side_of writer (chains_in self.old.slots slot)).counts p }
         requires len { 1 ≤ (chains_in self.old.slots slot).len }
         ensures places { self.new.places ≡ self.old.places }
         ensures others { AreOthersKept slot self.old self.new }

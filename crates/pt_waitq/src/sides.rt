@@ -244,10 +244,7 @@ pub(crate) fn len_of<A: Allocator + Copy>(queues: &Rows<A>, object: u64) -> usiz
 
 /// How many wait in a queue, if its row is at the place that its hint gives.
 #[inline(always)]
-pub(crate) fn len_by_hint<A: Allocator + Copy>(
-    queues: &Rows<A>,
-    object: u64,
-) -> Option<usize>
+pub(crate) fn len_by_hint<A: Allocator + Copy>(queues: &Rows<A>, object: u64) -> Option<usize>
     ensures { IfSome result (λ len. len
         ≡ unwrap_or (option_map (λ q. q.len) (lookup (nat_eq object) (rows_of queues.now))) 0) }
 {
@@ -289,10 +286,7 @@ pub(crate) fn remove<A: Allocator + Copy>(
 }
 
 /// The node of the first of a queue.
-pub(crate) fn first_of<A: Allocator + Copy>(
-    queues: &Rows<A>,
-    object: u64,
-) -> Option<NodeIndex>
+pub(crate) fn first_of<A: Allocator + Copy>(queues: &Rows<A>, object: u64) -> Option<NodeIndex>
     ensures none { lookup (nat_eq object) (rows_of queues.now) ≡ None → result ≡ None }
     ensures queue { (queue : Queue)
         → lookup (nat_eq object) (rows_of queues.now) ≡ Some queue
@@ -330,11 +324,7 @@ pub(crate) fn first_writer_of<A: Allocator + Copy>(
 }
 
 /// Whether a queue has a writer of the priority with this index or a higher one.
-pub(crate) fn has_writer_from<A: Allocator + Copy>(
-    queues: &Rows<A>,
-    object: u64,
-    p: usize,
-) -> bool
+pub(crate) fn has_writer_from<A: Allocator + Copy>(queues: &Rows<A>, object: u64, p: usize) -> bool
     ensures none { lookup (nat_eq object) (rows_of queues.now) ≡ None → result ≡ false }
     ensures queue { (queue : Queue)
         → lookup (nat_eq object) (rows_of queues.now) ≡ Some queue

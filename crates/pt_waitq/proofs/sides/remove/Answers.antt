@@ -19,8 +19,8 @@ pub take_out-requires-clause-there : goal.take_out-requires-clause-there
 take_out-requires-clause-there g c =
     (c.args.object, sym c.slot_from.ensures ∙ c.unwrap-slot.ensures)
 
-pub take_out-requires-clause-stands : goal.take_out-requires-clause-stands
-take_out-requires-clause-stands g c =
+pub take_out-requires-clause-waits : goal.take_out-requires-clause-waits
+take_out-requires-clause-waits g c =
     let queues = c.args.queues.now in
     subst (λ f. IfSome f (λ q. 1 ≤ slice_index (side_of c.args.writer q).counts c.args.p))
     (placed-row queues.places queues.slots c.args.object c.unwrap-slot.result

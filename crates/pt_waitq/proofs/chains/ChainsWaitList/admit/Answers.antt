@@ -43,8 +43,8 @@ invariant_of-self-2 g c =
     (c.len.ensures.len ∙ sym (length-numbers queues)) c.min-wanted.ensures longer in (
       chains-joined homes c.make_room.new.homes.map.entries c.admit.new.homes.map.entries
           c.self.inside.nodes.slots c.make_room.new.nodes.slots c.admit.new.nodes.slots queues es
-          k c.admit.result c.self.invariant.0 none c.in-Ok.ensures.few room.homes room.count room.nodes
-          done.homes done.count done.vacant done.entry done.client done.others,
+          k c.admit.result c.self.invariant.0 none c.in-Ok.ensures.few room.homes room.count
+          room.nodes done.homes done.count done.vacant done.entry done.client done.others,
       boxes-grown (length homes) _ (length (numbers queues)) _ es _ _ _ _ c.self.inside.boxes
           c.self.invariant.1 c.in-Ok-grow.boxes enough grown.len grown.room,
       c.grow.ensures.empty,

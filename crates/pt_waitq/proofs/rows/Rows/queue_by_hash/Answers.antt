@@ -2,7 +2,8 @@ use Rattle.std.proofs.Common.{◌∙◌, Some, nat_eq, is_some, ap, sym}
 use Rattle.std.specs.Map.{lookup}
 use Rattle.std.specs.Option.{option_copied}
 use Rattle.pt_waitq.specs.Rows.{rows_of}
-use Rattle.pt_waitq.proofs.RowLemmas.{chains-there, found-there, placed-row, placed-there, unplaced-row}
+use Rattle.pt_waitq.proofs.RowLemmas.{chains-there, found-there, placed-row}
+use Rattle.pt_waitq.proofs.RowLemmas.{placed-there, unplaced-row}
 use Rattle.pt_waitq.proofs.rows.Rows.queue_by_hash.Goals as goal
 
 pub returns-in_err-slot : goal.returns-in_err-slot

@@ -38,8 +38,8 @@ returns-in-Some-clause-rows g c = λ x.
     let left : lookup (nat_eq x) (rows_of c.match-remove-2.self)
     ≡ lookup (nat_eq x) (rows_by c.remove.new.self.entries c.remove-in-Some.new.self.slots) =
     elim c.match-remove-2.branch [
-      in-Some-1 w ↦ ap (λ v. lookup (nat_eq x) (rows_of v)) w.self-is
-    | in-None-1 w ↦ ap (λ v. lookup (nat_eq x) (rows_of v)) w.self-is
+      | in-Some-1 w ↦ ap (λ v. lookup (nat_eq x) (rows_of v)) w.self-is
+      | in-None-1 w ↦ ap (λ v. lookup (nat_eq x) (rows_of v)) w.self-is
     ] in
     left
     ∙ (lookup-taken c.self.inside.places.entries c.remove.new.self.entries
@@ -55,13 +55,13 @@ returns-in-Some-clause-room g c =
     let left : length (rows_of c.match-remove-2.self)
     ≡ length (rows_by places.entries slots.slots) =
     elim c.match-remove-2.branch [
-      in-Some-1 w ↦ ap (λ v. length (rows_of v)) w.self-is
-    | in-None-1 w ↦ ap (λ v. length (rows_of v)) w.self-is
+      | in-Some-1 w ↦ ap (λ v. length (rows_of v)) w.self-is
+      | in-None-1 w ↦ ap (λ v. length (rows_of v)) w.self-is
     ] in
     let room : c.match-remove-2.self.room ≡ min (spare places) (slots.capacity - slab_len slots) =
     elim c.match-remove-2.branch [
-      in-Some-1 w ↦ ap (λ v. v.room) w.self-is
-    | in-None-1 w ↦ ap (λ v. v.room) w.self-is
+      | in-Some-1 w ↦ ap (λ v. v.room) w.self-is
+      | in-None-1 w ↦ ap (λ v. v.room) w.self-is
     ] in
     let len = rw c.in-Some.is at c.remove.ensures.len in
     omega (
