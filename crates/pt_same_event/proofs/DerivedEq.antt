@@ -30,22 +30,24 @@ both false q e = absurd (false≢true e)
 abbrev pub last : {A : Type 0} → Test A → Test (A × Unit {0})
 last {A} t = record {
   test = λ x y. t.test x.0 y.0;
-  says = λ x y.
-      (λ e. ap (λ (a : A). (a, tt)) ((t.says x.0 y.0).0 e),
-      λ e. (t.says x.0 y.0).1 (ap (λ (p : A × Unit {0}). p.0) e));
+  says = λ x y. (
+    λ e. ap (λ (a : A). (a, tt)) ((t.says x.0 y.0).0 e),
+    λ e. (t.says x.0 y.0).1 (ap (λ (p : A × Unit {0}). p.0) e),
+  );
 }
 
 -- of a field and of those after it
 abbrev pub then : {A B : Type 0} → Test A → Test B → Test (A × B)
 then {A} {B} t u = record {
   test = λ x y. t.test x.0 y.0 && u.test x.1 y.1;
-  says = λ x y.
-      (λ e.
-          let h = both (t.test x.0 y.0) (u.test x.1 y.1) e in
-          λ i. ((t.says x.0 y.0).0 h.0 i, (u.says x.1 y.1).0 h.1 i),
-      λ e. λ i.
-          (t.says x.0 y.0).1 (ap (λ (p : A × B). p.0) e) i
-          && (u.says x.1 y.1).1 (ap (λ (p : A × B). p.1) e) i);
+  says = λ x y. (
+    λ e.
+        let h = both (t.test x.0 y.0) (u.test x.1 y.1) e in
+        λ i. ((t.says x.0 y.0).0 h.0 i, (u.says x.1 y.1).0 h.1 i),
+    λ e. λ i.
+        (t.says x.0 y.0).1 (ap (λ (p : A × B). p.0) e) i
+        && (u.says x.1 y.1).1 (ap (λ (p : A × B). p.1) e) i,
+  );
 }
 
 -- of the fields of each variant

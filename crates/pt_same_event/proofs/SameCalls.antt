@@ -37,9 +37,10 @@ abbrev deadline : Test Timespec
 deadline = record {
   test = λ d e. nat_eq d.sec e.sec && nat_eq d.nsec e.nsec;
   says = λ d e.
-      let fields = parts.says (d.sec, d.nsec) (e.sec, e.nsec) in
-      (λ h. ap (λ (p : ℕ × ℕ). record { sec = p.0; nsec = p.1 }) (fields.0 h),
-      λ h. fields.1 (ap (λ (t : Timespec). (t.sec, t.nsec)) h));
+      let fields = parts.says (d.sec, d.nsec) (e.sec, e.nsec) in (
+        λ h. ap (λ (p : ℕ × ℕ). record { sec = p.0; nsec = p.1 }) (fields.0 h),
+        λ h. fields.1 (ap (λ (t : Timespec). (t.sec, t.nsec)) h),
+      );
 }
 
 abbrev named : Test (List ℕ × Unit {0})
@@ -53,13 +54,85 @@ clocked = then name (then clock (last deadline))
 
 -- of the arguments of each call word, in the order of the variants
 abbrev tests : Tests calls.the_parts
-tests =
-    (then name (then kind (last flag)),
-    (named, (named, (timed, (clocked, (named, (named, (named,
-    (named, (named, (named, (timed, (clocked,
-    (named, (named, (timed, (clocked, (named, (named,
-    (named, (named, (then name named, (then name timed, (then name clocked, (named, (named,
-    (then name (last count), (named, (named, tt)))))))))))))))))))))))))))))
+tests = (
+  then name (then kind (last flag)),
+  (
+    named,
+    (
+      named,
+      (
+        timed,
+        (
+          clocked,
+          (
+            named,
+            (
+              named,
+              (
+                named,
+                (
+                  named,
+                  (
+                    named,
+                    (
+                      named,
+                      (
+                        timed,
+                        (
+                          clocked,
+                          (
+                            named,
+                            (
+                              named,
+                              (
+                                timed,
+                                (
+                                  clocked,
+                                  (
+                                    named,
+                                    (
+                                      named,
+                                      (
+                                        named,
+                                        (
+                                          named,
+                                          (
+                                            then name named,
+                                            (
+                                              then name timed,
+                                              (
+                                                then name clocked,
+                                                (
+                                                  named,
+                                                  (
+                                                    named,
+                                                    (then name (last count), (named, (named, tt))),
+                                                  ),
+                                                ),
+                                              ),
+                                            ),
+                                          ),
+                                        ),
+                                      ),
+                                    ),
+                                  ),
+                                ),
+                              ),
+                            ),
+                          ),
+                        ),
+                      ),
+                    ),
+                  ),
+                ),
+              ),
+            ),
+          ),
+        ),
+      ),
+    ),
+  ),
+)
 
 -- the answer of the derived `==`
 abbrev pub same : Call → Call → Bool
