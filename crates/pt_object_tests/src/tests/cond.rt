@@ -1,8 +1,9 @@
 ghost use Rattle.std.specs.Prelude.{◌≡◌, Some};
 
 use pt_cond::CondObj;
+use pt_plain_list::PlainList;
 use pt_types::{ClientId, Deadline, ObjectId, Outcome, Priority, Verdict};
-use pt_waitq::{PlainList, WaitList, Waiter};
+use pt_waitq::{WaitList, Waiter};
 use std::test::Fail;
 
 const M: ObjectId = ObjectId(3);

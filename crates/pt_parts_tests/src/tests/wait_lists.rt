@@ -5,8 +5,10 @@ ghost use Rattle.std.specs.List.{AllByRecursion as Each};
 ghost use Rattle.pt_parts_tests.specs.Playing.{IsInPlay, clients_in_play, queues_in_play};
 
 use super::priority;
+use pt_chains::Chains;
+use pt_plain_list::PlainList;
 use pt_types::{ClientId, ObjectId, Priority, Refusal};
-use pt_waitq::{Chains, PlainList, WaitList, Waiter};
+use pt_waitq::{WaitList, Waiter};
 use std::alloc::Global;
 
 const CLIENTS: u64 = 40;

@@ -1,0 +1,56 @@
+-- LinkLemmas: what is stored of a chain's links as a node is put after the last one, or taken out
+mod LinkLemmas
+-- EndLemmas: A chain, its ends and its count, as a node goes after the last or is taken out
+mod EndLemmas
+-- SortedLemmas: chains in the order of arrival, and the queues that they make
+mod SortedLemmas
+-- HeadLemmas: the head of a queue, found as the head of a chain
+mod HeadLemmas
+-- ChainLemmas: what nodes and the ends of chains say of the queues
+mod ChainLemmas
+-- HomeLemmas: nodes as clients come and go
+mod HomeLemmas
+-- InsertLemmas: what stays true of nodes and chains as a waiter is put in
+mod InsertLemmas
+-- PutLemmas: A waiter is put in: what is true of nodes, chains and queues stays true
+mod PutLemmas
+-- TakeLemmas: A waiter is taken out: what is true of nodes, chains and queues stays true
+mod TakeLemmas
+-- StepLemmas: A waiter put in or taken out: from what the calls below say to what is true of all
+mod StepLemmas
+-- FirstLemmas: the first of a queue and its writers, found by the counts of its chains
+mod FirstLemmas
+-- MadeLemmas: queues as they are made and discarded
+mod MadeLemmas
+-- ReadLemmas: what is read from a list after a write
+mod ReadLemmas
+-- HighestLemmas: the highest chain that isn't empty, as one of the counts changes
+mod HighestLemmas
+-- BusyLemmas: how many queues have a waiter
+mod BusyLemmas
+-- BoxLemmas: enough boxes for all that wait
+mod BoxLemmas
+-- LoneLemmas: a queue of one chain, which isn't put into the queue's box
+mod LoneLemmas
+-- LoneWriters: the writers of a queue of one chain
+mod LoneWriters
+-- SeenLemmas: what is seen of a queue by its box and by the node that waits alone
+mod SeenLemmas
+-- EmptiedLemmas: a queue whose last waiter is taken out gives its box back
+mod EmptiedLemmas
+-- FirstOut: the first of a queue, as it is taken out
+mod FirstOut
+-- RowLemmas: what is said of a queue's row by its slot
+mod RowLemmas
+-- RowChanges: a row that is written, added, or taken away
+mod RowChanges
+-- OpenedLemmas: the queues that are made, as one is made, opened or discarded
+mod OpenedLemmas
+-- OpenedRows: what is read of a queue that is made, from its row or from none
+mod OpenedRows
+-- GrowthLemmas: what stands as room is made for one more client or queue
+mod GrowthLemmas
+-- SlotLemmas: what is read of nodes after one is written
+mod SlotLemmas
+-- JoinedLemmas: what is done to a queue's box, once all that wait are in it
+mod JoinedLemmas

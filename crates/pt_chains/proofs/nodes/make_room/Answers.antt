@@ -1,0 +1,7 @@
+use Rattle.pt_chains.proofs.GrowthLemmas.{on-ok, few-more}
+use Rattle.pt_chains.proofs.nodes.make_room.Goals as goal
+
+pub returns-clause-few : goal.returns-clause-few
+returns-clause-few g c =
+    on-ok c.reserve-2.result _
+    (few-more c.len.result _ c.len.ensures.len c.if-len-ge-MOST_NODES.false)

@@ -1,0 +1,94 @@
+-- Boxes: which queues have a box, and how many boxes there are.
+use Rattle.std.specs.Prelude.{ℕ, ◌≡◌, ◌≢◌, ◌+◌, ◌<◌, ◌≤◌, Bool, List, [], ◌∷◌, Option, Some, None}
+use Rattle.std.specs.Prelude.{min, replicate, slice_set, unwrap_or, IfSome, IfNone, IsSome}
+use Rattle.std.specs.Prelude.{MatchOption, if◌then◌else◌, ◌==◌, not, slice_index, slice_index_or}
+use Rattle.pt_types.specs.Limits.{most_priority}
+use Rattle.pt_waitq.specs.declared.waiter.Waiter.{Waiter}
+use Rattle.pt_chains.specs.declared.sides.Side.{Side}
+use Rattle.pt_chains.specs.declared.sides.Queue.{Queue}
+use Rattle.pt_waitq.specs.Waits.{is_listed}
+use Rattle.pt_chains.specs.Chains.{numbers, side_of, HasNone, IsSameChain, IsTaken}
+
+-- empty chains of one kind
+abbrev pub no_side : Side
+no_side =
+    record {
+      counts = replicate most_priority 0;
+      heads = replicate most_priority None;
+      tails = replicate most_priority None;
+    }
+
+-- a queue with no box
+abbrev pub no_queue : Queue
+no_queue = record { writers = no_side; readers = no_side; len = 0 }
+
+-- a chain that is empty
+pub record IsNoChain (side : Side) (i : ℕ) : Type 0 where
+  pub count : slice_index side.counts i ≡ 0
+  pub tail : slice_index_or side.tails i None ≡ None
+  pub head : slice_index_or side.heads i None ≡ None
+
+-- this chain has so many waiters and these ends, and no other has a waiter
+pub record IsLone (k : Bool) (p : ℕ) (first last : Option ℕ) (n : ℕ) (q : Queue) : Type 0 where
+  pub len : q.len ≡ n
+  pub count : (i : ℕ) → i < most_priority
+      → slice_index (side_of k q).counts i ≡ (if p == i then n else 0)
+  pub tail : (i : ℕ) → i < most_priority
+      → slice_index_or (side_of k q).tails i None ≡ (if p == i then last else None)
+  pub head : (i : ℕ) → i < most_priority
+      → slice_index_or (side_of k q).heads i None ≡ (if p == i then first else None)
+  pub other : (i : ℕ) → i < most_priority → IsNoChain (side_of (not k) q) i
+
+-- the chains of one kind if this is the only one
+abbrev pub lone_side : ℕ → Option ℕ → Option ℕ → ℕ → Side
+lone_side p head tail n =
+    record {
+      counts = slice_set no_side.counts p n;
+      heads = slice_set no_side.heads p head;
+      tails = slice_set no_side.tails p tail;
+    }
+
+-- a queue of one chain
+abbrev pub lone_queue : Option ℕ → Option ℕ → ℕ → Bool → ℕ → Queue
+lone_queue head tail n k p =
+    record {
+      writers = if k then lone_side p head tail n else no_side;
+      readers = if k then no_side else lone_side p head tail n;
+      len = n;
+    }
+
+-- a queue by its box and by its lone chain, if that isn't put into the box
+abbrev pub queue_by : Option Queue → Option ℕ → Option ℕ → ℕ → Bool → ℕ → Queue
+queue_by box None tail n k p = unwrap_or box no_queue
+queue_by box (Some head) tail n k p = lone_queue (Some head) tail n k p
+
+-- there is a box only while one waits, and an empty one while a chain isn't put into it
+abbrev pub IsKept : Option Queue → Option ℕ → Option ℕ → ℕ → ℕ → Type 0
+IsKept box None tail n p = IfSome box (λ q. q.len ≢ 0)
+IsKept box (Some head) tail n p =
+    (p < most_priority) × (n ≢ 0) × IsSome tail × MatchOption box ⊥ HasNone
+
+-- queues of the same chains
+pub record IsSame (a b : Queue) : Type 0 where
+  pub len : b.len ≡ a.len
+  pub chains : (k : Bool) (i : ℕ) → i < most_priority → IsSameChain (side_of k a) (side_of k b) i
+
+-- a node was taken out of a chain, and then the box if no one waits any more
+pub record IsEmptied (k : Bool) (p : ℕ) (before next : Option ℕ) (old new : Queue)
+    (box : Option Queue) : Type 0 where
+  pub taken : IsTaken k p before next old (unwrap_or box new)
+  pub emptied : IfSome box (λ q. (q.len ≡ 0) × (new ≡ no_queue))
+  pub left : IfNone box (new.len ≢ 0)
+
+-- how many queues have a waiter
+abbrev pub busy : List (ℕ × Waiter) → ℕ
+busy [] = 0
+busy (e ∷ es) = if is_listed e.0 (numbers es) then busy es else busy es + 1
+
+-- a box for each queue that has a waiter, and as many as queues can have one; there is room for all
+-- of them among the spares
+pub record AreBoxes (clients objects : ℕ) (es : List (ℕ × Waiter)) (spares room boxes : ℕ)
+    : Type 0 where
+  pub count : boxes ≡ busy es + spares
+  pub enough : min clients objects ≤ boxes
+  pub fit : boxes ≤ room

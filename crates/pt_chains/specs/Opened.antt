@@ -1,0 +1,43 @@
+-- Opened: the queues that are made, of which those with a row have its chains.
+use Rattle.std.specs.Prelude.{ℕ, ◌≡◌, ◌==◌, ◌+◌, ◌<◌, ◌≤◌, ◌^◌, ◌%◌, Bool, true, false, not, List}
+use Rattle.std.specs.Prelude.{[], ◌∷◌, ◌++◌, filter, map, length, slice_index_or, unwrap_or, nat_eq}
+use Rattle.std.specs.Map.{lookup}
+use Rattle.pt_chains.specs.declared.sides.Queue.{Queue}
+use Rattle.pt_waitq.specs.Waits.{is_listed}
+use Rattle.pt_chains.specs.Chains.{numbers, Unique}
+use Rattle.pt_chains.specs.Boxes.{no_queue}
+
+-- the queues' numbers after one is made (true) or discarded (false)
+abbrev pub with_made : List ℕ → Bool → ℕ → List ℕ
+with_made os true o = os ++ o ∷ []
+with_made os false o = filter (λ n. not (n == o)) os
+
+abbrev pub made_from : List ℕ → List (Bool × ℕ) → List ℕ
+made_from os [] = os
+made_from os (a ∷ log) = made_from (with_made os a.0 a.1) log
+
+-- the numbers of those that are made, in the order in which they were made
+abbrev pub made_by : List (Bool × ℕ) → List ℕ
+made_by log = made_from [] log
+
+-- the chains in a queue's row, or empty ones
+abbrev pub queue_at : List (ℕ × Queue) → ℕ → Queue
+queue_at rows o = unwrap_or (lookup (nat_eq o) rows) no_queue
+
+-- the queues of these numbers, with the chains of their rows
+abbrev pub queues_by : List ℕ → List (ℕ × Queue) → List (ℕ × Queue)
+queues_by os rows = map (λ o. (o, queue_at rows o)) os
+
+-- whether a queue with such low bits of its number is noted to have had a row
+abbrev pub is_open : List Bool → ℕ → Bool
+is_open opened o = slice_index_or opened (o % 4096) false
+
+-- rows are those of queues that are made, each is noted, and there is room for one of each queue
+pub record AreQueues (os : List ℕ) (rows : List (ℕ × Queue)) (spare : ℕ) (opened : List Bool)
+    (len : ℕ) : Type 0 where
+  pub once : Unique os
+  pub made : (o : ℕ) → is_listed o (numbers rows) ≡ true → is_listed o os ≡ true
+  pub noted : (o : ℕ) → is_listed o (numbers rows) ≡ true → is_open opened o ≡ true
+  pub count : len ≡ length os
+  pub few : len < 2 ^ 32
+  pub room : len ≤ length rows + spare

@@ -1,0 +1,109 @@
+//! The index of a node, and a link to a node or to none, each in 4 bytes.
+
+ghost use Rattle.std.specs.Prelude.{◌≡◌, ◌<◌, ◌-◌, ◌^◌, None, Some, is_some, not};
+ghost use Rattle.std.specs.Prelude.{if◌then◌else◌};
+
+use std::marker::Model;
+
+/// How many nodes there may be, so that the greatest number of 4 bytes is no node's index.
+pub(crate) const MOST_NODES: usize = 4294967295;
+
+/// The index of a node.
+#[derive(Clone, Copy)]
+pub(crate) struct NodeIndex {
+    number: u32,
+}
+
+impl Model for NodeIndex {
+    ghost use Rattle.std.specs.Prelude.{◌<◌, ◌-◌, ◌^◌, ℕ};
+
+    ghost Value = { ℕ };
+
+    ghost view = { λ n. n.number };
+
+    ghost invariant = { λ n. n.number < 2 ^ 32 - 1 };
+
+    ghost inverse = { λ n. record { number = n } };
+}
+
+impl NodeIndex {
+    /// The index of the node there.
+    pub(crate) fn new(index: usize) -> NodeIndex
+        requires { index < 2 ^ 32 - 1 }
+        ensures { result ≡ index }
+    {
+        NodeIndex {
+            number: index as u32,
+        }
+    }
+
+    /// Where the node is.
+    pub(crate) fn get(self) -> usize
+        ensures { result ≡ self }
+    {
+        self.number as usize
+    }
+}
+
+/// A link to a node, or to none.
+#[derive(Clone, Copy)]
+pub(crate) struct Link {
+    // The index of the node, or the greatest number for none: an `Option<u32>` takes 8 bytes.
+    number: u32,
+}
+
+impl Model for Link {
+    ghost use Rattle.std.specs.Prelude.{ℕ, Option, ◌-◌, ◌^◌, unwrap_or};
+    ghost use Rattle.pt_chains.specs.Links.{linked};
+
+    ghost Value = { Option ℕ };
+
+    ghost view = { λ l. linked l.number };
+
+    ghost inverse = { λ o. record { number = unwrap_or o (2 ^ 32 - 1) } };
+}
+
+impl Link {
+    /// A link to no node.
+    pub(crate) fn none() -> Link
+        ensures { result ≡ None }
+    {
+        Link { number: u32::MAX }
+    }
+
+    /// A link to a node.
+    pub(crate) fn to(node: NodeIndex) -> Link
+        ensures { result ≡ Some node }
+    {
+        Link {
+            number: node.number,
+        }
+    }
+
+    /// The node, if it leads to one.
+    pub(crate) fn get(self) -> Option<NodeIndex>
+        ensures { result ≡ self }
+    {
+        if self.number == u32::MAX {
+            return None;
+        }
+        Some(NodeIndex {
+            number: self.number,
+        })
+    }
+
+    /// Whether it leads to none.
+    pub(crate) fn is_none(self) -> bool
+        ensures { is_some self ≡ not result }
+    {
+        self.number == u32::MAX
+    }
+
+    /// This link if the first of these leads to a node, and otherwise the second.
+    #[inline(always)]
+    pub(crate) fn unless_after(self, first: Link, second: Link) -> Link
+        ensures { result ≡ (if is_some first then self else second) }
+    {
+        if first.is_none() { second } else { self }
+    }
+}

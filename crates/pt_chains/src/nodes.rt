@@ -1,0 +1,398 @@
+//! A node for each client, linked to those next to it in its chain.
+
+ghost use Rattle.std.specs.Prelude.{◌≡◌, ◌≢◌, ◌+◌, ◌-◌, ◌<◌, ◌≤◌, ◌^◌, ◌==◌, Some, None, IsSome};
+ghost use Rattle.std.specs.Prelude.{IfSome, IfNone, false, OnOk, []};
+ghost use Rattle.std.specs.Prelude.{◌&&◌, is_some, if◌then◌else◌, ℕ};
+ghost use Rattle.std.specs.Prelude.{not, nat_eq, length};
+ghost use Rattle.std.specs.Map.{lookup};
+ghost use Rattle.std.specs.Option.{option_map, option_and_then};
+ghost use Rattle.std.specs.HashMap.{spare};
+ghost use Rattle.slab.specs.Slab.{HasRoomFor};
+ghost use Rattle.pt_waitq.specs.declared.waiter.Waiter.{Waiter};
+ghost use Rattle.pt_chains.specs.Chains.{numbers, is_at, node_in, next_in, before_in, entry_in};
+ghost use Rattle.pt_chains.specs.Chains.{home_of, entry_of, entry_at, client_in, AreOwn, AreHomes};
+
+use crate::homes::Homes;
+use crate::link::{Link, MOST_NODES, NodeIndex};
+use pt_types::{ClientId, Priority};
+use pt_waitq::Waiter;
+use slab::Slab;
+use std::alloc::{AllocError, Allocator};
+
+/// A client's place in a chain, if it is in one.
+#[derive(Clone, Copy)]
+pub(crate) struct Node {
+    /// The number of the queue in which it is.
+    pub(crate) object: Option<u64>,
+    /// The client's waiter. While it is in no chain, the client alone counts.
+    pub(crate) waiter: Waiter,
+    pub(crate) next: Link,
+    pub(crate) before: Link,
+}
+
+/// A waiter in its chain: its node, its queue's number, and the nodes next to it.
+#[derive(Clone, Copy)]
+pub(crate) struct Place {
+    pub(crate) node: NodeIndex,
+    pub(crate) object: u64,
+    pub(crate) waiter: Waiter,
+    pub(crate) before: Link,
+    pub(crate) next: Link,
+}
+
+/// Lets a node lead to this one.
+pub(crate) fn set_next<A: Allocator + Copy>(nodes: &mut Slab<Node, A>, node: NodeIndex, next: Link)
+    requires { IsSome (node_in nodes.old.slots node) }
+    ensures there { (n : ℕ)
+        → is_some (node_in nodes.new.slots n) ≡ is_some (node_in nodes.old.slots n) }
+    ensures next { (n : ℕ)
+        → next_in nodes.new.slots n ≡ (if node == n then next else next_in nodes.old.slots n) }
+    ensures before { (n : ℕ) → before_in nodes.new.slots n ≡ before_in nodes.old.slots n }
+    ensures entry { (n : ℕ) → entry_in nodes.new.slots n ≡ entry_in nodes.old.slots n }
+    ensures client { (n : ℕ) → client_in nodes.new.slots n ≡ client_in nodes.old.slots n }
+{
+    nodes.get_mut(node.get()).unwrap().next = next;
+}
+
+/// Lets a node lead back to this one.
+pub(crate) fn set_before<A: Allocator + Copy>(
+    nodes: &mut Slab<Node, A>,
+    node: NodeIndex,
+    before: Link,
+)
+    requires { IsSome (node_in nodes.old.slots node) }
+    ensures there { (n : ℕ)
+        → is_some (node_in nodes.new.slots n) ≡ is_some (node_in nodes.old.slots n) }
+    ensures next { (n : ℕ) → next_in nodes.new.slots n ≡ next_in nodes.old.slots n }
+    ensures before { (n : ℕ)
+        → before_in nodes.new.slots n
+        ≡ (if node == n then before else before_in nodes.old.slots n) }
+    ensures entry { (n : ℕ) → entry_in nodes.new.slots n ≡ entry_in nodes.old.slots n }
+    ensures client { (n : ℕ) → client_in nodes.new.slots n ≡ client_in nodes.old.slots n }
+{
+    nodes.get_mut(node.get()).unwrap().before = before;
+}
+
+/// Writes a node anew.
+pub(crate) fn set_node<A: Allocator + Copy>(nodes: &mut Slab<Node, A>, node: NodeIndex, value: Node)
+    requires { IsSome (node_in nodes.old.slots node) }
+    ensures there { (n : ℕ)
+        → is_some (node_in nodes.new.slots n) ≡ is_some (node_in nodes.old.slots n) }
+    ensures next { (n : ℕ)
+        → next_in nodes.new.slots n
+        ≡ (if node == n then value.next else next_in nodes.old.slots n) }
+    ensures before { (n : ℕ)
+        → before_in nodes.new.slots n
+        ≡ (if node == n then value.before else before_in nodes.old.slots n) }
+    ensures entry { (n : ℕ)
+        → entry_in nodes.new.slots n
+        ≡ (if node == n then entry_at value else entry_in nodes.old.slots n) }
+    ensures client { (n : ℕ)
+        → client_in nodes.new.slots n
+        ≡ (if node == n then Some value.waiter.client else client_in nodes.old.slots n) }
+{
+    *nodes.get_mut(node.get()).unwrap() = value;
+}
+
+/// Writes in a node that it is in no chain.
+fn clear<A: Allocator + Copy>(nodes: &mut Slab<Node, A>, node: NodeIndex)
+    requires { IsSome (node_in nodes.old.slots node) }
+    ensures there { (n : ℕ)
+        → is_some (node_in nodes.new.slots n) ≡ is_some (node_in nodes.old.slots n) }
+    ensures next { (n : ℕ)
+        → next_in nodes.new.slots n ≡ (if node == n then None else next_in nodes.old.slots n) }
+    ensures before { (n : ℕ)
+        → before_in nodes.new.slots n ≡ (if node == n then None else before_in nodes.old.slots n) }
+    ensures entry { (n : ℕ)
+        → entry_in nodes.new.slots n ≡ (if node == n then None else entry_in nodes.old.slots n) }
+    ensures client { (n : ℕ) → client_in nodes.new.slots n ≡ client_in nodes.old.slots n }
+{
+    let node = nodes.get_mut(node.get()).unwrap();
+    node.object = None;
+    node.next = Link::none();
+    node.before = Link::none();
+}
+
+/// The waiter of a node, which is in a chain.
+pub(crate) fn waiter_of<A: Allocator + Copy>(
+    nodes: &Slab<Node, A>,
+    node: Option<NodeIndex>,
+) -> Option<Waiter>
+    requires { IfSome node (λ n. IsSome (entry_in nodes.now.slots n)) }
+    ensures { result
+        ≡ option_map (λ e. e.1) (option_and_then (λ n. entry_in nodes.now.slots n) node) }
+{
+    let node = nodes.get(node?.get()).unwrap();
+    Some(node.waiter)
+}
+
+/// Puts a node after the last of its chain.
+pub(crate) fn insert<A: Allocator + Copy>(
+    nodes: &mut Slab<Node, A>,
+    last: Link,
+    node: NodeIndex,
+    entry: (u64, Waiter),
+)
+    requires there { IsSome (node_in nodes.old.slots node) }
+    requires last { IfSome last (λ l. IsSome (node_in nodes.old.slots l)) }
+    ensures there { (n : ℕ)
+        → is_some (node_in nodes.new.slots n) ≡ is_some (node_in nodes.old.slots n) }
+    ensures next { (n : ℕ)
+        → next_in nodes.new.slots n
+        ≡ (if node == n
+        then None
+        else if is_at n last then Some node else next_in nodes.old.slots n) }
+    ensures before { (n : ℕ)
+        → before_in nodes.new.slots n ≡ (if node == n then last else before_in nodes.old.slots n) }
+    ensures entry { (n : ℕ)
+        → entry_in nodes.new.slots n
+        ≡ (if node == n then Some entry else entry_in nodes.old.slots n) }
+    ensures client { (n : ℕ)
+        → client_in nodes.new.slots n
+        ≡ (if node == n then Some entry.1.client else client_in nodes.old.slots n) }
+{
+    if let Some(l) = last.get() {
+        set_next(nodes, l, Link::to(node));
+    }
+    let value = Node {
+        object: Some(entry.0),
+        waiter: entry.1,
+        next: Link::none(),
+        before: last,
+    };
+    set_node(nodes, node, value);
+}
+
+/// Takes a node out from between these two.
+pub(crate) fn remove<A: Allocator + Copy>(
+    nodes: &mut Slab<Node, A>,
+    node: NodeIndex,
+    before: Link,
+    next: Link,
+)
+    requires there { IsSome (node_in nodes.old.slots node) }
+    requires before { IfSome before (λ n. IsSome (node_in nodes.old.slots n)) }
+    requires next { IfSome next (λ n. IsSome (node_in nodes.old.slots n)) }
+    ensures there { (n : ℕ)
+        → is_some (node_in nodes.new.slots n) ≡ is_some (node_in nodes.old.slots n) }
+    ensures next { (n : ℕ)
+        → next_in nodes.new.slots n
+        ≡ (if node == n
+        then None
+        else if is_at n before then next else next_in nodes.old.slots n) }
+    ensures before { (n : ℕ)
+        → before_in nodes.new.slots n
+        ≡ (if node == n
+        then None
+        else if is_at n next then before else before_in nodes.old.slots n) }
+    ensures entry { (n : ℕ)
+        → entry_in nodes.new.slots n ≡ (if node == n then None else entry_in nodes.old.slots n) }
+    ensures client { (n : ℕ) → client_in nodes.new.slots n ≡ client_in nodes.old.slots n }
+{
+    if let Some(n) = before.get() {
+        set_next(nodes, n, next);
+    }
+    if let Some(n) = next.get() {
+        set_before(nodes, n, before);
+    }
+    clear(nodes, node);
+}
+
+// The node that is as far from the start as the client's number is above the first one, if it is
+// the client's.
+#[inline(always)]
+fn node_by_distance<A: Allocator + Copy>(
+    homes: &Homes<A>,
+    nodes: &Slab<Node, A>,
+    client: u64,
+) -> Option<NodeIndex>
+    ensures { IfSome result (λ n. client_in nodes.now.slots n ≡ Some client) }
+{
+    let distance = homes.distance_of(client);
+    match nodes.get(distance) {
+        Some(node) if node.waiter.client.0 == client && distance < MOST_NODES => {
+            Some(NodeIndex::new(distance))
+        }
+        _ => None,
+    }
+}
+
+// The node of a client, looked up.
+#[cold]
+#[inline(never)]
+fn node_by_number<A: Allocator + Copy>(homes: &Homes<A>, client: u64) -> Option<NodeIndex>
+    ensures { result ≡ home_of homes.now.map.entries client }
+{
+    homes.map.get(&client).copied()
+}
+
+// The node of a client, if it has one. Clients whose numbers follow one another are found by the
+// distance of the number, without a look at the list of numbers.
+#[inline(always)]
+fn node_of<A: Allocator + Copy>(
+    homes: &Homes<A>,
+    nodes: &Slab<Node, A>,
+    client: u64,
+) -> Option<NodeIndex>
+    requires { AreOwn homes.now.map.entries nodes.now.slots }
+    ensures { result ≡ home_of homes.now.map.entries client }
+{
+    match node_by_distance(homes, nodes, client) {
+        Some(node) => Some(node),
+        None => node_by_number(homes, client),
+    }
+}
+
+/// The index of a client's node, which it has.
+#[inline(always)]
+pub(crate) fn home_of<A: Allocator + Copy>(
+    homes: &Homes<A>,
+    nodes: &Slab<Node, A>,
+    client: u64,
+) -> NodeIndex
+    requires own { AreOwn homes.now.map.entries nodes.now.slots }
+    requires there { IsSome (home_of homes.now.map.entries client) }
+    ensures { home_of homes.now.map.entries client ≡ Some result }
+{
+    node_of(homes, nodes, client).unwrap()
+}
+
+/// Where a client waits, if it does.
+pub(crate) fn place_of<A: Allocator + Copy>(
+    homes: &Homes<A>,
+    nodes: &Slab<Node, A>,
+    client: u64,
+) -> Option<Place>
+    requires { AreHomes homes.now.map.entries nodes.now.slots }
+    ensures none { IfNone result (entry_of homes.now.map.entries nodes.now.slots client ≡ None) }
+    ensures home { IfSome result (λ p. home_of homes.now.map.entries client ≡ Some p.node) }
+    ensures node { IfSome result (λ p. node_in nodes.now.slots p.node
+        ≡ Some (record {
+          object = Some p.object;
+          waiter = p.waiter;
+          next = p.next;
+          before = p.before;
+        })) }
+{
+    let index = node_of(homes, nodes, client)?;
+    let node = nodes.get(index.get()).unwrap();
+    Some(Place {
+        node: index,
+        object: node.object?,
+        waiter: node.waiter,
+        before: node.before,
+        next: node.next,
+    })
+}
+
+/// The place of a node that is in a chain.
+#[inline(always)]
+pub(crate) fn place_at<A: Allocator + Copy>(nodes: &Slab<Node, A>, index: NodeIndex) -> Place
+    requires { IsSome (entry_in nodes.now.slots index) }
+    ensures index { result.node ≡ index }
+    ensures node { node_in nodes.now.slots index
+        ≡ Some (record {
+          object = Some result.object;
+          waiter = result.waiter;
+          next = result.next;
+          before = result.before;
+        }) }
+{
+    let node = nodes.get(index.get()).unwrap();
+    Place {
+        node: index,
+        object: node.object.unwrap(),
+        waiter: node.waiter,
+        before: node.before,
+        next: node.next,
+    }
+}
+
+/// Makes room for one more node, if there are not too many.
+pub(crate) fn make_room<A: Allocator + Copy>(
+    homes: &mut Homes<A>,
+    nodes: &mut Slab<Node, A>,
+) -> Result<(), AllocError>
+    ensures homes { (d : ℕ)
+        → home_of homes.new.map.entries d ≡ home_of homes.old.map.entries d }
+    ensures count { length homes.new.map.entries ≡ length homes.old.map.entries }
+    ensures few { OnOk result (length homes.old.map.entries + 1 < 2 ^ 32) }
+    ensures nodes { nodes.new.slots ≡ nodes.old.slots }
+    ensures home_room { OnOk result (0 < spare homes.new.map) }
+    ensures node_room { OnOk result (HasRoomFor nodes.new 1) }
+    ensures index { OnOk result (nodes.new.vacant_key < 2 ^ 32 - 1) }
+{
+    if homes.map.len() >= MOST_NODES || nodes.vacant_key() >= MOST_NODES {
+        return Err(AllocError);
+    }
+    homes.map.reserve(1)?;
+    nodes.reserve(1)
+}
+
+// A client's node that is in no chain.
+fn idle(client: u64) -> Node
+    ensures entry { entry_at result ≡ None }
+    ensures client { result.waiter.client ≡ client }
+{
+    Node {
+        object: None,
+        waiter: Waiter {
+            client: ClientId(client),
+            place: 0,
+            prio: Priority::new(1).unwrap(),
+            writer: false,
+            moved: 0,
+        },
+        next: Link::none(),
+        before: Link::none(),
+    }
+}
+
+/// Adds a node that is in no chain, and returns its index.
+pub(crate) fn admit<A: Allocator + Copy>(
+    homes: &mut Homes<A>,
+    nodes: &mut Slab<Node, A>,
+    client: u64,
+) -> NodeIndex
+    requires new { lookup (nat_eq client) homes.old.map.entries ≡ None }
+    requires home_room { 0 < spare homes.old.map }
+    requires node_room { HasRoomFor nodes.old 1 }
+    requires index { nodes.old.vacant_key < 2 ^ 32 - 1 }
+    ensures homes { (d : ℕ)
+        → home_of homes.new.map.entries d
+        ≡ (if client == d then Some result else home_of homes.old.map.entries d) }
+    ensures count { length homes.new.map.entries ≡ length homes.old.map.entries + 1 }
+    ensures vacant { node_in nodes.old.slots result ≡ None }
+    ensures entry { entry_in nodes.new.slots result ≡ None }
+    ensures client { client_in nodes.new.slots result ≡ Some client }
+    ensures others { (n : ℕ)
+        → n ≢ result
+        → node_in nodes.new.slots n ≡ node_in nodes.old.slots n }
+{
+    let node = NodeIndex::new(nodes.insert_reserved(idle(client)));
+    let inserted: Result<_, _> = homes.map.insert(client, node);
+    inserted.unwrap();
+    homes.note_first(client);
+    node
+}
+
+/// Takes a client's node away.
+pub(crate) fn dismiss<A: Allocator + Copy>(
+    homes: &mut Homes<A>,
+    nodes: &mut Slab<Node, A>,
+    client: u64,
+)
+    ensures homes { (d : ℕ)
+        → home_of homes.new.map.entries d
+        ≡ (if client == d then None else home_of homes.old.map.entries d) }
+    ensures nodes { (n : ℕ)
+        → is_at n (home_of homes.old.map.entries client) ≡ false
+        → node_in nodes.new.slots n ≡ node_in nodes.old.slots n }
+    ensures gone { IfSome (home_of homes.old.map.entries client) (λ n.
+        node_in nodes.new.slots n ≡ None) }
+    ensures len { length homes.new.map.entries ≤ length homes.old.map.entries }
+{
+    if let Some(node) = homes.map.remove(&client) {
+        nodes.try_remove(node.get());
+    }
+}

@@ -1,0 +1,338 @@
+//! The queues that are made. A queue has a row from its first waiter on.
+
+ghost use Rattle.std.specs.Prelude.{◌≡◌, ◌↔◌, ◌+◌, ◌-◌, ◌++◌, ◌∷◌, [], ℕ, ◌<◌, ◌≤◌, ◌^◌, ◌==◌};
+ghost use Rattle.std.specs.Prelude.{◌||◌, Some, None, IsSome, IfSome, IsTrue, unwrap_or, true};
+ghost use Rattle.std.specs.Prelude.{false, slice_index, if◌then◌else◌, nat_eq, length};
+ghost use Rattle.std.specs.Prelude.{vec_len, vec_capacity};
+ghost use Rattle.std.specs.List.{AllByRecursion as Each};
+ghost use Rattle.std.specs.Map.{lookup};
+ghost use Rattle.std.specs.Option.{option_map};
+ghost use Rattle.pt_types.specs.Limits.{most_priority};
+ghost use Rattle.pt_chains.specs.declared.sides.Queue.{Queue};
+ghost use Rattle.pt_chains.specs.Boxes.{no_queue, IsEmptied};
+ghost use Rattle.pt_chains.specs.Chains.{numbers, side_of, HasNone, IsPut, Unique, IsFirst};
+ghost use Rattle.pt_chains.specs.Chains.{IsFirstWriter, HasWriterFrom};
+ghost use Rattle.pt_chains.specs.Opened.{queue_at, is_open};
+ghost use Rattle.pt_chains.specs.Rows.{rows_of};
+ghost use Rattle.pt_waitq.specs.Waits.{is_listed};
+
+use crate::link::{Link, NodeIndex};
+use crate::marked::MarkedQueue;
+use crate::rows::Rows;
+use crate::sides;
+use crate::spares::Spares;
+use http_server::Log;
+use std::alloc::Allocator;
+use std::marker::Model;
+
+/// For how many values of a number's low bits it is noted whether such a queue ever had a row.
+const COUNT: usize = 4096;
+
+/// How many queues there may be.
+const MOST_QUEUES: usize = 4294967295;
+
+/// The queues that are made.
+///
+/// A queue has a row from its first waiter on. So one that nobody waits in is made, asked and
+/// discarded without a look at the rows.
+#[derive(Drop)]
+pub(crate) struct Queues<A: Allocator + Copy> {
+    rows: Rows<A>,
+    /// For each value of a number's low bits, whether a queue with such a number ever had a row.
+    opened: [bool; COUNT],
+    /// How many queues there are. There is room for a row of each.
+    len: usize,
+    /// What was made (true) and discarded (false). Only proofs read it.
+    log: Log<bool, u64>,
+}
+
+impl<A: Allocator + Copy> Model for Queues<A> {
+    ghost use Rattle.std.specs.Prelude.{List, ℕ};
+    ghost use Rattle.pt_chains.specs.declared.sides.Queue.{Queue};
+    ghost use Rattle.pt_chains.specs.Opened.{made_by, queues_by, AreQueues};
+    ghost use Rattle.pt_chains.specs.Rows.{rows_of};
+
+    ghost Value = { List (ℕ × Queue) };
+
+    ghost view = { λ q. queues_by (made_by q.log.items) (rows_of q.rows) };
+
+    ghost invariant = { λ q. AreQueues (made_by q.log.items) (rows_of q.rows) q.rows.room
+        q.opened q.len };
+}
+
+impl<A: Allocator + Copy> Queues<A> {
+    /// No queue. It takes no memory.
+    pub(crate) fn new(alloc: A) -> Self
+        ensures { result ≡ [] }
+    {
+        Queues {
+            rows: Rows::new(alloc),
+            opened: [false; COUNT],
+            len: 0,
+            log: Log::new(),
+        }
+    }
+
+    /// How many there are.
+    pub(crate) fn len(&self) -> usize
+        ensures len { result ≡ length self.now }
+        ensures within { length self.now < 2 ^ 32 }
+    {
+        self.len
+    }
+}
+
+// Whether a queue with such low bits of its number ever had a row.
+#[inline(always)]
+fn is_open(opened: &[bool; COUNT], object: u64) -> bool
+    ensures { result ≡ is_open opened.now object }
+{
+    opened[object as usize % COUNT]
+}
+
+// Notes that the queue of a number has a row.
+fn set_open(opened: &mut [bool; COUNT], object: u64)
+    ensures own { is_open opened.new object ≡ true }
+    ensures kept { (x : ℕ) → is_open opened.old x ≡ true → is_open opened.new x ≡ true }
+{
+    opened[object as usize % COUNT] = true;
+}
+
+// The slot of a queue's row, which it gets if it has none.
+#[inline(always)]
+fn row_slot<A: Allocator + Copy>(
+    rows: &mut Rows<A>,
+    opened: &mut [bool; COUNT],
+    object: u64,
+) -> usize
+    requires room { lookup (nat_eq object) (rows_of rows.old) ≡ None
+        → Unique (numbers (rows_of rows.old)) → 0 < rows.old.room }
+    requires noted { is_listed object (numbers (rows_of rows.old)) ≡ true
+        → is_open opened.old object ≡ true }
+    ensures at { lookup (nat_eq object) rows.new.places ≡ Some result }
+    ensures same { (x : ℕ) → queue_at (rows_of rows.new) x ≡ queue_at (rows_of rows.old) x }
+    ensures listed { (x : ℕ) → is_listed x (numbers (rows_of rows.new))
+        ≡ (is_listed x (numbers (rows_of rows.old)) || (object == x)) }
+    ensures room { length (rows_of rows.old) + rows.old.room
+        ≤ length (rows_of rows.new) + rows.new.room }
+    ensures own { is_open opened.new object ≡ true }
+    ensures kept { (x : ℕ) → is_open opened.old x ≡ true → is_open opened.new x ≡ true }
+{
+    if let Some(slot) = rows.slot_from(rows.hint(object), object) {
+        return slot;
+    }
+    let slot = rows.add(object);
+    set_open(opened, object);
+    slot
+}
+
+// How many wait in a queue whose row is not at the place that its hint gives.
+#[cold]
+#[inline(never)]
+fn len_far<A: Allocator + Copy>(queues: &Queues<A>, object: u64) -> usize
+    ensures { result
+        ≡ unwrap_or (option_map (λ q. q.len) (lookup (nat_eq object) queues.now)) 0 }
+{
+    if !is_open(&queues.opened, object) {
+        return 0;
+    }
+    sides::len_of(&queues.rows, object)
+}
+
+/// How many wait in a queue.
+#[inline(always)]
+pub(crate) fn len_of<A: Allocator + Copy>(queues: &Queues<A>, object: u64) -> usize
+    ensures { result
+        ≡ unwrap_or (option_map (λ q. q.len) (lookup (nat_eq object) queues.now)) 0 }
+{
+    match sides::len_by_hint(&queues.rows, object) {
+        Some(len) => len,
+        None => len_far(queues, object),
+    }
+}
+
+/// Makes a node the tail of a chain of a queue that there is, and returns the tail before. A queue
+/// with no waiter takes a spare box.
+#[inline(always)]
+pub(crate) fn insert<A: Allocator + Copy>(
+    queues: &mut Queues<A>,
+    spares: &mut Spares<A>,
+    object: u64,
+    writer: bool,
+    p: usize,
+    node: NodeIndex,
+) -> Link
+    requires index { p < most_priority }
+    requires there { IsSome (lookup (nat_eq object) queues.old) }
+    requires room { IfSome (lookup (nat_eq object) queues.old) (λ q.
+        slice_index (side_of writer q).counts p + 1 < 2 ^ 32) }
+    requires len { IfSome (lookup (nat_eq object) queues.old) (λ q. q.len + 1 < 2 ^ 64) }
+    requires spare { IfSome (lookup (nat_eq object) queues.old) (λ q.
+        q.len ≡ 0 → 0 < vec_len spares.old) }
+    requires empty { Each (λ b. HasNone b.value) spares.old.items }
+    ensures numbers { numbers queues.new ≡ numbers queues.old }
+    ensures others { (x : ℕ)
+        → (object == x) ≡ false
+        → lookup (nat_eq x) queues.new ≡ lookup (nat_eq x) queues.old }
+    ensures queue { (old new : Queue)
+        → lookup (nat_eq object) queues.old ≡ Some old
+        → lookup (nat_eq object) queues.new ≡ Some new
+        → IsPut writer p node result old new }
+    ensures spares { (old : Queue)
+        → lookup (nat_eq object) queues.old ≡ Some old
+        → vec_len spares.new + (if old.len == 0 then 1 else 0) ≡ vec_len spares.old }
+    ensures capacity { vec_capacity spares.new ≡ vec_capacity spares.old }
+    ensures empty { Each (λ b. HasNone b.value) spares.new.items }
+{
+    let slot = row_slot(&mut queues.rows, &mut queues.opened, object);
+    queues.rows.put_in(slot, spares, writer, p, node)
+}
+
+/// Takes a node out of a chain of a queue in which it is, if it was between these two. Returns the
+/// queue's box if no one waits there any more.
+#[inline(always)]
+pub(crate) fn remove<A: Allocator + Copy>(
+    queues: &mut Queues<A>,
+    at: usize,
+    object: u64,
+    writer: bool,
+    p: usize,
+    before: Link,
+    next: Link,
+) -> Option<Box<MarkedQueue, A>>
+    requires index { p < most_priority }
+    requires there { IsSome (lookup (nat_eq object) queues.old) }
+    requires stands { IfSome (lookup (nat_eq object) queues.old) (λ q.
+        1 ≤ slice_index (side_of writer q).counts p) }
+    requires len { IfSome (lookup (nat_eq object) queues.old) (λ q. 1 ≤ q.len) }
+    ensures numbers { numbers queues.new ≡ numbers queues.old }
+    ensures others { (x : ℕ)
+        → (object == x) ≡ false
+        → lookup (nat_eq x) queues.new ≡ lookup (nat_eq x) queues.old }
+    ensures queue { (old new : Queue)
+        → lookup (nat_eq object) queues.old ≡ Some old
+        → lookup (nat_eq object) queues.new ≡ Some new
+        → IsEmptied writer p before next old new (option_map (λ b. b.value) result) }
+{
+    sides::remove(&mut queues.rows, at, object, writer, p, before, next)
+}
+
+/// Makes an empty queue, and returns whether there was memory for its row.
+pub(crate) fn make<A: Allocator + Copy>(queues: &mut Queues<A>, object: u64) -> bool
+    requires { lookup (nat_eq object) queues.old ≡ None }
+    ensures numbers { numbers queues.new
+        ≡ (if result then numbers queues.old ++ object ∷ [] else numbers queues.old) }
+    ensures others { (x : ℕ)
+        → (object == x) ≡ false
+        → lookup (nat_eq x) queues.new ≡ lookup (nat_eq x) queues.old }
+    ensures queue { (new : Queue)
+        → lookup (nat_eq object) queues.new ≡ Some new
+        → new ≡ no_queue }
+{
+    if queues.len >= MOST_QUEUES {
+        return false;
+    }
+    if !queues.rows.reserve(queues.len + 1) {
+        return false;
+    }
+    queues.log = queues.log.and(&true, &object);
+    queues.len += 1;
+    true
+}
+
+// Takes a queue's row away, if such a queue ever had one.
+#[inline(always)]
+fn close<A: Allocator + Copy>(rows: &mut Rows<A>, opened: &[bool; COUNT], object: u64)
+    requires { is_open opened.now object ≡ false
+        → lookup (nat_eq object) (rows_of rows.old) ≡ None }
+    ensures rows { (x : ℕ) → lookup (nat_eq x) (rows_of rows.new)
+        ≡ (if object == x then None else lookup (nat_eq x) (rows_of rows.old)) }
+    ensures room { length (rows_of rows.old) + rows.old.room
+        ≤ length (rows_of rows.new) + rows.new.room + 1 }
+{
+    if !is_open(opened, object) {
+        return;
+    }
+    rows.take(object);
+}
+
+/// Takes a queue away, which is there.
+#[inline(always)]
+pub(crate) fn discard<A: Allocator + Copy>(queues: &mut Queues<A>, object: u64)
+    requires { IsSome (lookup (nat_eq object) queues.old) }
+    ensures queues { (x : ℕ) → lookup (nat_eq x) queues.new
+        ≡ (if object == x then None else lookup (nat_eq x) queues.old) }
+    ensures len { length queues.new ≤ length queues.old }
+{
+    close(&mut queues.rows, &queues.opened, object);
+    queues.log = queues.log.and(&false, &object);
+    queues.len -= 1;
+}
+
+/// The node of the first of a queue.
+#[inline(always)]
+pub(crate) fn first_of<A: Allocator + Copy>(queues: &Queues<A>, object: u64) -> Option<NodeIndex>
+    ensures none { lookup (nat_eq object) queues.now ≡ None → result ≡ None }
+    ensures queue { (queue : Queue)
+        → lookup (nat_eq object) queues.now ≡ Some queue
+        → IsFirst queue result }
+{
+    if !is_open(&queues.opened, object) {
+        return None;
+    }
+    sides::first_of(&queues.rows, object)
+}
+
+/// The slot in which a queue's row is looked for first. The row there may be another's.
+#[inline(always)]
+pub(crate) fn noted_row<A: Allocator + Copy>(queues: &Queues<A>, object: u64) -> usize {
+    queues.rows.hint(object)
+}
+
+/// As `first_of`, for a queue that has a row, most likely. That is looked for in this slot first.
+#[inline(always)]
+pub(crate) fn first_in_row<A: Allocator + Copy>(
+    queues: &Queues<A>,
+    at: usize,
+    object: u64,
+) -> Option<NodeIndex>
+    ensures none { lookup (nat_eq object) queues.now ≡ None → result ≡ None }
+    ensures queue { (queue : Queue)
+        → lookup (nat_eq object) queues.now ≡ Some queue
+        → IsFirst queue result }
+{
+    sides::first_from(&queues.rows, at, object)
+}
+
+/// The node of the first of a queue that asks for a write lock.
+pub(crate) fn first_writer_of<A: Allocator + Copy>(
+    queues: &Queues<A>,
+    object: u64,
+) -> Option<NodeIndex>
+    ensures none { lookup (nat_eq object) queues.now ≡ None → result ≡ None }
+    ensures queue { (queue : Queue)
+        → lookup (nat_eq object) queues.now ≡ Some queue
+        → IsFirstWriter queue result }
+{
+    if !is_open(&queues.opened, object) {
+        return None;
+    }
+    sides::first_writer_of(&queues.rows, object)
+}
+
+/// Whether a queue has a writer of the priority with this index or a higher one.
+pub(crate) fn has_writer_from<A: Allocator + Copy>(
+    queues: &Queues<A>,
+    object: u64,
+    p: usize,
+) -> bool
+    ensures none { lookup (nat_eq object) queues.now ≡ None → result ≡ false }
+    ensures queue { (queue : Queue)
+        → lookup (nat_eq object) queues.now ≡ Some queue
+        → IsTrue result ↔ HasWriterFrom queue p }
+{
+    if !is_open(&queues.opened, object) {
+        return false;
+    }
+    sides::has_writer_from(&queues.rows, object, p)
+}

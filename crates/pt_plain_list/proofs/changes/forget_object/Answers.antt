@@ -1,0 +1,60 @@
+use Rattle.std.proofs.Common.{ℕ, ◌==◌, not, length, refl, sym, ap, ◌∙◌}
+use Rattle.pt_plain_list.proofs.ForgetLemmas.{one-less, goes-down, at-most, kept-first}
+use Rattle.pt_plain_list.proofs.ForgetLemmas.{stands-ahead, kept-more, kept-less, kept-last}
+use Rattle.pt_plain_list.proofs.changes.forget_object.Goals as goal
+
+pub loop-i-preserved-then-eq : goal.loop-i-preserved-then-eq
+loop-i-preserved-then-eq g c =
+    let old = c.args.objects.now.items in
+    let kept = c.loop-i.invariant in (
+      one-less c.loop-i.i (length old) kept.0,
+      kept-less (λ (x : ℕ). not (x == c.args.object)) old c.loop-i.objects.items
+          c.remove.new.self.items c.loop-i.i c.index.result.now c.loop-i-test.true kept.0 kept.1
+          c.index.ensures (ap not (sym c.eq.ensures ∙ c.if-eq.true)) c.remove.ensures.items,
+      c.remove.ensures.capacity ∙ kept.2,
+    )
+
+pub loop-i-preserved : goal.loop-i-preserved
+loop-i-preserved g c =
+    let old = c.args.objects.now.items in
+    let kept = c.loop-i.invariant in (
+      one-less c.loop-i.i (length old) kept.0,
+      kept-more (λ (x : ℕ). not (x == c.args.object)) old c.loop-i.objects.items c.loop-i.i
+          c.index.result.now c.loop-i-test.true kept.0 kept.1 c.index.ensures
+          (ap not (sym c.eq.ensures ∙ c.if-eq.false)),
+      kept.2,
+    )
+
+pub returns : goal.returns
+returns g c =
+    kept-last (λ (x : ℕ). not (x == c.args.object)) c.args.objects.now.items c.loop-i.objects.items
+    c.loop-i.i c.loop-i-test.false c.loop-i.invariant.1
+
+pub loop-i-init : goal.loop-i-init
+loop-i-init g c =
+    let old = c.args.objects.now in
+    let all = c.len-i.ensures ∙ old.ok.0 in (
+      at-most c.len-i.result (length old.items) all,
+      kept-first (λ (x : ℕ). not (x == c.args.object)) old.items c.len-i.result all,
+      refl,
+    )
+
+pub index-requires : goal.index-requires
+index-requires g c =
+    let now = c.loop-i.objects in
+    let kept = c.loop-i.invariant in
+    stands-ahead (λ (x : ℕ). not (x == c.args.object)) c.args.objects.now.items now.items
+    c.loop-i.i now.len c.loop-i-test.true kept.0 kept.1 now.ok.0
+
+pub remove-requires : goal.remove-requires
+remove-requires g c =
+    let now = c.loop-i.objects in
+    let kept = c.loop-i.invariant in
+    stands-ahead (λ (x : ℕ). not (x == c.args.object)) c.args.objects.now.items now.items
+    c.loop-i.i now.len c.loop-i-test.true kept.0 kept.1 now.ok.0
+
+pub loop-i-smaller : goal.loop-i-smaller
+loop-i-smaller g c = goes-down c.loop-i.i c.loop-i-test.true
+
+pub loop-i-smaller-then-eq : goal.loop-i-smaller-then-eq
+loop-i-smaller-then-eq g c = goes-down c.loop-i.i c.loop-i-test.true

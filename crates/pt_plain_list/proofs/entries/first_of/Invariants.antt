@@ -1,0 +1,7 @@
+use Rattle.std.proofs.Common.{◌≡◌, take}
+use Rattle.pt_waitq.specs.Queues.{head_of}
+use Rattle.pt_waitq.specs.Waits.{queue_of}
+use Rattle.pt_plain_list.proofs.entries.first_of.Given as goal
+
+abbrev pub invariant-loop-i : goal.invariant-loop-i
+invariant-loop-i l = l.best ≡ head_of (queue_of l.object (take l.i l.entries))
