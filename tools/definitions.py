@@ -14,8 +14,8 @@ import textwrap
 
 TOP = pathlib.Path(__file__).resolve().parent.parent
 CRATES = (
-    "pt_types pt_core pt_hub pt_session pt_serve pt_script pt_fields pt_grammar pt_lines pt_io "
-    "pt_engine pt_history pt_hints pt_table pt_waitq pt_chains pt_timers pt_mutex pt_rwlock "
+    "pt_types pt_legal pt_core pt_hub pt_session pt_serve pt_script pt_fields pt_grammar pt_lines "
+    "pt_io pt_engine pt_history pt_hints pt_table pt_waitq pt_chains pt_timers pt_mutex pt_rwlock "
     "pt_cond pt_barrier"
 ).split()
 HEAD = """# Definitions

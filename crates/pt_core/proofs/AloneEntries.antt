@@ -20,7 +20,7 @@ use Rattle.pt_history.specs.Stored.{Stored, past_of}
 use Rattle.pt_history.proofs.Places.{place_of_next}
 use Rattle.pt_state.specs.declared.state.State.{State}
 use Rattle.pt_state.specs.Adds.{Adds, past, pushed}
-use Rattle.pt_core.specs.Applying.{own_told, told_at_once}
+use Rattle.pt_legal.specs.Applying.{own_told, told_at_once}
 use Rattle.pt_core.specs.Settling.{IsAlone}
 use Rattle.pt_core.proofs.AnswersStay.{told-called}
 use Rattle.pt_core.proofs.WholeLemmas.{past-added}

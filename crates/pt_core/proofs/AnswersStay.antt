@@ -20,7 +20,7 @@ use Rattle.pt_model.proofs.Steps.{step-forced}
 use Rattle.pt_history.specs.Stored.{Stored, past_of}
 use Rattle.pt_history.proofs.Places.{past-pushed, place_of_next}
 use Rattle.pt_machine.specs.Planned.{entry_with}
-use Rattle.pt_core.specs.Applying.{IsToldStill}
+use Rattle.pt_legal.specs.Applying.{IsToldStill}
 use Rattle.pt_core.specs.Settling.{Enters, Forces, IsReady, IsSettling}
 use Rattle.pt_core.proofs.SettlingLemmas.{ready-follows}
 

@@ -17,7 +17,7 @@ use Rattle.pt_state.specs.Adds.{Adds, IsReadyFor, past}
 use Rattle.pt_machine.specs.declared.planning.Plan.{Plan}
 use Rattle.pt_machine.specs.GrantedAtOnce.{AddsBoth, IsReadyAfter}
 use Rattle.pt_machine.specs.Planned.{IsPlanned, entry_with}
-use Rattle.pt_core.specs.Applying.{told_at_once}
+use Rattle.pt_legal.specs.Applying.{told_at_once}
 use Rattle.pt_core.specs.Settling.{Enters}
 use Rattle.pt_core.specs.Trying.{Wrote}
 use Rattle.pt_core.specs.Wholes.{Begins, HasRoom, IsRoomy}

@@ -13,8 +13,8 @@ use Rattle.pt_model.specs.Room.{need, refusal, entry_for, is_over, room_for, nee
 use Rattle.pt_model.specs.Room.{refusal_within, refusal_with_seals}
 use Rattle.pt_history.specs.Stored.{Stored, past_of}
 use Rattle.pt_history.proofs.Places.{held-past}
-use Rattle.pt_core.specs.Cores.{IsKept}
-use Rattle.pt_core.specs.Applying.{is_death}
+use Rattle.pt_core.specs.Stores.{IsKept}
+use Rattle.pt_legal.specs.Applying.{is_death}
 use Rattle.pt_core.specs.Settling.{IsReady}
 use Rattle.pt_core.proofs.AcceptingLemmas.{death-fits, unrefused-alive}
 

@@ -26,8 +26,9 @@ use Rattle.pt_state.specs.declared.state.State.{State}
 use Rattle.pt_state.specs.Adds.{past}
 use Rattle.pt_state.specs.Sealed.{Seals}
 use Rattle.pt_state.proofs.SealedTables.{past-sealed}
-use Rattle.pt_core.specs.Cores.{Kept, kept}
-use Rattle.pt_core.specs.Sealing.{sealed, seal_refusal}
+use Rattle.pt_legal.specs.Cores.{Kept}
+use Rattle.pt_core.specs.Stores.{kept}
+use Rattle.pt_legal.specs.Sealing.{sealed, seal_refusal}
 use Rattle.pt_core.specs.Wholes.{IsWhole}
 
 le-false : (a b : ℕ) → b < a → nat_le a b ≡ false

@@ -1,7 +1,8 @@
 -- A core shows what is kept of its state.
 use Rattle.std.proofs.Common.{◌≡◌, ap, ◌∙◌}
 use Rattle.pt_state.specs.declared.state.State.{State}
-use Rattle.pt_core.specs.Cores.{Seen, kept, seen, shown}
+use Rattle.pt_legal.specs.Cores.{Seen, shown}
+use Rattle.pt_core.specs.Stores.{kept, seen}
 
 module _ {A : Type 0} (lent inside : State A) (view : Seen) (same : lent ≡ inside)
     (is : seen inside.stored ≡ view) where

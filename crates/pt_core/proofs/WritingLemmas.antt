@@ -11,8 +11,8 @@ use Rattle.pt_model.specs.Forced.{forced}
 use Rattle.pt_model.specs.StartRows.{StartRows, reads_of}
 use Rattle.pt_history.specs.Stored.{Stored, past_of}
 use Rattle.pt_history.proofs.Places.{place_of_next}
-use Rattle.pt_core.specs.Cores.{kept}
-use Rattle.pt_core.specs.Applying.{AnswersOwn, Writes, IsWritten, told_at_once}
+use Rattle.pt_core.specs.Stores.{kept}
+use Rattle.pt_legal.specs.Applying.{AnswersOwn, Writes, IsWritten, told_at_once}
 use Rattle.pt_core.specs.Settling.{Enters, IsAlone, IsMade}
 use Rattle.pt_core.proofs.AcceptingLemmas.{unrefused-itself, same-past}
 use Rattle.pt_core.proofs.SettlingLemmas.{applied-extends, applied-legal}

@@ -7,12 +7,12 @@ use Rattle.pt_model.specs.declared.entry.Event.{Event}
 use Rattle.pt_model.specs.Room.{needs_seal}
 use Rattle.pt_state.specs.declared.state.State.{State}
 use Rattle.pt_state.specs.Adds.{past}
-use Rattle.pt_core.specs.declared.applied.Applied.{Applied}
+use Rattle.pt_legal.specs.declared.applied.Applied.{Applied}
 use Rattle.pt_core.specs.declared.frequent.Tried.{Tried}
 use Rattle.pt_core.specs.declared.frequent.Tried.TheVariants.{Alone, Answered, Unanswered, Refused}
 use Rattle.pt_core.specs.declared.frequent.Tried.TheVariants.{Left}
-use Rattle.pt_core.specs.Applying.{IsNotWritten, IsWritten, is_death}
-use Rattle.pt_core.specs.Cores.{kept, seen}
+use Rattle.pt_legal.specs.Applying.{IsNotWritten, IsWritten, is_death}
+use Rattle.pt_core.specs.Stores.{kept, seen}
 use Rattle.pt_core.specs.Wholes.{IsWhole}
 
 -- what came of an event that has this answer, if it has one, by whether it is known to have

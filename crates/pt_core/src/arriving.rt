@@ -6,7 +6,7 @@ ghost use Rattle.pt_model.specs.Histories.{place};
 ghost use Rattle.pt_model.specs.Room.{needs_seal, refusal as refusal_in};
 ghost use Rattle.pt_state.specs.Adds.{past};
 ghost use Rattle.pt_machine.specs.Planned.{IsPlanned};
-ghost use Rattle.pt_core.specs.Applying.{told_at_once};
+ghost use Rattle.pt_legal.specs.Applying.{told_at_once};
 ghost use Rattle.pt_core.specs.Settling.{Enters};
 ghost use Rattle.pt_core.specs.Trying.{IsTried};
 ghost use Rattle.pt_core.specs.Wholes.{HasRoom, IsRoomy, IsWhole};

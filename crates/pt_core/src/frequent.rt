@@ -5,16 +5,16 @@ ghost use Rattle.std.specs.Prelude.{◌≡◌, ◌+◌, ◌<◌, ℕ, None, true
 ghost use Rattle.pt_model.specs.Clients.{is_alive};
 ghost use Rattle.pt_model.specs.Room.{refusal as refusal_in};
 ghost use Rattle.pt_state.specs.Adds.{past};
-ghost use Rattle.pt_core.specs.Applying.{IsApplied, IsRefusal};
-ghost use Rattle.pt_core.specs.Cores.{kept, seen};
+ghost use Rattle.pt_legal.specs.Applying.{IsApplied, IsRefusal};
+ghost use Rattle.pt_core.specs.Stores.{kept, seen};
 ghost use Rattle.pt_core.specs.Trying.{IsTried, tried_as};
 ghost use Rattle.pt_core.specs.Wholes.{IsWhole};
 
-use crate::applied::Applied;
 use crate::applying::{apply, plan};
 use crate::arriving::try_arrival;
 use crate::settling::{AtOnce, InTurn};
 use crate::writing::write;
+use pt_legal::Applied;
 use pt_machine::Body;
 use pt_model::Event;
 use pt_types::{Call, Outcome, Refusal};

@@ -2,8 +2,8 @@
 
 ghost use Rattle.std.specs.Prelude.{IfErr, IfOk, None, OnErr, Some, nat_lt, if◌then◌else◌, ◌≡◌};
 ghost use Rattle.pt_types.specs.Limits.{most_places};
-ghost use Rattle.pt_core.specs.Cores.{kept, seen};
-ghost use Rattle.pt_core.specs.Sealing.{IsSealed, seal_refusal};
+ghost use Rattle.pt_core.specs.Stores.{kept, seen};
+ghost use Rattle.pt_legal.specs.Sealing.{IsSealed, seal_refusal};
 ghost use Rattle.pt_core.specs.Wholes.{IsWhole};
 
 use pt_machine::Body;

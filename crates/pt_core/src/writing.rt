@@ -7,13 +7,13 @@ ghost use Rattle.pt_state.specs.Adds.{past};
 ghost use Rattle.pt_state.specs.Reads.{AreTables};
 ghost use Rattle.pt_machine.specs.Memory.{needs_memory};
 ghost use Rattle.pt_machine.specs.Planned.{IsPlanned};
-ghost use Rattle.pt_core.specs.Cores.{kept, seen};
+ghost use Rattle.pt_core.specs.Stores.{kept, seen};
 ghost use Rattle.pt_core.specs.Wholes.{HasEnough, IsWhole};
-ghost use Rattle.pt_core.specs.Applying.{IsWritten, IsNotWritten, is_death as is_death_of};
-ghost use Rattle.pt_core.specs.Applying.{told_at_once, IsToldStill};
+ghost use Rattle.pt_legal.specs.Applying.{IsWritten, IsNotWritten, is_death as is_death_of};
+ghost use Rattle.pt_legal.specs.Applying.{told_at_once, IsToldStill};
 
-use crate::applied::Applied;
 use crate::settling::{Way, enter, make_room};
+use pt_legal::Applied;
 use pt_machine::{Body, Plan};
 use pt_model::Event;
 use pt_types::{Outcome, Refusal};

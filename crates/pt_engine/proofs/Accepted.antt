@@ -18,9 +18,9 @@ use Rattle.pt_model.specs.Answers.{replies_from}
 use Rattle.pt_model.specs.Queries.{answers_behind}
 use Rattle.pt_model.specs.Room.{refusal_with_seals, entry_for}
 use Rattle.pt_model.proofs.Histories.{place-behind}
-use Rattle.pt_core.specs.declared.applied.Applied.{Applied}
-use Rattle.pt_core.specs.Cores.{Kept, past}
-use Rattle.pt_core.specs.Applying.{IsApplied, IsRefusal, IsWantOfMemory, IsWritten, opened}
+use Rattle.pt_legal.specs.declared.applied.Applied.{Applied}
+use Rattle.pt_legal.specs.Cores.{Kept, past}
+use Rattle.pt_legal.specs.Applying.{IsApplied, IsRefusal, IsWantOfMemory, IsWritten, opened}
 use Rattle.pt_engine.specs.declared.line_id.LineId.{LineId}
 use Rattle.pt_engine.specs.declared.mark.Mark.{Mark}
 use Rattle.pt_engine.specs.declared.mark.Mark.TheVariants as mark

@@ -17,9 +17,9 @@ use Rattle.pt_model.specs.Steps.{Follows}
 use Rattle.pt_model.specs.Verdicts.{verdict}
 use Rattle.pt_model.proofs.Histories.{place-onto}
 use Rattle.pt_model.proofs.Sound.{Fresh-follows}
-use Rattle.pt_core.specs.declared.applied.Applied.{Applied}
-use Rattle.pt_core.specs.Cores.{Kept, past}
-use Rattle.pt_core.specs.Applying.{IsApplied, IsWritten, opened, own_told, told_at_once}
+use Rattle.pt_legal.specs.declared.applied.Applied.{Applied}
+use Rattle.pt_legal.specs.Cores.{Kept, past}
+use Rattle.pt_legal.specs.Applying.{IsApplied, IsWritten, opened, own_told, told_at_once}
 use Rattle.pt_engine.specs.declared.line_id.LineId.{LineId}
 use Rattle.pt_engine.specs.declared.mark.Mark.{Mark}
 use Rattle.pt_engine.specs.declared.mark.Mark.TheVariants as mark

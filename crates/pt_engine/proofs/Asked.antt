@@ -17,9 +17,9 @@ use Rattle.pt_model.proofs.Histories.{follows-part}
 use Rattle.pt_model.proofs.Lists.{Each-weaker}
 use Rattle.pt_model.proofs.Opens.{open-sealed}
 use Rattle.pt_told.proofs.EventTallies.{place-more}
-use Rattle.pt_core.specs.declared.applied.Applied.{Applied}
-use Rattle.pt_core.specs.Cores.{Kept, past}
-use Rattle.pt_core.specs.Applying.{IsApplied, IsWritten, opened, told_at_once}
+use Rattle.pt_legal.specs.declared.applied.Applied.{Applied}
+use Rattle.pt_legal.specs.Cores.{Kept, past}
+use Rattle.pt_legal.specs.Applying.{IsApplied, IsWritten, opened, told_at_once}
 use Rattle.pt_engine.specs.declared.line_id.LineId.{LineId}
 use Rattle.pt_engine.specs.declared.mark.Mark.{Mark}
 use Rattle.pt_engine.specs.Scripts.{calls_with, entries_between_seals, told_text}

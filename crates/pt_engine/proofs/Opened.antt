@@ -16,9 +16,9 @@ use Rattle.pt_model.proofs.Histories.{onto-append}
 use Rattle.pt_model.proofs.Induction.{start-seal}
 use Rattle.pt_model.proofs.Legality.{behind-follows, behind-settled, events_of-legal}
 use Rattle.pt_told.specs.GoesOn.{GoesOn}
-use Rattle.pt_core.specs.Cores.{Kept, past}
-use Rattle.pt_core.specs.Applying.{Writes, opened}
-use Rattle.pt_core.specs.Sealing.{sealed}
+use Rattle.pt_legal.specs.Cores.{Kept, past}
+use Rattle.pt_legal.specs.Applying.{Writes, opened}
+use Rattle.pt_legal.specs.Sealing.{sealed}
 use Rattle.pt_engine.specs.Engines.{IsLegal}
 
 -- what holds of a core for which no seal is needed, and of its seal if one is

@@ -1,7 +1,7 @@
 -- What holds of an engine whose core, and the lines that it stores, are as they were.
 use Rattle.std.proofs.Common.{◌≡◌, ℕ, List, [], sym, ap, subst, ◌∙◌}
 use Rattle.pt_model.specs.Starts.{nothing}
-use Rattle.pt_core.specs.Cores.{Kept, Seen, past, shown}
+use Rattle.pt_legal.specs.Cores.{Kept, Seen, past, shown}
 use Rattle.pt_engine.specs.declared.line_id.LineId.{LineId}
 use Rattle.pt_engine.specs.Names.{Known}
 use Rattle.pt_engine.specs.Scripts.{Script, begun, entries_between_seals}

@@ -22,7 +22,7 @@ use Rattle.pt_model.proofs.Found.{newest_call}
 use Rattle.pt_model.proofs.Once.{open_unanswered}
 use Rattle.pt_model.proofs.OneEach.{none_of_client}
 use Rattle.pt_model.proofs.Opens.{left, was_open}
-use Rattle.pt_core.specs.Applying.{told_at_once}
+use Rattle.pt_legal.specs.Applying.{told_at_once}
 use Rattle.pt_engine.specs.declared.line_id.LineId.{LineId}
 use Rattle.pt_engine.specs.Scripts.{calls_with}
 use Rattle.pt_engine.specs.Engines.{AreLines, IsAsked, IsLineOf, latest_line, mark_of, own_first}

@@ -20,7 +20,7 @@ use Rattle.pt_model.specs.Searches.{In}
 use Rattle.pt_model.specs.Answers.{open_calls}
 use Rattle.pt_model.specs.Legal.{LegalBehind, events_of}
 use Rattle.pt_model.specs.Steps.{IsStart}
-use Rattle.pt_core.specs.Cores.{Kept, Seen, shown}
+use Rattle.pt_legal.specs.Cores.{Kept, Seen, shown}
 use Rattle.pt_engine.specs.declared.line_id.LineId.{LineId}
 use Rattle.pt_engine.specs.declared.mark.Mark.{Mark}
 use Rattle.pt_engine.specs.declared.mark.Mark.TheVariants.{Client, Call, Nothing}

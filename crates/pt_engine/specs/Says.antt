@@ -10,8 +10,8 @@ use Rattle.pt_model.specs.declared.entry.Event.{Event}
 use Rattle.pt_model.specs.Histories.{place}
 use Rattle.pt_model.specs.Answers.{replies_from}
 use Rattle.pt_model.specs.Room.{refusal_with_seals}
-use Rattle.pt_core.specs.Cores.{Kept, past}
-use Rattle.pt_core.specs.Applying.{Writes, is_death, opened}
+use Rattle.pt_legal.specs.Cores.{Kept, past}
+use Rattle.pt_legal.specs.Applying.{Writes, is_death, opened}
 use Rattle.pt_engine.specs.declared.line_id.LineId.{LineId}
 use Rattle.pt_engine.specs.Scripts.{Script, core_of, line_id, event_of_line, told_text}
 use Rattle.pt_engine.specs.Scripts.{refusal_text, clients_with, calls_with, greeting}

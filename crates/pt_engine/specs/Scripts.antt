@@ -22,7 +22,7 @@ use Rattle.pt_model.specs.Starts.{Start, nothing}
 use Rattle.pt_model.specs.Histories.{History}
 use Rattle.pt_model.specs.Clients.{is_alive}
 use Rattle.pt_model.specs.Records.{Told}
-use Rattle.pt_core.specs.Cores.{Kept, past}
+use Rattle.pt_legal.specs.Cores.{Kept, past}
 use Rattle.pt_engine.specs.declared.line_id.LineId.{LineId}
 
 -- after some lines: what the history of the accepted ones begins with and its entries since, whose

@@ -2,7 +2,7 @@
 
 ghost use Rattle.std.specs.Prelude.{◌≡◌, ◌<◌, ◌++◌, None, true, OnOk, IfErr};
 ghost use Rattle.pt_model.specs.Queries.{answers_behind};
-ghost use Rattle.pt_core.specs.Cores.{shown};
+ghost use Rattle.pt_legal.specs.Cores.{shown};
 ghost use Rattle.pt_engine.specs.Scripts.{lines_of_who, number_of};
 ghost use Rattle.pt_engine.specs.Engines.{clients_marked, calls_marked, greeting_marked};
 ghost use Rattle.pt_engine.specs.Engines.{latest_text, own_answers, own_first, IsAsked};

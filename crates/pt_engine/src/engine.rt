@@ -35,7 +35,7 @@ pub struct Engine<A: Allocator + Copy = Global> {
 }
 
 impl<A: Allocator + Copy> Model for Engine<A> {
-    ghost use Rattle.pt_core.specs.Cores.{past, shown};
+    ghost use Rattle.pt_legal.specs.Cores.{past, shown};
     ghost use Rattle.pt_engine.specs.Engines.{AreLines, Heard, IsSound};
 
     ghost Value = { Heard };
@@ -67,7 +67,7 @@ impl<A: Allocator + Copy> Engine<A> {
     ghost use Rattle.pt_model.specs.Histories.{place};
     ghost use Rattle.pt_model.specs.Clients.{is_alive};
     ghost use Rattle.pt_grammar.specs.Script.{short_read};
-    ghost use Rattle.pt_core.specs.Cores.{past};
+    ghost use Rattle.pt_legal.specs.Cores.{past};
     ghost use Rattle.pt_engine.specs.Scripts.{begun, core_of, event_for, join_for};
     ghost use Rattle.pt_engine.specs.Scripts.{lines_of_who, number_of, of_client, refusal_of_hello};
     ghost use Rattle.pt_engine.specs.Says.{Says, SaysOf, SaysTo};

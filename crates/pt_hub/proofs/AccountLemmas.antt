@@ -14,8 +14,8 @@ use Rattle.pt_model.specs.Room.{entry_for}
 use Rattle.pt_model.specs.Steps.{IsStart}
 use Rattle.pt_told.specs.Tallies.{asks}
 use Rattle.pt_told.proofs.Strangers.{stranger-told, stranger-open}
-use Rattle.pt_core.specs.Cores.{Kept, past}
-use Rattle.pt_core.specs.Applying.{Writes}
+use Rattle.pt_legal.specs.Cores.{Kept, past}
+use Rattle.pt_legal.specs.Applying.{Writes}
 use Rattle.pt_hub.specs.declared.account.Account.{Account}
 use Rattle.pt_hub.specs.Desks.{IsServed, IsAccount, awaiting, fresh, one_if, owed}
 use Rattle.pt_hub.proofs.AppliedLemmas.{follows-applied, alive-applied, latest-applied}

@@ -3,7 +3,7 @@ use Rattle.std.proofs.Common.{◌≡◌, ◌<◌, ◌≤◌, Some, None, IfSome,
 use Rattle.pt_types.specs.declared.outcome.Outcome.{Outcome}
 use Rattle.pt_model.specs.Answers.{outcome}
 use Rattle.pt_told.specs.OwnEvents.{Finds}
-use Rattle.pt_core.specs.Cores.{Kept, past}
+use Rattle.pt_legal.specs.Cores.{Kept, past}
 use Rattle.pt_hub.specs.declared.pass.Receipt.{Receipt}
 use Rattle.pt_hub.specs.Closing.{IsAnswered, IsMistold}
 

@@ -20,9 +20,9 @@ use Rattle.pt_told.specs.Tallies.{told_count, open_count, asks}
 use Rattle.pt_told.specs.GoesOn.{GoesOn}
 use Rattle.pt_told.proofs.EventTallies.{events-more, before-more, alive-more, latest-more}
 use Rattle.pt_told.proofs.EventTallies.{outer-more, place-more, told-more, tally-more}
-use Rattle.pt_core.specs.declared.applied.Applied.{Applied}
-use Rattle.pt_core.specs.Cores.{Kept, past}
-use Rattle.pt_core.specs.Applying.{Writes, IsWritten}
+use Rattle.pt_legal.specs.declared.applied.Applied.{Applied}
+use Rattle.pt_legal.specs.Cores.{Kept, past}
+use Rattle.pt_legal.specs.Applying.{Writes, IsWritten}
 use Rattle.pt_hub.specs.Desks.{got}
 
 -- what isn't refused is within its limit

@@ -8,9 +8,9 @@ use Rattle.pt_model.specs.Clients.{is_alive}
 use Rattle.pt_model.specs.Queries.{latest, told_at, told_if}
 use Rattle.pt_model.specs.Room.{entry_for}
 use Rattle.pt_model.specs.Steps.{IsStart}
-use Rattle.pt_core.specs.declared.applied.Applied.{Applied}
-use Rattle.pt_core.specs.Cores.{Kept, past}
-use Rattle.pt_core.specs.Applying.{IsWritten}
+use Rattle.pt_legal.specs.declared.applied.Applied.{Applied}
+use Rattle.pt_legal.specs.Cores.{Kept, past}
+use Rattle.pt_legal.specs.Applying.{IsWritten}
 use Rattle.pt_hub.specs.declared.account.Account.{Account}
 use Rattle.pt_hub.specs.Desks.{Desk, IsAccount, IsDesk, account_of, is_blocked, kept, next_answer}
 use Rattle.pt_hub.proofs.AppliedLemmas.{latest-applied}

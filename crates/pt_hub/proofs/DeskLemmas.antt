@@ -16,9 +16,9 @@ use Rattle.pt_model.specs.Queries.{latest}
 use Rattle.pt_model.specs.Legal.{LegalBehind, events_of}
 use Rattle.pt_model.specs.Steps.{IsStart, begins}
 use Rattle.pt_model.proofs.Histories.{place-behind}
-use Rattle.pt_core.specs.declared.applied.Applied.{Applied}
-use Rattle.pt_core.specs.Cores.{Kept, Seen, past, shown}
-use Rattle.pt_core.specs.Applying.{IsWritten}
+use Rattle.pt_legal.specs.declared.applied.Applied.{Applied}
+use Rattle.pt_legal.specs.Cores.{Kept, Seen, past, shown}
+use Rattle.pt_legal.specs.Applying.{IsWritten}
 use Rattle.pt_hub.specs.declared.account.Account.{Account}
 use Rattle.pt_hub.specs.Desks.{Desk, kept, account_of, awaiting, after_taking, fresh, next_answer}
 use Rattle.pt_hub.specs.Desks.{IsAccount, IsDesk, IsDeskOf, Wrote}

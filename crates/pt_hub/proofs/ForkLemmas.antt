@@ -12,7 +12,7 @@ use Rattle.pt_told.specs.OwnEvents.{own_at, placed_since, place_if, PartsAt, Fin
 use Rattle.pt_told.proofs.Partings.{parts-found}
 use Rattle.pt_told.proofs.Walks.{Walks, own_left, own-end, own-dead, walk-begin, walk-on, walk-met}
 use Rattle.pt_told.proofs.Walks.{walk-parts, walk-end}
-use Rattle.pt_core.specs.Cores.{Kept, past}
+use Rattle.pt_legal.specs.Cores.{Kept, past}
 use Rattle.pt_hub.specs.Passes.{LeftView}
 use Rattle.pt_hub.specs.Closing.{claims, own_events, claims_since, IsAnswered, IsMistold, AnyAt}
 use Rattle.pt_hub.specs.Closing.{DiffersAt, Holds, IsLeastFork, lesser}

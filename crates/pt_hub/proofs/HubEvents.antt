@@ -10,9 +10,9 @@ use Rattle.pt_model.specs.Histories.{History, place as place_of}
 use Rattle.pt_model.specs.Clients.{is_alive}
 use Rattle.pt_model.specs.Answers.{outcome}
 use Rattle.pt_model.specs.Queries.{latest, told_at, told_if}
-use Rattle.pt_core.specs.declared.applied.Applied.{Applied}
-use Rattle.pt_core.specs.Cores.{Kept, past}
-use Rattle.pt_core.specs.Applying.{Applies, IsApplied, IsWritten}
+use Rattle.pt_legal.specs.declared.applied.Applied.{Applied}
+use Rattle.pt_legal.specs.Cores.{Kept, past}
+use Rattle.pt_legal.specs.Applying.{Applies, IsApplied, IsWritten}
 use Rattle.pt_types.specs.declared.outcome.Outcome.{Outcome}
 use Rattle.pt_hub.specs.declared.pass.Answer.{Answer}
 use Rattle.pt_hub.specs.declared.pass.Receipt.{Receipt}

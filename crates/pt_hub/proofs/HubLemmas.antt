@@ -8,10 +8,10 @@ use Rattle.pt_model.specs.Starts.{nothing}
 use Rattle.pt_model.specs.Histories.{place, outer}
 use Rattle.pt_model.specs.Legal.{LegalBehind, events_of}
 use Rattle.pt_model.specs.Steps.{IsStart}
-use Rattle.pt_core.specs.declared.applied.Applied.{Applied}
-use Rattle.pt_core.specs.Cores.{Kept, Seen, past}
-use Rattle.pt_core.specs.Applying.{IsApplied, IsWritten, opened}
-use Rattle.pt_core.specs.Sealing.{IsSealed}
+use Rattle.pt_legal.specs.declared.applied.Applied.{Applied}
+use Rattle.pt_legal.specs.Cores.{Kept, Seen, past}
+use Rattle.pt_legal.specs.Applying.{IsApplied, IsWritten, opened}
+use Rattle.pt_legal.specs.Sealing.{IsSealed}
 use Rattle.pt_hub.specs.Desks.{Desk, kept}
 use Rattle.pt_hub.specs.Hubs.{HubView, TallyView, IsHub}
 use Rattle.pt_hub.proofs.AppliedLemmas.{outer-applied, place-applied}

@@ -12,8 +12,8 @@ use Rattle.pt_model.specs.declared.entry.Event.TheVariants as event
 use Rattle.pt_model.specs.Clients.{is_alive}
 use Rattle.pt_model.specs.Room.{refusal_for_room, refusal_of_stranger, refusal_within}
 use Rattle.pt_model.specs.Room.{refusal_with_seals}
-use Rattle.pt_core.specs.Cores.{Kept, past}
-use Rattle.pt_core.specs.Applying.{IsRefusal, IsWantOfMemory}
+use Rattle.pt_legal.specs.Cores.{Kept, past}
+use Rattle.pt_legal.specs.Applying.{IsRefusal, IsWantOfMemory}
 use Rattle.pt_hub.specs.Desks.{Desk, IsRefusedAs, call_refusal, kept}
 use Rattle.pt_hub.specs.Hubs.{HubView}
 use Rattle.pt_hub.specs.Passes.{PassView}

@@ -12,10 +12,10 @@ use Rattle.pt_model.specs.declared.entry.Event.TheVariants as event
 use Rattle.pt_model.specs.Histories.{place}
 use Rattle.pt_model.specs.Queries.{told_if}
 use Rattle.pt_model.specs.Room.{needs_seal}
-use Rattle.pt_core.specs.declared.applied.Applied.{Applied}
-use Rattle.pt_core.specs.Cores.{Kept, past, Seen, shown}
-use Rattle.pt_core.specs.Applying.{IsApplied, IsWritten, opened}
-use Rattle.pt_core.specs.Sealing.{IsSealed, sealed}
+use Rattle.pt_legal.specs.declared.applied.Applied.{Applied}
+use Rattle.pt_legal.specs.Cores.{Kept, past, Seen, shown}
+use Rattle.pt_legal.specs.Applying.{IsApplied, IsWritten, opened}
+use Rattle.pt_legal.specs.Sealing.{IsSealed, sealed}
 use Rattle.pt_hub.specs.declared.account.Account.{Account}
 use Rattle.pt_hub.specs.Desks.{Desk, kept, account_of, awaiting, call_refusal, fresh, is_blocked}
 use Rattle.pt_hub.specs.Desks.{opened_account, opened_accounts, renewed, renewed_all, renewed_if}

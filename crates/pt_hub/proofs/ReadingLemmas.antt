@@ -19,10 +19,10 @@ use Rattle.pt_model.specs.Room.{is_full, refusal_with_seals, refusal_of_stranger
 use Rattle.pt_model.specs.Legal.{events_of}
 use Rattle.pt_model.proofs.Legality.{behind-follows}
 use Rattle.pt_told.specs.Tallies.{open_count}
-use Rattle.pt_core.specs.Cores.{past}
+use Rattle.pt_legal.specs.Cores.{past}
 use Rattle.pt_told.proofs.LatestCalls.{answer-tally, dead-open}
 use Rattle.pt_hub.specs.declared.account.Account.{Account}
-use Rattle.pt_core.specs.Sealing.{sealed}
+use Rattle.pt_legal.specs.Sealing.{sealed}
 use Rattle.pt_hub.specs.Desks.{Desk, kept, account_of, is_untaken_in, is_untaken, is_blocked}
 use Rattle.pt_hub.specs.Desks.{next_answer, call_refusal, IsOwedTheRest, IsTakenButOne, owed}
 use Rattle.pt_hub.specs.Desks.{owed_in, taken_in, got, after_taking, one_if, renewed, IsServed}

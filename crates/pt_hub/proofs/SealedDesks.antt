@@ -26,9 +26,9 @@ use Rattle.pt_model.proofs.GoesAlike.{agrees_on}
 use Rattle.pt_model.proofs.Induction.{start-seal}
 use Rattle.pt_model.proofs.Legality.{behind-follows, behind-settled}
 use Rattle.pt_told.specs.Tallies.{open_count}
-use Rattle.pt_core.specs.Cores.{Kept, past}
-use Rattle.pt_core.specs.Applying.{opened}
-use Rattle.pt_core.specs.Sealing.{sealed}
+use Rattle.pt_legal.specs.Cores.{Kept, past}
+use Rattle.pt_legal.specs.Applying.{opened}
+use Rattle.pt_legal.specs.Sealing.{sealed}
 use Rattle.pt_hub.specs.declared.account.Account.{Account}
 use Rattle.pt_hub.specs.Desks.{got, one_if, owed, renewed, renewed_all, renewed_if, IsAccount}
 use Rattle.pt_hub.specs.Desks.{IsDeskOf, IsServed}

@@ -12,8 +12,8 @@ use Rattle.pt_model.specs.declared.entry.Event.TheVariants as event
 use Rattle.pt_model.specs.Records.{Told}
 use Rattle.pt_model.specs.Queries.{answer_of}
 use Rattle.pt_model.specs.Room.{refusal_with_seals}
-use Rattle.pt_core.specs.Cores.{past}
-use Rattle.pt_core.specs.Applying.{IsWantOfMemory}
+use Rattle.pt_legal.specs.Cores.{past}
+use Rattle.pt_legal.specs.Applying.{IsWantOfMemory}
 use Rattle.pt_hub.specs.declared.account.Account.{Account}
 use Rattle.pt_hub.specs.Desks.{Desk, kept, is_blocked, next_answer, call_refusal, IsRefusedAs}
 use Rattle.pt_hub.specs.Desks.{IsDesk}

@@ -6,7 +6,7 @@ use Rattle.pt_model.specs.declared.entry.Event.TheVariants as event
 use Rattle.pt_model.specs.Searches.{Each}
 use Rattle.pt_model.specs.Answers.{outcome}
 use Rattle.pt_told.specs.OwnEvents.{own_since, placed_since, PartsAt}
-use Rattle.pt_core.specs.Cores.{Kept, past}
+use Rattle.pt_legal.specs.Cores.{Kept, past}
 use Rattle.pt_hub.specs.declared.pass.Receipt.{Receipt}
 use Rattle.pt_hub.specs.declared.closing.CloseFault.{CloseFault}
 use Rattle.pt_hub.specs.declared.closing.CloseFault.TheVariants.{Missing, Forked, Memory}

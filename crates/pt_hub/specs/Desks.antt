@@ -19,8 +19,8 @@ use Rattle.pt_model.specs.Room.{needs_seal, refusal_with_seals}
 use Rattle.pt_model.specs.Legal.{LegalBehind, events_of}
 use Rattle.pt_model.specs.Steps.{IsStart}
 use Rattle.pt_told.specs.Tallies.{told_count, open_count}
-use Rattle.pt_core.specs.Cores.{Kept, past, Seen, shown}
-use Rattle.pt_core.specs.Sealing.{sealed}
+use Rattle.pt_legal.specs.Cores.{Kept, past, Seen, shown}
+use Rattle.pt_legal.specs.Sealing.{sealed}
 use Rattle.pt_hub.specs.declared.account.Account.{Account}
 
 -- what is seen of the core, and the account of each living client

@@ -15,9 +15,9 @@ use Rattle.pt_model.specs.Clients.{is_alive}
 use Rattle.pt_model.specs.Answers.{outcome}
 use Rattle.pt_model.specs.Legal.{LegalBehind, events_of}
 use Rattle.pt_model.specs.Steps.{IsStart}
-use Rattle.pt_core.specs.Cores.{past}
-use Rattle.pt_core.specs.Applying.{Applies, Writes}
-use Rattle.pt_core.specs.Sealing.{IsSealed}
+use Rattle.pt_legal.specs.Cores.{past}
+use Rattle.pt_legal.specs.Applying.{Applies, Writes}
+use Rattle.pt_legal.specs.Sealing.{IsSealed}
 use Rattle.pt_hub.specs.declared.pass.Receipt.{Receipt}
 use Rattle.pt_hub.specs.declared.pass.Sent.{Sent}
 use Rattle.pt_hub.specs.declared.pass.Answer.{Answer}

@@ -9,11 +9,12 @@ ghost use Rattle.pt_hub.specs.Hubs.{Sends, Takes, takeable};
 use crate::hub::Hub;
 use crate::pass::{Answer, Pass, Receipt, Sent};
 use crate::receipts::{answer, is_pending};
+use pt_legal::LegalHistory;
 use pt_types::{Call, Outcome, Refusal};
 use std::alloc::Allocator;
 use std::sync::ledger::Ledger;
 
-impl<L: Ledger, A: Allocator + Copy> Hub<L, A> {
+impl<C: LegalHistory, L: Ledger, A: Allocator + Copy> Hub<C, L, A> {
     // Sends a client's call, and returns the outcome that it has by then too.
     fn send(
         &mut self,

@@ -5,6 +5,7 @@ ghost use Rattle.pt_hub.specs.Passes.{events_of_left, events_of_clock};
 
 use crate::hub::Hub;
 use crate::pass::{ClockPass, Left};
+use pt_legal::LegalHistory;
 use std::alloc::{Allocator, Global};
 use std::sync::ledger::Ledger;
 
@@ -28,9 +29,9 @@ pub enum CloseFault {
 
 /// What is handed back if a hub doesn't close: all that was handed in, and why.
 #[derive(Drop)]
-pub struct CloseRefused<L: Ledger, A: Allocator + Copy = Global> {
+pub struct CloseRefused<C: LegalHistory, L: Ledger, A: Allocator + Copy = Global> {
     pub fault: CloseFault,
-    pub hub: Hub<L, A>,
+    pub hub: Hub<C, L, A>,
     pub left: Vec<Left<L, A>, A>,
     pub clock: Vec<ClockPass<L, A>, A>,
 }

@@ -17,17 +17,17 @@ ghost use Rattle.pt_model.specs.Room.{refusal_with_seals};
 ghost use Rattle.pt_model.specs.Legal.{LegalBehind, events_of};
 ghost use Rattle.pt_model.specs.Steps.{IsStart};
 ghost use Rattle.pt_told.specs.OwnEvents.{own_at, own_event};
-ghost use Rattle.pt_core.specs.Cores.{past};
-ghost use Rattle.pt_core.specs.Applying.{IsApplied, IsWritten};
-ghost use Rattle.pt_core.specs.Sealing.{IsSealed, seal_refusal};
-ghost use Rattle.pt_core.specs.Replies.{told_of};
+ghost use Rattle.pt_legal.specs.Cores.{past, shown};
+ghost use Rattle.pt_legal.specs.Applying.{IsApplied, IsWritten};
+ghost use Rattle.pt_legal.specs.Sealing.{IsSealed, seal_refusal};
+ghost use Rattle.pt_legal.specs.Replies.{told_of};
 ghost use Rattle.pt_hub.specs.Desks.{Wrote, IsRefusedAs, kept, account_of, awaiting, after_taking};
 ghost use Rattle.pt_hub.specs.Desks.{fresh, is_blocked, call_refusal, next_answer, opened_account};
 ghost use Rattle.pt_hub.specs.Desks.{opened_accounts, renewed_all, IsOwedTheRest, IsTakenButOne};
 ghost use Rattle.pt_hub.specs.Desks.{called};
 
 use crate::account::{Account, Accounts};
-use pt_core::{Answers, Applied, Core, Reply};
+use pt_legal::{Applied, LegalHistory, Reply};
 use pt_model::{Entry, Event};
 use pt_types::{Call, ClientId, Clock, Deadline, Moment, Outcome, Priority, Refusal};
 use std::alloc::Allocator;
@@ -58,33 +58,33 @@ fn call_of(event: Event) -> Call
 
 /// The core with an account for each living client.
 #[derive(Drop)]
-pub struct Desk<A: Allocator + Copy> {
-    core: Core<A>,
+pub struct Desk<C: LegalHistory, A: Allocator + Copy> {
+    core: C,
     accounts: Accounts<A>,
 }
 
-impl<A: Allocator + Copy> Model for Desk<A> {
+impl<C: LegalHistory, A: Allocator + Copy> Model for Desk<C, A> {
     ghost use Rattle.pt_hub.specs.Desks.{Desk as Seen, IsDesk};
 
     ghost Value = { Seen };
 
-    ghost view = { λ d. record { core = d.core; accounts = d.accounts.entries } };
+    ghost view = { λ d. record { core = C.seen d.core; accounts = d.accounts.entries } };
 
-    ghost invariant = { λ d. IsDesk (record { core = d.core; accounts = d.accounts.entries }) };
+    ghost invariant = { λ d.
+        IsDesk (record { core = C.seen d.core; accounts = d.accounts.entries }) };
 }
 
-impl<A: Allocator + Copy> Desk<A> {
-    /// The empty history, with no client. ENOMEM if a growth is refused.
-    pub fn new(alloc: A) -> Result<Desk<A>, Refusal>
-        ensures ok { IfOk result (λ desk. (kept desk
-            ≡ record { start = nothing; entries = []; limit = most_entries })
-            × (desk.accounts ≡ [])) }
-        ensures err { IfErr result (λ refusal. refusal ≡ Refusal.Enomem) }
+impl<C: LegalHistory, A: Allocator + Copy> Desk<C, A> {
+    /// A history without clients.
+    pub fn new(core: C, alloc: A) -> Desk<C, A>
+        requires { shown (C.seen core)
+            ≡ record { start = nothing; entries = []; limit = most_entries } }
+        ensures { (result.core ≡ C.seen core) × (result.accounts ≡ []) }
     {
-        Ok(Desk {
-            core: Core::new(alloc)?,
+        Desk {
+            core,
             accounts: Accounts::new(alloc),
-        })
+        }
     }
 
     /// A client joins, and gets an account.
@@ -104,7 +104,7 @@ impl<A: Allocator + Copy> Desk<A> {
         if self.accounts.reserve_one().is_err() {
             return Err(Refusal::Enomem);
         }
-        match self.core.apply(event) {
+        match self.core.apply(&event) {
             Ok(applied) => {
                 self.accounts.renew_if(applied.sealed);
                 let account = Account {
@@ -156,7 +156,7 @@ impl<A: Allocator + Copy> Desk<A> {
             return Err(Refusal::Blocked);
         }
         let event = Event::Call(c, call);
-        match self.core.apply_event(&event) {
+        match self.core.apply(&event) {
             Ok(applied) => {
                 self.accounts.renew_if(applied.sealed);
                 self.accounts.note_call(c.0);
@@ -177,11 +177,12 @@ impl<A: Allocator + Copy> Desk<A> {
         }
     }
 
-    /// The answers that the entries from a place on give.
-    pub fn answers_since(&self, place: u64) -> Answers<'_>
-        ensures { result ≡ answers_behind (kept self.now).start place (kept self.now).entries }
+    /// The answer at this index of those that the entries from a place on give.
+    pub fn answer_since(&self, place: u64, index: usize) -> Option<Reply>
+        ensures { option_map told_of result ≡ slice_get
+            (answers_behind (kept self.now).start place (kept self.now).entries) index }
     {
-        self.core.answers_since(place)
+        self.core.answer_since(place, index)
     }
 
     /// A client takes the answer that it hasn't taken.
@@ -204,7 +205,7 @@ impl<A: Allocator + Copy> Desk<A> {
         ensures none { IfNone result ((is_alive (past (kept self.old)) c ≡ false)
             × (self.new ≡ self.old)) }
     {
-        match self.core.apply(Event::Death(c)) {
+        match self.core.apply(&Event::Death(c)) {
             Ok(applied) => {
                 self.accounts.erase(c.0);
                 Some(applied)
@@ -224,7 +225,7 @@ impl<A: Allocator + Copy> Desk<A> {
         ensures err { IfErr result (λ refusal. refusal ≡ Refusal.Enomem) }
         ensures unchanged { OnErr result (self.new ≡ self.old) }
     {
-        match self.core.apply(Event::Moment(clock, moment)) {
+        match self.core.apply(&Event::Moment(clock, moment)) {
             Ok(applied) => {
                 self.accounts.renew_if(applied.sealed);
                 Ok(applied)

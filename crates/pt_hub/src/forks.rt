@@ -10,6 +10,7 @@ ghost use Rattle.pt_hub.specs.Closing.{IsAnswered, IsMistold, lesser};
 use crate::claims::{claim, claim_count, claim_since, claimed_place};
 use crate::desk::Desk;
 use crate::pass::{Left, Receipt};
+use pt_legal::LegalHistory;
 use pt_model::Event;
 use pt_same_event::same_event;
 use std::alloc::Allocator;
@@ -40,7 +41,10 @@ fn compare(place: u64, event: &Event, claim: &Option<(u64, Event)>) -> Option<u6
 
 /// The first place at which the client's entries and what it says part.
 #[tactic(auto, using(crate::proofs::ForkLemmas::part_begin, crate::proofs::ForkLemmas::part_on, crate::proofs::ForkLemmas::part_met, crate::proofs::ForkLemmas::part_here, crate::proofs::ForkLemmas::part_end, crate::proofs::ForkLemmas::part_dead))]
-fn parting<L: Ledger, A: Allocator + Copy>(desk: &Desk<A>, left: &Left<L, A>) -> Option<u64>
+fn parting<C: LegalHistory, L: Ledger, A: Allocator + Copy>(
+    desk: &Desk<C, A>,
+    left: &Left<L, A>,
+) -> Option<u64>
     ensures { let own = own_events (kept desk.now) left.now.client in
         let claimed = claims_since (kept desk.now) left.now in
         Finds (PartsAt own claimed) (own ≡ claimed) result }
@@ -66,7 +70,10 @@ fn parting<L: Ledger, A: Allocator + Copy>(desk: &Desk<A>, left: &Left<L, A>) ->
 }
 
 /// The place of a receipt whose answer isn't that of the history.
-fn mistold_place<A: Allocator + Copy>(desk: &Desk<A>, receipt: &Receipt) -> Option<u64>
+fn mistold_place<C: LegalHistory, A: Allocator + Copy>(
+    desk: &Desk<C, A>,
+    receipt: &Receipt,
+) -> Option<u64>
     ensures { Finds (IsMistold (kept desk.now) receipt.now) (IsAnswered (kept desk.now) receipt.now)
         result }
 {
@@ -81,7 +88,10 @@ fn mistold_place<A: Allocator + Copy>(desk: &Desk<A>, receipt: &Receipt) -> Opti
 }
 
 /// The least place of these receipts whose answer isn't that of the history.
-fn mistold<A: Allocator + Copy>(desk: &Desk<A>, receipts: &[Receipt]) -> Option<u64>
+fn mistold<C: LegalHistory, A: Allocator + Copy>(
+    desk: &Desk<C, A>,
+    receipts: &[Receipt],
+) -> Option<u64>
     ensures { Finds (AnyAt (IsMistold (kept desk.now)) receipts.now)
         (Each (IsAnswered (kept desk.now)) receipts.now) result }
 {
@@ -95,15 +105,18 @@ fn mistold<A: Allocator + Copy>(desk: &Desk<A>, receipts: &[Receipt]) -> Option<
 }
 
 /// The least place at which the history differs from what a client left.
-fn fork_of<L: Ledger, A: Allocator + Copy>(desk: &Desk<A>, left: &Left<L, A>) -> Option<u64>
+fn fork_of<C: LegalHistory, L: Ledger, A: Allocator + Copy>(
+    desk: &Desk<C, A>,
+    left: &Left<L, A>,
+) -> Option<u64>
     ensures { Finds (DiffersAt (kept desk.now) left.now) (Holds (kept desk.now) left.now) result }
 {
     lesser(parting(desk, left), mistold(desk, left.receipts()))
 }
 
 /// The least place at which the history differs from what one of these clients left.
-pub(crate) fn least_fork<L: Ledger, A: Allocator + Copy>(
-    desk: &Desk<A>,
+pub(crate) fn least_fork<C: LegalHistory, L: Ledger, A: Allocator + Copy>(
+    desk: &Desk<C, A>,
     lefts: &[Left<L, A>],
 ) -> Option<u64>
     ensures { Finds

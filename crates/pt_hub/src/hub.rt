@@ -1,8 +1,8 @@
 //! The value that the lock keeps.
 
 ghost use Rattle.std.specs.Prelude.{◌≡◌, ◌+◌, ◌<◌, ◌≤◌, ◌^◌, ◌↔◌, ◌≢◌, ◌⊎◌, ◌∷◌, ◌++◌, ℕ, [], Some};
-ghost use Rattle.std.specs.Prelude.{None, false, true, length, is_some, option_map, nat_eq, IfOk};
-ghost use Rattle.std.specs.Prelude.{IfErr, IfSome, IfNone, OnOk, OnErr, IsSome, IsErr};
+ghost use Rattle.std.specs.Prelude.{None, false, true, length, is_some, option_map, nat_eq, slice_get};
+ghost use Rattle.std.specs.Prelude.{IfOk, IfErr, IfSome, IfNone, OnOk, OnErr, IsSome, IsErr};
 ghost use Rattle.std.specs.Map.{lookup};
 ghost use Rattle.pt_types.specs.Limits.{most_entries};
 ghost use Rattle.pt_types.specs.Times.{deadline_nanos};
@@ -14,8 +14,9 @@ ghost use Rattle.pt_model.specs.Queries.{answers_behind};
 ghost use Rattle.pt_model.specs.Queries.{least_deadline as least_deadline_in};
 ghost use Rattle.pt_model.specs.Room.{refusal_with_seals};
 ghost use Rattle.pt_model.specs.Legal.{LegalBehind, events_of};
-ghost use Rattle.pt_core.specs.Cores.{past};
-ghost use Rattle.pt_core.specs.Sealing.{seal_refusal};
+ghost use Rattle.pt_legal.specs.Cores.{past, shown};
+ghost use Rattle.pt_legal.specs.Replies.{told_of};
+ghost use Rattle.pt_legal.specs.Sealing.{seal_refusal};
 ghost use Rattle.pt_hub.specs.Desks.{IsRefusedAs, kept, one_if};
 ghost use Rattle.pt_hub.specs.Hubs.{Joins, Ticks, Seals, Dies, next_place};
 ghost use Rattle.pt_hub.specs.Hubs.{outer_count, has_ended, Opens, IsNotOpened, EndsInput, Closes};
@@ -31,7 +32,7 @@ use crate::marks::Marks;
 use crate::pass::{ClockPass, Left, Pass, Tick};
 use crate::tally::Tally;
 use pt_bells::SessionId;
-use pt_core::Answers;
+use pt_legal::{LegalHistory, Reply};
 use pt_model::Event;
 use pt_types::{ClientId, Clock, Deadline, Moment, Priority, Refusal};
 use std::alloc::{Allocator, Global};
@@ -43,15 +44,15 @@ use std::sync::ledger::{Blank, Ledger};
 const MOST_SESSIONS: u64 = 1 << 32;
 
 /// What the lock keeps: the core, what each client took of its answers, and the open sessions.
-pub struct Hub<L: Ledger, A: Allocator + Copy = Global> {
-    pub(crate) desk: Desk<A>,
+pub struct Hub<C: LegalHistory, L: Ledger, A: Allocator + Copy = Global> {
+    pub(crate) desk: Desk<C, A>,
     marks: Marks<A>,
     opened: u64,
     pub(crate) tally: Tally<L>,
     alloc: A,
 }
 
-impl<L: Ledger, A: Allocator + Copy> Model for Hub<L, A> {
+impl<C: LegalHistory, L: Ledger, A: Allocator + Copy> Model for Hub<C, L, A> {
     ghost use Rattle.pt_hub.specs.Hubs.{HubView, IsHub};
 
     ghost Value = { HubView };
@@ -74,7 +75,7 @@ impl<L: Ledger, A: Allocator + Copy> Model for Hub<L, A> {
 }
 
 // Not derived, so that the crates that use a hub prove nothing of its parts as they drop one.
-impl<L: Ledger, A: Allocator + Copy> Drop for Hub<L, A> {
+impl<C: LegalHistory, L: Ledger, A: Allocator + Copy> Drop for Hub<C, L, A> {
     fn drop(self) {
         let Hub {
             desk: _,
@@ -86,37 +87,33 @@ impl<L: Ledger, A: Allocator + Copy> Drop for Hub<L, A> {
     }
 }
 
-impl<L: Ledger, A: Allocator + Copy> Hub<L, A> {
-    /// The empty history with a ledger of its own, and a clock. ENOMEM if a growth is refused.
-    pub fn new(alloc: A, blank: Blank) -> Result<(Hub<L, A>, ClockPass<L, A>), (Blank, Refusal)>
+impl<C: LegalHistory, L: Ledger, A: Allocator + Copy> Hub<C, L, A> {
+    /// An empty history with a ledger of its own, and a clock.
+    pub fn new(core: C, alloc: A, blank: Blank) -> (Hub<C, L, A>, ClockPass<L, A>)
+        requires empty { shown (C.seen core)
+            ≡ record { start = nothing; entries = []; limit = most_entries } }
         requires name { (blank.name ≡ L.name) × (blank.parts ≡ L.parts) }
         requires parts { blank.parts ≡ 2 ^ 63 }
-        ensures kept { IfOk result (λ r. kept r.0.desk
-            ≡ record { start = nothing; entries = []; limit = most_entries }) }
-        ensures hub { IfOk result (λ r. (r.0.desk.accounts ≡ []) × (r.0.marks ≡ [])
-            × (r.0.opened ≡ 0) × (r.0.booked ≡ 0)) }
-        ensures clock { IfOk result (λ r. r.1.moments ≡ []) }
-        ensures err { IfErr result (λ r. (r.0 ≡ blank) × (r.1 ≡ Refusal.Enomem)) }
+        ensures core { result.0.desk.core ≡ C.seen core }
+        ensures hub { (result.0.desk.accounts ≡ []) × (result.0.marks ≡ [])
+            × (result.0.opened ≡ 0) × (result.0.booked ≡ 0) }
+        ensures clock { result.1.moments ≡ [] }
     {
-        match Desk::new(alloc) {
-            Ok(desk) => {
-                let mut tally = Tally::open(blank);
-                let share = tally.part();
-                let hub = Hub {
-                    desk,
-                    marks: HashMap::new(alloc),
-                    opened: 0,
-                    tally,
-                    alloc,
-                };
-                let clock = ClockPass {
-                    moments: Vec::new(alloc),
-                    share,
-                };
-                Ok((hub, clock))
-            }
-            Err(refusal) => Err((blank, refusal)),
-        }
+        let desk = Desk::new(core, alloc);
+        let mut tally = Tally::open(blank);
+        let share = tally.part();
+        let hub = Hub {
+            desk,
+            marks: HashMap::new(alloc),
+            opened: 0,
+            tally,
+            alloc,
+        };
+        let clock = ClockPass {
+            moments: Vec::new(alloc),
+            share,
+        };
+        (hub, clock)
     }
 
     /// A client joins. The history is sealed first if the join needs the room.  [profile]
@@ -286,13 +283,13 @@ impl<L: Ledger, A: Allocator + Copy> Hub<L, A> {
         self.desk.len()
     }
 
-    /// The answers that the entries from a place on give, in the order of the entries; of one Trip
-    /// in order of the calls' places.  [profile]
-    pub fn answers_since(&self, place: u64) -> Answers<'_>
-        ensures { result ≡ answers_behind (kept self.now.desk).start place
-            (kept self.now.desk).entries }
+    /// The answer at this index of those that the entries from a place on give, in the order of the
+    /// entries; of one Trip in order of the calls' places.  [profile]
+    pub fn answer_since(&self, place: u64, index: usize) -> Option<Reply>
+        ensures { option_map told_of result ≡ slice_get
+            (answers_behind (kept self.now.desk).start place (kept self.now.desk).entries) index }
     {
-        self.desk.answers_since(place)
+        self.desk.answer_since(place, index)
     }
 
     /// The allocator that the hub was made with.
@@ -332,7 +329,7 @@ impl<L: Ledger, A: Allocator + Copy> Hub<L, A> {
         self,
         lefts: Vec<Left<L, A>, A>,
         clocks: Vec<ClockPass<L, A>, A>,
-    ) -> Result<Closed, CloseRefused<L, A>>
+    ) -> Result<Closed, CloseRefused<C, L, A>>
         ensures ok { IfOk result (λ c. (c.outer ≡ outer_count self.desk)
             × (c.outer ≡ events_found lefts.items clocks.items)
             × (c.entries ≡ next_place self.desk)) }

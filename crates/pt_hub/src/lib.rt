@@ -22,4 +22,4 @@ pub use closing::{CloseFault, CloseRefused, Closed};
 pub use hub::Hub;
 pub use pass::{Answer, ClockPass, Left, Pass, Receipt, Sent, Tick};
 pub use pt_bells::SessionId;
-pub use pt_core::{Answers, Reply};
+pub use pt_legal::{LegalHistory, Reply};

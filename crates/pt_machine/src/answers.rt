@@ -1,6 +1,7 @@
 //! Answers and entries, as the tables have them.
 
-ghost use Rattle.std.specs.Prelude.{None, ◌+◌, ◌-◌, ◌<◌, ◌≡◌, ◌≤◌, length, map, slice_get};
+ghost use Rattle.std.specs.Prelude.{None, ◌+◌, ◌-◌, ◌<◌, ◌≡◌, ◌≤◌, length, map, option_map};
+ghost use Rattle.std.specs.Prelude.{slice_get};
 ghost use Rattle.pt_model.specs.Histories.{outer};
 ghost use Rattle.pt_model.specs.Answers.{outcome as said};
 ghost use Rattle.pt_state.specs.Adds.{past};
@@ -12,7 +13,7 @@ ghost use Rattle.pt_records.specs.Logs.{logged};
 
 use crate::body::Body;
 use pt_model::Entry;
-use pt_records::LoggedAnswers;
+use pt_records::{Answered, LoggedAnswers};
 use pt_types::{ClientId, Outcome};
 use pt_waitq::WaitList;
 use std::alloc::Allocator;
@@ -82,5 +83,14 @@ impl<Q: WaitList, A: Allocator + Copy> Body<Q, A> {
             (reads_of self.now.stored.start) place self.now.stored.entries }
     {
         self.state.answers_since(place)
+    }
+
+    /// The answer at an index of those that the entries from a place on gave, in order.
+    pub fn answer_since(&self, place: u64, index: usize) -> Option<Answered>
+        requires { AreTables self.now }
+        ensures { option_map (λ a. (logged a).1) result ≡ slice_get (answers_in
+            (reads_of self.now.stored.start) place self.now.stored.entries) index }
+    {
+        self.state.answer_since(place, index)
     }
 }

@@ -58,7 +58,7 @@ impl<'a> Model for LoggedAnswers<'a> {
 }
 
 impl<'a> LoggedAnswers<'a> {
-    ghost use Rattle.std.specs.Prelude.{◌≡◌, ◌∷◌, [], MatchOption};
+    ghost use Rattle.std.specs.Prelude.{◌≡◌, ◌∷◌, [], MatchOption, slice_get};
 
     /// The next answer, if one is left.
     #[inline(always)]
@@ -69,6 +69,14 @@ impl<'a> LoggedAnswers<'a> {
         let (first, rest) = self.shorts.split_first()?;
         self.shorts = rest;
         Some(answer_of(self.base, self.wholes, *first))
+    }
+
+    /// The answer at an index of those that are left.
+    pub fn get(&self, index: usize) -> Option<Answered>
+        ensures { result ≡ slice_get self.now index }
+    {
+        let short = self.shorts.get(index)?;
+        Some(answer_of(self.base, self.wholes, *short))
     }
 }
 

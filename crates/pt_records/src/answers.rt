@@ -36,8 +36,8 @@ pub fn answered_since<A: Allocator + Copy>(answers: &AnswerLog<A>, place: u64) -
     i
 }
 
-// Where the answers begin that the entries from a place on gave, wherever that is among them.
-fn halved_since<A: Allocator + Copy>(answers: &AnswerLog<A>, place: u64) -> usize
+/// Where the answers begin that the entries from a place on gave, wherever that is among them.
+pub fn halved_since<A: Allocator + Copy>(answers: &AnswerLog<A>, place: u64) -> usize
     requires { Rises 0 (map logged answers.now.items) }
     ensures within { result ≤ length answers.now.items }
     ensures rest { map logged (drop result answers.now.items)

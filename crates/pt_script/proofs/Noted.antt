@@ -24,8 +24,8 @@ use Rattle.pt_model.specs.Answers.{replies_behind}
 use Rattle.pt_model.specs.Steps.{begins}
 use Rattle.pt_model.proofs.Lists.{Each-weaker}
 use Rattle.pt_told.proofs.EventTallies.{place-more}
-use Rattle.pt_core.specs.Cores.{Kept, past}
-use Rattle.pt_core.specs.Applying.{Writes, opened}
+use Rattle.pt_legal.specs.Cores.{Kept, past}
+use Rattle.pt_legal.specs.Applying.{Writes, opened}
 use Rattle.pt_engine.specs.declared.line_id.LineId.{LineId}
 use Rattle.pt_engine.specs.Scripts.{Script, begun, core_of, line_id, calls_with, clients_with}
 use Rattle.pt_engine.specs.Scripts.{event_for, event_of_body, event_of_line, join_for, line_at}

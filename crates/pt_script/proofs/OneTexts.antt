@@ -21,8 +21,8 @@ use Rattle.pt_model.specs.Steps.{begins}
 use Rattle.pt_model.proofs.Legality.{legal-more}
 use Rattle.pt_model.proofs.OneList.{one_list}
 use Rattle.pt_model.proofs.Steps.{step-event}
-use Rattle.pt_core.specs.Cores.{Kept, past}
-use Rattle.pt_core.specs.Applying.{Writes, is_death}
+use Rattle.pt_legal.specs.Cores.{Kept, past}
+use Rattle.pt_legal.specs.Applying.{Writes, is_death}
 use Rattle.pt_engine.specs.declared.line_id.LineId.{LineId}
 use Rattle.pt_engine.specs.Scripts.{Script, begun, core_of, line_id, calls_with, clients_with}
 use Rattle.pt_engine.specs.Scripts.{event_of_line, greeting, refusal_text, told_text}

@@ -17,8 +17,8 @@ use Rattle.pt_model.specs.Steps.{Step}
 use Rattle.pt_model.proofs.GoesAlike.{agrees_on}
 use Rattle.pt_model.proofs.Induction.{start-seal}
 use Rattle.pt_model.proofs.Steps.{step-event}
-use Rattle.pt_core.specs.Cores.{Kept, past}
-use Rattle.pt_core.specs.Applying.{opened}
+use Rattle.pt_legal.specs.Cores.{Kept, past}
+use Rattle.pt_legal.specs.Applying.{opened}
 use Rattle.pt_core.proofs.SealNeeds.{needs-parts, refused-without}
 use Rattle.pt_engine.specs.Engines.{IsLegal}
 use Rattle.pt_engine.proofs.Opened.{legal_follow, legal_settle, opened_by, sealed_alike}

@@ -9,7 +9,7 @@ use Rattle.pt_grammar.specs.Script.{script_of}
 use Rattle.pt_engine.specs.declared.fault.ScriptFault.{ScriptFault}
 use Rattle.pt_engine.specs.declared.fault.ScriptFault.TheVariants.{Read, Write, Memory}
 use Rattle.pt_model.specs.Histories.{place}
-use Rattle.pt_core.specs.Cores.{past}
+use Rattle.pt_legal.specs.Cores.{past}
 use Rattle.pt_engine.specs.Scripts.{Script, begun, core_of}
 use Rattle.pt_engine.specs.Says.{SaysAll}
 use Rattle.pt_script.specs.Texts.{IsBroken, Writing}

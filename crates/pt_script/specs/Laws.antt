@@ -8,7 +8,7 @@ use Rattle.pt_model.specs.declared.entry.Event.{Event}
 use Rattle.pt_model.specs.Searches.{Each}
 use Rattle.pt_model.specs.Records.{Told}
 use Rattle.pt_model.specs.Answers.{replies_behind}
-use Rattle.pt_core.specs.Applying.{is_death}
+use Rattle.pt_legal.specs.Applying.{is_death}
 use Rattle.pt_engine.specs.declared.line_id.LineId.{LineId}
 use Rattle.pt_engine.specs.Scripts.{Script, begun, line_id, event_of_line, line_at, number_of}
 use Rattle.pt_engine.specs.Scripts.{refusal_text}

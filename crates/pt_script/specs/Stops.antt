@@ -4,7 +4,7 @@ use Rattle.pt_grammar.specs.declared.cut.Cut.{Cut}
 use Rattle.pt_grammar.specs.Lines.{Held, to_come}
 use Rattle.pt_grammar.specs.Script.{script_of}
 use Rattle.pt_model.specs.Histories.{place}
-use Rattle.pt_core.specs.Cores.{past}
+use Rattle.pt_legal.specs.Cores.{past}
 use Rattle.pt_engine.specs.declared.fault.ScriptFault.{ScriptFault}
 use Rattle.pt_engine.specs.declared.fault.ScriptFault.TheVariants.{Read, Write, Memory}
 use Rattle.pt_engine.specs.Scripts.{Script, core_of}

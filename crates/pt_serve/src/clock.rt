@@ -6,6 +6,7 @@ ghost use Rattle.pt_types.specs.Times.{deadline_nanos};
 ghost use Rattle.pt_serve.specs.Clocks.{is_due, IsLookedAt};
 
 use pt_hub::ClockPass;
+use pt_legal::LegalHistory;
 use pt_session::Shared;
 use pt_types::{Clock, Deadline, Moment};
 use std::sync::Wait;
@@ -44,9 +45,9 @@ fn is_due(deadline: Option<Deadline>, now: Moment) -> bool
 
 // Hands in what a clock shows, if a deadline of an open call is due by it. If the moment is
 // refused, the next look tries again.
-fn look<L: Ledger, R: Wait>(
+fn look<C: LegalHistory, L: Ledger, R: Wait>(
     rt: &R,
-    shared: &Shared<L>,
+    shared: &Shared<C, L>,
     pass: &mut ClockPass<L>,
     clock: Clock,
     reading: Option<Duration>,
@@ -63,9 +64,9 @@ fn look<L: Ledger, R: Wait>(
 
 /// Hands in the clocks of the system until the server ends: the time since 1970, and the time since
 /// it started.  [profile]
-pub fn tick<L: Ledger, R: Wait + SystemClock>(
+pub fn tick<C: LegalHistory, L: Ledger, R: Wait + SystemClock>(
     rt: &R,
-    shared: &Shared<L>,
+    shared: &Shared<C, L>,
     pass: ClockPass<L>,
 ) -> ClockPass<L> {
     let mut pass = pass;

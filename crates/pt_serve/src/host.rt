@@ -6,6 +6,7 @@ use crate::polling::{Connections, PolledReader, PolledWriter};
 use crate::remains::{Remain, Remains};
 use pt_hub::ClockPass;
 use pt_io::Counted;
+use pt_legal::LegalHistory;
 use pt_session::{ClockMode, OpenGate, Shared, session};
 use std::alloc::Global;
 use std::net::TcpStream;
@@ -14,16 +15,16 @@ use std::os::unix::net::{UnixListener, UnixStream};
 use std::sync::ledger::Ledger;
 use std::sync::{Mutex, Wait};
 use std::thread;
-use std::thread::Threads;
+use std::thread::{Scope, Threads};
 use std::time::Clock;
 
 // Serves one connection, and stores what its session leaves, if that is asked for. The end of the
 // session, or its refusal, closes the connection.
-fn converse<L: Ledger + Send + Sync, R: Threads + Wait + Sync>(
+fn converse<C: LegalHistory + Send, L: Ledger + Send + Sync, R: Threads + Wait + Sync>(
     rt: &R,
     alloc: Global,
     stream: UnixStream,
-    shared: &Shared<L>,
+    shared: &Shared<C, L>,
     mode: ClockMode,
     store: Option<&Mutex<Remains<L>>>,
     connections: &Connections,
@@ -46,61 +47,96 @@ fn converse<L: Ledger + Send + Sync, R: Threads + Wait + Sync>(
     }
 }
 
-// Accepts so many connections, and waits for their sessions; without end if that is 0. After a
-// fault nothing more is accepted.
-fn accept<L: Ledger + Send + Sync, R: Threads + Wait + Sync>(
-    rt: &R,
+// Accepts so many connections, and serves each in a thread of its own; without end if that is 0.
+// After a fault nothing more is accepted.
+fn accept_in<
+    's,
+    E,
+    C: LegalHistory + Send + 's,
+    L: Ledger + Send + Sync + 's,
+    R: Threads + Wait + Sync + 's,
+>(
+    scope: &Scope<'s, E>,
+    rt: &'s R,
     alloc: Global,
     listener: &UnixListener,
-    shared: &Shared<L>,
-    remains: &Mutex<Remains<L>>,
+    shared: &'s Shared<C, L>,
+    remains: &'s Mutex<Remains<L>>,
+    connections: &'s Connections,
     mode: ClockMode,
     sessions: u64,
 ) -> Result<(), HostFault> {
     // What is left is needed for the close alone.
     let store = if sessions > 0 { Some(remains) } else { None };
+    let mut accepted: u64 = 0;
+    for stream in listener.incoming() {
+        let Ok(stream) = stream else {
+            return Err(HostFault::Accept);
+        };
+        let thread = scope.spawn(move || converse(
+            rt,
+            alloc,
+            stream,
+            shared,
+            mode,
+            store,
+            connections,
+        ));
+        if thread.is_err() {
+            return Err(HostFault::Thread);
+        }
+        if remains.lock(rt).is_short() {
+            return Err(HostFault::Memory);
+        }
+        accepted = accepted.saturating_add(1);
+        if accepted == sessions {
+            break;
+        }
+    }
+    Ok(())
+}
+
+// As `accept_in`, and waits for the sessions.
+fn accept<C: LegalHistory + Send, L: Ledger + Send + Sync, R: Threads + Wait + Sync>(
+    rt: &R,
+    alloc: Global,
+    listener: &UnixListener,
+    shared: &Shared<C, L>,
+    remains: &Mutex<Remains<L>>,
+    mode: ClockMode,
+    sessions: u64,
+) -> Result<(), HostFault> {
     let connections = Connections::new();
     let connections = &connections;
     thread::scope(
         thread::scope_env(),
         rt,
         move |scope| -> Result<(), HostFault> {
-            let mut accepted: u64 = 0;
-            for stream in listener.incoming() {
-                let Ok(stream) = stream else {
-                    return Err(HostFault::Accept);
-                };
-                let thread = scope.spawn(move || converse(
-                    rt,
-                    alloc,
-                    stream,
-                    shared,
-                    mode,
-                    store,
-                    connections,
-                ));
-                if thread.is_err() {
-                    return Err(HostFault::Thread);
-                }
-                if remains.lock(rt).is_short() {
-                    return Err(HostFault::Memory);
-                }
-                accepted = accepted.saturating_add(1);
-                if accepted == sessions {
-                    break;
-                }
-            }
-            Ok(())
+            accept_in(
+                scope,
+                rt,
+                alloc,
+                listener,
+                shared,
+                remains,
+                connections,
+                mode,
+                sessions,
+            )
         },
     )
 }
 
 // As `accept`, while another thread hands in the clocks of the system. Gives their pass back.
-fn accept_by_clock<L: Ledger + Send + Sync, R: Threads + Wait + Clock + Sync>(
+fn accept_by_clock<
+    C: LegalHistory + Send,
+    L: Ledger + Send + Sync,
+    R: Threads + Wait + Clock + Sync,
+>(
     rt: &R,
     alloc: Global,
     listener: &UnixListener,
-    shared: &Shared<L>,
+    shared: &Shared<C, L>,
     remains: &Mutex<Remains<L>>,
     clock: ClockPass<L>,
     sessions: u64,
@@ -123,11 +159,11 @@ fn accept_by_clock<L: Ledger + Send + Sync, R: Threads + Wait + Clock + Sync>(
 }
 
 /// Serves so many connections, and returns what they leave; without end if that is 0.
-pub fn host<L: Ledger + Send + Sync, R: Threads + Wait + Clock + Sync>(
+pub fn host<C: LegalHistory + Send, L: Ledger + Send + Sync, R: Threads + Wait + Clock + Sync>(
     rt: &R,
     alloc: Global,
     listener: &UnixListener,
-    shared: &Shared<L>,
+    shared: &Shared<C, L>,
     clock: ClockPass<L>,
     mode: ClockMode,
     sessions: u64,

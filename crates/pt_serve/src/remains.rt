@@ -5,6 +5,7 @@ ghost use Rattle.pt_hub.specs.Passes.{events_found};
 
 use crate::fault::ServeFault;
 use pt_hub::{ClockPass, Closed, Hub, Left};
+use pt_legal::LegalHistory;
 use std::alloc::Global;
 use std::sync::ledger::Ledger;
 
@@ -74,7 +75,7 @@ impl<L: Ledger> Remains<L> {
     }
 
     /// Closes the hub, if these have all of its events.
-    pub fn close(self, hub: Hub<L>) -> Result<Closed, ServeFault>
+    pub fn close<C: LegalHistory>(self, hub: Hub<C, L>) -> Result<Closed, ServeFault>
         ensures ok { IfOk result (λ closed. (self.is_short ≡ false)
             × (closed.outer ≡ events_found self.lefts.items self.clocks.items)) }
         ensures why { IfErr result (λ fault. fault ≢ ServeFault.Write) }

@@ -1,4 +1,7 @@
-ghost use Rattle.std.specs.Prelude.{◌≡◌, ◌≢◌, ◌^◌, ◌-◌, ◌++◌, OnOk, OnErr, IfOk, IfErr};
+ghost use Rattle.std.specs.Prelude.{◌≡◌, ◌≢◌, ◌^◌, ◌-◌, ◌++◌, [], OnOk, OnErr, IfOk, IfErr};
+ghost use Rattle.pt_types.specs.Limits.{most_entries};
+ghost use Rattle.pt_model.specs.Starts.{nothing};
+ghost use Rattle.pt_legal.specs.Cores.{shown};
 ghost use Rattle.pt_session.specs.Outputs.{IsBroken};
 ghost use Rattle.pt_serve.specs.Served.{IsServiceBegun, closed_line, ready_line};
 
@@ -7,6 +10,7 @@ use crate::host::host;
 use crate::output::{say_closed, say_ready};
 use pt_hub::{ClockPass, Closed, Hub};
 use pt_io::Sink;
+use pt_legal::LegalHistory;
 use pt_session::{ClockMode, Shared};
 use std::alloc::Global;
 use std::marker::Brand;
@@ -21,32 +25,23 @@ use std::time::Clock;
 /// How many shares of the ledger there may be: one for each client, session and clock.
 const SHARES: u64 = 1 << 63;
 
-// An empty history, and the clock of the server.
-fn open_hub<L: Ledger>(alloc: Global, blank: Blank) -> Result<(Hub<L>, ClockPass<L>), ServeFault>
-    requires name { (blank.name ≡ L.name) × (blank.parts ≡ L.parts) }
-    requires parts { blank.parts ≡ 2 ^ 63 }
-    ensures { IfErr result (λ fault. fault ≡ ServeFault.Memory) }
-{
-    match Hub::new(alloc, blank) {
-        Ok(made) => Ok(made),
-        Err(_) => Err(ServeFault::Memory),
-    }
-}
-
 // Serves with this ledger on a socket that listens, once that is written.
-fn serve_ready<L: Ledger + Send + Sync, R: Threads + Wait + Clock + Sync>(
+fn serve_ready<C: LegalHistory + Send, L: Ledger + Send + Sync, R: Threads + Wait + Clock + Sync>(
     rt: &R,
     alloc: Global,
+    core: C,
     blank: Blank,
     listener: &UnixListener,
     mode: ClockMode,
     sessions: u64,
 ) -> Result<Closed, ServeFault>
+    requires empty { shown (C.seen core)
+        ≡ record { start = nothing; entries = []; limit = most_entries } }
     requires name { (blank.name ≡ L.name) × (blank.parts ≡ L.parts) }
     requires parts { blank.parts ≡ 2 ^ 63 }
     ensures { IfErr result (λ fault. fault ≢ ServeFault.Write) }
 {
-    let (hub, clock) = open_hub::<L>(alloc, blank)?;
+    let (hub, clock): (Hub<C, L>, ClockPass<L>) = Hub::new(core, alloc, blank);
     let shared = Shared::new(hub);
     match host(rt, alloc, listener, &shared, clock, mode, sessions) {
         Ok(remains) => remains.close(shared.into_hub()),
@@ -55,21 +50,24 @@ fn serve_ready<L: Ledger + Send + Sync, R: Threads + Wait + Clock + Sync>(
 }
 
 /// Serves so many connections to a Unix socket at this path, and then closes the history of their
-/// clients; without end if `sessions` is 0.  [profile]
+/// clients, which begins as an empty core; without end if `sessions` is 0.  [profile]
 ///
 /// It writes `ready` once it listens, and `closed` with the number of events after the close. A
 /// connection whose session is refused is closed, and counts as one. After a fault nothing more is
 /// accepted, the running sessions are waited for, and the history is not closed. The file at the
 /// path stays.
-pub fn serve<W: Sink, R: Files + Net + Threads + Wait + Clock + Sync>(
+pub fn serve<C: LegalHistory + Send, W: Sink, R: Files + Net + Threads + Wait + Clock + Sync>(
     rt: &R,
     alloc: Global,
+    core: C,
     path: &str,
     mode: ClockMode,
     sessions: u64,
     out: &mut W,
 ) -> Result<Closed, ServeFault>
-    requires { W.failures out.old ≡ 0 }
+    requires empty { shown (C.seen core)
+        ≡ record { start = nothing; entries = []; limit = most_entries } }
+    requires output { W.failures out.old ≡ 0 }
 
     // Both lines are written and nothing else, and all of it is flushed.
     ensures ok { IfOk result (λ closed.
@@ -91,7 +89,7 @@ pub fn serve<W: Sink, R: Files + Net + Threads + Wait + Clock + Sync>(
     };
     say_ready(out)?;
     let blank = Blank::new(SHARES);
-    let closed = serve_ready::<Brand, R>(rt, alloc, blank, &listener, mode, sessions)?;
+    let closed = serve_ready::<C, Brand, R>(rt, alloc, core, blank, &listener, mode, sessions)?;
     say_closed(out, closed.outer)?;
     Ok(closed)
 }

@@ -7,6 +7,7 @@
 #![tactic(auto)]
 
 use pt_command::{ClockWord, Task, read_task};
+use pt_core::Core;
 use pt_hub::Closed;
 use pt_io::Counted;
 use pt_script::answer;
@@ -45,12 +46,23 @@ fn main(rt: HostRuntime) -> ExitCode {
     match read_task(&rt) {
         Task::Script => run_script(&rt),
         Task::Serve(service) => {
+            let Ok(core) = Core::new(rt.alloc()) else {
+                return end_of(&rt, Err(ServeFault::Memory));
+            };
             let mode = mode_of(service.clock);
             let mut out = Counted::new(io::writer(&rt));
             let path = service.path.as_str();
             end_of(
                 &rt,
-                serve(&rt, rt.alloc(), path, mode, service.sessions, &mut out),
+                serve(
+                    &rt,
+                    rt.alloc(),
+                    core,
+                    path,
+                    mode,
+                    service.sessions,
+                    &mut out,
+                ),
             )
         }
         Task::End(status) => status,

@@ -5,6 +5,8 @@
 
 mod client;
 #[cfg(test)]
+mod cores;
+#[cfg(test)]
 mod hub;
 #[cfg(test)]
 mod serve;

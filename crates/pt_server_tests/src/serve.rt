@@ -1,4 +1,5 @@
 use crate::client::Client;
+use pt_core::Core;
 use pt_hub::Closed;
 use pt_io::Counted;
 use pt_serve::{ServeFault, serve};
@@ -20,7 +21,10 @@ fn serve_in_memory<R: Files + Net + Threads + Wait + Clock + Sync>(
     sessions: u64,
 ) -> (Result<Closed, ServeFault>, Vec<u8>) {
     let mut out = Counted::new(Vec::new(alloc));
-    let served = serve(rt, alloc, path, ClockMode::Lines, sessions, &mut out);
+    let served = match Core::new(alloc) {
+        Ok(core) => serve(rt, alloc, core, path, ClockMode::Lines, sessions, &mut out),
+        Err(_) => Err(ServeFault::Memory),
+    };
     (served, out.into_inner())
 }
 

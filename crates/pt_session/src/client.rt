@@ -13,6 +13,7 @@ use crate::reading_thread::Joins;
 use crate::shared::Shared;
 use pt_hub::{Answer, ClockPass, Pass, SessionId};
 use pt_io::Source;
+use pt_legal::LegalHistory;
 use pt_lines::{CallLine, Word};
 use pt_types::{Call, Clock, Moment, Outcome, Priority, Refusal};
 use std::sync::Wait;
@@ -35,9 +36,9 @@ fn of_event(refusal: Refusal) -> Refusal
 }
 
 // A hello: it comes once.
-fn greet<L: Ledger, T: Wait>(
+fn greet<C: LegalHistory, L: Ledger, T: Wait>(
     rt: &T,
-    shared: &Shared<L>,
+    shared: &Shared<C, L>,
     session: SessionId,
     pass: &mut Option<Pass<L>>,
     priority: Priority,
@@ -57,9 +58,9 @@ fn greet<L: Ledger, T: Wait>(
 }
 
 // A reading of a clock.
-fn tick<L: Ledger, T: Wait>(
+fn tick<C: LegalHistory, L: Ledger, T: Wait>(
     rt: &T,
-    shared: &Shared<L>,
+    shared: &Shared<C, L>,
     pass: &mut ClockPass<L>,
     clock: Clock,
     moment: Moment,
@@ -78,15 +79,16 @@ fn wait<
     's,
     E,
     R: Source + Send + Drop + 's,
+    C: LegalHistory + Send + 's,
     L: Ledger + Send + Sync + 's,
     T: Wait + Sync + 's,
     J: Joins + Drop,
 >(
     rt: &T,
-    shared: &Shared<L>,
+    shared: &Shared<C, L>,
     session: SessionId,
     pass: &mut Pass<L>,
-    lines: &mut Lines<'_, 's, E, R, L, T, J>,
+    lines: &mut Lines<'_, 's, E, R, C, L, T, J>,
     rings: u64,
 ) -> Option<Answer>
     ensures pass { IfSome result (λ answer. pass.new
@@ -114,15 +116,16 @@ fn ask_by<
     's,
     E,
     R: Source + Send + Drop + 's,
+    C: LegalHistory + Send + 's,
     L: Ledger + Send + Sync + 's,
     T: Wait + Sync + 's,
     J: Joins + Drop,
 >(
     rt: &T,
-    shared: &Shared<L>,
+    shared: &Shared<C, L>,
     session: SessionId,
     pass: &mut Pass<L>,
-    lines: &mut Lines<'_, 's, E, R, L, T, J>,
+    lines: &mut Lines<'_, 's, E, R, C, L, T, J>,
     call: Call,
 ) -> Option<Word>
     ensures asks { AsksOf pass.old call result pass.new }
@@ -144,15 +147,16 @@ fn ask<
     's,
     E,
     R: Source + Send + Drop + 's,
+    C: LegalHistory + Send + 's,
     L: Ledger + Send + Sync + 's,
     T: Wait + Sync + 's,
     J: Joins + Drop,
 >(
     rt: &T,
-    shared: &Shared<L>,
+    shared: &Shared<C, L>,
     session: SessionId,
     pass: &mut Option<Pass<L>>,
-    lines: &mut Lines<'_, 's, E, R, L, T, J>,
+    lines: &mut Lines<'_, 's, E, R, C, L, T, J>,
     call: Call,
 ) -> Option<Word>
     ensures asks { Asks pass.old call result pass.new }
@@ -170,16 +174,17 @@ fn deal_read<
     's,
     E,
     R: Source + Send + Drop + 's,
+    C: LegalHistory + Send + 's,
     L: Ledger + Send + Sync + 's,
     T: Wait + Sync + 's,
     J: Joins + Drop,
 >(
     rt: &T,
-    shared: &Shared<L>,
+    shared: &Shared<C, L>,
     session: SessionId,
     pass: &mut Option<Pass<L>>,
     clock: &mut ClockPass<L>,
-    lines: &mut Lines<'_, 's, E, R, L, T, J>,
+    lines: &mut Lines<'_, 's, E, R, C, L, T, J>,
     line: CallLine,
 ) -> Option<Word>
     ensures deals { Deals pass.old clock.old (Ok line) result pass.new clock.new }
@@ -197,16 +202,17 @@ pub(crate) fn deal<
     's,
     E,
     R: Source + Send + Drop + 's,
+    C: LegalHistory + Send + 's,
     L: Ledger + Send + Sync + 's,
     T: Wait + Sync + 's,
     J: Joins + Drop,
 >(
     rt: &T,
-    shared: &Shared<L>,
+    shared: &Shared<C, L>,
     session: SessionId,
     pass: &mut Option<Pass<L>>,
     clock: &mut ClockPass<L>,
-    lines: &mut Lines<'_, 's, E, R, L, T, J>,
+    lines: &mut Lines<'_, 's, E, R, C, L, T, J>,
     line: Reading,
 ) -> Option<Word>
     ensures deals { Deals pass.old clock.old line result pass.new clock.new }

@@ -11,6 +11,7 @@ use crate::shared::Shared;
 use crate::transcript::Transcript;
 use pt_hub::{ClockPass, Left, Pass, SessionId};
 use pt_io::Source;
+use pt_legal::LegalHistory;
 use pt_lines::Word;
 use std::marker::Model;
 use std::snapshot::Snapshot;
@@ -64,12 +65,19 @@ impl<L: Ledger + Send + Sync> Dealings<L> {
     }
 
     /// Submits a line, and returns its word. `None` if its call is open when the input ends.
-    pub fn submit<'s, E, R: Source + Send + Drop + 's, T: Wait + Sync + 's, J: Joins + Drop>(
+    pub fn submit<
+        's,
+        E,
+        C: LegalHistory + Send + 's,
+        R: Source + Send + Drop + 's,
+        T: Wait + Sync + 's,
+        J: Joins + Drop,
+    >(
         &mut self,
         rt: &T,
-        shared: &Shared<L>,
+        shared: &Shared<C, L>,
         session: SessionId,
-        lines: &mut Lines<'_, 's, E, R, L, T, J>,
+        lines: &mut Lines<'_, 's, E, R, C, L, T, J>,
         line: Reading,
     ) -> Option<Word>
         requires { all_answered self.old.exchanges ≡ true }
@@ -91,7 +99,7 @@ impl<L: Ledger + Send + Sync> Dealings<L> {
     }
 
     /// The client dies, if there is one.
-    pub fn end<T: Wait>(self, rt: &T, shared: &Shared<L>) -> Remains<L>
+    pub fn end<C: LegalHistory, T: Wait>(self, rt: &T, shared: &Shared<C, L>) -> Remains<L>
         ensures words { IsTranscript result.transcript }
         ensures left { IsLeftOf result.transcript result.left }
         ensures clock { result.clock.moments ≡ moments_in result.transcript }

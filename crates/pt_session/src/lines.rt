@@ -14,6 +14,7 @@ use crate::turns::Turns;
 use crate::watch::Watch;
 use pt_hub::SessionId;
 use pt_io::Source;
+use pt_legal::LegalHistory;
 use rtrb::Consumer;
 use std::marker::Model;
 use std::mem;
@@ -62,10 +63,11 @@ fn start_reading<
     's,
     E,
     R: Source + Send + Drop + 's,
+    C: LegalHistory + Send + 's,
     L: Ledger + Send + Sync + 's,
     T: Wait + Sync + 's,
     J: Drop,
->(rt: &'s T, shared: &'s Shared<L>, here: Here<'a, 's, E, R, J>) -> Place<'a, 's, E, R, J>
+>(rt: &'s T, shared: &'s Shared<C, L>, here: Here<'a, 's, E, R, J>) -> Place<'a, 's, E, R, J>
     ensures read { (ring : RingOut) → IsPair here.entry.side.ring ring
         → IsReadIn here.entry.side.mode result ring }
     ensures own { is_own result ≡ true }
@@ -112,9 +114,9 @@ fn come_back<'a, 's, E, R: Source, J: Joins + Drop>(
 }
 
 // The next line of a connection that this thread reads. It is read until a line is whole.
-fn next_here<R: Source, L: Ledger, T: Wait>(
+fn next_here<R: Source, C: LegalHistory, L: Ledger, T: Wait>(
     rt: &T,
-    shared: &Shared<L>,
+    shared: &Shared<C, L>,
     side: &mut ReadingSide<R>,
     ring: &mut Consumer<Reading>,
 ) -> Option<Reading>
@@ -142,9 +144,9 @@ fn next_here<R: Source, L: Ledger, T: Wait>(
 /// it waits long for the answer to a call: then another thread reads, which sees the end of the
 /// input.
 #[derive(Drop)]
-pub(crate) struct Lines<'a, 's, E: 's, R: Source, L: Ledger, T, J> {
+pub(crate) struct Lines<'a, 's, E: 's, R: Source, C: LegalHistory, L: Ledger, T, J> {
     rt: &'s T,
-    shared: &'s Shared<L>,
+    shared: &'s Shared<C, L>,
     session: SessionId,
     mode: ClockMode,
     place: Place<'a, 's, E, R, J>,
@@ -152,7 +154,8 @@ pub(crate) struct Lines<'a, 's, E: 's, R: Source, L: Ledger, T, J> {
     watch: Watch,
 }
 
-impl<'a, 's, E: 's, R: Source, L: Ledger, T, J> Model for Lines<'a, 's, E, R, L, T, J> {
+impl<'a, 's, E: 's, R: Source, C: LegalHistory, L: Ledger, T, J> Model
+    for Lines<'a, 's, E, R, C, L, T, J> {
     ghost use Rattle.pt_session.specs.Sources.{Taking};
     ghost use Rattle.pt_session.specs.Places.{IsReadIn, is_own};
 
@@ -163,17 +166,26 @@ impl<'a, 's, E: 's, R: Source, L: Ledger, T, J> Model for Lines<'a, 's, E, R, L,
     ghost invariant = { λ l. IsReadIn l.mode l.place l.ring };
 }
 
-impl<'a, 's, E, R: Source + Drop, L: Ledger, T, J: Drop> Lines<'a, 's, E, R, L, T, J> {
+impl<'a, 's, E, R: Source + Drop, C: LegalHistory, L: Ledger, T, J: Drop> Lines<
+    'a,
+    's,
+    E,
+    R,
+    C,
+    L,
+    T,
+    J,
+> {
     ghost use Rattle.std.specs.Prelude.{◌≡◌, true};
     ghost use Rattle.rtrb.specs.Ring.{IsPair};
 
     /// Lines that another thread pushes into the ring.
     pub fn of_ring(
         rt: &'s T,
-        shared: &'s Shared<L>,
+        shared: &'s Shared<C, L>,
         session: SessionId,
         ring: Consumer<Reading>,
-    ) -> Lines<'a, 's, E, R, L, T, J>
+    ) -> Lines<'a, 's, E, R, C, L, T, J>
         ensures { result.ring ≡ ring }
     {
         Lines {
@@ -190,11 +202,11 @@ impl<'a, 's, E, R: Source + Drop, L: Ledger, T, J: Drop> Lines<'a, 's, E, R, L, 
     /// Lines that are read in the thread that takes them.
     pub fn of_reader(
         rt: &'s T,
-        shared: &'s Shared<L>,
+        shared: &'s Shared<C, L>,
         session: SessionId,
         here: Here<'a, 's, E, R, J>,
         ring: Consumer<Reading>,
-    ) -> Lines<'a, 's, E, R, L, T, J>
+    ) -> Lines<'a, 's, E, R, C, L, T, J>
         requires { IsPair here.side.ring ring }
         ensures lines { (result.ring ≡ ring) × (result.mode ≡ here.entry.side.mode) }
         ensures own { result.own ≡ true }
@@ -234,11 +246,12 @@ impl<'a, 's, E, R: Source + Drop, L: Ledger, T, J: Drop> Lines<'a, 's, E, R, L, 
     }
 }
 
-impl<'a, 's, E, R: Source + Drop, L: Ledger, T: Wait, J: Joins + Drop> Lines<
+impl<'a, 's, E, R: Source + Drop, C: LegalHistory, L: Ledger, T: Wait, J: Joins + Drop> Lines<
     'a,
     's,
     E,
     R,
+    C,
     L,
     T,
     J,
@@ -306,10 +319,11 @@ impl<
     's,
     E,
     R: Source + Send + Drop + 's,
+    C: LegalHistory + Send + 's,
     L: Ledger + Send + Sync + 's,
     T: Wait + Sync + 's,
     J: Drop,
-> Lines<'a, 's, E, R, L, T, J> {
+> Lines<'a, 's, E, R, C, L, T, J> {
     ghost use Rattle.std.specs.Prelude.{◌≡◌};
     ghost use Rattle.pt_session.specs.Sources.{IsStillAt};
 
@@ -327,7 +341,16 @@ impl<
     }
 }
 
-impl<'a, 's, E, R: Source, L: Ledger, T: Threads + Wait> Lines<'a, 's, E, R, L, T, Joiner<'s, T>> {
+impl<'a, 's, E, R: Source, C: LegalHistory, L: Ledger, T: Threads + Wait> Lines<
+    'a,
+    's,
+    E,
+    R,
+    C,
+    L,
+    T,
+    Joiner<'s, T>,
+> {
     ghost use Rattle.std.specs.Prelude.{◌≡◌, true};
     ghost use Rattle.rtrb.specs.Ring.{IsPair};
     ghost use Rattle.pt_session.specs.Readings.{input};

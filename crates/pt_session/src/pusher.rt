@@ -6,6 +6,7 @@ ghost use Rattle.rtrb.specs.Ring.{sent};
 use crate::kinds::Reading;
 use crate::shared::Shared;
 use pt_hub::SessionId;
+use pt_legal::LegalHistory;
 use rtrb::Producer;
 use std::sync::Wait;
 use std::sync::atomic::AtomicU64;
@@ -61,7 +62,7 @@ impl Pusher {
 
     // Waits until the ring has room, for a while; not if the working side waits for the answer to a
     // call, since only a reading side that reads on sees the connection's end then.
-    fn wait_for_room<L: Ledger, T: Wait>(&mut self, rt: &T, shared: &Shared<L>)
+    fn wait_for_room<C: LegalHistory, L: Ledger, T: Wait>(&mut self, rt: &T, shared: &Shared<C, L>)
         ensures ring { SameProducer self.old.ring self.new.ring }
         ensures same { sent self.new.ring ≡ sent self.old.ring }
         ensures read { self.new.read ≡ self.old.read }
@@ -82,7 +83,12 @@ impl Pusher {
 
     /// Pushes a reading, and wakes the thread that takes it, if that is another. `false` if the
     /// ring has no room, or if no more can be counted, which no input comes to within its reads.
-    pub fn push<L: Ledger, T: Wait>(&mut self, rt: &T, shared: &Shared<L>, reading: Reading) -> bool
+    pub fn push<C: LegalHistory, L: Ledger, T: Wait>(
+        &mut self,
+        rt: &T,
+        shared: &Shared<C, L>,
+        reading: Reading,
+    ) -> bool
         ensures ring { SameProducer self.old.ring self.new.ring }
         ensures pushed { IsTrue result
             → sent self.new.ring ≡ sent self.old.ring ++ reading ∷ [] }

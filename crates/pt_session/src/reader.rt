@@ -10,6 +10,7 @@ use crate::kinds::{ClockMode, EndCause, Reading};
 use crate::pusher::Pusher;
 use crate::shared::Shared;
 use pt_io::Source;
+use pt_legal::LegalHistory;
 use pt_lines::{CallLine, Cut, Cutter};
 use pt_types::Refusal;
 use std::alloc::Global;
@@ -50,9 +51,9 @@ fn reading_of(mode: ClockMode, cut: &Cut) -> Reading
 }
 
 // Pushes what is read of the last line, which no newline ended, if there is one.
-fn push_last<L: Ledger, T: Wait>(
+fn push_last<C: LegalHistory, L: Ledger, T: Wait>(
     rt: &T,
-    shared: &Shared<L>,
+    shared: &Shared<C, L>,
     mode: ClockMode,
     cutter: Cutter,
     pusher: &mut Pusher,
@@ -74,9 +75,9 @@ fn push_last<L: Ledger, T: Wait>(
 }
 
 // Reads a piece of the input. The cause, if the input ends here.
-fn read_piece<R: Source, L: Ledger, T: Wait>(
+fn read_piece<R: Source, C: LegalHistory, L: Ledger, T: Wait>(
     rt: &T,
-    shared: &Shared<L>,
+    shared: &Shared<C, L>,
     mode: ClockMode,
     from: &mut LineInput<R>,
     pusher: &mut Pusher,
@@ -108,9 +109,9 @@ fn read_piece<R: Source, L: Ledger, T: Wait>(
 
 /// Pushes what is read of the next line, or reads a piece of the input if no line is whole. The
 /// cause, if the input ends here.
-pub(crate) fn read_on<R: Source, L: Ledger, T: Wait>(
+pub(crate) fn read_on<R: Source, C: LegalHistory, L: Ledger, T: Wait>(
     rt: &T,
-    shared: &Shared<L>,
+    shared: &Shared<C, L>,
     mode: ClockMode,
     from: &mut LineInput<R>,
     pusher: &mut Pusher,

@@ -13,6 +13,7 @@ use crate::shared::Shared;
 use crate::turns::Turns;
 use pt_hub::SessionId;
 use pt_io::Source;
+use pt_legal::LegalHistory;
 use pt_lines::Cutter;
 use rtrb::Producer;
 use std::alloc::Global;
@@ -112,7 +113,7 @@ impl<R: Source> ReadingSide<R> {
 
     /// Pushes what is read of the next line, or reads a piece of the input if no line is whole,
     /// unless the reading has ended.
-    pub fn step<L: Ledger, T: Wait>(&mut self, rt: &T, shared: &Shared<L>)
+    pub fn step<C: LegalHistory, L: Ledger, T: Wait>(&mut self, rt: &T, shared: &Shared<C, L>)
         ensures ring { SameProducer self.old.ring self.new.ring }
         ensures mode { self.new.mode ≡ self.old.mode }
     {
@@ -132,7 +133,12 @@ impl<R: Source> ReadingSide<R> {
     }
 
     // Reads until the input ends, or a step ends while no call waits.
-    fn read_in_turn<L: Ledger, T: Wait>(&mut self, rt: &T, shared: &Shared<L>, turns: &Turns)
+    fn read_in_turn<C: LegalHistory, L: Ledger, T: Wait>(
+        &mut self,
+        rt: &T,
+        shared: &Shared<C, L>,
+        turns: &Turns,
+    )
         ensures ring { SameProducer self.old.ring self.new.ring }
         ensures mode { self.new.mode ≡ self.old.mode }
     {
@@ -146,7 +152,12 @@ impl<R: Source> ReadingSide<R> {
     }
 
     /// Reads while a call waits, for the thread that takes the lines, and wakes it in the end.
-    pub fn read_meanwhile<L: Ledger, T: Wait>(&mut self, rt: &T, shared: &Shared<L>, turns: &Turns)
+    pub fn read_meanwhile<C: LegalHistory, L: Ledger, T: Wait>(
+        &mut self,
+        rt: &T,
+        shared: &Shared<C, L>,
+        turns: &Turns,
+    )
         ensures ring { SameProducer self.old.ring self.new.ring }
         ensures mode { self.new.mode ≡ self.old.mode }
     {
@@ -164,7 +175,11 @@ impl<R: Source> ReadingSide<R> {
     }
 
     // Reads to the end of the input.
-    fn read_all<L: Ledger, T: Wait>(&mut self, rt: &T, shared: &Shared<L>) -> EndCause
+    fn read_all<C: LegalHistory, L: Ledger, T: Wait>(
+        &mut self,
+        rt: &T,
+        shared: &Shared<C, L>,
+    ) -> EndCause
         ensures ring { SameProducer self.old.ring self.new.ring }
         ensures mode { self.new.mode ≡ self.old.mode }
         ensures cause { self.new.cause ≡ Some result }
@@ -179,7 +194,11 @@ impl<R: Source> ReadingSide<R> {
     }
 
     /// Reads to the end of the input, and reports it.
-    pub fn read_to_end<L: Ledger, T: Wait>(mut self, rt: &T, shared: &Shared<L>) -> ReadEnd<R>
+    pub fn read_to_end<C: LegalHistory, L: Ledger, T: Wait>(
+        mut self,
+        rt: &T,
+        shared: &Shared<C, L>,
+    ) -> ReadEnd<R>
         ensures ring { SameProducer self.ring result.ring }
         ensures ends { EndsReading self.mode (input R.given R.ended R.failures R.reads) result }
     {
@@ -207,12 +226,12 @@ impl<R: Source> ReadingSide<R> {
 ///
 /// A line that finds the ring full waits for room, at most a second and a little, and not while a
 /// call of the session is open.  [profile]
-pub fn read_side<R: Source, L: Ledger, T: Wait>(
+pub fn read_side<R: Source, C: LegalHistory, L: Ledger, T: Wait>(
     rt: &T,
     alloc: Global,
     reader: R,
     ring: Producer<Reading>,
-    shared: &Shared<L>,
+    shared: &Shared<C, L>,
     session: SessionId,
     mode: ClockMode,
 ) -> ReadEnd<R>

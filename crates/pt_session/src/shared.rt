@@ -4,6 +4,7 @@ ghost use Rattle.pt_hub.specs.Hubs.{Fits};
 
 use pt_bells::{Attendance, Bell, bells};
 use pt_hub::{Hub, SessionId};
+use pt_legal::LegalHistory;
 use pt_types::ClientId;
 use std::sync::ledger::Ledger;
 use std::sync::{Mutex, MutexGuard, Wait};
@@ -29,13 +30,13 @@ fn spin() {
 /// What lies under the lock: the hub, whether the server ends, which ends its clock, which session
 /// takes whose answers, and the sessions whose calls wait, in the order in which they began to.
 #[derive(Drop)]
-pub struct Room<L: Ledger> {
-    pub hub: Hub<L>,
+pub struct Room<C: LegalHistory, L: Ledger> {
+    pub hub: Hub<C, L>,
     pub done: bool,
     pub(crate) attendance: Attendance,
 }
 
-impl<L: Ledger> Room<L> {
+impl<C: LegalHistory, L: Ledger> Room<C, L> {
     /// What holds whenever the lock is free.
     pub fn law_fits(&self)
         ensures { Fits self.now.hub }
@@ -48,15 +49,15 @@ impl<L: Ledger> Room<L> {
 /// refused. Who rings has done before what the sleeper waits for, and who sleeps has read the
 /// bell's count before it looked for that.
 #[derive(Drop)]
-pub struct Shared<L: Ledger> {
-    pub room: Mutex<Room<L>>,
+pub struct Shared<C: LegalHistory, L: Ledger> {
+    pub room: Mutex<Room<C, L>>,
     bell: Bell,
     bells: Vec<Bell>,
 }
 
-impl<L: Ledger> Shared<L> {
+impl<C: LegalHistory, L: Ledger> Shared<C, L> {
     /// A hub is shared from here on.
-    pub fn new(hub: Hub<L>) -> Shared<L> {
+    pub fn new(hub: Hub<C, L>) -> Shared<C, L> {
         let alloc = hub.allocator();
         Shared {
             room: Mutex::new(Room {
@@ -71,7 +72,7 @@ impl<L: Ledger> Shared<L> {
 
     /// Takes the lock. It is held for some microseconds at most, so the thread looks for it for a
     /// while before it sleeps.
-    pub(crate) fn enter<R: Wait>(&self, rt: &R) -> MutexGuard<'_, Room<L>> {
+    pub(crate) fn enter<R: Wait>(&self, rt: &R) -> MutexGuard<'_, Room<C, L>> {
         for look in 0..MOST_LOOKS {
             if let Some(room) = self.room.try_lock() {
                 return room;
@@ -112,7 +113,7 @@ impl<L: Ledger> Shared<L> {
     // them.
     fn ring_answered(
         &self,
-        room: &mut Room<L>,
+        room: &mut Room<C, L>,
         place: u64,
         caller: &Option<ClientId>,
     ) -> Option<SessionId> {
@@ -121,8 +122,10 @@ impl<L: Ledger> Shared<L> {
             return None;
         }
         let mut last = None;
-        let mut answers = room.hub.answers_since(place);
-        while let Some(reply) = answers.next() {
+        for index in 0..usize::MAX {
+            let Some(reply) = room.hub.answer_since(place, index) else {
+                break;
+            };
             if *caller == Some(reply.client) {
                 continue;
             }
@@ -145,7 +148,7 @@ impl<L: Ledger> Shared<L> {
     /// one that is answered, so it is warned.
     pub(crate) fn leave(
         &self,
-        mut room: MutexGuard<'_, Room<L>>,
+        mut room: MutexGuard<'_, Room<C, L>>,
         place: u64,
         caller: &Option<ClientId>,
     ) {
@@ -164,7 +167,7 @@ impl<L: Ledger> Shared<L> {
     /// As `leave`, after a client's call. If it waits, that is noted.
     pub(crate) fn leave_asked(
         &self,
-        mut room: MutexGuard<'_, Room<L>>,
+        mut room: MutexGuard<'_, Room<C, L>>,
         place: u64,
         client: ClientId,
         waits: bool,
@@ -209,7 +212,7 @@ impl<L: Ledger> Shared<L> {
     }
 
     /// The hub, which is shared no more.
-    pub fn into_hub(self) -> Hub<L>
+    pub fn into_hub(self) -> Hub<C, L>
         ensures { Fits result }
     {
         let Shared { room, .. } = self;

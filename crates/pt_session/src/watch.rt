@@ -8,6 +8,7 @@ use crate::patience::Patience;
 use crate::shared::Shared;
 use crate::turns::Turns;
 use pt_hub::SessionId;
+use pt_legal::LegalHistory;
 use rtrb::Consumer;
 use std::hint::spin_loop;
 use std::sync::Wait;
@@ -54,10 +55,10 @@ impl Watch {
     }
 
     // Whether no other thread pushes readings any more.
-    fn is_over<L: Ledger, T: Wait>(
+    fn is_over<C: LegalHistory, L: Ledger, T: Wait>(
         &mut self,
         rt: &T,
-        shared: &Shared<L>,
+        shared: &Shared<C, L>,
         session: SessionId,
         turns: Option<&Turns>,
     ) -> bool {
@@ -69,10 +70,10 @@ impl Watch {
 
     // Whether the session's input has ended. The lock is taken only if an input has ended since the
     // last time, of the sessions that share a bell.
-    fn input_ended<L: Ledger, T: Wait>(
+    fn input_ended<C: LegalHistory, L: Ledger, T: Wait>(
         &mut self,
         rt: &T,
-        shared: &Shared<L>,
+        shared: &Shared<C, L>,
         session: SessionId,
     ) -> bool {
         let ends = shared.ends(session);
@@ -85,10 +86,10 @@ impl Watch {
 
     // The next reading: for it the thread sleeps. `None` if the ring is empty and no other thread
     // pushes into it any more.
-    fn sleep_for<L: Ledger, T: Wait>(
+    fn sleep_for<C: LegalHistory, L: Ledger, T: Wait>(
         &mut self,
         rt: &T,
-        shared: &Shared<L>,
+        shared: &Shared<C, L>,
         session: SessionId,
         turns: Option<&Turns>,
         ring: &mut Consumer<Reading>,
@@ -113,10 +114,10 @@ impl Watch {
 
     /// The next reading. `None` if the ring is empty and no other thread pushes into it any more:
     /// it has stopped in its turn, or, if these are not given, the session's input has ended.
-    pub fn next<L: Ledger, T: Wait>(
+    pub fn next<C: LegalHistory, L: Ledger, T: Wait>(
         &mut self,
         rt: &T,
-        shared: &Shared<L>,
+        shared: &Shared<C, L>,
         session: SessionId,
         turns: Option<&Turns>,
         ring: &mut Consumer<Reading>,

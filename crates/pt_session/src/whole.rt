@@ -20,6 +20,7 @@ use crate::turns::Turns;
 use crate::worker::{Worked, work};
 use pt_hub::{ClockPass, SessionId};
 use pt_io::{Sink, Source};
+use pt_legal::LegalHistory;
 use pt_types::Refusal;
 use rtrb::{Consumer, Producer, RingBuffer};
 use std::alloc::Global;
@@ -43,7 +44,11 @@ struct Opened<L: Ledger> {
 }
 
 // Makes a ring, and opens a session.
-fn open<L: Ledger, T: Wait>(rt: &T, alloc: Global, shared: &Shared<L>) -> Result<Opened<L>, Refusal>
+fn open<C: LegalHistory, L: Ledger, T: Wait>(
+    rt: &T,
+    alloc: Global,
+    shared: &Shared<C, L>,
+) -> Result<Opened<L>, Refusal>
     ensures err { IfErr result (λ r. Found (λ hub. IsNotOpened hub r) ⊎ (r ≡ refusal.Enomem)) }
 {
     let Ok((producer, consumer)) = RingBuffer::new(alloc, MOST_WAITING) else {
@@ -65,13 +70,19 @@ impl<L: Ledger + Send + Sync> Opened<L> {
     ghost use Rattle.pt_session.specs.Ends.{IsNewRing, IsSession};
 
     // Serves a connection, until its input has ended and its client is dead.
-    fn run<R: Source + Send + Drop, W: Sink + Drop, G: Gate, T: Threads + Wait + Sync>(
+    fn run<
+        C: LegalHistory + Send,
+        R: Source + Send + Drop,
+        W: Sink + Drop,
+        G: Gate,
+        T: Threads + Wait + Sync,
+    >(
         self,
         rt: &T,
         alloc: Global,
         reader: R,
         writer: W,
-        shared: &Shared<L>,
+        shared: &Shared<C, L>,
         gate: &G,
         mode: ClockMode,
     ) -> SessionEnd<R, W, L>
@@ -131,6 +142,7 @@ pub fn session<
     R: Source + Send + Drop,
     W: Sink + Drop,
     G: Gate,
+    C: LegalHistory + Send,
     L: Ledger + Send + Sync,
     T: Threads + Wait + Sync,
 >(
@@ -138,7 +150,7 @@ pub fn session<
     alloc: Global,
     reader: R,
     writer: W,
-    shared: &Shared<L>,
+    shared: &Shared<C, L>,
     gate: &G,
     mode: ClockMode,
 ) -> Result<SessionEnd<R, W, L>, Refusal>

@@ -17,6 +17,7 @@ use crate::reading_thread::{Joins, Nobody};
 use crate::shared::Shared;
 use pt_hub::{ClockPass, SessionId};
 use pt_io::{Faulty, Sink, Source};
+use pt_legal::LegalHistory;
 use rtrb::Consumer;
 use std::alloc::Global;
 use std::sync::Wait;
@@ -64,6 +65,7 @@ fn work_all<
     W: Sink,
     G: Gate,
     R: Source + Send + Drop + 's,
+    C: LegalHistory + Send + 's,
     L: Ledger + Send + Sync + 's,
     T: Wait + Sync + 's,
     J: Joins + Drop,
@@ -71,8 +73,8 @@ fn work_all<
     rt: &T,
     alloc: Global,
     writer: &mut W,
-    lines: &mut Lines<'_, 's, E, R, L, T, J>,
-    shared: &Shared<L>,
+    lines: &mut Lines<'_, 's, E, R, C, L, T, J>,
+    shared: &Shared<C, L>,
     session: SessionId,
     dealings: &mut Dealings<L>,
     gate: &G,
@@ -124,6 +126,7 @@ pub(crate) fn work<
     W: Sink,
     G: Gate,
     R: Source + Send + Drop + 's,
+    C: LegalHistory + Send + 's,
     L: Ledger + Send + Sync + 's,
     T: Wait + Sync + 's,
     J: Joins + Drop,
@@ -131,12 +134,12 @@ pub(crate) fn work<
     rt: &T,
     alloc: Global,
     mut writer: W,
-    mut lines: Lines<'a, 's, E, R, L, T, J>,
-    shared: &Shared<L>,
+    mut lines: Lines<'a, 's, E, R, C, L, T, J>,
+    shared: &Shared<C, L>,
     session: SessionId,
     clock: ClockPass<L>,
     gate: &G,
-) -> Worked<W, Lines<'a, 's, E, R, L, T, J>, L>
+) -> Worked<W, Lines<'a, 's, E, R, C, L, T, J>, L>
     requires lines { received lines.ring ≡ [] }
     requires output { IsUnwritten W.taken W.failures writer }
     requires clock { clock.moments ≡ [] }
@@ -171,12 +174,19 @@ pub(crate) fn work<
 /// Takes the readings out of the ring in order, asks the gate, submits each, waits for its answer
 /// and writes it. Once the input has ended it goes on until the ring is empty or a call is open. In
 /// the end the client dies.  [profile]
-pub fn work_side<'s, W: Sink, G: Gate, L: Ledger + Send + Sync + 's, T: Wait + Sync + 's>(
+pub fn work_side<
+    's,
+    W: Sink,
+    G: Gate,
+    C: LegalHistory + Send + 's,
+    L: Ledger + Send + Sync + 's,
+    T: Wait + Sync + 's,
+>(
     rt: &'s T,
     alloc: Global,
     writer: W,
     ring: Consumer<Reading>,
-    shared: &'s Shared<L>,
+    shared: &'s Shared<C, L>,
     session: SessionId,
     clock: ClockPass<L>,
     gate: &G,
@@ -194,7 +204,9 @@ pub fn work_side<'s, W: Sink, G: Gate, L: Ledger + Send + Sync + 's, T: Wait + S
     ensures clock { result.clock.moments ≡ moments_in result.transcript }
 {
     // This side reads nothing, so it does not matter what reads, or in which thread.
-    let lines: Lines<'_, '_, (), Faulty, L, T, Nobody> = Lines::of_ring(rt, shared, session, ring);
+    let lines: Lines<'_, '_, (), Faulty, C, L, T, Nobody> = Lines::of_ring(
+        rt, shared, session, ring,
+    );
     let work = work(rt, alloc, writer, lines, shared, session, clock, gate);
     WorkEnd {
         submitted: work.tally.submitted,

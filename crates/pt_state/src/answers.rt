@@ -1,6 +1,6 @@
 //! Answers: their clients, their calls and their outcomes, from any place on.
 
-ghost use Rattle.std.specs.Prelude.{◌<◌, ◌≡◌, length, map, true, Some};
+ghost use Rattle.std.specs.Prelude.{◌<◌, ◌≡◌, length, map, option_map, slice_get, true, Some};
 ghost use Rattle.std.specs.Bool.{OnTrue};
 ghost use Rattle.pt_records.specs.Logs.{logged};
 ghost use Rattle.pt_table.specs.ClientRows.{has_client};
@@ -12,7 +12,9 @@ ghost use Rattle.pt_model.specs.Queries.{answer_of as answer_in, answers_behind 
 ghost use Rattle.pt_state.specs.Adds.{past};
 
 use crate::state::State;
-use pt_records::answers::{Answered, answered_since, outcome_since, recent_outcome, tell};
+use pt_records::answers::{
+    Answered, answered_since, halved_since, outcome_since, recent_outcome, tell,
+};
 use pt_records::calls::close;
 use pt_records::{Caller, LoggedAnswers, Open};
 use pt_types::{ClientId, Outcome};
@@ -110,5 +112,15 @@ impl<A: Allocator + Copy> State<A> {
             (reads_of self.now.stored.start) place self.now.stored.entries }
     {
         self.answers.from(answered_since(&self.answers, place))
+    }
+
+    /// The answer at an index of those that the entries from a place on gave, in order.
+    pub fn answer_since(&self, place: u64, index: usize) -> Option<Answered>
+        requires { AreTables self.now }
+        ensures { option_map (λ a. (logged a).1) result ≡ slice_get (answers_in
+            (reads_of self.now.stored.start) place self.now.stored.entries) index }
+    {
+        let answers = self.answers.from(halved_since(&self.answers, place));
+        answers.get(index)
     }
 }

@@ -3,8 +3,9 @@
 ghost use Rattle.std.specs.Prelude.{◌≡◌, ◌^◌};
 
 use super::{Word, call};
+use crate::cores::{Hub, open};
 use pt_failing_alloc::{Refusing, refuse_each};
-use pt_hub::{Answer, Hub, Pass, Sent};
+use pt_hub::{Answer, Pass, Sent};
 use pt_types::{Outcome, Priority, Refusal};
 use std::alloc::Global;
 use std::marker::Brand;
@@ -92,9 +93,9 @@ fn plays<'a, L: Ledger>(hub: &mut Hub<L, &'a Refusing<Global>>) -> Result<bool, 
 fn plays_in<L: Ledger>(heap: &Refusing<Global>, blank: Blank) -> Result<bool, &'static str>
     requires { (blank.name ≡ L.name) × (blank.parts ≡ L.parts) × (blank.parts ≡ 2 ^ 63) }
 {
-    match Hub::<L, &Refusing<Global>>::new(heap, blank) {
-        Ok((mut hub, _)) => plays(&mut hub),
-        Err(_) => Ok(true),
+    match open::<L, &Refusing<Global>>(heap, blank) {
+        Some((mut hub, _)) => plays(&mut hub),
+        None => Ok(true),
     }
 }
 

@@ -3,7 +3,8 @@
 ghost use Rattle.std.specs.Prelude.{◌≡◌, ◌^◌};
 
 use super::{Word, call};
-use pt_hub::{Answer, ClockPass, CloseFault, CloseRefused, Closed, Hub, Left, Pass, Receipt, Sent};
+use crate::cores::{CloseRefused, Hub, open};
+use pt_hub::{Answer, ClockPass, CloseFault, Closed, Left, Pass, Receipt, Sent};
 use pt_types::{ClientId, Clock, Deadline, Moment, Outcome, Priority, Refusal};
 use std::alloc::Global;
 use std::marker::Brand;
@@ -48,7 +49,7 @@ pub(super) struct Row<'a> {
     pub closed: Closed,
 }
 
-fn joins<L: Ledger>(hub: &mut Hub<L>, passes: &mut Vec<Pass<L>>) -> bool {
+fn joins<L: Ledger>(hub: &mut Hub<L, Global>, passes: &mut Vec<Pass<L>>) -> bool {
     let Some(priority) = Priority::new(10) else {
         return false;
     };
@@ -63,7 +64,11 @@ fn joins<L: Ledger>(hub: &mut Hub<L>, passes: &mut Vec<Pass<L>>) -> bool {
     }
 }
 
-fn all_join<L: Ledger>(hub: &mut Hub<L>, passes: &mut Vec<Pass<L>>, clients: usize) -> bool {
+fn all_join<L: Ledger>(
+    hub: &mut Hub<L, Global>,
+    passes: &mut Vec<Pass<L>>,
+    clients: usize,
+) -> bool {
     for _ in 0..clients {
         if !joins(hub, passes) {
             return false;
@@ -72,21 +77,34 @@ fn all_join<L: Ledger>(hub: &mut Hub<L>, passes: &mut Vec<Pass<L>>, clients: usi
     true
 }
 
-fn sends<L: Ledger>(hub: &mut Hub<L>, pass: &mut Pass<L>, word: Word) -> Result<Sent, Refusal> {
+fn sends<L: Ledger>(
+    hub: &mut Hub<L, Global>,
+    pass: &mut Pass<L>,
+    word: Word,
+) -> Result<Sent, Refusal> {
     match call(word) {
         Some(call) => hub.call(pass, call),
         None => Err(Refusal::Syntax),
     }
 }
 
-fn advances<L: Ledger>(hub: &mut Hub<L>, clock: &mut ClockPass<L>, sec: u64, nsec: u64) -> bool {
+fn advances<L: Ledger>(
+    hub: &mut Hub<L, Global>,
+    clock: &mut ClockPass<L>,
+    sec: u64,
+    nsec: u64,
+) -> bool {
     match Moment::new(sec, nsec) {
         Some(moment) => hub.moment(clock, Clock::Real, moment).is_ok(),
         None => false,
     }
 }
 
-fn advances_often<L: Ledger>(hub: &mut Hub<L>, clock: &mut ClockPass<L>, count: u64) -> bool {
+fn advances_often<L: Ledger>(
+    hub: &mut Hub<L, Global>,
+    clock: &mut ClockPass<L>,
+    count: u64,
+) -> bool {
     for _ in 0..count {
         if !advances(hub, clock, 1, 0) {
             return false;
@@ -96,13 +114,13 @@ fn advances_often<L: Ledger>(hub: &mut Hub<L>, clock: &mut ClockPass<L>, count: 
 }
 
 // Whose call the entries from a place on answer first.
-fn first_answered<L: Ledger>(hub: &Hub<L>, place: u64) -> Option<u64> {
-    let reply = hub.answers_since(place).next()?;
+fn first_answered<L: Ledger>(hub: &Hub<L, Global>, place: u64) -> Option<u64> {
+    let reply = hub.answer_since(place, 0)?;
     Some(reply.client.0)
 }
 
 // Whether what a client does comes out as it must.
-fn comes_out<L: Ledger>(hub: &mut Hub<L>, pass: &mut Pass<L>, step: Step) -> bool {
+fn comes_out<L: Ledger>(hub: &mut Hub<L, Global>, pass: &mut Pass<L>, step: Step) -> bool {
     match step {
         Step::Asks(_, word, place) => sends(hub, pass, word) == Ok(Sent { place, ready: true }),
         Step::Waits(_, word, place) => sends(hub, pass, word)
@@ -118,7 +136,7 @@ fn comes_out<L: Ledger>(hub: &mut Hub<L>, pass: &mut Pass<L>, step: Step) -> boo
 
 // Whether a step comes out as it must.
 fn plays<L: Ledger>(
-    hub: &mut Hub<L>,
+    hub: &mut Hub<L, Global>,
     clock: &mut ClockPass<L>,
     passes: &mut [Pass<L>],
     step: Step,
@@ -141,7 +159,7 @@ fn plays<L: Ledger>(
 }
 
 fn plays_all<L: Ledger>(
-    hub: &mut Hub<L>,
+    hub: &mut Hub<L, Global>,
     clock: &mut ClockPass<L>,
     passes: &mut [Pass<L>],
     steps: &[Step],
@@ -193,7 +211,7 @@ pub(super) fn add<L: Ledger>(lefts: &mut Vec<Left<L>>, left: Option<Left<L>>) {
     }
 }
 
-fn all_die<L: Ledger>(hub: &mut Hub<L>, passes: Vec<Pass<L>>, lefts: &mut Vec<Left<L>>) {
+fn all_die<L: Ledger>(hub: &mut Hub<L, Global>, passes: Vec<Pass<L>>, lefts: &mut Vec<Left<L>>) {
     for pass in passes {
         add(lefts, Some(hub.die(pass)));
     }
@@ -223,7 +241,7 @@ fn closes_again<L: Ledger>(refused: CloseRefused<L>, last: Option<Left<L>>, row:
 }
 
 fn closes<L: Ledger>(
-    hub: Hub<L>,
+    hub: Hub<L, Global>,
     clocks: Vec<ClockPass<L>>,
     mut lefts: Vec<Left<L>>,
     row: &Row,
@@ -239,7 +257,7 @@ fn closes<L: Ledger>(
 // have to drop the hub.
 fn ends<L: Ledger>(
     alloc: Global,
-    mut hub: Hub<L>,
+    mut hub: Hub<L, Global>,
     clock: ClockPass<L>,
     passes: Vec<Pass<L>>,
     row: &Row,
@@ -253,7 +271,7 @@ fn ends<L: Ledger>(
 }
 
 fn plays_row<L: Ledger>(
-    hub: &mut Hub<L>,
+    hub: &mut Hub<L, Global>,
     clock: &mut ClockPass<L>,
     passes: &mut Vec<Pass<L>>,
     row: &Row,
@@ -265,13 +283,13 @@ fn plays_row<L: Ledger>(
 fn is_played_in<L: Ledger>(alloc: Global, blank: Blank, row: &Row) -> bool
     requires { (blank.name ≡ L.name) × (blank.parts ≡ L.parts) × (blank.parts ≡ 2 ^ 63) }
 {
-    match Hub::<L>::new(alloc, blank) {
-        Ok((mut hub, mut clock)) => {
+    match open::<L, Global>(alloc, blank) {
+        Some((mut hub, mut clock)) => {
             let mut passes = Vec::new(alloc);
             let played = plays_row(&mut hub, &mut clock, &mut passes, row);
             ends(alloc, hub, clock, passes, row) && played
         }
-        Err(_) => false,
+        None => false,
     }
 }
 

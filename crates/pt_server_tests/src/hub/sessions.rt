@@ -2,14 +2,15 @@
 
 ghost use Rattle.std.specs.Prelude.{◌≡◌, ◌^◌};
 
-use pt_hub::{ClockPass, Hub, SessionId, Tick};
+use crate::cores::{Hub, open};
+use pt_hub::{ClockPass, SessionId, Tick};
 use pt_types::{Clock, Moment};
 use std::alloc::Global;
 use std::marker::Brand;
 use std::sync::ledger::{Blank, Ledger};
 
 // A session opens as the one of this number, with a clock that has submitted nothing.
-fn opens<L: Ledger>(hub: &mut Hub<L>, number: u64) -> bool {
+fn opens<L: Ledger>(hub: &mut Hub<L, Global>, number: u64) -> bool {
     match hub.open_session() {
         Ok((session, clock)) => {
             session == SessionId(number) && clock.moments().is_empty() && !hub.input_ended(session)
@@ -19,7 +20,7 @@ fn opens<L: Ledger>(hub: &mut Hub<L>, number: u64) -> bool {
 }
 
 // Marks are those of open sessions alone, and no number is given twice.
-fn are_marked<L: Ledger>(hub: &mut Hub<L>) -> bool {
+fn are_marked<L: Ledger>(hub: &mut Hub<L, Global>) -> bool {
     if !opens(hub, 0) || !opens(hub, 1) {
         return false;
     }
@@ -34,7 +35,11 @@ fn are_marked<L: Ledger>(hub: &mut Hub<L>) -> bool {
 }
 
 // A clock has the moments that were submitted by it, in order.
-fn are_submitted<L: Ledger>(hub: &mut Hub<L>, clock: &mut ClockPass<L>, ticks: &[Tick]) -> bool {
+fn are_submitted<L: Ledger>(
+    hub: &mut Hub<L, Global>,
+    clock: &mut ClockPass<L>,
+    ticks: &[Tick],
+) -> bool {
     for tick in ticks {
         if hub.moment(clock, tick.clock, tick.moment).is_err() {
             return false;
@@ -43,7 +48,7 @@ fn are_submitted<L: Ledger>(hub: &mut Hub<L>, clock: &mut ClockPass<L>, ticks: &
     clock.moments() == ticks
 }
 
-fn are_moments<L: Ledger>(hub: &mut Hub<L>, clock: &mut ClockPass<L>) -> bool {
+fn are_moments<L: Ledger>(hub: &mut Hub<L, Global>, clock: &mut ClockPass<L>) -> bool {
     let Some(moment) = Moment::new(7, 999_999_999) else {
         return false;
     };
@@ -61,9 +66,9 @@ fn are_moments<L: Ledger>(hub: &mut Hub<L>, clock: &mut ClockPass<L>) -> bool {
 fn are_sessions_in<L: Ledger>(alloc: Global, blank: Blank) -> bool
     requires { (blank.name ≡ L.name) × (blank.parts ≡ L.parts) × (blank.parts ≡ 2 ^ 63) }
 {
-    match Hub::<L>::new(alloc, blank) {
-        Ok((mut hub, mut clock)) => are_marked(&mut hub) && are_moments(&mut hub, &mut clock),
-        Err(_) => false,
+    match open::<L, Global>(alloc, blank) {
+        Some((mut hub, mut clock)) => are_marked(&mut hub) && are_moments(&mut hub, &mut clock),
+        None => false,
     }
 }
 

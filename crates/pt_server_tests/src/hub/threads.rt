@@ -4,8 +4,8 @@ ghost use Rattle.std.specs.Prelude.{◌≡◌, ◌^◌};
 
 use super::play::add;
 use super::{Word, call};
-use pt_hub::{ClockPass, Closed, Hub, Left, Pass, SessionId};
-use pt_session::Shared;
+use crate::cores::{Shared, open};
+use pt_hub::{ClockPass, Closed, Left, Pass, SessionId};
 use pt_types::{Outcome, Priority};
 use std::alloc::Global;
 use std::marker::Brand;
@@ -122,9 +122,9 @@ fn two_clients_in<L: Ledger + Send + Sync, R: Threads + Wait + Sync>(
 ) -> Option<Closed>
     requires { (blank.name ≡ L.name) × (blank.parts ≡ L.parts) × (blank.parts ≡ 2 ^ 63) }
 {
-    match Hub::<L>::new(alloc, blank) {
-        Ok((hub, clock)) => runs(rt, alloc, Shared::new(hub), clock),
-        Err(_) => None,
+    match open::<L, Global>(alloc, blank) {
+        Some((hub, clock)) => runs(rt, alloc, pt_session::Shared::new(hub), clock),
+        None => None,
     }
 }
 

@@ -2,7 +2,8 @@
 
 ghost use Rattle.std.specs.Prelude.{◌≡◌, ◌^◌};
 
-use pt_hub::{ClockPass, Hub, SessionId};
+use crate::cores::{Hub, open};
+use pt_hub::{ClockPass, SessionId};
 use pt_io::Faulty;
 use pt_session::{ClockMode, EndCause, Gate, SessionEnd, Shared, session};
 use std::alloc::Global;
@@ -54,7 +55,7 @@ fn is_as<L: Ledger>(end: &SessionEnd<Faulty, Faulty, L>, case: &Case) -> bool {
 // The hub closes with what a session left.
 fn closes<L: Ledger>(
     alloc: Global,
-    hub: Hub<L>,
+    hub: Hub<L, Global>,
     clock: ClockPass<L>,
     end: SessionEnd<Faulty, Faulty, L>,
     events: u64,
@@ -76,7 +77,7 @@ fn closes<L: Ledger>(
 fn is_played<L: Ledger + Send + Sync, R: Threads + Wait + Sync>(
     rt: &R,
     alloc: Global,
-    hub: Hub<L>,
+    hub: Hub<L, Global>,
     clock: ClockPass<L>,
     case: &Case,
 ) -> bool {
@@ -101,9 +102,9 @@ fn is_case_in<L: Ledger + Send + Sync, R: Threads + Wait + Sync>(
 ) -> bool
     requires { (blank.name ≡ L.name) × (blank.parts ≡ L.parts) × (blank.parts ≡ 2 ^ 63) }
 {
-    match Hub::<L>::new(alloc, blank) {
-        Ok((hub, clock)) => is_played(rt, alloc, hub, clock, case),
-        Err(_) => false,
+    match open::<L, Global>(alloc, blank) {
+        Some((hub, clock)) => is_played(rt, alloc, hub, clock, case),
+        None => false,
     }
 }
 

@@ -2,9 +2,10 @@
 
 ghost use Rattle.std.specs.Prelude.{◌≡◌, ◌^◌};
 
-use pt_hub::{Hub, SessionId};
+use crate::cores::{Shared, open};
+use pt_hub::SessionId;
 use pt_io::Counted;
-use pt_session::{ClockMode, EndCause, Gate, Shared, session};
+use pt_session::{ClockMode, EndCause, Gate, session};
 use pt_types::{Clock, Deadline};
 use std::alloc::Global;
 use std::io::{Read, Write};
@@ -168,9 +169,9 @@ fn are_played_in<L: Ledger + Send + Sync, R: Threads + Wait + HostClock + Sync>(
 ) -> bool
     requires { (blank.name ≡ L.name) × (blank.parts ≡ L.parts) × (blank.parts ≡ 2 ^ 63) }
 {
-    match Hub::<L>::new(alloc, blank) {
-        Ok((hub, _)) => {
-            let shared = Shared::new(hub);
+    match open::<L, Global>(alloc, blank) {
+        Some((hub, _)) => {
+            let shared = pt_session::Shared::new(hub);
             let (first, second) = thread::join(
                 rt,
                 || is_played(rt, alloc, &shared, one),
@@ -178,7 +179,7 @@ fn are_played_in<L: Ledger + Send + Sync, R: Threads + Wait + HostClock + Sync>(
             );
             first && second
         }
-        Err(_) => false,
+        None => false,
     }
 }
 

@@ -6,7 +6,7 @@ ghost use Rattle.pt_types.specs.Times.{deadline_nanos};
 ghost use Rattle.pt_model.specs.declared.entry.Event.TheVariants as event;
 ghost use Rattle.pt_model.specs.Queries.{least_deadline as least_deadline_in};
 ghost use Rattle.pt_model.specs.Room.{refusal_with_seals};
-ghost use Rattle.pt_core.specs.Cores.{past};
+ghost use Rattle.pt_legal.specs.Cores.{past};
 ghost use Rattle.pt_hub.specs.Desks.{kept, IsRefusedAs, call_refusal};
 ghost use Rattle.pt_hub.specs.Hubs.{Joins, Leaves, Sends, Takes, Ticks, answered, has_ended};
 ghost use Rattle.pt_hub.specs.Hubs.{takeable};
@@ -15,11 +15,12 @@ ghost use Rattle.pt_session.specs.Stays.{Found, Made};
 
 use crate::shared::Shared;
 use pt_hub::{Answer, ClockPass, Left, Pass, Sent, SessionId};
+use pt_legal::LegalHistory;
 use pt_types::{Call, Clock, Deadline, Moment, Priority, Refusal};
 use std::sync::Wait;
 use std::sync::ledger::Ledger;
 
-impl<L: Ledger> Shared<L> {
+impl<C: LegalHistory, L: Ledger> Shared<C, L> {
     /// A client joins, whose answers this session takes.
     pub fn join<R: Wait>(
         &self,

@@ -6,11 +6,12 @@ ghost use Rattle.pt_session.specs.Stays.{Found, Made};
 
 use crate::shared::Shared;
 use pt_hub::{ClockPass, SessionId};
+use pt_legal::LegalHistory;
 use pt_types::Refusal;
 use std::sync::Wait;
 use std::sync::ledger::Ledger;
 
-impl<L: Ledger> Shared<L> {
+impl<C: LegalHistory, L: Ledger> Shared<C, L> {
     /// A session opens, with a clock. LIMIT after 2^32 sessions; else ENOMEM if a growth is
     /// refused.  [profile]
     pub fn open_session<R: Wait>(&self, rt: &R) -> Result<(SessionId, ClockPass<L>), Refusal>

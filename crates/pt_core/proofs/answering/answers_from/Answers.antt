@@ -3,8 +3,8 @@ use Rattle.std.proofs.Common.{ap, ◌∙◌, append_assoc, arith}
 use Rattle.std.proofs.lemmas.List.{append-nil, map-append}
 use Rattle.pt_records.specs.declared.answers.Answered.{Answered}
 use Rattle.pt_records.specs.Logs.{logged}
-use Rattle.pt_core.specs.declared.applied.Reply.{Reply}
-use Rattle.pt_core.specs.Replies.{told_of}
+use Rattle.pt_legal.specs.declared.applied.Reply.{Reply}
+use Rattle.pt_legal.specs.Replies.{told_of}
 use Rattle.pt_core.proofs.answering.answers_from.Goals as goal
 
 -- the first answer that is left becomes the last reply

@@ -1,7 +1,7 @@
 use Rattle.std.proofs.Common.{sym, ap, ◌∙◌, arith}
 use Rattle.pt_history.proofs.Places.{place_of_next}
 use Rattle.pt_state.specs.Adds.{past}
-use Rattle.pt_core.specs.Cores.{seen}
+use Rattle.pt_core.specs.Stores.{seen}
 use Rattle.pt_core.proofs.ApplyingLemmas.{applied-renewed, refused-growth, refused-places}
 use Rattle.pt_core.proofs.ApplyingLemmas.{whole-renewed}
 use Rattle.pt_core.proofs.SealedCores.{places-lack, places-left}

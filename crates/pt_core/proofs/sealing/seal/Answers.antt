@@ -1,6 +1,6 @@
 use Rattle.std.proofs.Common.{sym, ap, ◌∙◌, subst, arith}
 use Rattle.pt_history.proofs.Places.{place_of_next}
-use Rattle.pt_core.specs.Cores.{seen}
+use Rattle.pt_core.specs.Stores.{seen}
 use Rattle.pt_core.specs.Wholes.{IsWhole}
 use Rattle.pt_core.proofs.SealedCores.{settled, whole-sealed, kept-sealed, places-lack, places-left}
 use Rattle.pt_core.proofs.SealedCores.{refused-full, refused-memory}

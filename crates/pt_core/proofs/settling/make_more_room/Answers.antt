@@ -2,8 +2,8 @@ use Rattle.std.proofs.Common.{◌≡◌, ◌+◌, length, sym, ap, ◌∙◌, su
 use Rattle.std.specs.Prelude.{Result, Ok, Err, IfErr, OnOk}
 use Rattle.pt_types.specs.declared.outcome.Refusal.{Refusal}
 use Rattle.pt_types.specs.declared.outcome.Refusal.TheVariants.{Enomem}
-use Rattle.pt_core.specs.Cores.{kept, seen}
-use Rattle.pt_core.specs.Applying.{IsNotWritten}
+use Rattle.pt_core.specs.Stores.{kept, seen}
+use Rattle.pt_legal.specs.Applying.{IsNotWritten}
 use Rattle.pt_core.specs.Wholes.{IsWhole}
 use Rattle.pt_core.proofs.OpenLemmas.{refused-room, memory-room, made-within}
 use Rattle.pt_core.proofs.OpenLemmas.{whole-made, room-made}

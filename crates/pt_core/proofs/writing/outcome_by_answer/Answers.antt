@@ -5,7 +5,7 @@ use Rattle.pt_model.specs.declared.entry.Event.{Event}
 use Rattle.pt_model.specs.declared.entry.Event.TheVariants.{Call}
 use Rattle.pt_model.specs.Histories.{place}
 use Rattle.pt_state.specs.Adds.{past}
-use Rattle.pt_core.specs.Applying.{IsToldStill, told_at_once}
+use Rattle.pt_legal.specs.Applying.{IsToldStill, told_at_once}
 use Rattle.pt_core.proofs.writing.outcome_by_answer.Goals as goal
 
 -- a call whose entry is the last has no answer, if it had none as it came

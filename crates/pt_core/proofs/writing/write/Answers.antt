@@ -6,8 +6,8 @@ use Rattle.pt_machine.specs.Memory.{needs_memory}
 use Rattle.pt_machine.specs.Planned.{IsPlanned}
 use Rattle.pt_history.specs.Stored.{past_of}
 use Rattle.pt_history.proofs.Places.{place_of_next}
-use Rattle.pt_core.specs.Applying.{IsToldStill}
-use Rattle.pt_core.specs.Cores.{seen}
+use Rattle.pt_legal.specs.Applying.{IsToldStill}
+use Rattle.pt_core.specs.Stores.{seen}
 use Rattle.pt_core.proofs.AcceptingLemmas.{same-past}
 use Rattle.pt_core.proofs.WritingLemmas.{alone-at, entered-some, entered-written}
 use Rattle.pt_core.proofs.OpenLemmas.{memory-open, open-made, open-within}

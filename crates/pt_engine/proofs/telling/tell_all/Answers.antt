@@ -1,5 +1,5 @@
 use Rattle.std.proofs.Common.{ℕ, List, ◌++◌, sym, ap, ◌∙◌}
-use Rattle.pt_core.specs.Replies.{told_of}
+use Rattle.pt_legal.specs.Replies.{told_of}
 use Rattle.pt_engine.specs.declared.line_id.LineId.{LineId}
 use Rattle.pt_engine.specs.Engines.{latest_text, own_first}
 use Rattle.pt_engine.proofs.Texts.{fewer, latest_next}

@@ -3,8 +3,8 @@ use Rattle.std.specs.Prelude.{IfOk}
 use Rattle.pt_model.specs.Records.{Told}
 use Rattle.pt_model.specs.Queries.{answers_behind}
 use Rattle.pt_state.specs.Reads.{AreTables}
-use Rattle.pt_core.specs.Cores.{Seen, shown}
-use Rattle.pt_core.specs.Replies.{told_of}
+use Rattle.pt_legal.specs.Cores.{Seen, shown}
+use Rattle.pt_legal.specs.Replies.{told_of}
 use Rattle.pt_core.proofs.machine.Core.answers_from.Goals as goal
 
 pub returns-clause-ok : goal.returns-clause-ok

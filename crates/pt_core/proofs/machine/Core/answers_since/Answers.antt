@@ -1,7 +1,7 @@
 use Rattle.std.proofs.Common.{◌∙◌, ap, sym, subst}
 use Rattle.pt_model.specs.Queries.{answers_behind}
 use Rattle.pt_state.specs.Reads.{AreTables}
-use Rattle.pt_core.specs.Cores.{Seen, shown}
+use Rattle.pt_legal.specs.Cores.{Seen, shown}
 use Rattle.pt_core.proofs.machine.Core.answers_since.Goals as goal
 
 pub returns : goal.returns

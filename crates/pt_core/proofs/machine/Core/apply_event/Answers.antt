@@ -2,8 +2,9 @@ use Rattle.std.proofs.Common.{◌≡◌, true, Option, Some, None, sym, subst}
 use Rattle.std.specs.Prelude.{IfErr, IfOk, OnErr}
 use Rattle.pt_types.specs.declared.outcome.Refusal.{Refusal}
 use Rattle.pt_model.specs.Clients.{is_alive}
-use Rattle.pt_core.specs.Applying.{IsApplied, IsRefusal}
-use Rattle.pt_core.specs.Cores.{Kept, Seen, kept, past, seen}
+use Rattle.pt_legal.specs.Applying.{IsApplied, IsRefusal}
+use Rattle.pt_legal.specs.Cores.{Kept, Seen, past}
+use Rattle.pt_core.specs.Stores.{kept, seen}
 use Rattle.pt_core.specs.Wholes.{IsWhole}
 use Rattle.pt_core.proofs.Views.{seen-now, shown-now}
 use Rattle.pt_core.proofs.machine.Core.apply_event.Goals as goal

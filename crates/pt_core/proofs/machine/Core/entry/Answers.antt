@@ -1,6 +1,6 @@
 use Rattle.std.proofs.Common.{◌-◌, ◌<◌, ◌≤◌, sym, ap, ◌∙◌, subst}
 use Rattle.std.specs.Prelude.{slice_get}
-use Rattle.pt_core.specs.Cores.{Seen, shown}
+use Rattle.pt_legal.specs.Cores.{Seen, shown}
 use Rattle.pt_core.proofs.machine.Core.entry.Goals as goal
 
 pub returns-clause-before : goal.returns-clause-before

@@ -2,7 +2,7 @@ use Rattle.std.proofs.Common.{◌≤◌, length, sym, ap, ◌∙◌, subst, arit
 use Rattle.pt_model.specs.Histories.{place}
 use Rattle.pt_model.specs.Legal.{LegalBehind, events_of}
 use Rattle.pt_model.specs.Steps.{IsStart}
-use Rattle.pt_core.specs.Cores.{Seen, past, shown}
+use Rattle.pt_legal.specs.Cores.{Seen, past, shown}
 use Rattle.pt_core.proofs.machine.Core.len.Goals as goal
 use Rattle.pt_history.proofs.Places.{place_of_next}
 

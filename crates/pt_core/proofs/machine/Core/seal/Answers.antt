@@ -1,7 +1,8 @@
 use Rattle.std.proofs.Common.{◌≡◌, sym, subst}
 use Rattle.std.specs.Prelude.{IfErr, IfOk, OnErr}
-use Rattle.pt_core.specs.Cores.{Kept, Seen, kept, seen}
-use Rattle.pt_core.specs.Sealing.{IsSealed, seal_refusal}
+use Rattle.pt_legal.specs.Cores.{Kept, Seen}
+use Rattle.pt_core.specs.Stores.{kept, seen}
+use Rattle.pt_legal.specs.Sealing.{IsSealed, seal_refusal}
 use Rattle.pt_core.specs.Wholes.{IsWhole}
 use Rattle.pt_core.proofs.Views.{seen-now, shown-now}
 use Rattle.pt_core.proofs.machine.Core.seal.Goals as goal

@@ -5,7 +5,7 @@ use Rattle.pt_history.specs.Stored.{past_of}
 use Rattle.pt_model.specs.Histories.{History, place}
 use Rattle.pt_model.specs.declared.entry.Event.{Event}
 use Rattle.pt_model.specs.declared.entry.Event.TheVariants as event
-use Rattle.pt_core.specs.Applying.{AnswersOwn, IsToldStill}
+use Rattle.pt_legal.specs.Applying.{AnswersOwn, IsToldStill}
 use Rattle.pt_core.specs.Settling.{IsAlone}
 use Rattle.pt_model.specs.StartRows.{reads_of}
 use Rattle.pt_core.proofs.AnswersStay.{told-settled}

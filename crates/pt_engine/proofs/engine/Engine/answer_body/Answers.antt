@@ -6,7 +6,7 @@ use Rattle.pt_engine.specs.Scripts.{event_for, number_of, of_client, core_of, jo
 use Rattle.pt_engine.specs.Says.{SaysTo}
 use Rattle.pt_engine.specs.Engines.{Adds, known_by}
 use Rattle.pt_engine.proofs.Lines.{refused_as}
-use Rattle.pt_core.specs.Cores.{past}
+use Rattle.pt_legal.specs.Cores.{past}
 use Rattle.pt_engine.proofs.engine.Engine.answer_body.Goals as goal
 
 pub returns-in-Named-Ask-clause-ok : goal.returns-in-Named-Ask-clause-ok

@@ -1,5 +1,5 @@
 use Rattle.std.proofs.Common.{Err, sym, ap, ◌∙◌}
-use Rattle.pt_core.specs.Cores.{past}
+use Rattle.pt_legal.specs.Cores.{past}
 use Rattle.pt_engine.specs.Scripts.{core_of, join_for}
 use Rattle.pt_engine.specs.Engines.{known_by}
 use Rattle.pt_engine.proofs.Lines.{refused_as}

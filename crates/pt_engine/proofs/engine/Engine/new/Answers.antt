@@ -1,4 +1,4 @@
-use Rattle.pt_core.specs.Cores.{shown}
+use Rattle.pt_legal.specs.Cores.{shown}
 use Rattle.pt_engine.proofs.Asked.{begun_lines, begun_sound}
 use Rattle.pt_engine.proofs.Stays.{begun_known}
 use Rattle.pt_engine.proofs.engine.Engine.new.Goals as goal

@@ -1,5 +1,5 @@
 use Rattle.std.proofs.Common.{refl, sym, ap, subst, ◌<◌, ◌∙◌}
-use Rattle.pt_core.specs.Cores.{shown}
+use Rattle.pt_legal.specs.Cores.{shown}
 use Rattle.pt_engine.specs.Engines.{IsAsked, known_by, Heard}
 use Rattle.pt_engine.proofs.Accepted.{accepted, refused}
 use Rattle.pt_engine.proofs.Alone.{answers_alone, answers_only}

@@ -2,8 +2,8 @@ use Rattle.std.proofs.Common.{Option, refl, sym, ap, ◌∙◌, subst}
 use Rattle.std.specs.Prelude.{unwrap_or}
 use Rattle.pt_types.specs.declared.call.Call.{Call as Asked}
 use Rattle.pt_model.specs.declared.entry.Event.TheVariants as event
-use Rattle.pt_core.specs.Cores.{shown}
-use Rattle.pt_core.specs.Applying.{IsApplied}
+use Rattle.pt_legal.specs.Cores.{shown}
+use Rattle.pt_legal.specs.Applying.{IsApplied}
 use Rattle.pt_hub.specs.Desks.{Desk as Seen, kept}
 use Rattle.pt_hub.proofs.DeskLemmas.{desk-alike, desk-kept}
 use Rattle.pt_hub.proofs.SeenLemmas.{caller-refused}
@@ -14,7 +14,7 @@ use Rattle.pt_hub.proofs.desk.Desk.call.Goals as goal
 pub note_call-requires : goal.note_call-requires
 note_call-requires g c =
     let old : Seen =
-    record { core = c.self.inside.core; accounts = c.self.inside.accounts.entries } in
+    record { core = g.C.LegalHistory.seen c.self.inside.core; accounts = c.self.inside.accounts.entries } in
     caller-there old _ c.self.view_is c.self.invariant _ _ c.c.view_is _ _ refl
     (sym c.is_blocked.ensures ∙ c.if-is_blocked.false) _ c.in-Ok.applied c.in-Ok.ensures.ok _
     c.renew_if.ensures.entries
@@ -22,7 +22,7 @@ note_call-requires g c =
 pub invariant_of-self : goal.invariant_of-self
 invariant_of-self g c =
     let old : Seen =
-    record { core = c.self.inside.core; accounts = c.self.inside.accounts.entries } in
+    record { core = g.C.LegalHistory.seen c.self.inside.core; accounts = c.self.inside.accounts.entries } in
     desk-called old _ c.self.view_is c.self.invariant _ _ c.c.view_is _ _ refl
     (sym c.is_blocked.ensures ∙ c.if-is_blocked.false) _ c.in-Ok.applied c.in-Ok.ensures.ok _
     c.renew_if.ensures.entries _
@@ -35,7 +35,7 @@ returns-in-Ok-clause-first g c =
 pub returns-in-Ok-clause-account : goal.returns-in-Ok-clause-account
 returns-in-Ok-clause-account g c =
     let old : Seen =
-    record { core = c.self.inside.core; accounts = c.self.inside.accounts.entries } in
+    record { core = g.C.LegalHistory.seen c.self.inside.core; accounts = c.self.inside.accounts.entries } in
     wrote-called old _ c.self.view_is c.self.invariant _ _ c.c.view_is _ _ refl
     (sym c.is_blocked.ensures ∙ c.if-is_blocked.false) _ c.in-Ok.applied c.in-Ok.ensures.ok _
     c.renew_if.ensures.entries _
@@ -50,7 +50,7 @@ returns-in-Err-clause-err g c =
 pub returns-in-Ok-clause-next : goal.returns-in-Ok-clause-next
 returns-in-Ok-clause-next g c =
     let old : Seen =
-    record { core = c.self.inside.core; accounts = c.self.inside.accounts.entries } in
+    record { core = g.C.LegalHistory.seen c.self.inside.core; accounts = c.self.inside.accounts.entries } in
     next-called old _ c.self.view_is c.self.invariant _ _ c.c.view_is _ _ refl
     (sym c.is_blocked.ensures ∙ c.if-is_blocked.false) _ c.in-Ok.applied c.in-Ok.ensures.ok _
     c.renew_if.ensures.entries _
@@ -59,7 +59,7 @@ returns-in-Ok-clause-next g c =
 pub returns-in-Ok-clause-ok : goal.returns-in-Ok-clause-ok
 returns-in-Ok-clause-ok g c =
     subst (λ (d : Seen). IsApplied (kept d) (event.Call c.args.c c.args.call)
-    (shown c.apply_event.new.self) c.in-Ok.applied) c.self.view_is c.in-Ok.ensures.ok
+    (shown (g.C.LegalHistory.seen c.apply.new.self)) c.in-Ok.applied) c.self.view_is c.in-Ok.ensures.ok
 
 pub returns-in-Ok-clause-back : goal.returns-in-Ok-clause-back
 returns-in-Ok-clause-back g c =

@@ -4,14 +4,14 @@ use Rattle.pt_types.specs.declared.outcome.Refusal.{Refusal}
 use Rattle.pt_types.specs.declared.outcome.Refusal.TheVariants.{Blocked}
 use Rattle.pt_model.specs.declared.entry.Event.TheVariants as event
 use Rattle.pt_model.specs.Room.{refusal_with_seals}
-use Rattle.pt_core.specs.Cores.{past}
+use Rattle.pt_legal.specs.Cores.{past}
 use Rattle.pt_hub.specs.Desks.{Desk as Seen, kept}
 use Rattle.pt_hub.proofs.desk.Desk.call_refusal.Goals as goal
 
 pub returns : goal.returns
 returns g c =
     let old : Seen =
-    record { core = c.self.inside.core; accounts = c.self.inside.accounts.entries } in
+    record { core = g.C.LegalHistory.seen c.self.inside.core; accounts = c.self.inside.accounts.entries } in
     let known : Seen → Asked → Option Refusal = λ (d : Seen) (call : Asked).
     refusal_with_seals (kept d).limit (past (kept d)) (event.Call c.args.c call) in
     c.would_refuse.ensures

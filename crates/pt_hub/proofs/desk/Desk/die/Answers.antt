@@ -1,7 +1,7 @@
 use Rattle.std.proofs.Common.{◌≡◌, None, refl, subst}
 use Rattle.std.specs.Prelude.{Result, IfOk}
 use Rattle.pt_types.specs.declared.outcome.Refusal.{Refusal}
-use Rattle.pt_core.specs.declared.applied.Applied.{Applied}
+use Rattle.pt_legal.specs.declared.applied.Applied.{Applied}
 use Rattle.pt_hub.specs.Desks.{Desk as Seen}
 use Rattle.pt_hub.proofs.DeskLemmas.{desk-died, desk-kept}
 use Rattle.pt_hub.proofs.OpenedDesks.{written-unsealed}
@@ -23,7 +23,7 @@ returns-in-Ok-clause-some g c =
 pub invariant_of-self : goal.invariant_of-self
 invariant_of-self g c =
     let old : Seen =
-    record { core = c.self.inside.core; accounts = c.self.inside.accounts.entries } in
+    record { core = g.C.LegalHistory.seen c.self.inside.core; accounts = c.self.inside.accounts.entries } in
     desk-died old _ _ c.self.invariant _ _ c.c.view_is c.in-Ok.applied
     (written-unsealed _ _ _ c.in-Ok.applied c.in-Ok.ensures.ok
     (subst (λ (r : Result Applied Refusal). IfOk r (λ a. a.sealed ≡ None)) c.in-Ok.is

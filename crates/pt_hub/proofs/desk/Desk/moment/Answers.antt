@@ -1,7 +1,7 @@
 use Rattle.std.proofs.Common.{refl, subst}
 use Rattle.pt_model.specs.declared.entry.Event.TheVariants as event
-use Rattle.pt_core.specs.Cores.{shown}
-use Rattle.pt_core.specs.Applying.{IsApplied}
+use Rattle.pt_legal.specs.Cores.{shown}
+use Rattle.pt_legal.specs.Applying.{IsApplied}
 use Rattle.pt_hub.specs.Desks.{Desk as Seen, kept}
 use Rattle.pt_hub.proofs.DeskLemmas.{desk-alike, desk-kept}
 use Rattle.pt_hub.proofs.KnownRefusals.{memory-lacks}
@@ -21,7 +21,7 @@ returns-in-Ok-clause-accounts g c =
 pub returns-in-Ok-clause-ok : goal.returns-in-Ok-clause-ok
 returns-in-Ok-clause-ok g c =
     subst (λ (d : Seen). IsApplied (kept d) (event.Moment c.args.clock c.args.moment)
-    (shown c.apply.new.self) c.in-Ok.applied) c.self.view_is c.in-Ok.ensures.ok
+    (shown (g.C.LegalHistory.seen c.apply.new.self)) c.in-Ok.applied) c.self.view_is c.in-Ok.ensures.ok
 
 pub invariant_of-self-in-Err : goal.invariant_of-self-in-Err
 invariant_of-self-in-Err g c =

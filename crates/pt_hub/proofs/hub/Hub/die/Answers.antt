@@ -1,7 +1,7 @@
 use Rattle.std.proofs.Common.{◌≡◌, ℕ, arith, refl, sym, ap, ◌∙◌}
 use Rattle.std.proofs.lemmas.Bool.{false≢true}
 use Rattle.pt_model.specs.Clients.{is_alive}
-use Rattle.pt_core.specs.Cores.{past}
+use Rattle.pt_legal.specs.Cores.{past}
 use Rattle.pt_hub.specs.Desks.{Desk as Seen, kept, one_if}
 use Rattle.pt_hub.specs.Hubs.{HubView, next_place}
 use Rattle.pt_hub.specs.Passes.{LeftView}

@@ -1,7 +1,7 @@
 use Rattle.std.proofs.Common.{Option, refl, sym, ap, ◌∙◌, subst}
 use Rattle.std.specs.Prelude.{IsSome}
 use Rattle.pt_model.specs.Records.{Told}
-use Rattle.pt_core.specs.Replies.{told_of}
+use Rattle.pt_legal.specs.Replies.{told_of}
 use Rattle.pt_hub.specs.Hubs.{HubView, is_pending}
 use Rattle.pt_hub.specs.Passes.{PassView}
 use Rattle.pt_hub.proofs.HubEvents.{takes}

@@ -5,7 +5,7 @@ use Rattle.pt_types.specs.declared.outcome.Refusal.{Refusal}
 use Rattle.pt_types.specs.declared.outcome.Refusal.TheVariants.{Enomem, Full}
 use Rattle.pt_model.specs.Histories.{place}
 use Rattle.pt_model.specs.Seals.{seal}
-use Rattle.pt_core.specs.Cores.{Kept, past}
+use Rattle.pt_legal.specs.Cores.{Kept, past}
 
 -- the core with its history sealed: it begins with the seal, without entries
 abbrev pub sealed : Kept → Kept

@@ -1,0 +1,4 @@
+pub mod Cores
+pub mod Sealing
+pub mod Applying
+pub mod Replies

@@ -1,0 +1,23 @@
+use Rattle.std.proofs.Common.{List, map, option_map, slice_get, sym, ap, ◌∙◌}
+use Rattle.std.proofs.lemmas.Option.{slice_get-map}
+use Rattle.pt_model.specs.Records.{Told}
+use Rattle.pt_model.specs.StartRows.{reads_of}
+use Rattle.pt_records.specs.declared.answers.Answered.{Answered}
+use Rattle.pt_records.specs.Logs.{logged}
+use Rattle.pt_state.proofs.TellingLemmas.{kept-rises, kept-from}
+use Rattle.pt_state.proofs.state.State.answer_since.Goals as goal
+use Rattle.pt_history.specs.Stored.{past_of}
+
+pub halved_since-requires : goal.halved_since-requires
+halved_since-requires g c =
+    kept-rises (past_of c.args.self.now.stored) c.args.self.now.answers.items c.requires.answers
+
+pub returns : goal.returns
+returns g c =
+    let told : Answered → Told = λ a. (logged a).1 in
+    ap (option_map told) c.get.ensures
+    ∙ (sym (slice_get-map told c.from-answers.result c.args.index)
+    ∙ ap (λ (xs : List Told). slice_get xs c.args.index)
+    (kept-from (reads_of c.args.self.now.stored.start) c.args.self.now.stored.entries
+    c.args.self.now.answers.items c.from-answers.result c.args.place c.requires.answers
+    (ap (map logged) c.from-answers.ensures ∙ c.halved_since.ensures.rest)))
