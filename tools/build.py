@@ -28,6 +28,9 @@ PROCESSORS = len(os.sched_getaffinity(0))
 BYTES_A_CHECK = 2_500_000_000
 # Before its first function a check takes as long as for this much code.
 BYTES_TO_BEGIN = 10_000
+# Of the check with the shortest way to the program. With more, a check that others need in the end
+# can be left without a processor for long.
+MOST_NICENESS = 8
 # The prover's allocator keeps the memory that it frees: by default it returns it to the system
 # after a second, and a third to a half of the page faults of a check are for memory that it takes
 # back.
@@ -229,7 +232,7 @@ def share(name, others, weight, longest):
     """
     part = weight[name] / sum(weight[it] for it in [name, *others])
     jobs = max(1, min(PROCESSORS, round(2 * PROCESSORS * part)))
-    return jobs, round(19 * (1 - weight[name] / longest))
+    return jobs, round(MOST_NICENESS * (1 - weight[name] / longest))
 
 
 def begin(name, waiting, running, weight):
