@@ -4,8 +4,8 @@
     tools/build.py pt_server
 
 Each crate is proved as soon as those that it uses are, and several at once if none uses another.
-A check is shared out among processors that others leave, and the longer its way to the program is,
-the more it has of them. What is built of a crate is kept beside a stamp,
+The check of a crate on a long way to the program is shared out among all processors, and the
+shorter the way, the more it yields to the others. What is built of a crate is kept beside a stamp,
 the sum of all that it was made from, and is made anew only once that is another. Standard error
 gets a line for each crate that is proved. The toolchain's own output goes to a file, which is named
 if a crate fails.
@@ -28,9 +28,6 @@ PROCESSORS = len(os.sched_getaffinity(0))
 BYTES_A_CHECK = 2_500_000_000
 # Before its first function a check takes as long as for this much code.
 BYTES_TO_BEGIN = 10_000
-# Of the check with the shortest way to the program. With more, a check that others need in the end
-# can be left without a processor for long.
-MOST_NICENESS = 8
 # The prover's allocator keeps the memory that it frees: by default it returns it to the system
 # after a second, and a third to a half of the page faults of a check are for memory that it takes
 # back.
@@ -214,32 +211,21 @@ def available_bytes():
 
 
 def checks_at_once():
-    """One for each processor, and no more than memory allows."""
-    return max(1, min(PROCESSORS, available_bytes() // BYTES_A_CHECK))
+    """Some more than half the processors, and no more than memory allows."""
+    return max(1, min((PROCESSORS + 2) // 2, available_bytes() // BYTES_A_CHECK))
 
 
-def can_begin(waiting, running):
+def choose(waiting, running, at_once):
     """The crates that can be begun: all that they use is there."""
     to_do = {*waiting, *running}
-    return [it for it in waiting if to_do.isdisjoint(crates_of(it))]
+    ready = [it for it in waiting if to_do.isdisjoint(crates_of(it))]
+    return ready[: at_once - len(running)]
 
 
-def share(name, others, weight, longest):
-    """The jobs and the niceness of a check, beside others that run or can be begun too.
-
-    Jobs cost up to a third more processor time than one job does, so a check gets more of them only
-    if the others have too little to do for the rest of the processors.
-    """
-    part = weight[name] / sum(weight[it] for it in [name, *others])
-    jobs = max(1, min(PROCESSORS, round(2 * PROCESSORS * part)))
-    return jobs, round(MOST_NICENESS * (1 - weight[name] / longest))
-
-
-def begin(name, waiting, running, weight):
-    """The jobs and the niceness of a check that begins now, before those that wait."""
-    others = [*can_begin(waiting, [name, *running]), *running]
-    longest = max(weight[it] for it in [name, *waiting, *running])
-    return share(name, others, weight, longest)
+def share(name, to_do, weight):
+    """The jobs and the niceness of a check, by how long its way to the program is."""
+    part = weight[name] / max(weight[it] for it in to_do)
+    return PROCESSORS if part > 1 / 3 else 1, round(19 * (1 - part))
 
 
 def prove_all(names, stamps, scratch):
@@ -248,10 +234,10 @@ def prove_all(names, stamps, scratch):
     waiting = sorted(names, key=lambda it: -weight[it])
     with ThreadPoolExecutor(at_once) as pool:
         while waiting or running:
-            for name in can_begin(waiting, running.values())[: at_once - len(running)]:
+            for name in choose(waiting, running.values(), at_once):
                 waiting.remove(name)
                 say(f"proving {len(names) - len(waiting)} of {len(names)}: {name}")
-                jobs, nice = begin(name, waiting, running.values(), weight)
+                jobs, nice = share(name, [name, *waiting, *running.values()], weight)
                 task = pool.submit(prove, name, stamps, f"{scratch}/{name}.log", jobs, nice)
                 running[task] = name
             for ended in wait(running, return_when=FIRST_COMPLETED).done:
