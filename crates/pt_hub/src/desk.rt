@@ -75,7 +75,7 @@ impl<C: LegalHistory, A: Allocator + Copy> Model for Desk<C, A> {
 }
 
 impl<C: LegalHistory, A: Allocator + Copy> Desk<C, A> {
-    /// A history without clients.
+    /// A core that is empty, so without accounts.
     pub fn new(core: C, alloc: A) -> Desk<C, A>
         requires { shown (C.seen core)
             ≡ record { start = nothing; entries = []; limit = most_entries } }

@@ -1,8 +1,8 @@
 //! The value that the lock keeps.
 
 ghost use Rattle.std.specs.Prelude.{◌≡◌, ◌+◌, ◌<◌, ◌≤◌, ◌^◌, ◌↔◌, ◌≢◌, ◌⊎◌, ◌∷◌, ◌++◌, ℕ, [], Some};
-ghost use Rattle.std.specs.Prelude.{None, false, true, length, is_some, option_map, nat_eq, slice_get};
-ghost use Rattle.std.specs.Prelude.{IfOk, IfErr, IfSome, IfNone, OnOk, OnErr, IsSome, IsErr};
+ghost use Rattle.std.specs.Prelude.{None, false, true, length, option_map};
+ghost use Rattle.std.specs.Prelude.{slice_get, IfOk, IfErr, IfSome, IfNone, OnOk, OnErr};
 ghost use Rattle.std.specs.Map.{lookup};
 ghost use Rattle.pt_types.specs.Limits.{most_entries};
 ghost use Rattle.pt_types.specs.Times.{deadline_nanos};
@@ -88,7 +88,7 @@ impl<C: LegalHistory, L: Ledger, A: Allocator + Copy> Drop for Hub<C, L, A> {
 }
 
 impl<C: LegalHistory, L: Ledger, A: Allocator + Copy> Hub<C, L, A> {
-    /// An empty history with a ledger of its own, and a clock.
+    /// A hub over an empty core, with a ledger of its own, and a clock.
     pub fn new(core: C, alloc: A, blank: Blank) -> (Hub<C, L, A>, ClockPass<L, A>)
         requires empty { shown (C.seen core)
             ≡ record { start = nothing; entries = []; limit = most_entries } }

@@ -92,7 +92,7 @@ fewer-waiting c es a =
     let r = any-out (λ (e : ℕ × Waiter). e.1.client == c) es a in
     filter-fewer (λ (e : ℕ × Waiter). not (e.1.client == c)) es r.0 r.1 (ap not r.2)
 
--- what a search for a client's entry tells
+-- what a search for a client's entry returns
 pub found-test : (c : ℕ) (es : List (ℕ × Waiter)) (o : Option (ℕ × Waiter))
     → IfSome o (λ e. In e es × (e.1.client ≡ c)) → IfNone o (has_waiter c es ≡ false)
     → is_some o ≡ has_waiter c es

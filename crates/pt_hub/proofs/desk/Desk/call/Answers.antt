@@ -13,16 +13,16 @@ use Rattle.pt_hub.proofs.desk.Desk.call.Goals as goal
 
 pub note_call-requires : goal.note_call-requires
 note_call-requires g c =
-    let old : Seen =
-    record { core = g.C.LegalHistory.seen c.self.inside.core; accounts = c.self.inside.accounts.entries } in
+    let core = g.C.LegalHistory.seen c.self.inside.core in
+    let old : Seen = record { core = core; accounts = c.self.inside.accounts.entries } in
     caller-there old _ c.self.view_is c.self.invariant _ _ c.c.view_is _ _ refl
     (sym c.is_blocked.ensures ∙ c.if-is_blocked.false) _ c.in-Ok.applied c.in-Ok.ensures.ok _
     c.renew_if.ensures.entries
 
 pub invariant_of-self : goal.invariant_of-self
 invariant_of-self g c =
-    let old : Seen =
-    record { core = g.C.LegalHistory.seen c.self.inside.core; accounts = c.self.inside.accounts.entries } in
+    let core = g.C.LegalHistory.seen c.self.inside.core in
+    let old : Seen = record { core = core; accounts = c.self.inside.accounts.entries } in
     desk-called old _ c.self.view_is c.self.invariant _ _ c.c.view_is _ _ refl
     (sym c.is_blocked.ensures ∙ c.if-is_blocked.false) _ c.in-Ok.applied c.in-Ok.ensures.ok _
     c.renew_if.ensures.entries _
@@ -34,8 +34,8 @@ returns-in-Ok-clause-first g c =
 
 pub returns-in-Ok-clause-account : goal.returns-in-Ok-clause-account
 returns-in-Ok-clause-account g c =
-    let old : Seen =
-    record { core = g.C.LegalHistory.seen c.self.inside.core; accounts = c.self.inside.accounts.entries } in
+    let core = g.C.LegalHistory.seen c.self.inside.core in
+    let old : Seen = record { core = core; accounts = c.self.inside.accounts.entries } in
     wrote-called old _ c.self.view_is c.self.invariant _ _ c.c.view_is _ _ refl
     (sym c.is_blocked.ensures ∙ c.if-is_blocked.false) _ c.in-Ok.applied c.in-Ok.ensures.ok _
     c.renew_if.ensures.entries _
@@ -49,8 +49,8 @@ returns-in-Err-clause-err g c =
 -- the account awaits an answer, which is the one to the latest call
 pub returns-in-Ok-clause-next : goal.returns-in-Ok-clause-next
 returns-in-Ok-clause-next g c =
-    let old : Seen =
-    record { core = g.C.LegalHistory.seen c.self.inside.core; accounts = c.self.inside.accounts.entries } in
+    let core = g.C.LegalHistory.seen c.self.inside.core in
+    let old : Seen = record { core = core; accounts = c.self.inside.accounts.entries } in
     next-called old _ c.self.view_is c.self.invariant _ _ c.c.view_is _ _ refl
     (sym c.is_blocked.ensures ∙ c.if-is_blocked.false) _ c.in-Ok.applied c.in-Ok.ensures.ok _
     c.renew_if.ensures.entries _
@@ -59,7 +59,8 @@ returns-in-Ok-clause-next g c =
 pub returns-in-Ok-clause-ok : goal.returns-in-Ok-clause-ok
 returns-in-Ok-clause-ok g c =
     subst (λ (d : Seen). IsApplied (kept d) (event.Call c.args.c c.args.call)
-    (shown (g.C.LegalHistory.seen c.apply.new.self)) c.in-Ok.applied) c.self.view_is c.in-Ok.ensures.ok
+    (shown (g.C.LegalHistory.seen c.apply.new.self)) c.in-Ok.applied) c.self.view_is
+    c.in-Ok.ensures.ok
 
 pub returns-in-Ok-clause-back : goal.returns-in-Ok-clause-back
 returns-in-Ok-clause-back g c =

@@ -10,8 +10,8 @@ use Rattle.pt_hub.proofs.desk.Desk.call_refusal.Goals as goal
 
 pub returns : goal.returns
 returns g c =
-    let old : Seen =
-    record { core = g.C.LegalHistory.seen c.self.inside.core; accounts = c.self.inside.accounts.entries } in
+    let core = g.C.LegalHistory.seen c.self.inside.core in
+    let old : Seen = record { core = core; accounts = c.self.inside.accounts.entries } in
     let known : Seen → Asked → Option Refusal = λ (d : Seen) (call : Asked).
     refusal_with_seals (kept d).limit (past (kept d)) (event.Call c.args.c call) in
     c.would_refuse.ensures

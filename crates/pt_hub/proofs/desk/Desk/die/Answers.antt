@@ -22,8 +22,8 @@ returns-in-Ok-clause-some g c =
 
 pub invariant_of-self : goal.invariant_of-self
 invariant_of-self g c =
-    let old : Seen =
-    record { core = g.C.LegalHistory.seen c.self.inside.core; accounts = c.self.inside.accounts.entries } in
+    let core = g.C.LegalHistory.seen c.self.inside.core in
+    let old : Seen = record { core = core; accounts = c.self.inside.accounts.entries } in
     desk-died old _ _ c.self.invariant _ _ c.c.view_is c.in-Ok.applied
     (written-unsealed _ _ _ c.in-Ok.applied c.in-Ok.ensures.ok
     (subst (λ (r : Result Applied Refusal). IfOk r (λ a. a.sealed ≡ None)) c.in-Ok.is

@@ -22,12 +22,14 @@ returns-in-Ok-clause-account g c =
 
 pub returns-in-Ok-clause-ok : goal.returns-in-Ok-clause-ok
 returns-in-Ok-clause-ok g c =
-    subst (λ (d : Seen). IsApplied (kept d) (event.Join c.args.priority) (shown (g.C.LegalHistory.seen c.apply.new.self))
+    subst (λ (d : Seen). IsApplied (kept d) (event.Join c.args.priority)
+    (shown (g.C.LegalHistory.seen c.apply.new.self))
     c.in-Ok.applied) c.self.view_is c.in-Ok.ensures.ok
 
 pub invariant_of-self : goal.invariant_of-self
 invariant_of-self g c =
-    desk-kept _ (g.C.LegalHistory.seen c.self.inside.core) _ refl c.reserve_one.ensures.entries c.self.invariant
+    desk-kept _ (g.C.LegalHistory.seen c.self.inside.core) _ refl c.reserve_one.ensures.entries
+    c.self.invariant
 
 pub invariant_of-self-in-Err : goal.invariant_of-self-in-Err
 invariant_of-self-in-Err g c =
@@ -59,4 +61,5 @@ open-requires g c =
 
 pub returns-then-is_err-clause-unchanged : goal.returns-then-is_err-clause-unchanged
 returns-then-is_err-clause-unchanged g c =
-    desk-alike _ (g.C.LegalHistory.seen c.self.inside.core) _ refl c.reserve_one.ensures.entries _ c.self.view_is
+    desk-alike _ (g.C.LegalHistory.seen c.self.inside.core) _ refl c.reserve_one.ensures.entries _
+    c.self.view_is

@@ -21,7 +21,8 @@ returns-in-Ok-clause-accounts g c =
 pub returns-in-Ok-clause-ok : goal.returns-in-Ok-clause-ok
 returns-in-Ok-clause-ok g c =
     subst (λ (d : Seen). IsApplied (kept d) (event.Moment c.args.clock c.args.moment)
-    (shown (g.C.LegalHistory.seen c.apply.new.self)) c.in-Ok.applied) c.self.view_is c.in-Ok.ensures.ok
+    (shown (g.C.LegalHistory.seen c.apply.new.self)) c.in-Ok.applied) c.self.view_is
+    c.in-Ok.ensures.ok
 
 pub invariant_of-self-in-Err : goal.invariant_of-self-in-Err
 invariant_of-self-in-Err g c =
