@@ -11,6 +11,7 @@ impl<A: Allocator + Copy> LegalHistory for Core<A> {
 
     ghost seen = { λ (c : Seen). c };
 
+    #[inline(always)]
     fn apply(&mut self, event: &Event) -> Result<Applied, Refusal> {
         self.apply_event(event)
     }
@@ -25,6 +26,16 @@ impl<A: Allocator + Copy> LegalHistory for Core<A> {
 
     fn answer_since(&self, place: u64, index: usize) -> Option<Reply> {
         Core::answer_since(self, place, index)
+    }
+
+    #[inline(always)]
+    fn answers_before(&self, place: u64) -> usize {
+        Core::answers_before(self, place)
+    }
+
+    #[inline(always)]
+    fn answer(&self, index: usize) -> Option<Reply> {
+        Core::answer(self, index)
     }
 
     fn answer_of(&self, c: ClientId) -> Option<Reply> {

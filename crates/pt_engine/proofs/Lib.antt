@@ -4,6 +4,8 @@ pub mod Counted
 mod Rows
 -- Texts: texts of answers
 mod Texts
+-- Left: the answers that are left, from an index of all on
+mod Left
 -- Opened: the core to which an event's entries are added
 pub mod Opened
 -- Accepted: what is answered of an event: it is refused, or accepted

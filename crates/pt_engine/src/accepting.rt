@@ -7,6 +7,7 @@ ghost use Rattle.pt_engine.specs.Scripts.{lines_of_who, number_of};
 ghost use Rattle.pt_engine.specs.Engines.{clients_marked, calls_marked, greeting_marked};
 ghost use Rattle.pt_engine.specs.Engines.{latest_text, own_answers, own_first, IsAsked};
 
+use crate::answers::Answers;
 use crate::asked_lines::Asked;
 use crate::fault::ScriptFault;
 use crate::line_id::LineId;
@@ -14,7 +15,7 @@ use crate::mark::Mark;
 use crate::names::Names;
 use crate::telling::{tell, tell_all, tell_own};
 use http_server::Log;
-use pt_core::{Applied, Core};
+use pt_legal::{Applied, LegalHistory};
 use pt_lines::Word;
 use pt_types::{ClientId, Outcome};
 use std::alloc::Allocator;
@@ -77,27 +78,27 @@ pub fn greet<A: Allocator + Copy>(
 /// looked for.
 #[inline(always)]
 #[tactic(auto, using(crate::proofs::Alone::alone_text))]
-pub fn tell_from<'a, A: Allocator + Copy>(
+pub fn tell_from<'a, C: LegalHistory, A: Allocator + Copy>(
     out: &mut Vec<u8, A>,
-    core: &'a Core<A>,
+    core: &'a C,
     asked: &'a Asked<A>,
     mark: &'a Mark,
     line: &'a LineId,
     done: &'a Applied,
 ) -> Result<(), ScriptFault>
     requires only { done.now.alone ≡ true
-        → answers_behind (shown core.now).start done.now.first core.now.entries
+        → answers_behind (shown (C.seen core.now)).start done.now.first (C.seen core.now).entries
         ≡ own_answers mark.now done.now.first done.now.outcome }
     requires alone { done.now.last ≡ done.now.first
-        → answers_behind (shown core.now).start done.now.first core.now.entries
+        → answers_behind (shown (C.seen core.now)).start done.now.first (C.seen core.now).entries
         ≡ own_answers mark.now done.now.first done.now.outcome }
     ensures ok { OnOk result (out.new.items ≡ out.old.items
         ++ latest_text (own_first mark.now line.now asked.now.entries)
-        (answers_behind (shown core.now).start done.now.first core.now.entries)) }
+        (answers_behind (shown (C.seen core.now)).start done.now.first (C.seen core.now).entries)) }
     ensures why { IfErr result (λ fault. fault ≡ ScriptFault.Memory) }
 {
     if done.alone || done.last == done.first {
         return tell_own(out, mark, line, done.outcome);
     }
-    tell_all(out, asked, mark, line, core.answers_since(done.first))
+    tell_all(out, asked, mark, line, Answers::since(core, done.first))
 }

@@ -4,10 +4,11 @@ ghost use Rattle.std.specs.Prelude.{◌≡◌, ◌<◌, ◌+◌, ◌^◌, [], le
 
 use crate::engine::Engine;
 use crate::fault::ScriptFault;
+use pt_legal::LegalHistory;
 use pt_lines::{Cutter, ScriptLine};
 use std::alloc::Allocator;
 
-impl<A: Allocator + Copy> Engine<A> {
+impl<C: LegalHistory, A: Allocator + Copy> Engine<C, A> {
     ghost use Rattle.std.specs.Bool.{OnTrue, OnFalse};
     ghost use Rattle.pt_grammar.specs.Lines.{to_come, IsBegun};
     ghost use Rattle.pt_engine.specs.Engines.{Answers, IsAnswered, known_by};

@@ -1,4 +1,4 @@
-ghost use Rattle.std.specs.Prelude.{◌≡◌, ◌<◌, ◌+◌, ◌^◌, [], length, None, OnOk, IfOk, IfErr};
+ghost use Rattle.std.specs.Prelude.{◌≡◌, ◌<◌, ◌+◌, ◌^◌, [], length, None, OnOk, IfErr};
 ghost use Rattle.pt_engine.specs.declared.mark.Mark.{Mark};
 
 use crate::accepting::{Calls, greet, note, tell_from};
@@ -9,7 +9,7 @@ use crate::mark::{Mark, mark_of};
 use crate::names::{CountedLine, Names};
 use crate::telling::refuse;
 use http_server::Log;
-use pt_core::Core;
+use pt_legal::LegalHistory;
 use pt_lines::{ScriptBody, ScriptLine, Who, read_client};
 use pt_model::Event;
 use pt_types::{Call, ClientId, Clock, Moment, Priority, Refusal};
@@ -17,9 +17,11 @@ use std::alloc::{Allocator, Global};
 use std::marker::Model;
 
 /// Entries of a script's history between two seals, with the room reserved for what must follow:
-/// more than any event may need. A script shows no entry, so it needs no more of them, and so many
-/// fit into the caches of a processor.  [profile]
-const ENTRIES_BETWEEN_SEALS: u32 = 65_536;
+/// the limit of the core that an engine is given.
+///
+/// It is more than any event may need. A script shows no entry, so it needs no more of them, and so
+/// many fit into the caches of a processor.  [profile]
+pub const ENTRIES_BETWEEN_SEALS: u32 = 65_536;
 
 /// All clients of a script, the lines that they sent, and the core that these asked.
 ///
@@ -27,32 +29,32 @@ const ENTRIES_BETWEEN_SEALS: u32 = 65_536;
 /// still be answered. Contracts see what is known after the lines so far, the lines of all calls
 /// too. The history is sealed for an event that needs the room, so the core has never more than
 /// 65,536 entries, however many lines come.
-pub struct Engine<A: Allocator + Copy = Global> {
-    core: Core<A>,
+pub struct Engine<C: LegalHistory, A: Allocator + Copy = Global> {
+    core: C,
     names: Names<A>,
     asked: Asked<A>,
     calls: Calls,
 }
 
-impl<A: Allocator + Copy> Model for Engine<A> {
+impl<C: LegalHistory, A: Allocator + Copy> Model for Engine<C, A> {
     ghost use Rattle.pt_legal.specs.Cores.{past, shown};
     ghost use Rattle.pt_engine.specs.Engines.{AreLines, Heard, IsSound};
 
     ghost Value = { Heard };
 
     ghost view = { λ e. record {
-      core = e.core;
+      core = C.seen e.core;
       seen = e.names.seen;
       clients = e.names.clients;
       calls = e.calls.items;
     } };
 
-    ghost invariant = { λ e.
-        IsSound (shown e.core) × AreLines e.asked.entries e.calls.items (past (shown e.core)) };
+    ghost invariant = { λ e. IsSound (shown (C.seen e.core))
+        × AreLines e.asked.entries e.calls.items (past (shown (C.seen e.core))) };
 }
 
 // Not derived, so that those that drop an engine prove nothing of its parts.
-impl<A: Allocator + Copy> Drop for Engine<A> {
+impl<C: LegalHistory, A: Allocator + Copy> Drop for Engine<C, A> {
     fn drop(self) {
         let Engine {
             core: _,
@@ -63,30 +65,30 @@ impl<A: Allocator + Copy> Drop for Engine<A> {
     }
 }
 
-impl<A: Allocator + Copy> Engine<A> {
+impl<C: LegalHistory, A: Allocator + Copy> Engine<C, A> {
+    ghost use Rattle.pt_model.specs.Starts.{nothing};
     ghost use Rattle.pt_model.specs.Histories.{place};
     ghost use Rattle.pt_model.specs.Clients.{is_alive};
     ghost use Rattle.pt_grammar.specs.Script.{short_read};
-    ghost use Rattle.pt_legal.specs.Cores.{past};
+    ghost use Rattle.pt_legal.specs.Cores.{past, shown};
     ghost use Rattle.pt_engine.specs.Scripts.{begun, core_of, event_for, join_for};
+    ghost use Rattle.pt_engine.specs.Scripts.{entries_between_seals};
     ghost use Rattle.pt_engine.specs.Scripts.{lines_of_who, number_of, of_client, refusal_of_hello};
     ghost use Rattle.pt_engine.specs.Says.{Says, SaysOf, SaysTo};
     ghost use Rattle.pt_engine.specs.Engines.{Adds, known_by, mark_of};
 
-    /// An engine that has read no line. A refused growth is a fault.
+    /// An engine over an empty core, that has read no line.
     #[tactic(auto, using(crate::proofs::Asked::begun_sound, crate::proofs::Asked::begun_lines))]
-    pub fn new(alloc: A) -> Result<Engine<A>, ScriptFault>
-        ensures ok { IfOk result (λ engine. known_by engine ≡ begun) }
-        ensures why { IfErr result (λ fault. fault ≡ ScriptFault.Memory) }
+    pub fn new(core: C, alloc: A) -> Engine<C, A>
+        requires { shown (C.seen core)
+            ≡ record { start = nothing; entries = []; limit = entries_between_seals } }
+        ensures { known_by result ≡ begun }
     {
-        match Core::with_limit(alloc, ENTRIES_BETWEEN_SEALS) {
-            Ok(core) => Ok(Engine {
-                core,
-                names: Names::new(alloc),
-                asked: Asked::new(alloc),
-                calls: Log::new(),
-            }),
-            Err(_) => Err(ScriptFault::Memory),
+        Engine {
+            core,
+            names: Names::new(alloc),
+            asked: Asked::new(alloc),
+            calls: Log::new(),
         }
     }
 
@@ -143,7 +145,7 @@ impl<A: Allocator + Copy> Engine<A> {
         ensures why { IfErr result (λ fault. fault ≡ ScriptFault.Memory) }
     {
         self.asked.reserve()?;
-        match self.core.apply_event(event) {
+        match self.core.apply(event) {
             Ok(done) => {
                 note(
                     &mut self.names,

@@ -6,6 +6,7 @@ use crate::engine::Engine;
 use crate::fault::ScriptFault;
 use crate::line_id::LineId;
 use crate::telling::refuse;
+use pt_legal::LegalHistory;
 use pt_lines::{
     Who, barrier_init_at_start, moment_at_start, mutex_init_at_start, named_at_start, read_said,
     timed_at_start, timedwait_at_start, wait_at_start,
@@ -13,7 +14,7 @@ use pt_lines::{
 use pt_types::{Call, ClientId, Clock, MOST_IN_LINE, Name, Refusal};
 use std::alloc::Allocator;
 
-impl<A: Allocator + Copy> Engine<A> {
+impl<C: LegalHistory, A: Allocator + Copy> Engine<C, A> {
     ghost use Rattle.pt_grammar.specs.Script.{asked_or_refused, body_read};
     ghost use Rattle.pt_engine.specs.Scripts.{event_of_body, lines_of_who, number_of};
     ghost use Rattle.pt_engine.specs.Says.{SaysTo};

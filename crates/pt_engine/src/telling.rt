@@ -5,11 +5,12 @@ ghost use Rattle.pt_lines.specs.Replies.{reply_line};
 ghost use Rattle.pt_engine.specs.Engines.{latest_line, latest_text, own_first, own_text};
 ghost use Rattle.pt_engine.specs.Scripts.{refusal_text, told_line};
 
+use crate::answers::Answers;
 use crate::asked_lines::Asked;
 use crate::fault::ScriptFault;
 use crate::line_id::LineId;
 use crate::mark::Mark;
-use pt_core::{Answers, Reply};
+use pt_legal::{LegalHistory, Reply};
 use pt_lines::{Word, write_reply};
 use pt_types::{ClientId, Outcome, Refusal};
 use std::alloc::Allocator;
@@ -106,12 +107,12 @@ pub fn tell_own<A: Allocator + Copy>(
 /// noted just now is at hand, and is not looked up.
 #[inline(always)]
 #[tactic(auto, using(crate::proofs::Texts::latest_next))]
-pub fn tell_all<'a, A: Allocator + Copy>(
+pub fn tell_all<'a, C: LegalHistory, A: Allocator + Copy>(
     out: &mut Vec<u8, A>,
     asked: &'a Asked<A>,
     mark: &'a Mark,
     line: &'a LineId,
-    mut answers: Answers<'a>,
+    mut answers: Answers<'a, C>,
 ) -> Result<(), ScriptFault>
     ensures ok { OnOk result (out.new.items ≡ out.old.items
         ++ latest_text (own_first mark.now line.now asked.now.entries) answers.entry) }

@@ -1,10 +1,10 @@
-ghost use Rattle.std.specs.Prelude.{◌≡◌, ◌≤◌, ◌<◌, ◌-◌, ℕ, None, length, slice_get, option_map};
-ghost use Rattle.std.specs.Prelude.{true, IfOk, IfErr, IsOk, OnErr};
+ghost use Rattle.std.specs.Prelude.{◌≡◌, ◌≤◌, ◌<◌, ◌-◌, ◌^◌, ℕ, None, length, drop, slice_get};
+ghost use Rattle.std.specs.Prelude.{option_map, true, IfOk, IfErr, IsOk, OnErr};
 ghost use Rattle.pt_types.specs.Limits.{most_entries};
 ghost use Rattle.pt_types.specs.Times.{deadline_nanos};
 ghost use Rattle.pt_model.specs.Histories.{place as place_of};
 ghost use Rattle.pt_model.specs.Clients.{is_alive};
-ghost use Rattle.pt_model.specs.Answers.{outcome as outcome_in};
+ghost use Rattle.pt_model.specs.Answers.{outcome as outcome_in, replies_behind};
 ghost use Rattle.pt_model.specs.Queries.{answers_behind, answer_of as answer_in};
 ghost use Rattle.pt_model.specs.Queries.{least_deadline as least_deadline_in};
 ghost use Rattle.pt_model.specs.Room.{refusal_with_seals};
@@ -62,6 +62,20 @@ pub trait LegalHistory: Drop {
     fn answer_since(&self, place: u64, index: usize) -> Option<Reply>
         ensures { option_map told_of result ≡ slice_get
             (answers_behind (shown (seen self.now)).start place (seen self.now).entries) index };
+
+    /// How many answers the entries before a place give.
+    fn answers_before(&self, place: u64) -> usize
+        ensures { drop result
+            (replies_behind (shown (seen self.now)).start (seen self.now).entries)
+            ≡ answers_behind (shown (seen self.now)).start place (seen self.now).entries };
+
+    /// The answer at this index of all since the Start, in the order of the entries; of one Trip in
+    /// order of the calls' places.
+    fn answer(&self, index: usize) -> Option<Reply>
+        ensures value { option_map told_of result ≡ slice_get
+            (replies_behind (shown (seen self.now)).start (seen self.now).entries) index }
+        ensures few { length
+            (replies_behind (shown (seen self.now)).start (seen self.now).entries) < 2 ^ 64 };
 
     /// The answer to a living client's latest call, if it has one.
     fn answer_of(&self, c: ClientId) -> Option<Reply>

@@ -1,9 +1,9 @@
 //! Answers and entries, as the tables have them.
 
-ghost use Rattle.std.specs.Prelude.{None, ◌+◌, ◌-◌, ◌<◌, ◌≡◌, ◌≤◌, length, map, option_map};
-ghost use Rattle.std.specs.Prelude.{slice_get};
+ghost use Rattle.std.specs.Prelude.{None, ◌+◌, ◌-◌, ◌^◌, ◌<◌, ◌≡◌, ◌≤◌, drop, length, map};
+ghost use Rattle.std.specs.Prelude.{option_map, slice_get};
 ghost use Rattle.pt_model.specs.Histories.{outer};
-ghost use Rattle.pt_model.specs.Answers.{outcome as said};
+ghost use Rattle.pt_model.specs.Answers.{outcome as said, replies_behind};
 ghost use Rattle.pt_state.specs.Adds.{past};
 ghost use Rattle.pt_model.specs.StartRows.{reads_of};
 ghost use Rattle.pt_state.specs.Forcing.{told_to};
@@ -83,6 +83,29 @@ impl<Q: WaitList, A: Allocator + Copy> Body<Q, A> {
             (reads_of self.now.stored.start) place self.now.stored.entries }
     {
         self.state.answers_since(place)
+    }
+
+    /// How many answers the entries before a place gave. It is looked for from the end.
+    #[inline(always)]
+    pub fn answers_before(&self, place: u64) -> usize
+        requires { AreTables self.now }
+        ensures { drop result
+            (replies_behind (reads_of self.now.stored.start) self.now.stored.entries)
+            ≡ answers_in (reads_of self.now.stored.start) place self.now.stored.entries }
+    {
+        self.state.answers_before(place)
+    }
+
+    /// The answer at an index of all since the Start, in order.
+    #[inline(always)]
+    pub fn answer_at(&self, index: usize) -> Option<Answered>
+        requires { AreTables self.now }
+        ensures value { option_map (λ a. (logged a).1) result ≡ slice_get
+            (replies_behind (reads_of self.now.stored.start) self.now.stored.entries) index }
+        ensures few { length (replies_behind
+            (reads_of self.now.stored.start) self.now.stored.entries) < 2 ^ 64 }
+    {
+        self.state.answer_at(index)
     }
 
     /// The answer at an index of those that the entries from a place on gave, in order.

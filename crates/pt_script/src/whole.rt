@@ -8,8 +8,10 @@ ghost use Rattle.pt_script.specs.Stops.{IsStopped, IsEnd};
 ghost use Rattle.pt_script.specs.Ends.{IsScriptText, BeginsScriptText, IsFaultOf, reading};
 
 use crate::writing::deliver;
-use pt_engine::{Engine, ScriptFault};
+use pt_core::Core;
+use pt_engine::{ENTRIES_BETWEEN_SEALS, Engine, ScriptFault};
 use pt_io::{Sink, Source};
+use pt_legal::LegalHistory;
 use pt_lines::Cutter;
 use std::alloc::Allocator;
 
@@ -39,9 +41,9 @@ fn no_answers<A: Allocator + Copy>(alloc: A) -> Vec<u8, A>
 }
 
 // Takes in a piece of the input, and writes the answers to the lines that it ends.
-fn take_in<W: Sink, A: Allocator + Copy>(
+fn take_in<C: LegalHistory, W: Sink, A: Allocator + Copy>(
     alloc: A,
-    engine: &mut Engine<A>,
+    engine: &mut Engine<C, A>,
     cutter: &mut Cutter<A>,
     piece: &[u8],
     writer: &mut W,
@@ -72,9 +74,9 @@ fn take_in<W: Sink, A: Allocator + Copy>(
 }
 
 // Answers the last line, which no newline ended, if there is one.
-fn finish<W: Sink, A: Allocator + Copy>(
+fn finish<C: LegalHistory, W: Sink, A: Allocator + Copy>(
     alloc: A,
-    engine: &mut Engine<A>,
+    engine: &mut Engine<C, A>,
     cutter: Cutter<A>,
     writer: &mut W,
 ) -> Result<ScriptEnd, ScriptFault>
@@ -102,10 +104,10 @@ fn finish<W: Sink, A: Allocator + Copy>(
 }
 
 // Does what `script_within` says, with an engine that has answered nothing yet.
-fn run_within<R: Source, W: Sink, A: Allocator + Copy>(
+fn run_within<C: LegalHistory, R: Source, W: Sink, A: Allocator + Copy>(
     alloc: A,
     reads: u64,
-    engine: &mut Engine<A>,
+    engine: &mut Engine<C, A>,
     reader: &mut R,
     writer: &mut W,
 ) -> Result<ScriptEnd, ScriptFault>
@@ -176,7 +178,10 @@ pub fn script_within<R: Source, W: Sink, A: Allocator + Copy>(
       limit = reads;
     }) fault) }
 {
-    let mut engine = Engine::new(alloc)?;
+    let Ok(core) = Core::with_limit(alloc, ENTRIES_BETWEEN_SEALS) else {
+        return Err(ScriptFault::Memory);
+    };
+    let mut engine = Engine::new(core, alloc);
     run_within(alloc, reads, &mut engine, reader, writer)
 }
 

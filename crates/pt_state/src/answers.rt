@@ -1,11 +1,12 @@
 //! Answers: their clients, their calls and their outcomes, from any place on.
 
-ghost use Rattle.std.specs.Prelude.{◌<◌, ◌≡◌, length, map, option_map, slice_get, true, Some};
+ghost use Rattle.std.specs.Prelude.{◌<◌, ◌^◌, ◌≡◌, drop, length, map, option_map, slice_get, true};
+ghost use Rattle.std.specs.Prelude.{Some};
 ghost use Rattle.std.specs.Bool.{OnTrue};
 ghost use Rattle.pt_records.specs.Logs.{logged};
 ghost use Rattle.pt_table.specs.ClientRows.{has_client};
 ghost use Rattle.pt_state.specs.Forcing.{Answers, told_to};
-ghost use Rattle.pt_model.specs.Answers.{outcome as said};
+ghost use Rattle.pt_model.specs.Answers.{outcome as said, replies_behind};
 ghost use Rattle.pt_model.specs.StartRows.{reads_of};
 ghost use Rattle.pt_state.specs.Reads.{AreTables};
 ghost use Rattle.pt_model.specs.Queries.{answer_of as answer_in, answers_behind as answers_in};
@@ -112,6 +113,33 @@ impl<A: Allocator + Copy> State<A> {
             (reads_of self.now.stored.start) place self.now.stored.entries }
     {
         self.answers.from(answered_since(&self.answers, place))
+    }
+
+    /// How many answers the entries before a place gave. It is looked for from the end.
+    #[inline(always)]
+    pub fn answers_before(&self, place: u64) -> usize
+        requires { AreTables self.now }
+        ensures { drop result
+            (replies_behind (reads_of self.now.stored.start) self.now.stored.entries)
+            ≡ answers_in (reads_of self.now.stored.start) place self.now.stored.entries }
+    {
+        answered_since(&self.answers, place)
+    }
+
+    /// The answer at an index of all since the Start, in order.
+    #[inline(always)]
+    pub fn answer_at(&self, index: usize) -> Option<Answered>
+        requires { AreTables self.now }
+        ensures value { option_map (λ a. (logged a).1) result ≡ slice_get
+            (replies_behind (reads_of self.now.stored.start) self.now.stored.entries) index }
+        ensures few { length (replies_behind
+            (reads_of self.now.stored.start) self.now.stored.entries) < 2 ^ 64 }
+    {
+        if index < self.answers.len() {
+            self.answers.from(index).next()
+        } else {
+            None
+        }
     }
 
     /// The answer at an index of those that the entries from a place on gave, in order.

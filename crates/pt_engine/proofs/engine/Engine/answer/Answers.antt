@@ -16,8 +16,9 @@ pub returns-in-Ok-clause-ok : goal.returns-in-Ok-clause-ok
 returns-in-Ok-clause-ok g c =
     let i = c.self.inside in
     let who = c.args.line.who in
+    let core = g.C.LegalHistory.seen i.core in
     let heard : Known → Heard =
-    λ k. record { core = i.core; seen = k.seen; clients = k.clients; calls = i.calls.items } in
+    λ k. record { core = core; seen = k.seen; clients = k.clients; calls = i.calls.items } in
     let is : known_by (heard c.count.new.self) ≡ counted (known_by c.args.self.now) who =
     ap (λ (k : Known). known_by (heard k)) c.in_ok-number.ensures.ok
     ∙ ap (λ (h : Heard). counted (known_by h) who) c.self.view_is in
@@ -35,8 +36,9 @@ pub returns-in-Err-clause-ok : goal.returns-in-Err-clause-ok
 returns-in-Err-clause-ok g c =
     let i = c.self.inside in
     let who = c.args.line.who in
+    let core = g.C.LegalHistory.seen i.core in
     let heard : Known → Heard =
-    λ k. record { core = i.core; seen = k.seen; clients = k.clients; calls = i.calls.items } in
+    λ k. record { core = core; seen = k.seen; clients = k.clients; calls = i.calls.items } in
     let is : known_by (heard c.count.new.self) ≡ counted (known_by c.args.self.now) who =
     ap (λ (k : Known). known_by (heard k)) c.in_ok-number.ensures.ok
     ∙ ap (λ (h : Heard). counted (known_by h) who) c.self.view_is in

@@ -22,8 +22,9 @@ returns-in-Some-clause-ok g c =
     let i = c.self.inside in
     let who = c.read_client-who.result.0 in
     let body = body_read who c.in-Some.rest.now in
+    let core = g.C.LegalHistory.seen i.core in
     let heard : Known → Heard =
-    λ k. record { core = i.core; seen = k.seen; clients = k.clients; calls = i.calls.items } in
+    λ k. record { core = core; seen = k.seen; clients = k.clients; calls = i.calls.items } in
     let is : known_by (heard c.count.new.self) ≡ counted (known_by c.args.self.now) who =
     ap (λ (k : Known). known_by (heard k)) c.in_ok-number.ensures.ok
     ∙ ap (λ (h : Heard). counted (known_by h) who) c.self.view_is in
@@ -52,8 +53,9 @@ pub returns-in-None-clause-ok : goal.returns-in-None-clause-ok
 returns-in-None-clause-ok g c =
     let i = c.self.inside in
     let who = c.read_client-who.result.0 in
+    let core = g.C.LegalHistory.seen i.core in
     let heard : Known → Heard =
-    λ k. record { core = i.core; seen = k.seen; clients = k.clients; calls = i.calls.items } in
+    λ k. record { core = core; seen = k.seen; clients = k.clients; calls = i.calls.items } in
     let is : known_by (heard c.count.new.self) ≡ counted (known_by c.args.self.now) who =
     ap (λ (k : Known). known_by (heard k)) c.in_ok-number.ensures.ok
     ∙ ap (λ (h : Heard). counted (known_by h) who) c.self.view_is in

@@ -4,13 +4,14 @@ use Rattle.pt_engine.proofs.Stays.{begun_known}
 use Rattle.pt_engine.proofs.engine.Engine.new.Goals as goal
 
 pub invariant_of-result : goal.invariant_of-result
-invariant_of-result g c = (
-  begun_sound (shown c.in-Ok.core) c.in-Ok.ensures.ok,
-  begun_lines (shown c.in-Ok.core) c.new-in-Ok.result.entries c.new-in-Ok-2.result.items
-      c.in-Ok.ensures.ok c.new-in-Ok.ensures c.new-in-Ok-2.ensures,
-)
+invariant_of-result g c =
+    let core = shown (g.C.LegalHistory.seen c.args.core) in (
+      begun_sound core c.requires,
+      begun_lines core c.new-2.result.entries c.new-3.result.items c.requires c.new-2.ensures
+          c.new-3.ensures,
+    )
 
-pub returns-in-Ok-clause-ok : goal.returns-in-Ok-clause-ok
-returns-in-Ok-clause-ok g c =
-    begun_known (shown c.in-Ok.core) c.new.result c.new-in-Ok-2.result.items c.in-Ok.ensures.ok
-    c.new.ensures c.new-in-Ok-2.ensures
+pub returns : goal.returns
+returns g c =
+    begun_known (shown (g.C.LegalHistory.seen c.args.core)) c.new.result c.new-3.result.items
+    c.requires c.new.ensures c.new-3.ensures

@@ -10,10 +10,10 @@ use Rattle.pt_engine.proofs.engine.Engine.run_marked.Goals as goal
 
 pub invariant_of-self-in_err-greet-in-Ok : goal.invariant_of-self-in_err-greet-in-Ok
 invariant_of-self-in_err-greet-in-Ok g c =
-    kept_lines (shown c.self.inside.core) _ c.args.event.now c.in-Ok.done c.self.invariant.0
-    c.in-Ok.ensures.ok c.self.inside.asked.entries c.note.new.asked.entries
-    c.self.inside.calls.items c.note.new.calls.items c.args.line.now c.args.mark.now
-    c.self.invariant.1 c.requires.mark
+    kept_lines (shown (g.C.LegalHistory.seen c.self.inside.core)) _ c.args.event.now
+    c.in-Ok.done c.self.invariant.0 c.in-Ok.ensures.ok c.self.inside.asked.entries
+    c.note.new.asked.entries c.self.inside.calls.items c.note.new.calls.items
+    c.args.line.now c.args.mark.now c.self.invariant.1 c.requires.mark
     (subst
     (λ rows. IsAsked c.in-Ok.done.outcome c.args.mark.now c.args.line.now rows
     c.note.new.asked.entries)
@@ -22,10 +22,10 @@ invariant_of-self-in_err-greet-in-Ok g c =
 
 pub invariant_of-self-in_err-tell_from-in-Ok : goal.invariant_of-self-in_err-tell_from-in-Ok
 invariant_of-self-in_err-tell_from-in-Ok g c =
-    kept_lines (shown c.self.inside.core) _ c.args.event.now c.in-Ok.done c.self.invariant.0
-    c.in-Ok.ensures.ok c.self.inside.asked.entries c.note.new.asked.entries
-    c.self.inside.calls.items c.note.new.calls.items c.args.line.now c.args.mark.now
-    c.self.invariant.1 c.requires.mark
+    kept_lines (shown (g.C.LegalHistory.seen c.self.inside.core)) _ c.args.event.now
+    c.in-Ok.done c.self.invariant.0 c.in-Ok.ensures.ok c.self.inside.asked.entries
+    c.note.new.asked.entries c.self.inside.calls.items c.note.new.calls.items
+    c.args.line.now c.args.mark.now c.self.invariant.1 c.requires.mark
     (subst
     (λ rows. IsAsked c.in-Ok.done.outcome c.args.mark.now c.args.line.now rows
     c.note.new.asked.entries)
@@ -34,10 +34,10 @@ invariant_of-self-in_err-tell_from-in-Ok g c =
 
 pub invariant_of-self-in-Ok : goal.invariant_of-self-in-Ok
 invariant_of-self-in-Ok g c =
-    kept_lines (shown c.self.inside.core) _ c.args.event.now c.in-Ok.done c.self.invariant.0
-    c.in-Ok.ensures.ok c.self.inside.asked.entries c.note.new.asked.entries
-    c.self.inside.calls.items c.note.new.calls.items c.args.line.now c.args.mark.now
-    c.self.invariant.1 c.requires.mark
+    kept_lines (shown (g.C.LegalHistory.seen c.self.inside.core)) _ c.args.event.now
+    c.in-Ok.done c.self.invariant.0 c.in-Ok.ensures.ok c.self.inside.asked.entries
+    c.note.new.asked.entries c.self.inside.calls.items c.note.new.calls.items
+    c.args.line.now c.args.mark.now c.self.invariant.1 c.requires.mark
     (subst
     (λ rows. IsAsked c.in-Ok.done.outcome c.args.mark.now c.args.line.now rows
     c.note.new.asked.entries)
@@ -47,11 +47,11 @@ invariant_of-self-in-Ok g c =
 pub tell_from-requires : goal.tell_from-requires
 tell_from-requires g c = record {
   only = λ same.
-      answers_only (shown c.self.inside.core) _ c.args.event.now c.in-Ok.done
-      c.args.mark.now c.in-Ok.ensures.ok c.requires.mark same;
+      answers_only (shown (g.C.LegalHistory.seen c.self.inside.core)) _ c.args.event.now
+      c.in-Ok.done c.args.mark.now c.in-Ok.ensures.ok c.requires.mark same;
   alone = λ same.
-      answers_alone (shown c.self.inside.core) _ c.args.event.now c.in-Ok.done
-      c.args.mark.now c.self.invariant.0 c.in-Ok.ensures.ok c.requires.mark same;
+      answers_alone (shown (g.C.LegalHistory.seen c.self.inside.core)) _ c.args.event.now
+      c.in-Ok.done c.args.mark.now c.self.invariant.0 c.in-Ok.ensures.ok c.requires.mark same;
 }
 
 pub returns-in_ok-tell_from-in-Ok-clause-ok : goal.returns-in_ok-tell_from-in-Ok-clause-ok
@@ -61,7 +61,7 @@ returns-in_ok-tell_from-in-Ok-clause-ok g c =
     (λ rows. IsAsked c.in-Ok.done.outcome c.args.mark.now c.args.line.now rows
     c.note.new.asked.entries)
     c.reserve.ensures.entries c.note.ensures.asked in
-    accepted (known_by c.args.self.now) (shown c.self.inside.core)
+    accepted (known_by c.args.self.now) (shown (g.C.LegalHistory.seen c.self.inside.core))
     _ c.self.inside.names
     c.note.new.names c.self.inside.calls.items c.note.new.calls.items c.args.event.now
     c.args.line.now c.in-Ok.done c.args.mark.now c.args.out.now.items
@@ -69,7 +69,7 @@ returns-in_ok-tell_from-in-Ok-clause-ok g c =
     c.self.invariant.0.limit
     c.requires.mark c.in-Ok.ensures.ok c.note.ensures.names c.note.ensures.calls
     c.in_ok-greet-in-Ok.ensures.ok
-    (told_alike (shown c.self.inside.core) _ c.args.event.now c.in-Ok.done
+    (told_alike (shown (g.C.LegalHistory.seen c.self.inside.core)) _ c.args.event.now c.in-Ok.done
     c.self.invariant.0 c.in-Ok.ensures.ok c.self.inside.asked.entries
     c.note.new.asked.entries c.self.inside.calls.items c.note.new.calls.items
     c.args.line.now c.args.mark.now c.self.invariant.1 c.requires.mark
@@ -78,7 +78,7 @@ returns-in_ok-tell_from-in-Ok-clause-ok g c =
 
 pub returns-in_ok-refuse-in-Err-clause-ok : goal.returns-in_ok-refuse-in-Err-clause-ok
 returns-in_ok-refuse-in-Err-clause-ok g c =
-    refused (known_by c.args.self.now) (shown c.self.inside.core)
+    refused (known_by c.args.self.now) (shown (g.C.LegalHistory.seen c.self.inside.core))
     _ c.self.inside.names
     c.self.inside.calls.items c.self.inside.calls.items c.args.event.now c.args.line.now
     c.in-Err.refusal c.args.out.now.items c.refuse.new.out.items (ap known_by (sym c.self.view_is))
@@ -87,19 +87,20 @@ returns-in_ok-refuse-in-Err-clause-ok g c =
 
 pub invariant_of-self : goal.invariant_of-self
 invariant_of-self g c =
-    stays_sound c.self.inside.core c.self.inside.core c.self.inside.asked.entries
+    stays_sound (g.C.LegalHistory.seen c.self.inside.core)
+    (g.C.LegalHistory.seen c.self.inside.core) c.self.inside.asked.entries
     c.reserve.new.self.entries c.self.inside.calls.items refl c.reserve.ensures.entries
     c.self.invariant
 
 pub invariant_of-self-in-Err : goal.invariant_of-self-in-Err
 invariant_of-self-in-Err g c =
-    stays_sound c.self.inside.core c.apply_event.new.self c.self.inside.asked.entries
+    stays_sound _ _ c.self.inside.asked.entries
     c.reserve.new.self.entries c.self.inside.calls.items c.in-Err.ensures.unchanged
     c.reserve.ensures.entries c.self.invariant
 
 pub invariant_of-self-in_err-refuse-in-Err : goal.invariant_of-self-in_err-refuse-in-Err
 invariant_of-self-in_err-refuse-in-Err g c =
-    stays_sound c.self.inside.core c.apply_event.new.self c.self.inside.asked.entries
+    stays_sound _ _ c.self.inside.asked.entries
     c.reserve.new.self.entries c.self.inside.calls.items c.in-Err.ensures.unchanged
     c.reserve.ensures.entries c.self.invariant
 

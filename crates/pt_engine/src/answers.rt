@@ -1,0 +1,53 @@
+//! The answers that the entries of a core gave, from a place on.
+
+ghost use Rattle.std.specs.Prelude.{◌≡◌, ◌∷◌, [], MatchOption};
+ghost use Rattle.pt_model.specs.Queries.{answers_behind};
+ghost use Rattle.pt_legal.specs.Cores.{shown};
+ghost use Rattle.pt_legal.specs.Replies.{told_of};
+
+use pt_legal::{LegalHistory, Reply};
+use std::marker::Model;
+
+/// The answers that are left of those that entries gave, one after another.
+#[derive(Drop)]
+pub struct Answers<'a, C: LegalHistory> {
+    core: &'a C,
+    index: usize,
+}
+
+impl<'a, C: LegalHistory> Model for Answers<'a, C> {
+    ghost use Rattle.std.specs.Prelude.{List, drop};
+    ghost use Rattle.pt_model.specs.Records.{Told};
+    ghost use Rattle.pt_model.specs.Answers.{replies_behind};
+    ghost use Rattle.pt_legal.specs.Cores.{shown};
+
+    ghost Value = { List Told };
+
+    ghost view = { λ a. drop a.index
+        (replies_behind (shown (C.seen a.core.now)).start (C.seen a.core.now).entries) };
+}
+
+impl<'a, C: LegalHistory> Answers<'a, C> {
+    /// The answers that the entries from a place on gave, which are read where they are stored.
+    #[inline(always)]
+    pub fn since(core: &'a C, place: u64) -> Answers<'a, C>
+        ensures { result ≡ answers_behind
+            (shown (C.seen core.now)).start place (C.seen core.now).entries }
+    {
+        Answers {
+            core,
+            index: core.answers_before(place),
+        }
+    }
+
+    /// The next answer, if one is left.
+    #[inline(always)]
+    pub fn next(&mut self) -> Option<Reply>
+        ensures { MatchOption result ((self.old ≡ []) × (self.new ≡ []))
+            (λ r. self.old ≡ told_of r ∷ self.new) }
+    {
+        let reply = self.core.answer(self.index)?;
+        self.index += 1;
+        Some(reply)
+    }
+}
