@@ -1,14 +1,10 @@
 use Rattle.std.proofs.Common.{◌-◌, arith}
-use Rattle.pt_engine.specs.declared.fault.ScriptFault.TheVariants.{Memory}
-use Rattle.pt_script.specs.Ends.{Course, IsFaultOf}
-use Rattle.pt_script.proofs.Stops.{told_fault}
+use Rattle.pt_script.specs.Ends.{Course}
 use Rattle.pt_script.proofs.Wholes.{wanted_at_once}
 use Rattle.pt_script.proofs.whole.script_within.Goals as goal
 
-pub returns-in_err-engine-clause-why : goal.returns-in_err-engine-clause-why
-returns-in_err-engine-clause-why g c =
-    let gives = c.from_residual.ensures in
-    let why = c.in_err-engine.ensures.why in
+pub returns-in_default-clause-why : goal.returns-in_default-clause-why
+returns-in_default-clause-why g c =
     let course : Course = record {
       reader = record {
         given = g.R.Source.given c.args.reader.now;
@@ -26,8 +22,6 @@ returns-in_err-engine-clause-why g c =
       };
       limit = c.args.reads;
     } in
-    told_fault c.from_residual.result Memory (λ fault. IsFaultOf course fault)
-    (rw why at gives.1)
-    (wanted_at_once course (g.met.R.Source.earlier_given c.args.reader.now)
+    wanted_at_once course (g.met.R.Source.earlier_given c.args.reader.now)
     (g.met.W.Sink.flushed_taken c.args.writer.now) c.requires.fresh.0 c.requires.fresh.1
-    c.requires.working.0 c.requires.working.1 (omega arith))
+    c.requires.working.0 c.requires.working.1 (omega arith)
