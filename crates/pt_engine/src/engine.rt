@@ -78,7 +78,6 @@ impl<C: LegalHistory, A: Allocator + Copy> Engine<C, A> {
     ghost use Rattle.pt_engine.specs.Engines.{Adds, known_by, mark_of};
 
     /// An engine over an empty core, that has read no line.
-    #[tactic(auto, using(crate::proofs::Asked::begun_sound, crate::proofs::Asked::begun_lines))]
     pub fn new(core: C, alloc: A) -> Engine<C, A>
         requires { shown (C.seen core)
             ≡ record { start = nothing; entries = []; limit = entries_between_seals } }
