@@ -4,8 +4,8 @@
     tools/build.py pt_server
 
 Each crate is proved as soon as those that it uses are, and several at once if none uses another.
-The check of a crate on a long way to the program is shared out among all processors, and the
-shorter the way, the more it yields to the others. What is built of a crate is kept beside a stamp,
+A check is shared out among processors that the others leave, and the longer its way to the program
+is, the more of them it has and the less it yields. What is built of a crate is kept beside a stamp,
 the sum of all that it was made from, and is made anew only once that is another. Standard error
 gets a line for each crate that is proved. The toolchain's own output goes to a file, which is named
 if a crate fails.
@@ -211,21 +211,35 @@ def available_bytes():
 
 
 def checks_at_once():
-    """Some more than half the processors, and no more than memory allows."""
-    return max(1, min((PROCESSORS + 2) // 2, available_bytes() // BYTES_A_CHECK))
+    """One more than there are processors, and no more than memory allows."""
+    return max(1, min(PROCESSORS + 1, available_bytes() // BYTES_A_CHECK))
 
 
-def choose(waiting, running, at_once):
+def ready(waiting, running):
     """The crates that can be begun: all that they use is there."""
     to_do = {*waiting, *running}
-    ready = [it for it in waiting if to_do.isdisjoint(crates_of(it))]
-    return ready[: at_once - len(running)]
+    return [it for it in waiting if to_do.isdisjoint(crates_of(it))]
 
 
-def share(name, to_do, weight):
-    """The jobs and the niceness of a check, by how long its way to the program is."""
-    part = weight[name] / max(weight[it] for it in to_do)
-    return PROCESSORS if part > 1 / 3 else 1, round(19 * (1 - part))
+def jobs_for(name, others, weight):
+    """The jobs of a check, beside others that run or can be begun too.
+
+    More jobs than one cost half as much processor time again, so a check gets them only if the
+    others have too little to do for the rest of the processors.
+    """
+    part = weight[name] / sum(weight[it] for it in [name, *others])
+    return max(1, min(PROCESSORS, round(1.5 * PROCESSORS * part)))
+
+
+def niceness(name, to_do, weight):
+    """How much a check yields, by how long its way to the program is."""
+    return round(19 * (1 - weight[name] / max(weight[it] for it in to_do)))
+
+
+def begin(name, waiting, running, weight):
+    """The jobs and the niceness of a check that begins now, before those that wait."""
+    others = [*ready(waiting, [name, *running]), *running]
+    return jobs_for(name, others, weight), niceness(name, [name, *waiting, *running], weight)
 
 
 def prove_all(names, stamps, scratch):
@@ -234,10 +248,10 @@ def prove_all(names, stamps, scratch):
     waiting = sorted(names, key=lambda it: -weight[it])
     with ThreadPoolExecutor(at_once) as pool:
         while waiting or running:
-            for name in choose(waiting, running.values(), at_once):
+            for name in ready(waiting, running.values())[: at_once - len(running)]:
                 waiting.remove(name)
                 say(f"proving {len(names) - len(waiting)} of {len(names)}: {name}")
-                jobs, nice = share(name, [name, *waiting, *running.values()], weight)
+                jobs, nice = begin(name, waiting, running.values(), weight)
                 task = pool.submit(prove, name, stamps, f"{scratch}/{name}.log", jobs, nice)
                 running[task] = name
             for ended in wait(running, return_when=FIRST_COMPLETED).done:
