@@ -16,27 +16,16 @@ use Rattle.pt_history.proofs.Places.{held-past}
 use Rattle.pt_core.specs.Stores.{IsKept}
 use Rattle.pt_legal.specs.Applying.{is_death}
 use Rattle.pt_core.specs.Settling.{IsReady}
+use Rattle.pt_legal.proofs.SealRoom.{needs-parts}
 use Rattle.pt_core.proofs.AcceptingLemmas.{death-fits, unrefused-alive}
 
--- a limit is passed without a seal, and not after one
-passes : (limit held room : ℕ) → (nat_lt limit (held + room) && nat_le room limit) ≡ true
-    → (limit < held + room) × (room ≤ limit)
-passes limit held room e = grind (arith, nat_tests)
-
--- room that is above a limit, or a seal that isn't needed: the limit is passed as it stands
-over : (limit held room : ℕ) (places : Bool)
-    → (nat_lt limit (held + room) && nat_le room limit) ≡ false
-    → (nat_lt limit room || ((nat_lt limit (held + room) && nat_le room limit) && places))
-    ≡ nat_lt limit (held + room)
-over limit held room places e = grind (arith, nat_tests)
-
--- neither is so
+-- neither the room nor the place is above its limit
 fits : (limit held room at most : ℕ) → room ≤ limit → at ≤ most
     → (nat_lt limit room || ((nat_lt limit (held + room) && nat_le room limit) && nat_lt most at))
     ≡ false
 fits limit held room at most l p = grind (arith, nat_tests)
 
--- no numbers are left
+-- a seal is needed, but no numbers are left for places
 full : (limit held room at most : ℕ) → limit < held + room → room ≤ limit → most < at
     → (nat_lt limit room || ((nat_lt limit (held + room) && nat_le room limit) && nat_lt most at))
     ≡ true
@@ -56,34 +45,18 @@ none-needed : (limit held room : ℕ) → held + room ≤ limit
 none-needed limit held room l = grind (arith, nat_tests)
 
 module _ (limit : ℕ) (h : History) (v : Event) where
-  -- an event that needs a seal has room after it
-  pub needs-parts : needs_seal limit h v ≡ true
-      → (limit < held h + room_for h v) × (room_for h v ≤ limit)
-  needs-parts e = passes limit (held h) (room_for h v) e
-
-  -- the same, of what a plan says that is needed
+  -- what a plan says that is needed
   pub planned-seal : (n : ℕ) (needed : Bool) → n ≡ need (h ▷ entry_for h v)
       → needed ≡ (nat_lt limit (held h + (1 + n)) && nat_le (1 + n) limit)
       → needed ≡ needs_seal limit h v
   planned-seal n needed en is =
       is ∙ ap (λ (k : ℕ). nat_lt limit (held h + (1 + k)) && nat_le (1 + k) limit) en
 
-  over_as_it_stands : is_over limit (h ▷ entry_for h v) ≡ nat_lt limit (held h + room_for h v)
-  over_as_it_stands = ap (nat_lt limit) (omega arith)
-
-  -- one that needs none is refused as without seals
-  pub refused-without : needs_seal limit h v ≡ false
-      → refusal_with_seals limit h v ≡ refusal_within limit h v
-  refused-without e =
-      ap (λ b. option_or (refusal h v) (cond b (Some Full) None))
-      (over limit (held h) (room_for h v) (nat_lt most_places (place h)) e
-      ∙ sym over_as_it_stands)
-
   -- one that needs a seal is refused only if no numbers are left for places
   pub refused-sealed : refusal h v ≡ None → needs_seal limit h v ≡ true → (at : ℕ) → at ≡ place h
       → cond (nat_lt most_places at) (Some Full) None ≡ refusal_with_seals limit h v
   refused-sealed ok e at is =
-      let parts = needs-parts e in
+      let parts = needs-parts limit h v e in
       ap (λ n. cond (nat_lt most_places n) (Some Full) None) is
       ∙ (ap (λ b. cond b (Some Full) None)
       (sym (places-alone limit (held h) (room_for h v) (place h) most_places parts.0 parts.1))
@@ -101,7 +74,7 @@ module _ (limit : ℕ) (h : History) (v : Event) where
   pub full-sealed : refusal h v ≡ None → needs_seal limit h v ≡ true → most_places < place h
       → refusal_with_seals limit h v ≡ Some Full
   full-sealed ok e p =
-      let parts = needs-parts e in
+      let parts = needs-parts limit h v e in
       ap (λ o. option_or o (cond (is_full limit h v) (Some Full) None)) ok
       ∙ ap (λ b. cond b (Some Full) None)
       (full limit (held h) (room_for h v) (place h) most_places parts.0 parts.1 p)

@@ -19,7 +19,7 @@ use Rattle.pt_model.proofs.Induction.{start-seal}
 use Rattle.pt_model.proofs.Steps.{step-event}
 use Rattle.pt_legal.specs.Cores.{Kept, past}
 use Rattle.pt_legal.specs.Applying.{opened}
-use Rattle.pt_core.proofs.SealNeeds.{needs-parts, refused-without}
+use Rattle.pt_legal.proofs.SealRoom.{needs-parts, refused-without}
 use Rattle.pt_engine.specs.Engines.{IsLegal}
 use Rattle.pt_engine.proofs.Opened.{legal_follow, legal_settle, opened_by, sealed_alike}
 

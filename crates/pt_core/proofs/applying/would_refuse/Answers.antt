@@ -2,7 +2,8 @@ use Rattle.std.proofs.Common.{sym, ◌∙◌}
 use Rattle.pt_history.proofs.Places.{place_of_next}
 use Rattle.pt_model.proofs.Steps.{step-event}
 use Rattle.pt_state.specs.Adds.{past}
-use Rattle.pt_core.proofs.SealNeeds.{planned-seal, refused-sealed, refused-without}
+use Rattle.pt_legal.proofs.SealRoom.{refused-without}
+use Rattle.pt_core.proofs.SealNeeds.{planned-seal, refused-sealed}
 use Rattle.pt_core.proofs.SealedCores.{settled}
 use Rattle.pt_core.proofs.applying.would_refuse.Goals as goal
 

@@ -5,7 +5,7 @@ use Rattle.pt_core.specs.Stores.{seen}
 use Rattle.pt_core.proofs.ApplyingLemmas.{applied-renewed, refused-growth, refused-places}
 use Rattle.pt_core.proofs.ApplyingLemmas.{whole-renewed}
 use Rattle.pt_core.proofs.SealedCores.{places-lack, places-left}
-use Rattle.pt_core.proofs.SealNeeds.{needs-parts}
+use Rattle.pt_legal.proofs.SealRoom.{needs-parts}
 use Rattle.pt_core.proofs.WholeLemmas.{whole-stays}
 use Rattle.pt_core.proofs.WritingLemmas.{entered-some}
 use Rattle.pt_core.proofs.applying.write_sealed.Goals as goal

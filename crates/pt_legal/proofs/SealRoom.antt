@@ -1,0 +1,40 @@
+-- What it means for the room of an event that it needs a seal, or none.
+use Rattle.std.proofs.Common.{◌≡◌, ℕ, ◌+◌, ◌≤◌, ◌<◌, Bool, true, false, cond, nat_le, nat_lt, ◌&&◌}
+use Rattle.std.proofs.Common.{◌||◌, Some, None, sym, ap, ◌∙◌, arith}
+use Rattle.std.proofs.lemmas.Bool.Decides.{nat_tests}
+use Rattle.std.specs.Option.{option_or}
+use Rattle.pt_types.specs.declared.outcome.Refusal.TheVariants.{Full}
+use Rattle.pt_types.specs.Limits.{most_places}
+use Rattle.pt_model.specs.declared.entry.Event.{Event}
+use Rattle.pt_model.specs.Histories.{History, ◌▷◌, place, held}
+use Rattle.pt_model.specs.Room.{refusal, entry_for, is_over, room_for, needs_seal}
+use Rattle.pt_model.specs.Room.{refusal_within, refusal_with_seals}
+
+-- a limit is passed without a seal, and not after one
+passes : (limit held room : ℕ) → (nat_lt limit (held + room) && nat_le room limit) ≡ true
+    → (limit < held + room) × (room ≤ limit)
+passes limit held room e = grind (arith, nat_tests)
+
+-- room that is above a limit, or a seal that isn't needed: the limit is passed as it stands
+over : (limit held room : ℕ) (places : Bool)
+    → (nat_lt limit (held + room) && nat_le room limit) ≡ false
+    → (nat_lt limit room || ((nat_lt limit (held + room) && nat_le room limit) && places))
+    ≡ nat_lt limit (held + room)
+over limit held room places e = grind (arith, nat_tests)
+
+module _ (limit : ℕ) (h : History) (v : Event) where
+  -- an event that needs a seal has room after it
+  pub needs-parts : needs_seal limit h v ≡ true
+      → (limit < held h + room_for h v) × (room_for h v ≤ limit)
+  needs-parts e = passes limit (held h) (room_for h v) e
+
+  over_as_it_stands : is_over limit (h ▷ entry_for h v) ≡ nat_lt limit (held h + room_for h v)
+  over_as_it_stands = ap (nat_lt limit) (omega arith)
+
+  -- one that needs none is refused as without seals
+  pub refused-without : needs_seal limit h v ≡ false
+      → refusal_with_seals limit h v ≡ refusal_within limit h v
+  refused-without e =
+      ap (λ b. option_or (refusal h v) (cond b (Some Full) None))
+      (over limit (held h) (room_for h v) (nat_lt most_places (place h)) e
+      ∙ sym over_as_it_stands)
