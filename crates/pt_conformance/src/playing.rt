@@ -3,8 +3,9 @@ ghost use Rattle.std.specs.Prelude.{◌<◌};
 use crate::way::Way;
 use anyhow::{Context, Result};
 use pt_cases::{Case, agrees};
+use pt_core::Core;
 use pt_io::{Counted, Faulty};
-use pt_script::script;
+use pt_script::{ENTRIES_BETWEEN_SEALS, script};
 use std::fs;
 use std::rt::Files;
 
@@ -15,7 +16,8 @@ fn agrees_in_pieces(rt: &(impl Print + AllocGlobal), step: usize, case: &Case) -
     let bytes = Vec::from_slice(rt.alloc(), &case.script)?;
     let mut reader = Faulty::new(bytes, step, 0);
     let mut writer = Faulty::new(Vec::new(rt.alloc()), step, 0);
-    script(rt.alloc(), &mut reader, &mut writer)?;
+    let core = Core::with_limit(rt.alloc(), ENTRIES_BETWEEN_SEALS)?;
+    script(core, rt.alloc(), &mut reader, &mut writer)?;
     Ok(agrees(rt, case, writer.written())?)
 }
 
@@ -24,7 +26,8 @@ fn agrees_from_file(rt: &(impl Files + Print + AllocGlobal), case: &Case) -> Res
     let path = format!(in rt.alloc(); "{}.script", case.path)?;
     let mut reader = Counted::new(fs::open(rt, path.as_str())?);
     let mut writer = Faulty::new(Vec::new(rt.alloc()), 4096, 0);
-    script(rt.alloc(), &mut reader, &mut writer)?;
+    let core = Core::with_limit(rt.alloc(), ENTRIES_BETWEEN_SEALS)?;
+    script(core, rt.alloc(), &mut reader, &mut writer)?;
     Ok(agrees(rt, case, writer.written())?)
 }
 

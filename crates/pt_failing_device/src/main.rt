@@ -4,8 +4,9 @@
 //! ends with the status that the program `ptserver` gives for either, if that is one status.
 #![tactic(auto)]
 
+use pt_core::Core;
 use pt_io::{Counted, Faulty};
-use pt_script::answer;
+use pt_script::{ENTRIES_BETWEEN_SEALS, answer};
 use std::alloc::AllocError;
 use std::io;
 use std::process::ExitCode;
@@ -16,7 +17,10 @@ fn status(rt: &HostRuntime, read_fails_at: u64, write_fails_at: u64) -> Result<u
     let mut reader = Faulty::new(script, 4096, read_fails_at);
     let mut writer = Faulty::new(Vec::new(rt.alloc()), 4096, write_fails_at);
     let mut errors = Counted::new(io::writer(rt));
-    Ok(answer(rt.alloc(), &mut reader, &mut writer, &mut errors))
+    let Ok(core) = Core::with_limit(rt.alloc(), ENTRIES_BETWEEN_SEALS) else {
+        return Err(AllocError);
+    };
+    Ok(answer(core, rt.alloc(), &mut reader, &mut writer, &mut errors))
 }
 
 fn main(rt: HostRuntime) -> io::Result<ExitCode> {

@@ -18,7 +18,7 @@ use Rattle.pt_engine.specs.Says.{SaysAll}
 use Rattle.pt_engine.specs.declared.fault.ScriptFault.{ScriptFault}
 use Rattle.pt_engine.specs.declared.fault.ScriptFault.TheVariants.{Read, Write, Memory}
 use Rattle.pt_script.specs.Ends.{AnswersWhole, BeginsScriptText, Course, IsBehind, IsFaultOf}
-use Rattle.pt_script.specs.Ends.{IsScriptText, IsWantOfMemory, lines_of}
+use Rattle.pt_script.specs.Ends.{IsScriptText, lines_of}
 use Rattle.pt_engine.specs.Engines.{Answers}
 use Rattle.pt_script.specs.Stops.{IsCutOff, IsEnd, IsStopped}
 use Rattle.pt_script.specs.Texts.{Writing}
@@ -269,24 +269,6 @@ begun_held held e =
       short = omega arith;
       dropped = λ d. refl;
     })
-
--- memory is lacking before the first read
-pub wanted_at_once : (c : Course) → IsPrefix c.reader.earlier c.reader.given
-    → IsPrefix c.writer.flushed c.writer.taken → c.reader.given ≡ [] → c.writer.taken ≡ []
-    → c.reader.failures ≡ 0 → c.writer.failures ≡ 0 → c.writer.rejections ≡ 0
-    → IsWantOfMemory c
-wanted_at_once c before out given taken read wrote accepted = record {
-  read = read;
-  wrote = wrote;
-  accepted = accepted;
-  answers = whole_answered [] empty begun [] c.reader.earlier c.writer.taken
-      (behind_begun [] empty begun [] refl refl refl refl) (begun_held empty refl)
-      (nothing_before c.reader.earlier c.reader.given before given) taken;
-  flushed = nothing_before c.writer.flushed c.writer.taken out taken ∙ sym taken;
-}
-  where
-    empty : Held
-    empty = record { rest = []; dropping = false }
 
 -- a read of no byte into a buffer that has room reports the end
 pub has_ended : (n : ℕ) (buf : List ℕ) (before after : Bool) → n ≡ 0 → length buf ≡ 4096

@@ -7,12 +7,14 @@
 //! whole, or, if the writer failed or memory was refused, to all that had come before the latest
 //! read. If the core lacked memory for a line, the text may have ENOMEM for it.
 //!
-//! `pt_engine` answers the lines. It seals its history if an event needs the room, so there are
-//! never more than 65,536 entries, however long the script is, and what is stored of clients grows
-//! with their names alone.
+//! `pt_engine` answers the lines, over any `LegalHistory` that is empty and has the limit
+//! `ENTRIES_BETWEEN_SEALS`. It seals that history if an event needs the room, so there are never
+//! more than 65,536 entries, however long the script is, and what is stored of clients grows with
+//! their names alone.
 //!
-//! `answer` is the program `ptserver script` over any reader, writer and writer of errors: its
-//! contract has the exit status and the report of a fault too.
+//! `answer` is the program `ptserver script` over any such core, reader, writer and writer of
+//! errors: its contract has the exit status and the report of a fault too. A program that has no
+//! memory for a core reports the fault `Memory` itself.
 //!
 //! Only tests show that the fault `Memory` comes only after a refused growth, and how the input is
 //! parted into reads.
@@ -24,6 +26,6 @@ mod whole;
 mod writing;
 
 pub use laws::{law_answers_have_lines, law_beginnings, law_one_text};
-pub use program::answer;
-pub use pt_engine::ScriptFault;
+pub use program::{answer, report, status_of};
+pub use pt_engine::{ENTRIES_BETWEEN_SEALS, ScriptFault};
 pub use whole::{MOST_READS, ScriptEnd, script, script_within};

@@ -1,4 +1,7 @@
 ghost use Rattle.std.specs.Prelude.{◌≡◌, ◌≤◌, ◌+◌, ◌^◌, [], false};
+ghost use Rattle.pt_model.specs.Starts.{nothing};
+ghost use Rattle.pt_legal.specs.Cores.{shown};
+ghost use Rattle.pt_engine.specs.Scripts.{entries_between_seals};
 ghost use Rattle.pt_script.specs.Ends.{reading};
 ghost use Rattle.pt_script.specs.Texts.{writing};
 ghost use Rattle.pt_script.specs.Programs.{EndsWith, Reports, report_of, status_of};
@@ -7,6 +10,7 @@ use crate::whole::script;
 use crate::writing::put;
 use pt_engine::ScriptFault;
 use pt_io::{Sink, Source};
+use pt_legal::LegalHistory;
 use std::alloc::Allocator;
 
 /// The exit status of a script that was read to its end.  [profile]
@@ -18,7 +22,8 @@ const DEVICE: u8 = 3;
 /// The exit status of lack of memory.  [profile]
 const MEMORY: u8 = 5;
 
-fn status_of(fault: ScriptFault) -> u8
+/// The exit status of a program that runs a script and ends by this fault.
+pub fn status_of(fault: ScriptFault) -> u8
     ensures { result ≡ status_of fault }
 {
     match fault {
@@ -37,8 +42,8 @@ fn report_of(fault: ScriptFault) -> &'static [u8]
     }
 }
 
-// Writes what a fault is reported by. A fault of this writer is reported nowhere.
-fn report<E: Sink>(errors: &mut E, fault: ScriptFault)
+/// Reports a fault in one line. A fault of this writer is reported nowhere.
+pub fn report<E: Sink>(errors: &mut E, fault: ScriptFault)
     requires { E.failures errors.old ≡ 0 }
     ensures { Reports (E.taken errors.old) (report_of fault)
         (writing E.taken E.flushed E.failures E.rejections errors.old errors.new) }
@@ -52,12 +57,15 @@ fn report<E: Sink>(errors: &mut E, fault: ScriptFault)
 ///
 /// The status is 0 if all lines were read and answered. A fault is reported on `errors`, and gives
 /// 3 if it is one of the reader or the writer, and 5 if it is lack of memory.  [profile]
-pub fn answer<R: Source, W: Sink, E: Sink, A: Allocator + Copy>(
+pub fn answer<C: LegalHistory, R: Source, W: Sink, E: Sink, A: Allocator + Copy>(
+    core: C,
     alloc: A,
     reader: &mut R,
     writer: &mut W,
     errors: &mut E,
 ) -> u8
+    requires empty { shown (C.seen core)
+        ≡ record { start = nothing; entries = []; limit = entries_between_seals } }
     requires fresh { (R.given reader.old ≡ []) × (W.taken writer.old ≡ [])
         × (R.ended reader.old ≡ false) }
     requires working { (R.failures reader.old ≡ 0) × (W.failures writer.old ≡ 0)
@@ -70,7 +78,7 @@ pub fn answer<R: Source, W: Sink, E: Sink, A: Allocator + Copy>(
         (writing E.taken E.flushed E.failures E.rejections errors.old errors.new) result }
     ensures calls { R.reads reader.new ≤ R.reads reader.old + 2 ^ 40 }
 {
-    match script(alloc, reader, writer) {
+    match script(core, alloc, reader, writer) {
         Ok(_) => DONE,
         Err(fault) => {
             report(errors, fault);

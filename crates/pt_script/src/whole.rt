@@ -1,15 +1,16 @@
 ghost use Rattle.std.specs.Prelude.{◌≡◌, ◌≤◌, ◌<◌, ◌+◌, ◌^◌, ◌++◌, [], length, true, false, OnOk};
 ghost use Rattle.std.specs.Prelude.{OnErr, IfOk, IfErr};
+ghost use Rattle.pt_model.specs.Starts.{nothing};
 ghost use Rattle.pt_grammar.specs.Lines.{to_come, IsBegun};
-ghost use Rattle.pt_engine.specs.Scripts.{begun};
+ghost use Rattle.pt_legal.specs.Cores.{shown};
+ghost use Rattle.pt_engine.specs.Scripts.{begun, entries_between_seals};
 ghost use Rattle.pt_engine.specs.Engines.{Answers, known_by};
 ghost use Rattle.pt_script.specs.Texts.{writing};
 ghost use Rattle.pt_script.specs.Stops.{IsStopped, IsEnd};
 ghost use Rattle.pt_script.specs.Ends.{IsScriptText, BeginsScriptText, IsFaultOf, reading};
 
 use crate::writing::deliver;
-use pt_core::Core;
-use pt_engine::{ENTRIES_BETWEEN_SEALS, Engine, ScriptFault};
+use pt_engine::{Engine, ScriptFault};
 use pt_io::{Sink, Source};
 use pt_legal::LegalHistory;
 use pt_lines::Cutter;
@@ -143,7 +144,7 @@ fn run_within<C: LegalHistory, R: Source, W: Sink, A: Allocator + Copy>(
     Err(ScriptFault::Read)
 }
 
-/// Runs a script with at most so many reads, of at most 4,096 bytes each.  [profile]
+/// Runs a script over an empty core, with at most so many reads of up to 4,096 bytes.  [profile]
 ///
 /// Each line is answered once it has come; the answers to the lines of one read are written
 /// together, and flushed before the next read. `Read` is returned if a read failed or the last of
@@ -151,12 +152,15 @@ fn run_within<C: LegalHistory, R: Source, W: Sink, A: Allocator + Copy>(
 /// is returned if a write or a flush failed or a write took no byte, and `Memory` if a growth was
 /// refused that no line is answered ENOMEM for: at most the answers to the lines of the latest read
 /// are lost.
-pub fn script_within<R: Source, W: Sink, A: Allocator + Copy>(
+pub fn script_within<C: LegalHistory, R: Source, W: Sink, A: Allocator + Copy>(
+    core: C,
     alloc: A,
     reads: u64,
     reader: &mut R,
     writer: &mut W,
 ) -> Result<ScriptEnd, ScriptFault>
+    requires empty { shown (C.seen core)
+        ≡ record { start = nothing; entries = []; limit = entries_between_seals } }
     requires fresh { (R.given reader.old ≡ []) × (W.taken writer.old ≡ [])
         × (R.ended reader.old ≡ false) }
     requires working { (R.failures reader.old ≡ 0) × (W.failures writer.old ≡ 0) }
@@ -178,19 +182,19 @@ pub fn script_within<R: Source, W: Sink, A: Allocator + Copy>(
       limit = reads;
     }) fault) }
 {
-    let Ok(core) = Core::with_limit(alloc, ENTRIES_BETWEEN_SEALS) else {
-        return Err(ScriptFault::Memory);
-    };
     let mut engine = Engine::new(core, alloc);
     run_within(alloc, reads, &mut engine, reader, writer)
 }
 
 /// Runs a script, as `script_within` does with 2^40 reads.  [profile]
-pub fn script<R: Source, W: Sink, A: Allocator + Copy>(
+pub fn script<C: LegalHistory, R: Source, W: Sink, A: Allocator + Copy>(
+    core: C,
     alloc: A,
     reader: &mut R,
     writer: &mut W,
 ) -> Result<ScriptEnd, ScriptFault>
+    requires empty { shown (C.seen core)
+        ≡ record { start = nothing; entries = []; limit = entries_between_seals } }
     requires fresh { (R.given reader.old ≡ []) × (W.taken writer.old ≡ [])
         × (R.ended reader.old ≡ false) }
     requires working { (R.failures reader.old ≡ 0) × (W.failures writer.old ≡ 0) }
@@ -211,5 +215,5 @@ pub fn script<R: Source, W: Sink, A: Allocator + Copy>(
       limit = 2 ^ 40;
     }) fault) }
 {
-    script_within(alloc, MOST_READS, reader, writer)
+    script_within(core, alloc, MOST_READS, reader, writer)
 }

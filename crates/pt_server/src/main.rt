@@ -2,26 +2,31 @@
 //! a Unix socket.
 //!
 //! What a script is answered, what is reported of a fault, and the exit status of both is the
-//! contract of `pt_script`, whose `answer` is handed the three standard streams. The same of a
-//! server is the contract of `pt_serve`. The words of the command line are those of `pt_command`.
+//! contract of `pt_script`, whose `answer` is handed a core and the three standard streams. The same
+//! of a server is the contract of `pt_serve`. The words of the command line are those of
+//! `pt_command`.
 #![tactic(auto)]
 
 use pt_command::{ClockWord, Task, read_task};
 use pt_core::Core;
 use pt_hub::Closed;
 use pt_io::Counted;
-use pt_script::answer;
-use pt_serve::{ServeFault, report, serve, status_of};
+use pt_script::{ENTRIES_BETWEEN_SEALS, ScriptFault, answer};
+use pt_serve::{ServeFault, serve};
 use pt_session::ClockMode;
 use std::io;
 use std::process::ExitCode;
 
 // Answers standard input on standard output, and reports a fault on standard error.
 fn run_script(rt: &HostRuntime) -> ExitCode {
+    let mut errors = Counted::new(rt.stderr());
+    let Ok(core) = Core::with_limit(rt.alloc(), ENTRIES_BETWEEN_SEALS) else {
+        pt_script::report(&mut errors, ScriptFault::Memory);
+        return ExitCode::from(pt_script::status_of(ScriptFault::Memory));
+    };
     let mut reader = Counted::new(rt.stdin());
     let mut writer = Counted::new(io::writer(rt));
-    let mut errors = Counted::new(rt.stderr());
-    ExitCode::from(answer(rt.alloc(), &mut reader, &mut writer, &mut errors))
+    ExitCode::from(answer(core, rt.alloc(), &mut reader, &mut writer, &mut errors))
 }
 
 fn mode_of(clock: ClockWord) -> ClockMode {
@@ -36,8 +41,8 @@ fn end_of(rt: &HostRuntime, served: Result<Closed, ServeFault>) -> ExitCode {
     match served {
         Ok(_) => ExitCode::SUCCESS,
         Err(fault) => {
-            report(&mut Counted::new(rt.stderr()), fault);
-            ExitCode::from(status_of(fault))
+            pt_serve::report(&mut Counted::new(rt.stderr()), fault);
+            ExitCode::from(pt_serve::status_of(fault))
         }
     }
 }

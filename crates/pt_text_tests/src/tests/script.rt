@@ -1,9 +1,13 @@
-ghost use Rattle.std.specs.Prelude.{◌≡◌, ◌<◌, [], false, IfOk};
+ghost use Rattle.std.specs.Prelude.{◌≡◌, ◌<◌, ◌≤◌, ◌^◌, [], false, IfOk};
+ghost use Rattle.pt_model.specs.Starts.{nothing};
+ghost use Rattle.pt_legal.specs.Cores.{shown};
+ghost use Rattle.pt_engine.specs.Scripts.{entries_between_seals};
 
 use super::lend;
+use pt_core::Core;
 use pt_failing_alloc::{Refusing, refuse_each};
-use pt_io::Faulty;
-use pt_script::{ScriptEnd, ScriptFault, answer, script, script_within};
+use pt_io::{Faulty, Sink, Source};
+use pt_script::{ENTRIES_BETWEEN_SEALS, ScriptEnd, ScriptFault, answer, script, script_within};
 use std::alloc::{Allocator, Global};
 use std::process::Abort;
 use std::test::Fail;
@@ -30,6 +34,45 @@ fn reader<A: Allocator + Copy>(
     Ok(Faulty::new(Vec::from_slice(alloc, bytes)?, step, fails_at))
 }
 
+// The core of a script.
+fn core<A: Allocator + Copy>(alloc: A) -> Result<Core<A>, ScriptFault>
+    ensures { IfOk result (λ core. shown core
+        ≡ record { start = nothing; entries = []; limit = entries_between_seals }) }
+{
+    match Core::with_limit(alloc, ENTRIES_BETWEEN_SEALS) {
+        Ok(core) => Ok(core),
+        Err(_) => Err(ScriptFault::Memory),
+    }
+}
+
+// Runs a script over a core of its own.
+fn play<R: Source, W: Sink, A: Allocator + Copy>(
+    alloc: A,
+    reader: &mut R,
+    writer: &mut W,
+) -> Result<ScriptEnd, ScriptFault>
+    requires fresh { (R.given reader.old ≡ []) × (W.taken writer.old ≡ [])
+        × (R.ended reader.old ≡ false) }
+    requires working { (R.failures reader.old ≡ 0) × (W.failures writer.old ≡ 0) }
+{
+    script(core(alloc)?, alloc, reader, writer)
+}
+
+// Runs a script with at most so many reads.
+fn play_within<R: Source, W: Sink, A: Allocator + Copy>(
+    alloc: A,
+    reads: u64,
+    reader: &mut R,
+    writer: &mut W,
+) -> Result<ScriptEnd, ScriptFault>
+    requires fresh { (R.given reader.old ≡ []) × (W.taken writer.old ≡ [])
+        × (R.ended reader.old ≡ false) }
+    requires working { (R.failures reader.old ≡ 0) × (W.failures writer.old ≡ 0) }
+    requires few { reads ≤ 2 ^ 40 }
+{
+    script_within(core(alloc)?, alloc, reads, reader, writer)
+}
+
 // Writes what this input is answered, which is read to its end.
 fn tell(alloc: Global, bytes: &[u8], step: usize, writer: &mut Faulty) -> Result<ScriptEnd, Fail>
     requires step { 0 < step }
@@ -37,7 +80,7 @@ fn tell(alloc: Global, bytes: &[u8], step: usize, writer: &mut Faulty) -> Result
     requires working { writer.old.has_failed ≡ false }
 {
     let mut reader = reader(alloc, bytes, step, 0)?;
-    let ended = script(alloc, &mut reader, writer);
+    let ended = play(alloc, &mut reader, writer);
     drop(reader);
     Ok(ended?)
 }
@@ -144,7 +187,7 @@ fn a_failing_read_leaves_the_answers_of_the_lines_before(rt: HostRuntime) -> Res
     for fails_at in 1..=82 {
         let mut reader = reader(alloc, TWO_CLIENTS, 1, fails_at)?;
         let mut writer = Faulty::new(Vec::new(alloc), 4096, 0);
-        let ended = script(alloc, &mut reader, &mut writer);
+        let ended = play(alloc, &mut reader, &mut writer);
         assert!(rt; matches!(ended, Err(ScriptFault::Read)), "at {fails_at}");
         let due = faults::due(fails_at as usize - 1);
         assert_eq!(rt; writer.written(), &TWO_CLIENTS_TOLD[..due], "at {fails_at}");
@@ -158,7 +201,7 @@ fn a_failing_write_leaves_a_prefix(rt: HostRuntime) -> Result<(), Fail> {
     for fails_at in 1..=12 {
         let mut reader = reader(alloc, TWO_CLIENTS, 4096, 0)?;
         let mut writer = Faulty::new(Vec::new(alloc), 3, fails_at);
-        let ended = script(alloc, &mut reader, &mut writer);
+        let ended = play(alloc, &mut reader, &mut writer);
         assert!(rt; matches!(ended, Err(ScriptFault::Write)), "at {fails_at}");
         assert!(rt;
             TWO_CLIENTS_TOLD.starts_with(writer.written()),
@@ -181,7 +224,7 @@ fn the_read_that_tells_the_end_counts(rt: HostRuntime) -> Result<(), Fail> {
     ] {
         let mut reader = reader(alloc, input, 4, 0)?;
         let mut writer = Faulty::new(Vec::new(alloc), 4096, 0);
-        let ended = script_within(alloc, reads, &mut reader, &mut writer);
+        let ended = play_within(alloc, reads, &mut reader, &mut writer);
         assert_eq!(rt;
             matches!(ended, Err(ScriptFault::Read)),
             !is_ok,
@@ -203,7 +246,7 @@ fn a_refused_growth_is_answered_or_ends_the_script(rt: HostRuntime) -> Result<()
     let refused = refuse_each(alloc, 1000, |heap| -> Result<bool, Fail> {
         let mut reader = reader(alloc, TWO_CLIENTS, 4096, 0)?;
         let mut writer = Faulty::new(Vec::new(alloc), 4096, 0);
-        match script(heap, &mut reader, &mut writer) {
+        match play(heap, &mut reader, &mut writer) {
             Ok(_) => Ok(writer.written() != TWO_CLIENTS_TOLD),
             Err(fault) => {
                 assert_eq!(rt; fault, ScriptFault::Memory);

@@ -48,7 +48,7 @@ fn answered(
     let mut reader = reader(alloc, TWO_CLIENTS, 1, read_fails_at)?;
     let mut writer = Faulty::new(Vec::new(alloc), 4096, write_fails_at);
     let mut errors = Faulty::new(Vec::new(alloc), 4096, 0);
-    let status = answer(alloc, &mut reader, &mut writer, &mut errors);
+    let status = answer(core(alloc)?, alloc, &mut reader, &mut writer, &mut errors);
     Ok((status, writer, errors))
 }
 
@@ -58,7 +58,7 @@ fn at_the_limit_of_reads_all_whole_lines_are_answered(rt: HostRuntime) -> Result
     for reads in 0..=81 {
         let mut reader = reader(alloc, TWO_CLIENTS, 1, 0)?;
         let mut writer = Faulty::new(Vec::new(alloc), 4096, 0);
-        let ended = script_within(alloc, reads, &mut reader, &mut writer);
+        let ended = play_within(alloc, reads, &mut reader, &mut writer);
         assert!(rt; matches!(ended, Err(ScriptFault::Read)), "with {reads}");
         assert_eq!(rt; writer.written().len(), due(reads as usize), "with {reads}");
     }
@@ -71,7 +71,7 @@ fn a_failing_flush_is_a_write_fault(rt: HostRuntime) -> Result<(), Fail> {
     for (fails_at, written) in [(2, 6), (4, 12), (6, 18), (8, 24), (10, 36)] {
         let mut reader = reader(alloc, TWO_CLIENTS, 1, 0)?;
         let mut writer = Faulty::new(Vec::new(alloc), 4096, fails_at);
-        let ended = script(alloc, &mut reader, &mut writer);
+        let ended = play(alloc, &mut reader, &mut writer);
         assert!(rt; matches!(ended, Err(ScriptFault::Write)), "at {fails_at}");
         assert_eq!(rt;
             writer.written(),
@@ -88,7 +88,7 @@ fn a_writer_that_takes_no_byte_is_a_write_fault(rt: HostRuntime) -> Result<(), F
     for room in [0, 1, 35] {
         let mut reader = reader(alloc, TWO_CLIENTS, 4096, 0)?;
         let mut writer = Counted::new(Filling { room });
-        let ended = script(alloc, &mut reader, &mut writer);
+        let ended = play(alloc, &mut reader, &mut writer);
         assert!(rt; matches!(ended, Err(ScriptFault::Write)), "for {room}");
         assert!(rt; !writer.has_failed(), "for {room}");
     }
@@ -101,7 +101,7 @@ fn no_answer_waits_in_a_buffer(rt: HostRuntime) -> Result<(), Fail> {
     for (reads, written) in [(61, 24), (81, 36)] {
         let mut reader = reader(alloc, TWO_CLIENTS, 1, 0)?;
         let mut writer = Counted::new(BufWriter::new(alloc, VecDeque::new(alloc))?);
-        let ended = script_within(alloc, reads, &mut reader, &mut writer);
+        let ended = play_within(alloc, reads, &mut reader, &mut writer);
         assert!(rt; ended.is_err());
         assert!(rt; writer.device().buffer().is_empty());
         assert_eq!(rt; writer.device().get_ref().len(), written);
@@ -137,7 +137,8 @@ fn a_program_reports_want_of_memory(rt: HostRuntime) -> Result<(), Fail> {
     let mut reader = reader(alloc, TWO_CLIENTS, 4096, 0)?;
     let mut writer = Faulty::new(Vec::new(alloc), 4096, 0);
     let mut errors = Faulty::new(Vec::new(alloc), 4096, 0);
-    assert_eq!(rt; answer(&heap, &mut reader, &mut writer, &mut errors), 5);
+    let status = answer(core(alloc)?, &heap, &mut reader, &mut writer, &mut errors);
+    assert_eq!(rt; status, 5);
     assert!(rt; writer.written().is_empty());
     assert_eq!(rt; errors.written(), b"ptserver: out of memory\n".as_slice());
     Ok(())
