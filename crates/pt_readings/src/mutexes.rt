@@ -1,4 +1,6 @@
 ghost use Rattle.std.specs.Prelude.{◌≡◌, ◌≤◌, ◌<◌, ◌-◌, ◌^◌, length};
+ghost use Rattle.pt_types.specs.MutexTable.{after_yield as yielded, after_consistent as restored};
+ghost use Rattle.pt_types.specs.MutexTable.{after_release as released};
 ghost use Rattle.pt_types.specs.Operations.{operation};
 ghost use Rattle.pt_model.specs.Histories.{history};
 ghost use Rattle.pt_model.specs.WaitingCall.{at_place, stood};
@@ -16,7 +18,7 @@ use crate::waiting::waiting_call_at;
 use pt_model::Entry;
 use pt_model::waiting_call::mutex_of;
 use pt_types::operations::{LockKind, ObjectClass, Operation, operation_of};
-use pt_types::views::{MutexView, after_consistent, after_release, after_yield, is_acquired};
+use pt_types::views::{MutexView, is_acquired};
 use pt_types::{Call, ClientId, Consistency, ObjectId, Outcome};
 
 /// Whether a call that was answered 0 counts as a lock.  [XSH pthread_mutex_lock, RECURSIVE]
@@ -143,6 +145,37 @@ pub fn owner(entries: &[Entry], m: ObjectId) -> Option<ClientId>
         }
     }
     None
+}
+
+// What a consistency becomes if its dead owner loses the mutex.
+// [XSH pthread_mutex_lock, EOWNERDEAD]
+fn after_yield(consistency: Consistency) -> Consistency
+    ensures { result ≡ yielded consistency }
+{
+    match consistency {
+        Consistency::NotRecoverable => Consistency::NotRecoverable,
+        _ => Consistency::Inconsistent,
+    }
+}
+
+// What a consistency becomes by `consistent`.  [XSH pthread_mutex_consistent]
+fn after_consistent(consistency: Consistency) -> Consistency
+    ensures { result ≡ restored consistency }
+{
+    match consistency {
+        Consistency::NotRecoverable => Consistency::NotRecoverable,
+        _ => Consistency::Consistent,
+    }
+}
+
+// What a consistency becomes once its owner's count is 0.  [XSH pthread_mutex_unlock]
+fn after_release(consistency: Consistency) -> Consistency
+    ensures { result ≡ released consistency }
+{
+    match consistency {
+        Consistency::Inconsistent => Consistency::NotRecoverable,
+        _ => consistency,
+    }
 }
 
 /// What an entry does to a mutex's consistency.  [XSH pthread_mutex_unlock]

@@ -12,6 +12,7 @@ ghost use Rattle.pt_model.specs.Grants.{mutex_outcome as mutex_outcome_in};
 ghost use Rattle.pt_model.specs.Grants.{grant_outcome as grant_outcome_in};
 ghost use Rattle.pt_model.specs.Found.{passes};
 
+use crate::tables::{is_lost, may_read, may_relock, may_write};
 use pt_model::Entry;
 use pt_model::waiting_call::{Role, WaitingCall, is_arrival, is_expired, is_write};
 use pt_readings::answers::{is_open_at_barrier, open_at};
@@ -19,7 +20,7 @@ use pt_readings::moves::{at_object, is_least, is_moved, moved};
 use pt_readings::mutexes::{consistency, mutex_view};
 use pt_readings::objects::{barrier_count, kind_of};
 use pt_readings::rwlocks::rwlock_view;
-use pt_types::tables::{is_lost, lock_outcome, may_read, may_relock, may_write};
+use pt_types::tables::lock_outcome;
 use pt_types::{ObjectId, Outcome};
 
 /// Whether the open call at a place waits at the lock as a writer of this priority or a higher

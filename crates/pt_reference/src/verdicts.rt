@@ -16,6 +16,10 @@ ghost use Rattle.pt_model.specs.Verdicts.{is_alive_if as is_alive_if_in};
 ghost use Rattle.pt_model.specs.Found.{keep, passes};
 
 use crate::grants::is_blocked;
+use crate::tables::{
+    consistent_verdict, init_verdict, lock_verdict, owns, read_verdict, rwunlock_verdict,
+    unlock_verdict, wait_verdict, write_verdict,
+};
 use pt_model::Entry;
 use pt_model::waiting_call::mutex_awaited;
 use pt_readings::answers::open_at;
@@ -25,10 +29,7 @@ use pt_readings::mutexes::{mutex_view, owner};
 use pt_readings::objects::{find, object_named, objects};
 use pt_readings::rwlocks::{is_held_alive, rwlock_view};
 use pt_types::operations::{LockKind, ObjectClass, Operation, class_needed, operation_of};
-use pt_types::tables::{
-    consistent_verdict, destroy_verdict, init_verdict, lock_verdict, owns, read_verdict,
-    rwunlock_verdict, unlock_verdict, wait_verdict, write_verdict,
-};
+use pt_types::tables::destroy_verdict;
 use pt_types::{Call, ClientId, Deadline, How, Name, ObjectId, Outcome, Verdict};
 
 /// The mutex of the call at a place, if it is open and waits at the condition; else the one that

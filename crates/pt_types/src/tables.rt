@@ -1,31 +1,11 @@
-//! The verdict tables: what becomes of a call, by what one object is seen as.
+//! What becomes of a call at once, and what a mutex answers to the call that is granted it.
 
 ghost use Rattle.std.specs.Prelude.{◌≡◌};
 ghost use Rattle.pt_types.specs.Tables.{reply as reply_of_verdict};
-ghost use Rattle.pt_types.specs.ObjectTable.{init_verdict as init_table};
 ghost use Rattle.pt_types.specs.ObjectTable.{destroy_verdict as destroy_table};
-ghost use Rattle.pt_types.specs.ObjectTable.{is_bad_kind as is_bad};
-ghost use Rattle.pt_types.specs.Operations.{is_try as is_try_how, deadline_of as deadline_meant};
-ghost use Rattle.pt_types.specs.Times.{has_bad_deadline as has_bad};
-ghost use Rattle.pt_types.specs.MutexTable.{owns as owns_it, lock_verdict as lock_table};
-ghost use Rattle.pt_types.specs.MutexTable.{unlock_verdict as unlock_table};
-ghost use Rattle.pt_types.specs.MutexTable.{consistent_verdict as consistent_table};
-ghost use Rattle.pt_types.specs.MutexTable.{is_lost as is_lost_consistency};
-ghost use Rattle.pt_types.specs.MutexTable.{may_relock as may_relock_it};
 ghost use Rattle.pt_types.specs.MutexTable.{lock_outcome as outcome_of_lock};
-ghost use Rattle.pt_types.specs.RwlockTable.{holds as holds_it, is_free as is_free_lock};
-ghost use Rattle.pt_types.specs.RwlockTable.{relock_outcome as outcome_of_relock};
-ghost use Rattle.pt_types.specs.RwlockTable.{read_verdict as read_table};
-ghost use Rattle.pt_types.specs.RwlockTable.{write_verdict as write_table};
-ghost use Rattle.pt_types.specs.RwlockTable.{rwunlock_verdict as rwunlock_table};
-ghost use Rattle.pt_types.specs.RwlockTable.{may_read as may_read_it, may_write as may_write_it};
-ghost use Rattle.pt_types.specs.CondTable.{wait_verdict as wait_table};
 
-use crate::views::{MutexView, RwlockView};
-use crate::{
-    ClientId, Consistency, Deadline, How, MOST_AT_BARRIER, MOST_LOCKS, MOST_OBJECTS, MOST_READS,
-    MutexKind, ObjectId, ObjectKind, Outcome, Verdict,
-};
+use crate::{Consistency, Outcome, Verdict};
 
 /// The answer that a call gets at once, or none if it waits.
 pub fn reply(verdict: Verdict) -> Option<Outcome>
@@ -34,31 +14,6 @@ pub fn reply(verdict: Verdict) -> Option<Outcome>
     match verdict {
         Verdict::Reply(x) => Some(x),
         Verdict::Stands => None,
-    }
-}
-
-/// A barrier's count is from 1 to 1,024.  [XSH pthread_barrier_init, the upper end is profile]
-pub fn is_bad_kind(kind: ObjectKind) -> bool
-    ensures { result ≡ is_bad kind }
-{
-    match kind {
-        ObjectKind::Barrier(count) => count == 0 || count > MOST_AT_BARRIER as u64,
-        _ => false,
-    }
-}
-
-/// Making an object, if so many exist; EBUSY is profile.  [XSH pthread_mutex_init, EAGAIN]
-pub fn init_verdict(kind: ObjectKind, in_use: bool, objects: u64) -> Verdict
-    ensures { result ≡ init_table kind in_use objects }
-{
-    if is_bad_kind(kind) {
-        Verdict::Reply(Outcome::Einval)
-    } else if in_use {
-        Verdict::Reply(Outcome::Ebusy)
-    } else if objects >= MOST_OBJECTS as u64 {
-        Verdict::Reply(Outcome::Eagain)
-    } else {
-        Verdict::Reply(Outcome::Done)
     }
 }
 
@@ -73,105 +28,6 @@ pub fn destroy_verdict(busy: bool) -> Verdict
     }
 }
 
-/// Whether a call for a lock never waits.  [XSH pthread_mutex_trylock]
-pub fn is_try(how: &How) -> bool
-    ensures { result ≡ is_try_how how.now }
-{
-    matches!(how, How::Try)
-}
-
-/// Whether a call has a deadline that is no time.  [XSH pthread_mutex_timedlock, EINVAL]
-pub fn has_bad_deadline(deadline: Option<Deadline>) -> bool
-    ensures { result ≡ has_bad deadline }
-{
-    match deadline {
-        Some(deadline) => deadline.is_bad(),
-        None => false,
-    }
-}
-
-/// Whether a call for a lock has a deadline that is no time.  [XSH pthread_mutex_timedlock, EINVAL]
-pub fn is_bad_how(how: &How) -> bool
-    ensures { result ≡ has_bad (deadline_meant how.now) }
-{
-    match how {
-        How::Timed(deadline) => deadline.is_bad(),
-        _ => false,
-    }
-}
-
-/// Whether the client is the owner.  [XSH pthread_mutex_lock]
-pub fn owns(m: &MutexView, c: ClientId) -> bool
-    ensures { result ≡ owns_it m.now c }
-{
-    match m.owner {
-        Some(owner) => owner == c,
-        None => false,
-    }
-}
-
-/// `lock`, `trylock`, `timedlock`.  [XSH pthread_mutex_lock, pthread_mutex_timedlock]
-pub fn lock_verdict(m: &MutexView, c: ClientId, how: &How) -> Verdict
-    ensures { result ≡ lock_table m.now c how.now }
-{
-    if is_lost(m.consistency) || m.owner.is_none() {
-        return Verdict::Stands;
-    }
-    if owns(m, c) && m.kind == MutexKind::Recursive {
-        if m.count < MOST_LOCKS as u64 {
-            return Verdict::Reply(Outcome::Done);
-        }
-        return Verdict::Reply(Outcome::Eagain);
-    }
-    if is_try(how) {
-        Verdict::Reply(Outcome::Ebusy)
-    } else if owns(m, c) && m.kind == MutexKind::Errorcheck {
-        Verdict::Reply(Outcome::Edeadlk)
-    } else if is_bad_how(how) {
-        Verdict::Reply(Outcome::Einval)
-    } else {
-        Verdict::Stands
-    }
-}
-
-/// `unlock`; EPERM is profile if the standard leaves it open.  [XSH pthread_mutex_unlock]
-pub fn unlock_verdict(m: &MutexView, c: ClientId) -> Verdict
-    ensures { result ≡ unlock_table m.now c }
-{
-    if owns(m, c) {
-        Verdict::Reply(Outcome::Done)
-    } else {
-        Verdict::Reply(Outcome::Eperm)
-    }
-}
-
-/// `consistent`; EPERM is profile.  [XSH pthread_mutex_consistent]
-pub fn consistent_verdict(m: &MutexView, c: ClientId) -> Verdict
-    ensures { result ≡ consistent_table m.now c }
-{
-    if !m.robust || m.consistency != Consistency::Inconsistent {
-        Verdict::Reply(Outcome::Einval)
-    } else if !owns(m, c) {
-        Verdict::Reply(Outcome::Eperm)
-    } else {
-        Verdict::Reply(Outcome::Done)
-    }
-}
-
-/// Whether the mutex is permanently unusable.  [XSH pthread_mutex_lock, ENOTRECOVERABLE]
-pub fn is_lost(consistency: Consistency) -> bool
-    ensures { result ≡ is_lost_consistency consistency }
-{
-    matches!(consistency, Consistency::NotRecoverable)
-}
-
-/// Whether a moved wait can have it back from its own client.
-pub fn may_relock(m: &MutexView, c: ClientId) -> bool
-    ensures { result ≡ may_relock_it m.now c }
-{
-    m.kind == MutexKind::Recursive && owns(m, c)
-}
-
 /// What a mutex answers to the call that is granted it.
 /// [XSH pthread_mutex_lock, pthread_cond_timedwait]
 pub fn lock_outcome(consistency: Consistency, expired: bool) -> Outcome
@@ -182,120 +38,5 @@ pub fn lock_outcome(consistency: Consistency, expired: bool) -> Outcome
         Consistency::Inconsistent => Outcome::Eownerdead,
         Consistency::Consistent if expired => Outcome::Etimedout,
         Consistency::Consistent => Outcome::Done,
-    }
-}
-
-/// Whether the caller holds the lock in either way.  [XSH pthread_rwlock_unlock]
-pub fn holds(r: RwlockView) -> bool
-    ensures { result ≡ holds_it r }
-{
-    r.writes || 0 < r.reads
-}
-
-/// Whether nobody holds it.  [XSH pthread_rwlock_wrlock]
-pub fn is_free(r: RwlockView) -> bool
-    ensures { result ≡ is_free_lock r }
-{
-    !r.is_written && !r.is_read
-}
-
-/// A lock asked for by its own holder; the answer is profile.  [XSH pthread_rwlock_wrlock]
-pub fn relock_outcome(tries: bool) -> Outcome
-    ensures { result ≡ outcome_of_relock tries }
-{
-    if tries {
-        Outcome::Ebusy
-    } else {
-        Outcome::Edeadlk
-    }
-}
-
-/// `rdlock`, `tryrdlock`, `timedrdlock`; a reader who holds a read lock isn't held back, which is
-/// a deviation.  [XSH pthread_rwlock_rdlock]
-pub fn read_verdict(r: RwlockView, blocked: bool, how: &How) -> Verdict
-    ensures { result ≡ read_table r blocked how.now }
-{
-    if r.writes {
-        return Verdict::Reply(relock_outcome(is_try(how)));
-    }
-    if r.reads >= MOST_READS as u64 {
-        return Verdict::Reply(Outcome::Eagain);
-    }
-    if 0 < r.reads || !r.is_written && !blocked {
-        return Verdict::Stands;
-    }
-    if is_try(how) {
-        Verdict::Reply(Outcome::Ebusy)
-    } else if is_bad_how(how) {
-        Verdict::Reply(Outcome::Einval)
-    } else {
-        Verdict::Stands
-    }
-}
-
-/// `wrlock`, `trywrlock`, `timedwrlock`.  [XSH pthread_rwlock_wrlock, pthread_rwlock_timedwrlock]
-pub fn write_verdict(r: RwlockView, how: &How) -> Verdict
-    ensures { result ≡ write_table r how.now }
-{
-    if holds(r) {
-        return Verdict::Reply(relock_outcome(is_try(how)));
-    }
-    if is_free(r) {
-        return Verdict::Stands;
-    }
-    if is_try(how) {
-        Verdict::Reply(Outcome::Ebusy)
-    } else if is_bad_how(how) {
-        Verdict::Reply(Outcome::Einval)
-    } else {
-        Verdict::Stands
-    }
-}
-
-/// `rwunlock`; EPERM is profile.  [XSH pthread_rwlock_unlock]
-pub fn rwunlock_verdict(r: RwlockView) -> Verdict
-    ensures { result ≡ rwunlock_table r }
-{
-    if holds(r) {
-        Verdict::Reply(Outcome::Done)
-    } else {
-        Verdict::Reply(Outcome::Eperm)
-    }
-}
-
-/// Whether a reader can have it; its way past writers is a deviation.  [XSH pthread_rwlock_rdlock]
-pub fn may_read(r: RwlockView, blocked: bool) -> bool
-    ensures { result ≡ may_read_it r blocked }
-{
-    !r.is_written && (!blocked || 0 < r.reads)
-}
-
-/// Whether a writer can have it: nobody holds it and it is least.  [XSH pthread_rwlock_unlock]
-pub fn may_write(r: RwlockView, is_least: bool) -> bool
-    ensures { result ≡ may_write_it r is_least }
-{
-    is_free(r) && is_least
-}
-
-/// `wait`, `timedwait`, at a condition that is bound to a mutex or to none; EINVAL by another mutex
-/// and EPERM are profile.  [XSH pthread_cond_timedwait]
-pub fn wait_verdict(
-    bound: Option<ObjectId>,
-    mutex: ObjectId,
-    owns: bool,
-    deadline: Option<Deadline>,
-) -> Verdict
-    ensures { result ≡ wait_table (record { bound = bound }) mutex owns deadline }
-{
-    let is_elsewhere = match bound {
-        Some(other) => other != mutex,
-        None => false,
-    };
-    if has_bad_deadline(deadline) || is_elsewhere {
-        Verdict::Reply(Outcome::Einval)
-    } else if !owns {
-        Verdict::Reply(Outcome::Eperm)
-    } else {
-        Verdict::Stands
     }
 }
