@@ -228,7 +228,7 @@ def jobs_for(name, others, weight):
     others have too little to do for the rest of the processors.
     """
     part = weight[name] / sum(weight[it] for it in [name, *others])
-    return max(1, min(PROCESSORS, round(1.5 * PROCESSORS * part)))
+    return max(1, min(PROCESSORS, round(2 * PROCESSORS * part)))
 
 
 def niceness(name, to_do, weight):
