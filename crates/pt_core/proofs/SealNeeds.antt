@@ -16,7 +16,7 @@ use Rattle.pt_history.proofs.Places.{held-past}
 use Rattle.pt_core.specs.Stores.{IsKept}
 use Rattle.pt_legal.specs.Applying.{is_death}
 use Rattle.pt_core.specs.Settling.{IsReady}
-use Rattle.pt_legal.proofs.SealRoom.{needs-parts}
+use Rattle.pt_legal.proofs.SealRoom.{needs-parts, none-over}
 use Rattle.pt_core.proofs.AcceptingLemmas.{death-fits, unrefused-alive}
 
 -- neither the room nor the place is above its limit
@@ -36,9 +36,6 @@ places-alone : (limit held room at most : ℕ) → limit < held + room → room 
     → (nat_lt limit room || ((nat_lt limit (held + room) && nat_le room limit) && nat_lt most at))
     ≡ nat_lt most at
 places-alone limit held room at most l r = grind (arith, nat_tests)
-
-none-over : (limit all : ℕ) → all ≤ limit → nat_lt limit all ≡ false
-none-over limit all l = grind (arith, nat_tests)
 
 none-needed : (limit held room : ℕ) → held + room ≤ limit
     → (nat_lt limit (held + room) && nat_le room limit) ≡ false

@@ -22,6 +22,10 @@ over : (limit held room : ℕ) (places : Bool)
     ≡ nat_lt limit (held + room)
 over limit held room places e = grind (arith, nat_tests)
 
+-- what is within the limit does not pass it
+pub none-over : (limit all : ℕ) → all ≤ limit → nat_lt limit all ≡ false
+none-over limit all l = grind (arith, nat_tests)
+
 module _ (limit : ℕ) (h : History) (v : Event) where
   -- an event that needs a seal has room after it
   pub needs-parts : needs_seal limit h v ≡ true

@@ -1,7 +1,6 @@
 -- An event that is not refused where a seal makes room is not refused once it is made.
-use Rattle.std.proofs.Common.{◌≡◌, ℕ, ◌+◌, ◌≤◌, true, false, cond, nat_lt, Option, Some, None, refl}
-use Rattle.std.proofs.Common.{sym, ap, ◌∙◌, subst, arith}
-use Rattle.std.proofs.lemmas.Bool.Decides.{nat_tests}
+use Rattle.std.proofs.Common.{◌≡◌, ◌+◌, true, cond, Option, Some, None, refl, sym, ap, ◌∙◌, subst}
+use Rattle.std.proofs.Common.{arith}
 use Rattle.std.specs.Option.{option_or}
 use Rattle.pt_types.specs.declared.outcome.Refusal.{Refusal}
 use Rattle.pt_types.specs.declared.outcome.Refusal.TheVariants.{Full}
@@ -19,7 +18,7 @@ use Rattle.pt_model.proofs.Induction.{start-seal}
 use Rattle.pt_model.proofs.Steps.{step-event}
 use Rattle.pt_legal.specs.Cores.{Kept, past}
 use Rattle.pt_legal.specs.Applying.{opened}
-use Rattle.pt_legal.proofs.SealRoom.{needs-parts, refused-without}
+use Rattle.pt_legal.proofs.SealRoom.{needs-parts, none-over, refused-without}
 use Rattle.pt_engine.specs.Engines.{IsLegal}
 use Rattle.pt_engine.proofs.Opened.{legal_follow, legal_settle, opened_by, sealed_alike}
 
@@ -27,9 +26,6 @@ use Rattle.pt_engine.proofs.Opened.{legal_follow, legal_settle, opened_by, seale
 pub not_refused : (a b : Option Refusal) → option_or a b ≡ None → a ≡ None
 not_refused None b e = refl
 not_refused (Some why) b e = absurd cc
-
-none_over : (limit all : ℕ) → all ≤ limit → nat_lt limit all ≡ false
-none_over limit all l = grind (arith, nat_tests)
 
 module _ (core : Kept) (l : IsLegal core) (v : Event)
     (none : refusal_with_seals core.limit (past core) v ≡ None) where
@@ -71,7 +67,7 @@ module _ (core : Kept) (l : IsLegal core) (v : Event)
       let room = (needs-parts core.limit h v needs).1 in
       ap (λ o. option_or o (cond (is_over core.limit (g ▷ entry_for g v)) (Some Full) None)) refused
       ∙ ap (λ b. cond b (Some Full) None)
-      (none_over core.limit (1 + need (g ▷ entry_for g v)) (omega (arith, room, need_sealed)))
+      (none-over core.limit (1 + need (g ▷ entry_for g v)) (omega (arith, room, need_sealed)))
 
   pub unrefused_opened : refusal_within (opened core v).limit
       (past (opened core v)) v ≡ None
