@@ -5,10 +5,9 @@
 
 Each crate is proved as soon as those that it uses are, and several at once if none uses another.
 A check is shared out among processors that the others leave, and the longer its way to the program
-is, the more of them it has and the less it yields. What is built of a crate is kept beside a stamp,
-the sum of all that it was made from, and is made anew only once that is another. Standard error
-gets a line for each crate that is proved. The toolchain's own output goes to a file, which is named
-if a crate fails.
+is, the less it yields to them. What is built of a crate is kept beside a stamp, the sum of all that
+it was made from, and is made anew only once that is another. Standard error gets a line for each
+crate that is proved. The toolchain's own output goes to a file, which is named if a crate fails.
 """
 import fcntl
 import functools
@@ -224,11 +223,14 @@ def ready(waiting, running):
 def jobs_for(name, others, weight):
     """The jobs of a check, beside others that run or can be begun too.
 
-    More jobs than one cost half as much processor time again, so a check gets them only if the
-    others have too little to do for the rest of the processors.
+    Two jobs cost a third more processor time than one, and more of them cost more again. So a check
+    gets two only if the others have too little to do for the rest of the processors, and all only
+    if there are no others.
     """
+    if not others:
+        return PROCESSORS
     part = weight[name] / sum(weight[it] for it in [name, *others])
-    return max(1, min(PROCESSORS, round(2 * PROCESSORS * part)))
+    return max(1, min(PROCESSORS // 2, round(1.5 * PROCESSORS * part)))
 
 
 def niceness(name, to_do, weight):
