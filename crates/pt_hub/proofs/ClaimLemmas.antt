@@ -119,3 +119,9 @@ late_end k (y ∷ cs) (suc i) le = late_end k cs i (omega (arith, le))
 -- past one more, fewer are left
 pub fewer-left : (n i : ℕ) → i < n → n - (i + 1) < n - i
 fewer-left n i lt = omega (arith, lt)
+
+-- which event a client says that it made, by its index
+pub ruleset claiming = (claim_call, claim_last, claim_none)
+
+-- the events before a place are passed over
+pub ruleset skipping = (early_skip, early_late, early_within, late_end, claims_length)

@@ -142,3 +142,6 @@ module _ (k : Kept) (l : LeftView) where
       (behind-follows k.start k.entries (events_of k.entries) b legal) p d le
       (sym (its ∙ ap (λ e. own_at k.start k.entries e p) same))))
       (subst (λ n. IfSome (slice_get (claims l) i) (λ x. n ≤ x.0)) at late) o is
+
+-- where the client's entries and what it says part
+pub ruleset parting = (part_begin, part_on, part_met, part_here, part_end, part_dead)

@@ -10,7 +10,7 @@ use std::alloc::Allocator;
 use std::sync::ledger::Ledger;
 
 /// The event that a client says it made after so many others, with its place.
-#[tactic(auto, using(crate::proofs::ClaimLemmas::claim_call, crate::proofs::ClaimLemmas::claim_last, crate::proofs::ClaimLemmas::claim_none))]
+#[tactic(auto, using(crate::proofs::ClaimLemmas::claiming))]
 pub(crate) fn claim<L: Ledger, A: Allocator + Copy>(
     left: &Left<L, A>,
     index: usize,
@@ -61,9 +61,9 @@ fn is_early<L: Ledger, A: Allocator + Copy>(left: &Left<L, A>, index: usize, pla
     }
 }
 
-#[tactic(auto, using(crate::proofs::ClaimLemmas::early_skip, crate::proofs::ClaimLemmas::early_late, crate::proofs::ClaimLemmas::early_within, crate::proofs::ClaimLemmas::late_end, crate::proofs::ClaimLemmas::claims_length))]
 /// From an index on, the first index of an event whose place is this one or later; one past the
 /// last index if there is none.
+#[tactic(auto, using(crate::proofs::ClaimLemmas::skipping))]
 pub(crate) fn claim_since<L: Ledger, A: Allocator + Copy>(
     left: &Left<L, A>,
     index: usize,

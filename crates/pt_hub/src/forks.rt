@@ -40,7 +40,7 @@ fn compare(place: u64, event: &Event, claim: &Option<(u64, Event)>) -> Option<u6
 }
 
 /// The first place at which the client's entries and what it says part.
-#[tactic(auto, using(crate::proofs::ForkLemmas::part_begin, crate::proofs::ForkLemmas::part_on, crate::proofs::ForkLemmas::part_met, crate::proofs::ForkLemmas::part_here, crate::proofs::ForkLemmas::part_end, crate::proofs::ForkLemmas::part_dead))]
+#[tactic(auto, using(crate::proofs::ForkLemmas::parting))]
 fn parting<C: LegalHistory, L: Ledger, A: Allocator + Copy>(
     desk: &Desk<C, A>,
     left: &Left<L, A>,

@@ -2,8 +2,8 @@
 //! a Unix socket.
 //!
 //! What a script is answered, what is reported of a fault, and the exit status of both is the
-//! contract of `pt_script`, whose `answer` is handed a core and the three standard streams. The same
-//! of a server is the contract of `pt_serve`. The words of the command line are those of
+//! contract of `pt_script`, whose `answer` is handed a core and the three standard streams. The
+//! same of a server is the contract of `pt_serve`. The words of the command line are those of
 //! `pt_command`.
 #![tactic(auto)]
 

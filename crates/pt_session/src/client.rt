@@ -111,7 +111,7 @@ fn wait<
 }
 
 // A call of a client, and the wait for its answer. `None` if the input ends first.
-#[tactic(auto, using(crate::proofs::ReceiptLemmas::calls_answered, crate::proofs::ReceiptLemmas::calls_push))]
+#[tactic(auto, using(crate::proofs::ReceiptLemmas::calls))]
 fn ask_by<
     's,
     E,
