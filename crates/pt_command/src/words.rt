@@ -70,67 +70,50 @@ docs/RULES.md has the rules, and examples/ has scripts to try:
 
   ptserver script < examples/two-clients.script";
 
+// An option, by its name, what its value is called and what it is for.
+fn option<'a>(alloc: Global, name: &'a str, value: &'a str, help: &'a str) -> Arg<'a> {
+    Arg::new(alloc, name)
+        .long(name)
+        .value_name(value)
+        .help(help)
+}
+
 fn socket<'a>(alloc: Global) -> Arg<'a> {
-    Arg::new(alloc, "socket")
-        .long("socket")
-        .value_name("PATH")
-        .help(SOCKET)
+    option(alloc, "socket", "PATH", SOCKET)
         .required(true)
         .action(ArgAction::Set)
 }
 
 fn clock<'a>(alloc: Global) -> Arg<'a> {
-    Arg::new(alloc, "clock")
-        .long("clock")
-        .value_name("CLOCK")
-        .help(CLOCK)
+    option(alloc, "clock", "CLOCK", CLOCK)
         .value_parser(["lines", "system"].as_slice())
         .default_value("lines")
 }
 
 fn sessions<'a>(alloc: Global) -> Arg<'a> {
-    Arg::new(alloc, "sessions")
-        .long("sessions")
-        .value_name("N")
-        .help(SESSIONS)
+    option(alloc, "sessions", "N", SESSIONS)
         .value_parser(value_parser!(u64))
         .default_value("0")
 }
 
+// A word, by its name, what it does and what else its help says.
+fn word<'a>(alloc: Global, name: &'a str, about: &'a str, more: &'a str) -> Command<'a> {
+    Command::new(alloc, name).about(about).after_help(more)
+}
+
 // The word `serve` and its options.
 fn serve<'a>(alloc: Global) -> Result<Command<'a>, Error> {
-    let serve = Command::new(alloc, "serve")
-        .about(SERVE)
-        .after_help(CONNECTIONS);
-    Ok(
-        serve
-            .arg(socket(alloc))?
-            .arg(clock(alloc))?
-            .arg(sessions(alloc))?,
-    )
-}
-
-// The word `script`.
-fn script<'a>(alloc: Global) -> Command<'a> {
-    Command::new(alloc, "script")
-        .about(SCRIPT)
-        .after_help(LINES)
-}
-
-// The program without its words.
-fn program<'a>(alloc: Global) -> Result<Command<'a>, Error> {
-    let program = Command::new(alloc, "ptserver").bin_name("ptserver")?;
-    Ok(
-        program
-            .version("0.1.0")
-            .about(ABOUT)
-            .after_help(LINES)
-            .subcommand_required(true),
-    )
+    let options = Vec::from_array(alloc, [socket(alloc), clock(alloc), sessions(alloc)])?;
+    Ok(word(alloc, "serve", SERVE, CONNECTIONS).args(options)?)
 }
 
 /// The command line: `script`, `serve`, `--help` and `--version`.
 pub fn command<'a>(alloc: Global) -> Result<Command<'a>, Error> {
-    let program = program(alloc)?.subcommand(script(alloc))?;
-    Ok(program.subcommand(serve(alloc)?)?)
+    let serve = serve(alloc)?;
+    let script = word(alloc, "script", SCRIPT, LINES);
+    let words = Vec::from_array(alloc, [script, serve])?;
+    let program = word(alloc, "ptserver", ABOUT, LINES)
+        .version("0.1.0")
+        .subcommand_required(true);
+    Ok(program.subcommands(words)?.bin_name("ptserver")?)
 }
