@@ -1,17 +1,13 @@
 //! What one line makes of a client and of a clock.
 
-ghost use Rattle.std.specs.Prelude.{◌≡◌, ◌++◌, ◌∷◌, [], None, Some, Ok, IfSome};
-ghost use Rattle.std.specs.Prelude.{IfNone};
 ghost use Rattle.pt_session.specs.Transcripts.{IsOfEvent};
-ghost use Rattle.pt_session.specs.Steps.{Greets, Asks, AsksOf, Reports, Deals};
-ghost use Rattle.pt_session.specs.Sources.{IsStillAt};
-ghost use Rattle.pt_hub.specs.Hubs.{answered};
+ghost use Rattle.pt_session.specs.Steps.{Greets, Reports};
 
+use crate::handle::SessionHandle;
 use crate::kinds::Reading;
 use crate::lines::Lines;
 use crate::reading_thread::Joins;
-use crate::shared::Shared;
-use pt_hub::{Answer, ClockPass, Pass, SessionId};
+use pt_hub::{Answer, ClockPass, Pass};
 use pt_io::Source;
 use pt_legal::LegalHistory;
 use pt_lines::{CallLine, Word};
@@ -37,9 +33,7 @@ fn of_event(refusal: Refusal) -> Refusal
 
 // A hello: it comes once.
 fn greet<C: LegalHistory, L: Ledger, T: Wait>(
-    rt: &T,
-    shared: &Shared<C, L>,
-    session: SessionId,
+    handle: &SessionHandle<'_, C, L, T>,
     pass: &mut Option<Pass<L>>,
     priority: Priority,
 ) -> Word
@@ -48,7 +42,7 @@ fn greet<C: LegalHistory, L: Ledger, T: Wait>(
     if pass.is_some() {
         return Word::Refusal(Refusal::Nohello);
     }
-    match shared.join(rt, session, priority) {
+    match handle.shared.join(handle.rt, handle.session, priority) {
         Ok(joined) => {
             *pass = Some(joined);
             Word::Outcome(Outcome::Done)
@@ -59,23 +53,21 @@ fn greet<C: LegalHistory, L: Ledger, T: Wait>(
 
 // A reading of a clock.
 fn tick<C: LegalHistory, L: Ledger, T: Wait>(
-    rt: &T,
-    shared: &Shared<C, L>,
+    handle: &SessionHandle<'_, C, L, T>,
     pass: &mut ClockPass<L>,
     clock: Clock,
     moment: Moment,
 ) -> Word
     ensures { Reports pass.old clock moment result pass.new }
 {
-    match shared.moment(rt, pass, clock, moment) {
+    match handle.shared.moment(handle.rt, pass, clock, moment) {
         Ok(()) => Word::Outcome(Outcome::Done),
         Err(refusal) => Word::Refusal(of_event(refusal)),
     }
 }
 
-// Waits for the answer to a client's call. If it waits long, another thread reads the connection
-// until the answer is there, so that its end is seen. `None` if the input ends first.
-fn wait<
+impl<
+    'a,
     's,
     E,
     R: Source + Send + Drop + 's,
@@ -83,143 +75,100 @@ fn wait<
     L: Ledger + Send + Sync + 's,
     T: Wait + Sync + 's,
     J: Joins + Drop,
->(
-    rt: &T,
-    shared: &Shared<C, L>,
-    session: SessionId,
-    pass: &mut Pass<L>,
-    lines: &mut Lines<'_, 's, E, R, C, L, T, J>,
-    rings: u64,
-) -> Option<Answer>
-    ensures pass { IfSome result (λ answer. pass.new
-        ≡ record pass.old { receipts = answered pass.old.receipts answer.outcome }) }
-    ensures none { IfNone result (pass.new ≡ pass.old) }
-    ensures lines { IsStillAt lines.old lines.new }
-{
-    if lines.are_read_here() {
-        shared.sleep_at_most(rt, session, rings, Duration::from_millis(BRIEF_MILLIS));
-        if let Some(answer) = shared.take(rt, pass) {
-            return Some(answer);
+> Lines<'a, 's, E, R, C, L, T, J> {
+    ghost use Rattle.std.specs.Prelude.{◌≡◌, Ok, IfSome, IfNone};
+    ghost use Rattle.pt_session.specs.Steps.{Asks, AsksOf, Deals};
+    ghost use Rattle.pt_session.specs.Sources.{IsStillAt};
+    ghost use Rattle.pt_hub.specs.Hubs.{answered};
+
+    // Waits for the answer to a client's call. If it waits long, another thread reads the
+    // connection until the answer is there, so that its end is seen. `None` if the input ends
+    // first.
+    fn wait(&mut self, pass: &mut Pass<L>, rings: u64) -> Option<Answer>
+        ensures pass { IfSome result (λ answer. pass.new
+            ≡ record pass.old { receipts = answered pass.old.receipts answer.outcome }) }
+        ensures none { IfNone result (pass.new ≡ pass.old) }
+        ensures lines { IsStillAt self.old self.new }
+    {
+        let SessionHandle {
+            rt,
+            shared,
+            session,
+        } = *self.handle();
+        if self.are_read_here() {
+            shared.sleep_at_most(rt, session, rings, Duration::from_millis(BRIEF_MILLIS));
+            if let Some(answer) = shared.take(rt, pass) {
+                return Some(answer);
+            }
+            if !self.read_elsewhere() {
+                return None;
+            }
         }
-        if !lines.read_elsewhere() {
-            return None;
+        let answer = shared.wait_for_answer(rt, session, pass);
+        self.rest();
+        answer
+    }
+
+    // A call of a client, and the wait for its answer. `None` if the input ends first.
+    #[tactic(auto, using(crate::proofs::ReceiptLemmas::calls))]
+    fn ask_by(&mut self, pass: &mut Pass<L>, call: Call) -> Option<Word>
+        ensures asks { AsksOf pass.old call result pass.new }
+        ensures lines { IsStillAt self.old self.new }
+    {
+        let handle = self.handle();
+        let rings = handle.shared.rings(handle.session);
+        match handle.shared.ask(handle.rt, pass, call) {
+            Ok((_, Some(answer))) => Some(Word::Outcome(answer.outcome)),
+            Ok((_, None)) => match self.wait(pass, rings) {
+                Some(answer) => Some(Word::Outcome(answer.outcome)),
+                None => None,
+            },
+            Err(refusal) => Some(Word::Refusal(of_event(refusal))),
         }
     }
-    let answer = shared.wait_for_answer(rt, session, pass);
-    lines.rest();
-    answer
-}
 
-// A call of a client, and the wait for its answer. `None` if the input ends first.
-#[tactic(auto, using(crate::proofs::ReceiptLemmas::calls))]
-fn ask_by<
-    's,
-    E,
-    R: Source + Send + Drop + 's,
-    C: LegalHistory + Send + 's,
-    L: Ledger + Send + Sync + 's,
-    T: Wait + Sync + 's,
-    J: Joins + Drop,
->(
-    rt: &T,
-    shared: &Shared<C, L>,
-    session: SessionId,
-    pass: &mut Pass<L>,
-    lines: &mut Lines<'_, 's, E, R, C, L, T, J>,
-    call: Call,
-) -> Option<Word>
-    ensures asks { AsksOf pass.old call result pass.new }
-    ensures lines { IsStillAt lines.old lines.new }
-{
-    let rings = shared.rings(session);
-    match shared.ask(rt, pass, call) {
-        Ok((_, Some(answer))) => Some(Word::Outcome(answer.outcome)),
-        Ok((_, None)) => match wait(rt, shared, session, pass, lines, rings) {
-            Some(answer) => Some(Word::Outcome(answer.outcome)),
-            None => None,
-        },
-        Err(refusal) => Some(Word::Refusal(of_event(refusal))),
+    // A call: hello comes before it.
+    fn ask(&mut self, pass: &mut Option<Pass<L>>, call: Call) -> Option<Word>
+        ensures asks { Asks pass.old call result pass.new }
+        ensures lines { IsStillAt self.old self.new }
+    {
+        match pass {
+            Some(pass) => self.ask_by(pass, call),
+            None => Some(Word::Refusal(Refusal::Nohello)),
+        }
     }
-}
 
-// A call: hello comes before it.
-fn ask<
-    's,
-    E,
-    R: Source + Send + Drop + 's,
-    C: LegalHistory + Send + 's,
-    L: Ledger + Send + Sync + 's,
-    T: Wait + Sync + 's,
-    J: Joins + Drop,
->(
-    rt: &T,
-    shared: &Shared<C, L>,
-    session: SessionId,
-    pass: &mut Option<Pass<L>>,
-    lines: &mut Lines<'_, 's, E, R, C, L, T, J>,
-    call: Call,
-) -> Option<Word>
-    ensures asks { Asks pass.old call result pass.new }
-    ensures lines { IsStillAt lines.old lines.new }
-{
-    match pass {
-        Some(pass) => ask_by(rt, shared, session, pass, lines, call),
-        None => Some(Word::Refusal(Refusal::Nohello)),
+    // Submits a line that was read, and returns its word. `None` if its call is open when the input
+    // ends.
+    fn deal_read(
+        &mut self,
+        pass: &mut Option<Pass<L>>,
+        clock: &mut ClockPass<L>,
+        line: CallLine,
+    ) -> Option<Word>
+        ensures deals { Deals pass.old clock.old (Ok line) result pass.new clock.new }
+        ensures lines { IsStillAt self.old self.new }
+    {
+        match line {
+            CallLine::Hello(priority) => Some(greet(self.handle(), pass, priority)),
+            CallLine::Ask(call) => self.ask(pass, call),
+            CallLine::Tick(of, moment) => Some(tick(self.handle(), clock, of, moment)),
+        }
     }
-}
 
-// Submits a line that was read, and returns its word. `None` if its call is open when the input
-// ends.
-fn deal_read<
-    's,
-    E,
-    R: Source + Send + Drop + 's,
-    C: LegalHistory + Send + 's,
-    L: Ledger + Send + Sync + 's,
-    T: Wait + Sync + 's,
-    J: Joins + Drop,
->(
-    rt: &T,
-    shared: &Shared<C, L>,
-    session: SessionId,
-    pass: &mut Option<Pass<L>>,
-    clock: &mut ClockPass<L>,
-    lines: &mut Lines<'_, 's, E, R, C, L, T, J>,
-    line: CallLine,
-) -> Option<Word>
-    ensures deals { Deals pass.old clock.old (Ok line) result pass.new clock.new }
-    ensures lines { IsStillAt lines.old lines.new }
-{
-    match line {
-        CallLine::Hello(priority) => Some(greet(rt, shared, session, pass, priority)),
-        CallLine::Ask(call) => ask(rt, shared, session, pass, lines, call),
-        CallLine::Tick(of, moment) => Some(tick(rt, shared, clock, of, moment)),
-    }
-}
-
-/// Submits a line, and returns its word. `None` if its call is open when the input ends.
-pub(crate) fn deal<
-    's,
-    E,
-    R: Source + Send + Drop + 's,
-    C: LegalHistory + Send + 's,
-    L: Ledger + Send + Sync + 's,
-    T: Wait + Sync + 's,
-    J: Joins + Drop,
->(
-    rt: &T,
-    shared: &Shared<C, L>,
-    session: SessionId,
-    pass: &mut Option<Pass<L>>,
-    clock: &mut ClockPass<L>,
-    lines: &mut Lines<'_, 's, E, R, C, L, T, J>,
-    line: Reading,
-) -> Option<Word>
-    ensures deals { Deals pass.old clock.old line result pass.new clock.new }
-    ensures lines { IsStillAt lines.old lines.new }
-{
-    match line {
-        Ok(line) => deal_read(rt, shared, session, pass, clock, lines, line),
-        Err(refusal) => Some(Word::Refusal(refusal)),
+    /// Submits a line, and returns its word. `None` if its call is open when the input ends.
+    pub fn deal(
+        &mut self,
+        pass: &mut Option<Pass<L>>,
+        clock: &mut ClockPass<L>,
+        line: Reading,
+    ) -> Option<Word>
+        ensures deals { Deals pass.old clock.old line result pass.new clock.new }
+        ensures lines { IsStillAt self.old self.new }
+    {
+        match line {
+            Ok(line) => self.deal_read(pass, clock, line),
+            Err(refusal) => Some(Word::Refusal(refusal)),
+        }
     }
 }

@@ -3,13 +3,12 @@
 ghost use Rattle.std.specs.Prelude.{◌≡◌, ◌++◌, ◌∷◌, [], true};
 ghost use Rattle.pt_session.specs.Transcripts.{IsLeftOf, IsTranscript, all_answered, moments_in};
 
-use crate::client::deal;
+use crate::handle::SessionHandle;
 use crate::kinds::Reading;
 use crate::lines::Lines;
 use crate::reading_thread::Joins;
-use crate::shared::Shared;
 use crate::transcript::Transcript;
-use pt_hub::{ClockPass, Left, Pass, SessionId};
+use pt_hub::{ClockPass, Left, Pass};
 use pt_io::Source;
 use pt_legal::LegalHistory;
 use pt_lines::Word;
@@ -72,34 +71,19 @@ impl<L: Ledger + Send + Sync> Dealings<L> {
         R: Source + Send + Drop + 's,
         T: Wait + Sync + 's,
         J: Joins + Drop,
-    >(
-        &mut self,
-        rt: &T,
-        shared: &Shared<C, L>,
-        session: SessionId,
-        lines: &mut Lines<'_, 's, E, R, C, L, T, J>,
-        line: Reading,
-    ) -> Option<Word>
+    >(&mut self, lines: &mut Lines<'_, 's, E, R, C, L, T, J>, line: Reading) -> Option<Word>
         requires { all_answered self.old.exchanges ≡ true }
         ensures exchanges { self.new.exchanges ≡ self.old.exchanges ++ (line, result) ∷ [] }
         ensures lines { IsStillAt lines.old lines.new }
     {
         let noted = Snapshot::of(&line);
-        let word = deal(
-            rt,
-            shared,
-            session,
-            &mut self.pass,
-            &mut self.clock,
-            lines,
-            line,
-        );
+        let word = lines.deal(&mut self.pass, &mut self.clock, line);
         self.transcript = self.transcript.and(&noted, word);
         word
     }
 
     /// The client dies, if there is one.
-    pub fn end<C: LegalHistory, T: Wait>(self, rt: &T, shared: &Shared<C, L>) -> Remains<L>
+    pub fn end<C: LegalHistory, T: Wait>(self, handle: &SessionHandle<'_, C, L, T>) -> Remains<L>
         ensures words { IsTranscript result.transcript }
         ensures left { IsLeftOf result.transcript result.left }
         ensures clock { result.clock.moments ≡ moments_in result.transcript }
@@ -111,7 +95,7 @@ impl<L: Ledger + Send + Sync> Dealings<L> {
             transcript,
         } = self;
         let left = match pass {
-            Some(pass) => Some(shared.die(rt, pass)),
+            Some(pass) => Some(handle.shared.die(handle.rt, pass)),
             None => None,
         };
         Remains {

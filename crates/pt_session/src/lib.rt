@@ -13,6 +13,7 @@ mod dealings;
 mod delivery;
 mod ends;
 mod gates;
+mod handle;
 mod kinds;
 mod lines;
 mod patience;

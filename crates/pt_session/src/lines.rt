@@ -6,13 +6,12 @@ ghost use Rattle.pt_session.specs.Places.{IsReadIn, is_own};
 ghost use Rattle.pt_session.specs.Sources.{RingOut};
 
 use crate::ends::ReadEnd;
+use crate::handle::SessionHandle;
 use crate::kinds::{ClockMode, Reading};
 use crate::reading_side::ReadingSide;
 use crate::reading_thread::{Joiner, Joins, Reads};
-use crate::shared::Shared;
 use crate::turns::Turns;
 use crate::watch::Watch;
-use pt_hub::SessionId;
 use pt_io::Source;
 use pt_legal::LegalHistory;
 use rtrb::Consumer;
@@ -67,7 +66,7 @@ fn start_reading<
     L: Ledger + Send + Sync + 's,
     T: Wait + Sync + 's,
     J: Drop,
->(rt: &'s T, shared: &'s Shared<C, L>, here: Here<'a, 's, E, R, J>) -> Place<'a, 's, E, R, J>
+>(handle: &'s SessionHandle<'s, C, L, T>, here: Here<'a, 's, E, R, J>) -> Place<'a, 's, E, R, J>
     ensures read { (ring : RingOut) → IsPair here.entry.side.ring ring
         → IsReadIn here.entry.side.mode result ring }
     ensures own { is_own result ≡ true }
@@ -77,7 +76,7 @@ fn start_reading<
         ring: Snapshot::of(side.ring()),
         mode: side.mode(),
     };
-    let turns = means.turns;
+    let (rt, shared, turns) = (handle.rt, handle.shared, means.turns);
     let reads = move || -> ReadingSide<R>
         ensures ring { SameProducer side.ring result.ring }
         ensures mode { result.mode ≡ side.mode }
@@ -115,8 +114,7 @@ fn come_back<'a, 's, E, R: Source, J: Joins + Drop>(
 
 // The next line of a connection that this thread reads. It is read until a line is whole.
 fn next_here<R: Source, C: LegalHistory, L: Ledger, T: Wait>(
-    rt: &T,
-    shared: &Shared<C, L>,
+    handle: &SessionHandle<'_, C, L, T>,
     side: &mut ReadingSide<R>,
     ring: &mut Consumer<Reading>,
 ) -> Option<Reading>
@@ -126,14 +124,14 @@ fn next_here<R: Source, C: LegalHistory, L: Ledger, T: Wait>(
     ensures next { MatchOption result (received ring.new ≡ received ring.old)
         (λ line. received ring.new ≡ received ring.old ++ line ∷ []) }
 {
-    for _ in rt.forever() {
+    for _ in handle.rt.forever() {
         if let Ok(line) = ring.pop() {
             return Some(line);
         }
         if side.has_ended() {
             return None;
         }
-        side.step(rt, shared);
+        side.step(handle.rt, handle.shared);
     }
     unreachable!()
 }
@@ -145,9 +143,7 @@ fn next_here<R: Source, C: LegalHistory, L: Ledger, T: Wait>(
 /// input.
 #[derive(Drop)]
 pub(crate) struct Lines<'a, 's, E: 's, R: Source, C: LegalHistory, L: Ledger, T, J> {
-    rt: &'s T,
-    shared: &'s Shared<C, L>,
-    session: SessionId,
+    handle: &'s SessionHandle<'s, C, L, T>,
     mode: ClockMode,
     place: Place<'a, 's, E, R, J>,
     pub ring: Consumer<Reading>,
@@ -181,17 +177,13 @@ impl<'a, 's, E, R: Source + Drop, C: LegalHistory, L: Ledger, T, J: Drop> Lines<
 
     /// Lines that another thread pushes into the ring.
     pub fn of_ring(
-        rt: &'s T,
-        shared: &'s Shared<C, L>,
-        session: SessionId,
+        handle: &'s SessionHandle<'s, C, L, T>,
         ring: Consumer<Reading>,
     ) -> Lines<'a, 's, E, R, C, L, T, J>
         ensures { result.ring ≡ ring }
     {
         Lines {
-            rt,
-            shared,
-            session,
+            handle,
             mode: ClockMode::Lines,
             place: Place::Unknown,
             ring,
@@ -201,9 +193,7 @@ impl<'a, 's, E, R: Source + Drop, C: LegalHistory, L: Ledger, T, J: Drop> Lines<
 
     /// Lines that are read in the thread that takes them.
     pub fn of_reader(
-        rt: &'s T,
-        shared: &'s Shared<C, L>,
-        session: SessionId,
+        handle: &'s SessionHandle<'s, C, L, T>,
         here: Here<'a, 's, E, R, J>,
         ring: Consumer<Reading>,
     ) -> Lines<'a, 's, E, R, C, L, T, J>
@@ -212,14 +202,17 @@ impl<'a, 's, E, R: Source + Drop, C: LegalHistory, L: Ledger, T, J: Drop> Lines<
         ensures own { result.own ≡ true }
     {
         Lines {
-            rt,
-            shared,
-            session,
+            handle,
             mode: here.side.mode(),
             place: Place::Here(here),
             ring,
             watch: Watch::new(),
         }
+    }
+
+    /// How the hub is reached.
+    pub fn handle(&self) -> &'s SessionHandle<'s, C, L, T> {
+        self.handle
     }
 
     /// The end of the ring that they were taken from.
@@ -293,23 +286,15 @@ impl<'a, 's, E, R: Source + Drop, C: LegalHistory, L: Ledger, T: Wait, J: Joins 
             (λ line. received self.new.ring ≡ received self.old.ring ++ line ∷ []) }
     {
         if let Some(turns) = self.turns() {
-            let line = self.watch.next(
-                self.rt,
-                self.shared,
-                self.session,
-                Some(turns),
-                &mut self.ring,
-            );
+            let line = self.watch.next(self.handle, Some(turns), &mut self.ring);
             if line.is_some() {
                 return line;
             }
             self.read_here();
         }
         match &mut self.place {
-            Place::Here(here) => next_here(self.rt, self.shared, &mut here.side, &mut self.ring),
-            _ => self
-                .watch
-                .next(self.rt, self.shared, self.session, None, &mut self.ring),
+            Place::Here(here) => next_here(self.handle, &mut here.side, &mut self.ring),
+            _ => self.watch.next(self.handle, None, &mut self.ring),
         }
     }
 }
@@ -334,7 +319,7 @@ impl<
     {
         let place = mem::replace(&mut self.place, Place::Unknown);
         self.place = match place {
-            Place::Here(here) => start_reading(self.rt, self.shared, here),
+            Place::Here(here) => start_reading(self.handle, here),
             other => other,
         };
         !matches!(self.place, Place::Here(_))
@@ -365,17 +350,16 @@ impl<'a, 's, E, R: Source, C: LegalHistory, L: Ledger, T: Threads + Wait> Lines<
         ensures ring { result.1 ≡ self.entry.ring }
     {
         let Lines {
-            rt,
-            shared,
+            handle,
             place,
             ring,
             ..
         } = self;
         let side = match place {
             Place::Here(here) => here.side,
-            Place::Elsewhere(away) => away.thread.join(rt),
+            Place::Elsewhere(away) => away.thread.join(handle.rt),
             Place::Unknown => unreachable!(),
         };
-        (side.read_to_end(rt, shared), ring)
+        (side.read_to_end(handle.rt, handle.shared), ring)
     }
 }

@@ -3,11 +3,10 @@
 ghost use Rattle.std.specs.Prelude.{◌≡◌, ◌∷◌, ◌++◌, [], MatchOption};
 ghost use Rattle.rtrb.specs.Ring.{received, SameConsumer};
 
+use crate::handle::SessionHandle;
 use crate::kinds::Reading;
 use crate::patience::Patience;
-use crate::shared::Shared;
 use crate::turns::Turns;
-use pt_hub::SessionId;
 use pt_legal::LegalHistory;
 use rtrb::Consumer;
 use std::hint::spin_loop;
@@ -57,14 +56,12 @@ impl Watch {
     // Whether no other thread pushes readings any more.
     fn is_over<C: LegalHistory, L: Ledger, T: Wait>(
         &mut self,
-        rt: &T,
-        shared: &Shared<C, L>,
-        session: SessionId,
+        handle: &SessionHandle<'_, C, L, T>,
         turns: Option<&Turns>,
     ) -> bool {
         match turns {
             Some(turns) => turns.has_stopped(),
-            None => self.input_ended(rt, shared, session),
+            None => self.input_ended(handle),
         }
     }
 
@@ -72,13 +69,11 @@ impl Watch {
     // last time, of the sessions that share a bell.
     fn input_ended<C: LegalHistory, L: Ledger, T: Wait>(
         &mut self,
-        rt: &T,
-        shared: &Shared<C, L>,
-        session: SessionId,
+        handle: &SessionHandle<'_, C, L, T>,
     ) -> bool {
-        let ends = shared.ends(session);
+        let ends = handle.shared.ends(handle.session);
         if self.looked_at != Some(ends) {
-            self.has_ended = shared.input_ended(rt, session);
+            self.has_ended = handle.shared.input_ended(handle.rt, handle.session);
             self.looked_at = Some(ends);
         }
         self.has_ended
@@ -88,9 +83,7 @@ impl Watch {
     // pushes into it any more.
     fn sleep_for<C: LegalHistory, L: Ledger, T: Wait>(
         &mut self,
-        rt: &T,
-        shared: &Shared<C, L>,
-        session: SessionId,
+        handle: &SessionHandle<'_, C, L, T>,
         turns: Option<&Turns>,
         ring: &mut Consumer<Reading>,
     ) -> Option<Reading>
@@ -98,16 +91,16 @@ impl Watch {
         ensures next { MatchOption result (received ring.new ≡ received ring.old)
             (λ line. received ring.new ≡ received ring.old ++ line ∷ []) }
     {
-        for _ in rt.forever() {
-            let rings = shared.rings(session);
-            let is_over = self.is_over(rt, shared, session, turns);
+        for _ in handle.rt.forever() {
+            let rings = handle.shared.rings(handle.session);
+            let is_over = self.is_over(handle, turns);
             if let Ok(line) = ring.pop() {
                 return Some(line);
             }
             if is_over {
                 return None;
             }
-            shared.sleep(rt, session, rings);
+            handle.shared.sleep(handle.rt, handle.session, rings);
         }
         unreachable!()
     }
@@ -116,9 +109,7 @@ impl Watch {
     /// it has stopped in its turn, or, if these are not given, the session's input has ended.
     pub fn next<C: LegalHistory, L: Ledger, T: Wait>(
         &mut self,
-        rt: &T,
-        shared: &Shared<C, L>,
-        session: SessionId,
+        handle: &SessionHandle<'_, C, L, T>,
         turns: Option<&Turns>,
         ring: &mut Consumer<Reading>,
     ) -> Option<Reading>
@@ -136,6 +127,6 @@ impl Watch {
                 return Some(line);
             }
         }
-        self.sleep_for(rt, shared, session, turns, ring)
+        self.sleep_for(handle, turns, ring)
     }
 }

@@ -11,13 +11,14 @@ ghost use Rattle.pt_session.specs.Ends.{EndsReading, IsSession, IsNewRing};
 
 use crate::ends::SessionEnd;
 use crate::gates::Gate;
+use crate::handle::SessionHandle;
 use crate::kinds::{ClockMode, Reading};
 use crate::lines::{Here, Lines, Means};
 use crate::reading_side::ReadingSide;
 use crate::reading_thread::Joiner;
 use crate::shared::Shared;
 use crate::turns::Turns;
-use crate::worker::{Worked, work};
+use crate::worker::work;
 use pt_hub::{ClockPass, SessionId};
 use pt_io::{Sink, Source};
 use pt_legal::LegalHistory;
@@ -78,11 +79,10 @@ impl<L: Ledger + Send + Sync> Opened<L> {
         T: Threads + Wait + Sync,
     >(
         self,
-        rt: &T,
+        handle: &SessionHandle<'_, C, L, T>,
         alloc: Global,
         reader: R,
         writer: W,
-        shared: &Shared<C, L>,
         gate: &G,
         mode: ClockMode,
     ) -> SessionEnd<R, W, L>
@@ -92,16 +92,16 @@ impl<L: Ledger + Send + Sync> Opened<L> {
             (output W.taken W.flushed W.failures W.rejections writer) result }
     {
         let Opened {
-            id,
             clock,
             producer,
             consumer,
+            ..
         } = self;
         let turns = Turns::new();
         let turns = &turns;
         thread::scope(
             thread::scope_env(),
-            rt,
+            handle.rt,
             move |scope| -> SessionEnd<R, W, L>
                 requires input { IsUnread R.given R.ended R.failures R.reads reader }
                 requires output { IsUnwritten W.taken W.failures writer }
@@ -109,24 +109,18 @@ impl<L: Ledger + Send + Sync> Opened<L> {
                 ensures { IsSession mode (input R.given R.ended R.failures R.reads)
                     (output W.taken W.flushed W.failures W.rejections writer) result }
             {
-                let side = ReadingSide::new(alloc, reader, producer, id, mode);
-                let joiner = Joiner(rt);
+                let side = ReadingSide::new(alloc, reader, producer, handle.session, mode);
                 let means = Means {
                     scope,
                     turns,
-                    joiner,
+                    joiner: Joiner(handle.rt),
                 };
                 let here = Here { means, side };
-                let lines = Lines::of_reader(rt, shared, id, here, consumer);
-                let Worked {
-                    tally,
-                    remains,
-                    writer,
-                    lines,
-                } = work(rt, alloc, writer, lines, shared, id, clock, gate);
-                let (mut read, mut ring) = lines.end();
+                let lines = Lines::of_reader(handle, here, consumer);
+                let work = work(alloc, writer, lines, clock, gate);
+                let (mut read, mut ring) = work.lines.end();
                 ring.slots_beside(&mut read.ring);
-                SessionEnd::of(read, tally, remains, writer)
+                SessionEnd::of(read, work.tally, work.remains, work.writer)
             },
         )
     }
@@ -161,8 +155,12 @@ pub fn session<
     ensures err { IfErr result (λ r. Found (λ hub. IsNotOpened hub r) ⊎ (r ≡ refusal.Enomem)) }
 {
     let opened = open(rt, alloc, shared)?;
-    let id = opened.id;
-    let end = opened.run(rt, alloc, reader, writer, shared, gate, mode);
-    shared.close_session(rt, id);
+    let handle = SessionHandle {
+        rt,
+        shared,
+        session: opened.id,
+    };
+    let end = opened.run(&handle, alloc, reader, writer, gate, mode);
+    shared.close_session(rt, handle.session);
     Ok(end)
 }

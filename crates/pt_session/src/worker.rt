@@ -11,6 +11,7 @@ use crate::dealings::{Dealings, Remains};
 use crate::delivery::answer;
 use crate::ends::WorkEnd;
 use crate::gates::Gate;
+use crate::handle::SessionHandle;
 use crate::kinds::{EndCause, Reading};
 use crate::lines::Lines;
 use crate::reading_thread::{Joins, Nobody};
@@ -70,12 +71,9 @@ fn work_all<
     T: Wait + Sync + 's,
     J: Joins + Drop,
 >(
-    rt: &T,
     alloc: Global,
     writer: &mut W,
     lines: &mut Lines<'_, 's, E, R, C, L, T, J>,
-    shared: &Shared<C, L>,
-    session: SessionId,
     dealings: &mut Dealings<L>,
     gate: &G,
 ) -> Tally
@@ -89,6 +87,7 @@ fn work_all<
     ensures stops { StopsBy (tallied result dealings.new.exchanges (received lines.new.ring)
         (output W.taken W.flushed W.failures W.rejections writer.old writer.new)) result.cause }
 {
+    let session = lines.handle().session;
     let mut buffer = Vec::new(alloc);
     for answered in 0..u64::MAX {
         let Some(line) = lines.next() else {
@@ -98,7 +97,7 @@ fn work_all<
         if !gate.ask(session, n) {
             return Tally::stopped(answered, answered, EndCause::GateShut);
         }
-        let Some(word) = dealings.submit(rt, shared, session, lines, line) else {
+        let Some(word) = dealings.submit(lines, line) else {
             return Tally::ended(n, answered);
         };
         if let Some(cause) = answer(writer, &mut buffer, n, word) {
@@ -131,12 +130,9 @@ pub(crate) fn work<
     T: Wait + Sync + 's,
     J: Joins + Drop,
 >(
-    rt: &T,
     alloc: Global,
     mut writer: W,
     mut lines: Lines<'a, 's, E, R, C, L, T, J>,
-    shared: &Shared<C, L>,
-    session: SessionId,
     clock: ClockPass<L>,
     gate: &G,
 ) -> Worked<W, Lines<'a, 's, E, R, C, L, T, J>, L>
@@ -153,19 +149,10 @@ pub(crate) fn work<
     ensures clock { result.remains.clock.moments ≡ moments_in result.remains.transcript }
 {
     let mut dealings = Dealings::new(clock);
-    let tally = work_all(
-        rt,
-        alloc,
-        &mut writer,
-        &mut lines,
-        shared,
-        session,
-        &mut dealings,
-        gate,
-    );
+    let tally = work_all(alloc, &mut writer, &mut lines, &mut dealings, gate);
     Worked {
         tally,
-        remains: dealings.end(rt, shared),
+        remains: dealings.end(lines.handle()),
         writer,
         lines,
     }
@@ -204,10 +191,13 @@ pub fn work_side<
     ensures clock { result.clock.moments ≡ moments_in result.transcript }
 {
     // This side reads nothing, so it does not matter what reads, or in which thread.
-    let lines: Lines<'_, '_, (), Faulty, C, L, T, Nobody> = Lines::of_ring(
-        rt, shared, session, ring,
-    );
-    let work = work(rt, alloc, writer, lines, shared, session, clock, gate);
+    let handle = SessionHandle {
+        rt,
+        shared,
+        session,
+    };
+    let lines: Lines<'_, '_, (), Faulty, C, L, T, Nobody> = Lines::of_ring(&handle, ring);
+    let work = work(alloc, writer, lines, clock, gate);
     WorkEnd {
         submitted: work.tally.submitted,
         answered: work.tally.answered,

@@ -4,7 +4,7 @@ use Rattle.pt_hub.specs.Hubs.{answered}
 use Rattle.pt_hub.specs.Passes.{PassView}
 use Rattle.pt_hub.specs.Asking.{asked_receipts}
 use Rattle.pt_session.proofs.ReceiptLemmas.{call_open, call_answered}
-use Rattle.pt_session.proofs.client.ask_by.Goals as goal
+use Rattle.pt_session.proofs.lines.Lines.ask_by.Goals as goal
 
 pub returns-in-Some-clause-asks : goal.returns-in-Some-clause-asks
 returns-in-Some-clause-asks g c =
