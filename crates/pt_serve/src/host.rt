@@ -18,144 +18,118 @@ use std::thread;
 use std::thread::{Scope, Threads};
 use std::time::Clock;
 
-// Serves one connection, and stores what its session leaves, if that is asked for. The end of the
-// session, or its refusal, closes the connection.
-fn converse<C: LegalHistory + Send, L: Ledger + Send + Sync, R: Threads + Wait + Sync>(
-    rt: &R,
+/// What the threads of a server share.
+#[derive(Drop)]
+struct Server<'a, C: LegalHistory, L: Ledger, R> {
+    rt: &'a R,
     alloc: Global,
-    stream: UnixStream,
-    shared: &Shared<C, L>,
+    shared: &'a Shared<C, L>,
     mode: ClockMode,
-    store: Option<&Mutex<Remains<L>>>,
-    connections: &Connections,
-) {
-    let stream = TcpStream::from(OwnedFd::from(stream));
-    connections.begin();
-    let reader = Counted::new(PolledReader::new(&stream, connections));
-    let writer = Counted::new(PolledWriter::new(&stream));
-    let ended = session(rt, alloc, reader, writer, shared, &OpenGate, mode);
-    connections.end();
-    let Ok(end) = ended else {
-        return;
-    };
-    end.reader.into_inner().finish();
-    if let Some(remains) = store {
-        remains.lock(rt).add(Remain {
-            left: end.left,
-            clock: end.clock,
-        });
-    }
+    /// How many connections are accepted; without end if that is 0.
+    sessions: u64,
+    connections: Connections,
+    remains: Mutex<Remains<L>>,
 }
 
-// Accepts so many connections, and serves each in a thread of its own; without end if that is 0.
-// After a fault nothing more is accepted.
-fn accept_in<
-    's,
-    E,
-    C: LegalHistory + Send + 's,
-    L: Ledger + Send + Sync + 's,
-    R: Threads + Wait + Sync + 's,
->(
-    scope: &Scope<'s, E>,
-    rt: &'s R,
-    alloc: Global,
-    listener: &UnixListener,
-    shared: &'s Shared<C, L>,
-    remains: &'s Mutex<Remains<L>>,
-    connections: &'s Connections,
-    mode: ClockMode,
-    sessions: u64,
-) -> Result<(), HostFault> {
-    // What is left is needed for the close alone.
-    let store = if sessions > 0 { Some(remains) } else { None };
-    let mut accepted: u64 = 0;
-    for stream in listener.incoming() {
-        let Ok(stream) = stream else {
-            return Err(HostFault::Accept);
+impl<'a, C: LegalHistory + Send, L: Ledger + Send + Sync, R: Threads + Wait + Sync> Server<
+    'a,
+    C,
+    L,
+    R,
+> {
+    // Serves one connection, and stores what its session leaves. The end of the session, or its
+    // refusal, closes the connection.
+    fn converse(&self, stream: UnixStream) {
+        let stream = TcpStream::from(OwnedFd::from(stream));
+        self.connections.begin();
+        let reader = Counted::new(PolledReader::new(&stream, &self.connections));
+        let writer = Counted::new(PolledWriter::new(&stream));
+        let ended = session(
+            self.rt,
+            self.alloc,
+            reader,
+            writer,
+            self.shared,
+            &OpenGate,
+            self.mode,
+        );
+        self.connections.end();
+        let Ok(end) = ended else {
+            return;
         };
-        let thread = scope.spawn(move || converse(
-            rt,
-            alloc,
-            stream,
-            shared,
-            mode,
-            store,
-            connections,
-        ));
-        if thread.is_err() {
-            return Err(HostFault::Thread);
-        }
-        if remains.lock(rt).is_short() {
-            return Err(HostFault::Memory);
-        }
-        accepted = accepted.saturating_add(1);
-        if accepted == sessions {
-            break;
+        end.reader.into_inner().finish();
+        // What is left is needed for the close alone.
+        if self.sessions > 0 {
+            self.remains.lock(self.rt).add(Remain {
+                left: end.left,
+                clock: end.clock,
+            });
         }
     }
-    Ok(())
-}
 
-// As `accept_in`, and waits for the sessions.
-fn accept<C: LegalHistory + Send, L: Ledger + Send + Sync, R: Threads + Wait + Sync>(
-    rt: &R,
-    alloc: Global,
-    listener: &UnixListener,
-    shared: &Shared<C, L>,
-    remains: &Mutex<Remains<L>>,
-    mode: ClockMode,
-    sessions: u64,
-) -> Result<(), HostFault> {
-    let connections = Connections::new();
-    let connections = &connections;
-    thread::scope(
-        thread::scope_env(),
-        rt,
-        move |scope| -> Result<(), HostFault> {
-            accept_in(
-                scope,
-                rt,
-                alloc,
-                listener,
-                shared,
-                remains,
-                connections,
-                mode,
-                sessions,
-            )
-        },
-    )
-}
-
-// As `accept`, while another thread hands in the clocks of the system. Gives their pass back.
-fn accept_by_clock<
-    C: LegalHistory + Send,
-    L: Ledger + Send + Sync,
-    R: Threads + Wait + Clock + Sync,
->(
-    rt: &R,
-    alloc: Global,
-    listener: &UnixListener,
-    shared: &Shared<C, L>,
-    remains: &Mutex<Remains<L>>,
-    clock: ClockPass<L>,
-    sessions: u64,
-) -> Result<ClockPass<L>, HostFault> {
-    thread::scope(
-        thread::scope_env(),
-        rt,
-        move |scope| -> Result<ClockPass<L>, HostFault> {
-            let Ok(ticking) = scope.spawn(move || tick(rt, shared, clock)) else {
-                return Err(HostFault::Thread);
+    // Accepts the connections, and serves each in a thread of its own. After a fault nothing more
+    // is accepted.
+    fn accept_in<'s, E>(
+        &'s self,
+        scope: &Scope<'s, E>,
+        listener: &UnixListener,
+    ) -> Result<(), HostFault> {
+        let mut accepted: u64 = 0;
+        for stream in listener.incoming() {
+            let Ok(stream) = stream else {
+                return Err(HostFault::Accept);
             };
-            let mode = ClockMode::System;
-            let served = accept(rt, alloc, listener, shared, remains, mode, sessions);
-            shared.finish(rt);
-            let clock = ticking.join(rt);
-            served?;
-            Ok(clock)
-        },
-    )
+            if scope.spawn(move || self.converse(stream)).is_err() {
+                return Err(HostFault::Thread);
+            }
+            if self.remains.lock(self.rt).is_short() {
+                return Err(HostFault::Memory);
+            }
+            accepted = accepted.saturating_add(1);
+            if accepted == self.sessions {
+                break;
+            }
+        }
+        Ok(())
+    }
+
+    // As `accept_in`, and waits for the sessions.
+    fn accept(&self, listener: &UnixListener) -> Result<(), HostFault> {
+        thread::scope(
+            thread::scope_env(),
+            self.rt,
+            move |scope| -> Result<(), HostFault> { self.accept_in(scope, listener) },
+        )
+    }
+}
+
+impl<'a, C: LegalHistory + Send, L: Ledger + Send + Sync, R: Threads + Wait + Clock + Sync> Server<
+    'a,
+    C,
+    L,
+    R,
+> {
+    // As `accept`, while another thread hands in the clocks of the system. Gives their pass back.
+    fn accept_by_clock(
+        &self,
+        listener: &UnixListener,
+        clock: ClockPass<L>,
+    ) -> Result<ClockPass<L>, HostFault> {
+        thread::scope(
+            thread::scope_env(),
+            self.rt,
+            move |scope| -> Result<ClockPass<L>, HostFault> {
+                let Ok(ticking) = scope.spawn(move || tick(self.rt, self.shared, clock)) else {
+                    return Err(HostFault::Thread);
+                };
+                let served = self.accept(listener);
+                self.shared.finish(self.rt);
+                let clock = ticking.join(self.rt);
+                served?;
+                Ok(clock)
+            },
+        )
+    }
 }
 
 /// Serves so many connections, and returns what they leave; without end if that is 0.
@@ -168,16 +142,23 @@ pub fn host<C: LegalHistory + Send, L: Ledger + Send + Sync, R: Threads + Wait +
     mode: ClockMode,
     sessions: u64,
 ) -> Result<Remains<L>, HostFault> {
-    let remains = Mutex::new(Remains::new(alloc));
+    let server = Server {
+        rt,
+        alloc,
+        shared,
+        mode,
+        sessions,
+        connections: Connections::new(),
+        remains: Mutex::new(Remains::new(alloc)),
+    };
     let clock = match mode {
-        ClockMode::System => {
-            accept_by_clock(rt, alloc, listener, shared, &remains, clock, sessions)?
-        }
+        ClockMode::System => server.accept_by_clock(listener, clock)?,
         ClockMode::Lines => {
-            accept(rt, alloc, listener, shared, &remains, mode, sessions)?;
+            server.accept(listener)?;
             clock
         }
     };
+    let Server { remains, .. } = server;
     let mut remains = remains.into_inner();
     remains.add_clock(clock);
     Ok(remains)
