@@ -76,37 +76,37 @@ returns-in-BarrierDestroy c =
 
 pub returns-in-Timedlock : goal.returns-in-Timedlock
 returns-in-Timedlock c =
-    ap (λ (name : List ℕ). call.Timedlock name c.in-Timedlock.deadline)
+    ap (λ (name : List ℕ). call.Timedlock name c.in-Timedlock.due)
     c.copied-in-Timedlock.ensures
     ∙ sym c.in-Timedlock.is
 
 pub returns-in-Clocklock : goal.returns-in-Clocklock
 returns-in-Clocklock c =
-    ap (λ (name : List ℕ). call.Clocklock name c.in-Clocklock.clock c.in-Clocklock.deadline)
+    ap (λ (name : List ℕ). call.Clocklock name c.in-Clocklock.clock c.in-Clocklock.due)
     c.copied-in-Clocklock.ensures
     ∙ sym c.in-Clocklock.is
 
 pub returns-in-Timedrdlock : goal.returns-in-Timedrdlock
 returns-in-Timedrdlock c =
-    ap (λ (name : List ℕ). call.Timedrdlock name c.in-Timedrdlock.deadline)
+    ap (λ (name : List ℕ). call.Timedrdlock name c.in-Timedrdlock.due)
     c.copied-in-Timedrdlock.ensures
     ∙ sym c.in-Timedrdlock.is
 
 pub returns-in-Clockrdlock : goal.returns-in-Clockrdlock
 returns-in-Clockrdlock c =
-    ap (λ (name : List ℕ). call.Clockrdlock name c.in-Clockrdlock.clock c.in-Clockrdlock.deadline)
+    ap (λ (name : List ℕ). call.Clockrdlock name c.in-Clockrdlock.clock c.in-Clockrdlock.due)
     c.copied-in-Clockrdlock.ensures
     ∙ sym c.in-Clockrdlock.is
 
 pub returns-in-Timedwrlock : goal.returns-in-Timedwrlock
 returns-in-Timedwrlock c =
-    ap (λ (name : List ℕ). call.Timedwrlock name c.in-Timedwrlock.deadline)
+    ap (λ (name : List ℕ). call.Timedwrlock name c.in-Timedwrlock.due)
     c.copied-in-Timedwrlock.ensures
     ∙ sym c.in-Timedwrlock.is
 
 pub returns-in-Clockwrlock : goal.returns-in-Clockwrlock
 returns-in-Clockwrlock c =
-    ap (λ (name : List ℕ). call.Clockwrlock name c.in-Clockwrlock.clock c.in-Clockwrlock.deadline)
+    ap (λ (name : List ℕ). call.Clockwrlock name c.in-Clockwrlock.clock c.in-Clockwrlock.due)
     c.copied-in-Clockwrlock.ensures
     ∙ sym c.in-Clockwrlock.is
 
@@ -126,7 +126,7 @@ returns-in-Wait c =
 pub returns-in-Timedwait : goal.returns-in-Timedwait
 returns-in-Timedwait c =
     let made = λ (cond : List ℕ) (mutex : List ℕ).
-    call.Timedwait cond mutex c.in-Timedwait.deadline in
+    call.Timedwait cond mutex c.in-Timedwait.due in
     ap (λ (cond : List ℕ). made cond c.copied-in-Timedwait-2.result) c.copied-in-Timedwait.ensures
     ∙ ap (made c.in-Timedwait.cond) c.copied-in-Timedwait-2.ensures
     ∙ sym c.in-Timedwait.is
@@ -134,7 +134,7 @@ returns-in-Timedwait c =
 pub returns-in-Clockwait : goal.returns-in-Clockwait
 returns-in-Clockwait c =
     let made = λ (cond : List ℕ) (mutex : List ℕ).
-    call.Clockwait cond mutex c.in-Clockwait.clock c.in-Clockwait.deadline in
+    call.Clockwait cond mutex c.in-Clockwait.clock c.in-Clockwait.due in
     ap (λ (cond : List ℕ). made cond c.copied-in-Clockwait-2.result) c.copied-in-Clockwait.ensures
     ∙ ap (made c.in-Clockwait.cond) c.copied-in-Clockwait-2.ensures
     ∙ sym c.in-Clockwait.is
