@@ -65,9 +65,11 @@ pub trait LegalHistory: Drop {
 
     /// How many answers the entries before a place give.
     fn answers_before(&self, place: u64) -> usize
-        ensures { drop result
+        ensures rest { drop result
             (replies_behind (shown (seen self.now)).start (seen self.now).entries)
-            ≡ answers_behind (shown (seen self.now)).start place (seen self.now).entries };
+            ≡ answers_behind (shown (seen self.now)).start place (seen self.now).entries }
+        ensures within { result ≤ length
+            (replies_behind (shown (seen self.now)).start (seen self.now).entries) };
 
     /// The answer at this index of all since the Start, in the order of the entries; of one Trip in
     /// order of the calls' places.

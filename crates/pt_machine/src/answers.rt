@@ -89,9 +89,11 @@ impl<Q: WaitList, A: Allocator + Copy> Body<Q, A> {
     #[inline(always)]
     pub fn answers_before(&self, place: u64) -> usize
         requires { AreTables self.now }
-        ensures { drop result
+        ensures rest { drop result
             (replies_behind (reads_of self.now.stored.start) self.now.stored.entries)
             ≡ answers_in (reads_of self.now.stored.start) place self.now.stored.entries }
+        ensures within { result ≤ length
+            (replies_behind (reads_of self.now.stored.start) self.now.stored.entries) }
     {
         self.state.answers_before(place)
     }

@@ -1,7 +1,7 @@
 //! Answers: their clients, their calls and their outcomes, from any place on.
 
-ghost use Rattle.std.specs.Prelude.{◌<◌, ◌^◌, ◌≡◌, drop, length, map, option_map, slice_get, true};
-ghost use Rattle.std.specs.Prelude.{Some};
+ghost use Rattle.std.specs.Prelude.{◌<◌, ◌≤◌, ◌^◌, ◌≡◌, drop, length, map, option_map, slice_get};
+ghost use Rattle.std.specs.Prelude.{Some, true};
 ghost use Rattle.std.specs.Bool.{OnTrue};
 ghost use Rattle.pt_records.specs.Logs.{logged};
 ghost use Rattle.pt_table.specs.ClientRows.{has_client};
@@ -119,9 +119,11 @@ impl<A: Allocator + Copy> State<A> {
     #[inline(always)]
     pub fn answers_before(&self, place: u64) -> usize
         requires { AreTables self.now }
-        ensures { drop result
+        ensures rest { drop result
             (replies_behind (reads_of self.now.stored.start) self.now.stored.entries)
             ≡ answers_in (reads_of self.now.stored.start) place self.now.stored.entries }
+        ensures within { result ≤ length
+            (replies_behind (reads_of self.now.stored.start) self.now.stored.entries) }
     {
         answered_since(&self.answers, place)
     }
