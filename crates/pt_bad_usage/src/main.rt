@@ -1,5 +1,5 @@
 //! The program `pt_bad_usage`: the command line of `ptserver` alone, run with a word that it does
-//! not know. It shows the usage on standard error, and ends with status 2.
+//! not know. It prints the usage on standard error, and ends with status 2.
 #![tactic(auto)]
 
 use pt_command::{Task, read_task};

@@ -4,10 +4,10 @@ ghost use Rattle.pt_types.specs.ObjectTable.{init_verdict};
 use pt_types::{MOST_AT_BARRIER, ObjectKind, Outcome, Verdict};
 use std::marker::Model;
 
-/// What becomes of a `barrier-init` with this count, if its name is free and no object exists:
-/// EINVAL for 0, and above 1,024, which is profile.  [XSH pthread_barrier_init]
+/// Returns the verdict of a `barrier-init` with this count, if its name is free and no object
+/// exists: EINVAL for 0, and above 1,024. The upper limit is profile.  [XSH pthread_barrier_init]
 ///
-/// A name in use or too many objects are answered after a bad count.
+/// A bad count is answered before a name in use or too many objects.
 pub fn verdict_init(count: u64) -> Verdict
     ensures { result ≡ init_verdict (ObjectKind.Barrier count) false 0 }
 {
@@ -38,7 +38,7 @@ impl Model for BarrierObj {
 }
 
 impl BarrierObj {
-    /// A barrier for so many calls; `verdict_init` is the test of the count.
+    /// Creates a barrier for this many calls. `verdict_init` tests the count.
     /// [XSH pthread_barrier_init]
     pub fn new(count: u32) -> BarrierObj
         requires least { 1 ≤ count }
@@ -48,7 +48,7 @@ impl BarrierObj {
         BarrierObj { count }
     }
 
-    /// The calls that it waits for.  [XSH pthread_barrier_init]
+    /// Returns the number of calls that the barrier waits for.  [XSH pthread_barrier_init]
     pub fn count(&self) -> u32
         ensures value { result ≡ self.now }
         ensures least { 1 ≤ result }
@@ -57,7 +57,7 @@ impl BarrierObj {
         self.count
     }
 
-    /// Whether a barrier is full with this many waiting calls.
+    /// Returns whether the barrier is full with this many waiting calls.
     /// [XSH pthread_barrier_wait]
     pub fn full(&self, waiting: usize) -> bool
         ensures { result ≡ (waiting == self.now) }

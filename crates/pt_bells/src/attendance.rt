@@ -14,13 +14,13 @@ struct Attached {
 }
 
 /// Which session takes whose answers, and the sessions whose calls wait, in the order in which they
-/// began to.
+/// began to wait.
 pub struct Attendance {
     attached: Vec<Attached>,
     waiting: Vec<SessionId>,
 }
 
-// Not derived, so that those that drop it prove nothing of its parts.
+// Not derived, so that code that drops it proves nothing of its parts.
 impl Drop for Attendance {
     fn drop(self) {
         let Attendance {
@@ -33,7 +33,7 @@ impl Drop for Attendance {
 impl Attendance {
     ghost use Rattle.std.specs.Prelude.{◌<◌, IfSome, vec_len};
 
-    /// Nobody is there yet.
+    /// Creates an empty attendance.
     pub fn new(alloc: Global) -> Attendance {
         Attendance {
             attached: Vec::new(alloc),
@@ -41,7 +41,7 @@ impl Attendance {
         }
     }
 
-    /// A client's answers are taken by this session. It isn't noted if a growth is refused.
+    /// Notes that this session takes a client's answers. Nothing is noted if a growth is refused.
     pub fn attach(&mut self, session: SessionId, client: ClientId) {
         let _ = self.attached.push(Attached {
             client,
@@ -50,14 +50,14 @@ impl Attendance {
         });
     }
 
-    // Where the session of a client is noted.
+    // Returns the index at which a client's session is noted.
     fn place_of(&self, client: ClientId) -> Option<usize>
         ensures { IfSome result (λ k. k < vec_len self.now.attached) }
     {
         self.attached.iter().position(|it| it.client == client)
     }
 
-    /// A client takes no more answers.
+    /// Notes that a client takes no more answers. Its session waits no more.
     pub fn detach(&mut self, client: ClientId) {
         if let Some(k) = self.place_of(client) {
             let gone = self.attached.swap_remove(k);
@@ -72,47 +72,48 @@ impl Attendance {
         }
     }
 
-    /// Whether a session sleeps until a call is answered, if that was noted.
+    /// Returns true if it was noted that a session sleeps until a call is answered.
     pub fn is_waiting(&self, session: SessionId) -> bool {
         self.attached
             .iter()
             .any(|it| it.session == session && it.waits)
     }
 
-    // Where a session stands among those whose calls wait.
+    // Returns the position of a session among those whose calls wait.
     fn turn_of(&self, session: SessionId) -> Option<usize>
         ensures { IfSome result (λ k. k < vec_len self.now.waiting) }
     {
         self.waiting.iter().position(|it| *it == session)
     }
 
-    /// A client's call waits from here on. It isn't noted if a growth is refused.
+    /// Notes that a client's call waits from now on. Nothing is noted if a growth is refused.
     pub fn begin_wait(&mut self, client: ClientId) {
         if let Some(session) = self.session_of(client) {
             let _ = self.waiting.push(session);
         }
     }
 
-    /// The call of a session waits no more.
+    /// Notes that the call of a session waits no more.
     pub fn end_wait(&mut self, session: SessionId) {
         if let Some(k) = self.turn_of(session) {
             let _ = self.waiting.remove(k);
         }
     }
 
-    /// The session whose client's call was answered, if it was noted. It waits no more.
+    /// Notes that a client's call was answered, so that its session waits no more. Returns the
+    /// session, if it was noted.
     pub fn answered(&mut self, client: ClientId) -> Option<SessionId> {
         let session = self.session_of(client)?;
         self.end_wait(session);
         Some(session)
     }
 
-    /// The session whose call has waited longest.
+    /// Returns the session whose call has waited longest.
     pub fn longest_waiting(&self) -> Option<SessionId> {
         self.waiting.first().copied()
     }
 
-    /// The session that takes a client's answers, if it was noted.
+    /// Returns the session that takes a client's answers, if that was noted.
     pub fn session_of(&self, client: ClientId) -> Option<SessionId> {
         let found = self.attached.iter().find(|it| it.client == client)?;
         Some(found.session)

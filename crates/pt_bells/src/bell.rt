@@ -1,4 +1,4 @@
-//! The bells that sessions sleep at. No contract speaks of who wakes.
+//! The bells that sessions sleep at. No contract says who wakes.
 
 use std::alloc::Global;
 use std::sync::Wait;
@@ -6,28 +6,28 @@ use std::sync::atomic::{AtomicU64, Ordering};
 use std::thread;
 use std::time::Duration;
 
-/// How many bells there are. Sessions with the same remainder share one.  [profile]
+/// The number of bells. Sessions whose numbers have the same remainder share one.  [profile]
 const MOST_BELLS: usize = 1024;
 
-/// How often a sleeper that was warned looks for a ring before it sleeps again: some 60
+/// The number of times a warned sleeper polls for a ring before it sleeps again: some 60
 /// microseconds, if no other thread runs in between.  [profile]
 const LOOKS: u32 = 200;
 
-/// How many warnings in a row are given though no ring followed soon.  [profile]
+/// The number of warnings in a row that are given although no ring follows soon.  [profile]
 const MOST_MISSES: u64 = 4;
 
-/// How many warnings there are from one such row to the next, those that are not given among
-/// them.  [profile]
+/// The number of warnings from one such row to the next, including those that are not given.
+/// [profile]
 const PERIOD: u64 = 64;
 
-/// A bell that counts how often it was rung.
+/// A bell that counts how many times it was rung.
 ///
 /// A thread that waits reads the count, then looks for what it waits for, and then sleeps, unless
-/// the count has changed meanwhile. Who brings what it waits for rings afterwards. So no wake-up is
-/// lost, and nobody needs a lock to ring.
+/// the count has changed meanwhile. Whoever brings what it waits for rings afterwards. So no
+/// wake-up is lost, and ringing needs no lock.
 ///
-/// A sleeper may be warned that a ring is likely to come soon. It wakes, and looks at the count for
-/// a while. Then the ring finds it awake, which spares the time that a wake-up takes.
+/// A sleeper may be warned that a ring is likely to come soon. It wakes and polls the count for a
+/// while. If the ring comes, it finds the sleeper awake, which saves the time of a wake-up.
 pub struct Bell {
     rings: AtomicU64,
     sleepers: AtomicU64,
@@ -36,7 +36,7 @@ pub struct Bell {
     misses: AtomicU64,
 }
 
-// Not derived, so that those that drop a bell prove nothing of its parts.
+// Not derived, so that code that drops a bell proves nothing of its parts.
 impl Drop for Bell {
     fn drop(self) {
         let Bell {
@@ -50,7 +50,7 @@ impl Drop for Bell {
 }
 
 impl Bell {
-    /// A bell that was not rung yet.
+    /// Creates a bell that was not rung yet.
     pub fn new() -> Bell {
         Bell {
             rings: AtomicU64::new(0),
@@ -61,12 +61,12 @@ impl Bell {
         }
     }
 
-    /// How often it was rung.
+    /// Returns how many times it was rung.
     pub fn rings(&self) -> u64 {
         self.rings.load(Ordering::SeqCst)
     }
 
-    /// Wakes all who sleep at it.
+    /// Rings the bell, which wakes all that sleep at it.
     pub fn ring(&self) {
         self.rings.fetch_add(1, Ordering::SeqCst);
         if self.sleepers.load(Ordering::SeqCst) != 0 {
@@ -74,7 +74,7 @@ impl Bell {
         }
     }
 
-    // Whether a warning pays, by what followed the latest ones.
+    // Returns whether a warning pays, based on what followed the latest ones.
     fn is_worth_warning(&self) -> bool {
         let misses = self.misses.load(Ordering::SeqCst);
         if misses % PERIOD < MOST_MISSES {
@@ -84,8 +84,8 @@ impl Bell {
         false
     }
 
-    /// Wakes all who sleep at it, to look for a ring that is likely to come soon. Nobody is woken
-    /// if that was in vain of late.
+    /// Wakes all that sleep at it, so that they poll for a ring that is likely to come soon. Wakes
+    /// nobody if that was in vain recently.
     pub fn warn(&self) {
         if self.sleepers.load(Ordering::SeqCst) != 0 && self.is_worth_warning() {
             self.warnings.fetch_add(1, Ordering::SeqCst);
@@ -93,12 +93,12 @@ impl Bell {
         }
     }
 
-    // How often those who sleep at it were warned.
+    // Returns how many times those that sleep at it were warned.
     fn warnings(&self) -> u64 {
         self.warnings.load(Ordering::SeqCst)
     }
 
-    // Looks for a ring for a while. Whether it was rung since this was its count.
+    // Polls for a ring for a while. Returns whether it was rung since its count was `rings`.
     fn look(&self, rings: u64) -> bool {
         for _ in 0..LOOKS {
             if self.rings() != rings {
@@ -111,8 +111,8 @@ impl Bell {
         false
     }
 
-    /// Sleeps until it is rung, unless it was rung since this was its count. It may return though
-    /// nobody rang.
+    /// Sleeps until it is rung, unless it was rung since its count was `rings`. It may return
+    /// although nobody rang.
     pub fn sleep<R: Wait>(&self, rt: &R, rings: u64) {
         let warnings = self.warnings();
         self.sleepers.fetch_add(1, Ordering::SeqCst);
@@ -123,7 +123,7 @@ impl Bell {
         }
     }
 
-    // Sleeps until it is rung or warned, but for this long at most.
+    // Sleeps until it is rung or warned, but for `most` at most.
     fn nap<R: Wait>(&self, rt: &R, rings: u64, most: Duration) {
         self.sleepers.fetch_add(1, Ordering::SeqCst);
         self.rings
@@ -131,7 +131,8 @@ impl Bell {
         self.sleepers.fetch_sub(1, Ordering::SeqCst);
     }
 
-    /// As `sleep`, but for this long at most, or for twice as long if it is warned in vain.
+    /// Does what `sleep` does, but for `most` at most, or for twice as long if it is warned in
+    /// vain.
     pub fn sleep_at_most<R: Wait>(&self, rt: &R, rings: u64, most: Duration) {
         let warnings = self.warnings();
         self.nap(rt, rings, most);
@@ -140,19 +141,19 @@ impl Bell {
         }
     }
 
-    /// How many inputs have ended, of the sessions that sleep at it.
+    /// Returns how many inputs have ended, of the sessions that sleep at it.
     pub fn ends(&self) -> u64 {
         self.ends.load(Ordering::SeqCst)
     }
 
-    /// The input of a session that sleeps at it has ended.
+    /// Notes that the input of a session that sleeps at it has ended, and rings.
     pub fn end(&self) {
         self.ends.fetch_add(1, Ordering::SeqCst);
         self.ring();
     }
 }
 
-/// The bells, or as many of them as there is memory for.
+/// Creates the bells, or as many of them as there is memory for.
 pub fn bells(alloc: Global) -> Vec<Bell> {
     let mut bells = Vec::new(alloc);
     for _ in 0..MOST_BELLS {

@@ -1,5 +1,5 @@
-//! The numbers of sessions, the bells that they sleep at, and whose calls wait. No contract
-//! speaks of who wakes.
+//! The numbers of sessions, the bells that they sleep at, and whose calls wait. No contract says
+//! who wakes.
 #![tactic(auto)]
 
 mod attendance;

@@ -5,9 +5,9 @@ ghost use Rattle.std.specs.Prelude.{◌≡◌, ◌↔◌, IsNone};
 pub struct Difference<'a> {
     /// The number of the line, from 1.
     pub number: usize,
-    /// The line in the expected text, if that has not ended.
+    /// The line in the expected text, if that text has not ended.
     pub expected: Option<&'a [u8]>,
-    /// The line in the written text, if that has not ended.
+    /// The line in the written text, if that text has not ended.
     pub written: Option<&'a [u8]>,
 }
 
@@ -15,7 +15,7 @@ fn is_newline(byte: &u8) -> bool {
     *byte == b'\n'
 }
 
-/// The first line at which two texts differ, if they do.
+/// Returns the first line at which two texts differ, if they do.
 pub fn first_difference<'a>(expected: &'a [u8], written: &'a [u8]) -> Option<Difference<'a>>
     ensures { IsNone result ↔ (expected.now ≡ written.now) }
 {

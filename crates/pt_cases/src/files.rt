@@ -2,7 +2,7 @@ use crate::case::Case;
 use anyhow::{Context, Result};
 use std::fs;
 
-// Adds the paths of all that lies in a folder, in the order of their names.
+// Adds the paths of everything in a folder, in the order of their names.
 fn list(rt: &HostRuntime, folder: &str, paths: &mut Vec<String>) -> Result<()> {
     for entry in fs::read_dir(rt, folder).context(format_args!("{folder}"))? {
         paths.push(String::from_str(rt.alloc(), entry?.path().as_str())?)?;
@@ -11,7 +11,7 @@ fn list(rt: &HostRuntime, folder: &str, paths: &mut Vec<String>) -> Result<()> {
     Ok(())
 }
 
-// Reads the bytes of a file whose path is in two parts.
+// Reads the bytes of a file whose path is given in two parts.
 fn read(rt: &HostRuntime, path: &str, ending: &str) -> Result<Vec<u8>> {
     let path = format!(in rt.alloc(); "{path}.{ending}")?;
     fs::read(rt, path.as_str()).context(format_args!("{path}"))
@@ -25,7 +25,7 @@ fn read_case(rt: &HostRuntime, path: &str) -> Result<Case> {
     })
 }
 
-// Adds the cases whose files lie in a folder.
+// Adds the cases whose files are in a folder.
 fn add_cases(rt: &HostRuntime, folder: &str, cases: &mut Vec<Case>) -> Result<()> {
     let mut paths = Vec::new(rt.alloc());
     list(rt, folder, &mut paths)?;
@@ -47,7 +47,7 @@ fn add_group(rt: &HostRuntime, group: &str, cases: &mut Vec<Case>) -> Result<()>
     Ok(())
 }
 
-/// The cases of a group, in the order of their paths.
+/// Returns the cases of a group, in the order of their paths.
 pub fn cases_of(rt: &HostRuntime, folder: &str, group: &str) -> Result<Vec<Case>> {
     let mut cases = Vec::new(rt.alloc());
     let path = format!(in rt.alloc(); "{folder}/{group}")?;

@@ -1,4 +1,4 @@
--- Boxes: which queues have a box, and how many boxes there are.
+-- Boxes: which queues have a box, and the number of boxes.
 use Rattle.std.specs.Prelude.{ℕ, ◌≡◌, ◌≢◌, ◌+◌, ◌<◌, ◌≤◌, Bool, List, [], ◌∷◌, Option, Some, None}
 use Rattle.std.specs.Prelude.{min, replicate, slice_set, unwrap_or, IfSome, IfNone, IsSome}
 use Rattle.std.specs.Prelude.{MatchOption, if◌then◌else◌, ◌==◌, not, slice_index, slice_index_or}
@@ -22,13 +22,13 @@ no_side =
 abbrev pub no_queue : Queue
 no_queue = record { writers = no_side; readers = no_side; len = 0 }
 
--- a chain that is empty
+-- the chain with this index is empty
 pub record IsNoChain (side : Side) (i : ℕ) : Type 0 where
   pub count : slice_index side.counts i ≡ 0
   pub tail : slice_index_or side.tails i None ≡ None
   pub head : slice_index_or side.heads i None ≡ None
 
--- this chain has so many waiters and these ends, and no other has a waiter
+-- the chain of this kind and index has `n` waiters and these ends, and no other chain has a waiter
 pub record IsLone (k : Bool) (p : ℕ) (first last : Option ℕ) (n : ℕ) (q : Queue) : Type 0 where
   pub len : q.len ≡ n
   pub count : (i : ℕ) → i < most_priority
@@ -39,7 +39,7 @@ pub record IsLone (k : Bool) (p : ℕ) (first last : Option ℕ) (n : ℕ) (q : 
       → slice_index_or (side_of k q).heads i None ≡ (if p == i then first else None)
   pub other : (i : ℕ) → i < most_priority → IsNoChain (side_of (not k) q) i
 
--- the chains of one kind if this is the only one
+-- the chains of one kind if all but this one are empty
 abbrev pub lone_side : ℕ → Option ℕ → Option ℕ → ℕ → Side
 lone_side p head tail n =
     record {
@@ -48,7 +48,7 @@ lone_side p head tail n =
       tails = slice_set no_side.tails p tail;
     }
 
--- a queue of one chain
+-- a queue with a single chain
 abbrev pub lone_queue : Option ℕ → Option ℕ → ℕ → Bool → ℕ → Queue
 lone_queue head tail n k p =
     record {
@@ -57,36 +57,37 @@ lone_queue head tail n k p =
       len = n;
     }
 
--- a queue by its box and by its lone chain, if that isn't put into the box
+-- the queue of a lone chain that is not in the box, or else the queue in the box, if any
 abbrev pub queue_by : Option Queue → Option ℕ → Option ℕ → ℕ → Bool → ℕ → Queue
 queue_by box None tail n k p = unwrap_or box no_queue
 queue_by box (Some head) tail n k p = lone_queue (Some head) tail n k p
 
--- there is a box only while one waits, and an empty one while a chain isn't put into it
+-- a queue has a box only while a call waits in it, and the box is empty while a lone chain is not
+-- in it
 abbrev pub IsKept : Option Queue → Option ℕ → Option ℕ → ℕ → ℕ → Type 0
 IsKept box None tail n p = IfSome box (λ q. q.len ≢ 0)
 IsKept box (Some head) tail n p =
     (p < most_priority) × (n ≢ 0) × IsSome tail × MatchOption box ⊥ HasNone
 
--- queues of the same chains
+-- the two queues have the same length and the same chains
 pub record IsSame (a b : Queue) : Type 0 where
   pub len : b.len ≡ a.len
   pub chains : (k : Bool) (i : ℕ) → i < most_priority → IsSameChain (side_of k a) (side_of k b) i
 
--- a node was taken out of a chain, and then the box if no one waits any more
+-- a node was removed from a chain, and then the box from the queue if no waiter is left
 pub record IsEmptied (k : Bool) (p : ℕ) (before next : Option ℕ) (old new : Queue)
     (box : Option Queue) : Type 0 where
   pub taken : IsTaken k p before next old (unwrap_or box new)
   pub emptied : IfSome box (λ q. (q.len ≡ 0) × (new ≡ no_queue))
   pub left : IfNone box (new.len ≢ 0)
 
--- how many queues have a waiter
+-- the number of queues that have a waiter
 abbrev pub busy : List (ℕ × Waiter) → ℕ
 busy [] = 0
 busy (e ∷ es) = if is_listed e.0 (numbers es) then busy es else busy es + 1
 
--- a box for each queue that has a waiter, and as many as queues can have one; there is room for all
--- of them among the spares
+-- each queue with a waiter has a box, the boxes suffice for all queues that can have a waiter at
+-- once, and the spares have room for all boxes
 pub record AreBoxes (clients objects : ℕ) (es : List (ℕ × Waiter)) (spares room boxes : ℕ)
     : Type 0 where
   pub count : boxes ≡ busy es + spares

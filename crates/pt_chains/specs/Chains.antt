@@ -1,4 +1,4 @@
--- Chains: what nodes and the ends of chains say of the queued waiters.
+-- Chains: what nodes and the ends of chains say about the queued waiters.
 use Rattle.std.specs.Prelude.{ℕ, ◌≡◌, ◌≢◌, ◌⊎◌, ◌==◌, ◌+◌, ◌-◌, ◌<◌, ◌≤◌, ◌^◌, Bool, true, false}
 use Rattle.std.specs.Prelude.{◌&&◌, not, List, [], ◌∷◌, ◌++◌, Option, Some, None, is_some, IsSome}
 use Rattle.std.specs.Prelude.{filter, map, length, slice_index, slice_index_or, unwrap_or, nat_eq}
@@ -18,7 +18,7 @@ use Rattle.pt_waitq.specs.Waits.{queue_of, is_listed, AllStand}
 abbrev pub numbers : {X : Type 0} → List (ℕ × X) → List ℕ
 numbers es = map (λ e. e.0) es
 
--- the waiters after one is put in (with its queue's number) or taken out (with none)
+-- the waiters after one is put in, given its queue's number, or removed, given none
 abbrev pub after : List (ℕ × Waiter) → Option ℕ → Waiter → List (ℕ × Waiter)
 after es (Some o) w = es ++ (o, w) ∷ []
 after es None w = filter (λ e. not (e.1.client == w.client)) es
@@ -27,11 +27,11 @@ abbrev pub waiting_from : List (ℕ × Waiter) → List (Option ℕ × Waiter) �
 waiting_from es [] = es
 waiting_from es (a ∷ log) = waiting_from (after es a.0 a.1) log
 
--- those that are queued, in the order in which they were put in
+-- the queued waiters, in the order in which they were put in
 abbrev pub waiting_by : List (Option ℕ × Waiter) → List (ℕ × Waiter)
 waiting_by log = waiting_from [] log
 
--- a waiter of this kind and priority
+-- whether a waiter has this kind and priority
 abbrev pub is_kind : Bool → ℕ → Waiter → Bool
 is_kind k p w = (w.prio == p) && (rank w.writer == rank k)
 
@@ -54,7 +54,7 @@ abbrev pub is_at : ℕ → Option ℕ → Bool
 is_at c None = false
 is_at c (Some n) = n == c
 
--- each leads to the one after it, and back to the one ahead of it
+-- each number leads to the one after it, and back to the one before it
 abbrev pub Links : (ℕ → Option ℕ) → (ℕ → Option ℕ) → Option ℕ → List ℕ → Type 0
 Links next before b [] = Unit {0}
 Links next before b (n ∷ ns) =
@@ -77,11 +77,11 @@ entry_at node = option_map (λ o. (o, node.waiter)) node.object
 abbrev pub entry_in : List (Option Node) → ℕ → Option (ℕ × Waiter)
 entry_in nodes n = option_and_then entry_at (node_in nodes n)
 
--- whose node it is
+-- the client whose node is at an index
 abbrev pub client_in : List (Option Node) → ℕ → Option ℕ
 client_in nodes n = option_map (λ node. node.waiter.client) (node_in nodes n)
 
--- the index of a client's node, and what the node says
+-- the index of a client's node, and the entry in that node
 abbrev pub home_of : List (ℕ × ℕ) → ℕ → Option ℕ
 home_of homes c = lookup (nat_eq c) homes
 
@@ -91,7 +91,7 @@ index_of homes c = unwrap_or (home_of homes c) 0
 abbrev pub entry_of : List (ℕ × ℕ) → List (Option Node) → ℕ → Option (ℕ × Waiter)
 entry_of homes nodes c = option_and_then (entry_in nodes) (home_of homes c)
 
--- the nodes of these waiters
+-- the indices of the nodes of these waiters
 abbrev pub nodes_of : (ℕ → ℕ) → List (ℕ × Waiter) → List ℕ
 nodes_of index es = map (λ e. index e.1.client) es
 
@@ -103,41 +103,41 @@ abbrev pub side_of : Bool → Queue → Side
 side_of true q = q.writers
 side_of false q = q.readers
 
--- no number twice
+-- no number occurs twice
 abbrev pub Unique : List ℕ → Type 0
 Unique [] = Unit {0}
 Unique (n ∷ ns) = (is_listed n ns ≡ false) × Unique ns
 
--- the chain from the ends and by the links
+-- the chain with this index has exactly these nodes, by its count, its ends and the links
 pub record IsChain (next before : ℕ → Option ℕ) (side : Side) (p : ℕ) (ns : List ℕ) : Type 0 where
   pub count : slice_index side.counts p ≡ length ns
   pub head : slice_index_or side.heads p None ≡ first_in ns
   pub tail : slice_index_or side.tails p None ≡ last_in None ns
   pub links : Links next before None ns
 
--- a node is that of the client whose number it has
+-- a node with a client's number is that client's node
 abbrev pub AreOwn : List (ℕ × ℕ) → List (Option Node) → Type 0
 AreOwn homes nodes = (n c : ℕ) → client_in nodes n ≡ Some c → home_of homes c ≡ Some n
 
--- each client has a node of its own
+-- each client has a separate node, and there are fewer than 2^32 clients
 pub record AreHomes (homes : List (ℕ × ℕ)) (nodes : List (Option Node)) : Type 0 where
   pub there : (c n : ℕ) → home_of homes c ≡ Some n → IsSome (node_in nodes n)
   pub apart : (c d n : ℕ) → home_of homes c ≡ Some n → home_of homes d ≡ Some n → c ≡ d
   pub own : AreOwn homes nodes
   pub few : length homes < 2 ^ 32
 
--- nodes and ends of chains are those of the queued waiters
+-- the nodes and the ends of the chains are those of the queued waiters
 pub record AreChains (homes : List (ℕ × ℕ)) (nodes : List (Option Node))
     (queues : List (ℕ × Queue)) (es : List (ℕ × Waiter)) : Type 0 where
   pub stand : AllStand (numbers queues) es
   pub homed : AreHomes homes nodes
-  -- a client's node has its entry
+  -- a client's node has the client's entry
   pub own : (c : ℕ) → entry_of homes nodes c ≡ first_entry (filter (λ e. e.1.client == c) es)
   pub levels : Each (λ e. (1 ≤ e.1.prio) × (e.1.prio ≤ most_priority)) es
-  -- each queue's length
+  -- a queue's length is the number of its waiters
   pub len : (o : ℕ) (q : Queue) → lookup (nat_eq o) queues ≡ Some q
       → q.len ≡ length (queue_of o es)
-  -- a chain is in the order of arrival
+  -- each chain is in the order of arrival
   pub sorted : (o : ℕ) (k : Bool) (p : ℕ)
       → queue_of o (chain_of o k p es) ≡ map (λ e. e.1) (chain_of o k p es)
   pub chains : (o : ℕ) (q : Queue) → lookup (nat_eq o) queues ≡ Some q → (k : Bool) (p : ℕ)
@@ -145,7 +145,7 @@ pub record AreChains (homes : List (ℕ × ℕ)) (nodes : List (Option Node))
       → IsChain (next_in nodes) (before_in nodes) (side_of k q) p
       (nodes_of (index_of homes) (chain_of o k (p + 1) es))
 
--- a chain has the count and the ends that it had
+-- the chain with this index has the same count and ends as before
 pub record IsSameChain (old new : Side) (p : ℕ) : Type 0 where
   pub count : slice_index new.counts p ≡ slice_index old.counts p
   pub tail : slice_index_or new.tails p None ≡ slice_index_or old.tails p None
@@ -167,7 +167,7 @@ pub record IsPut (k : Bool) (p node : ℕ) (tail : Option ℕ) (old new : Queue)
       then Some node
       else slice_index_or (side_of k old).heads i None)
 
--- a node was taken out of a chain
+-- a node was removed from a chain
 pub record IsTaken (k : Bool) (p : ℕ) (before next : Option ℕ) (old new : Queue) : Type 0 where
   pub len : new.len + 1 ≡ old.len
   pub other : (i : ℕ) → i < most_priority
@@ -182,7 +182,7 @@ pub record IsTaken (k : Bool) (p : ℕ) (before next : Option ℕ) (old new : Qu
       ≡ (if (p == i) && not (is_some before) then next else slice_index_or
       (side_of k old).heads i None)
 
--- a queue with no waiter
+-- the queue has no waiter
 pub record HasNone (q : Queue) : Type 0 where
   pub len : q.len ≡ 0
   pub counts : (k : Bool) (p : ℕ) → p < most_priority → slice_index (side_of k q).counts p ≡ 0
@@ -191,12 +191,12 @@ pub record HasNone (q : Queue) : Type 0 where
   pub tails : (k : Bool) (p : ℕ) → p < most_priority
       → slice_index_or (side_of k q).tails p None ≡ None
 
--- each chain of a queue is empty
+-- each chain of the queue is empty
 abbrev pub HasNoWaiter : Queue → Type 0
 HasNoWaiter q = (k : Bool) (p : ℕ) → p < most_priority → slice_index (side_of k q).counts p ≡ 0
 
--- a chain that isn't empty, and no chain of another kind or priority that isn't empty goes ahead
--- of it  [XSH pthread_rwlock_unlock, 2.8.4]
+-- the chain is not empty, and no chain of another kind or priority that goes ahead of it has a
+-- waiter  [XSH pthread_rwlock_unlock, 2.8.4]
 pub record IsFirstChain (q : Queue) (k : Bool) (p : ℕ) : Type 0 where
   pub within : p < most_priority
   pub some : slice_index (side_of k q).counts p ≢ 0
@@ -204,14 +204,16 @@ pub record IsFirstChain (q : Queue) (k : Bool) (p : ℕ) : Type 0 where
       → slice_index (side_of l q).counts i ≡ 0
   pub beside : (l : Bool) → rank l < rank k → slice_index (side_of l q).counts p ≡ 0
 
--- the head of the first chain, if one isn't empty  [XSH pthread_rwlock_unlock, 2.8.4]
+-- it is the head of the first chain, or none if all chains are empty
+-- [XSH pthread_rwlock_unlock, 2.8.4]
 abbrev pub IsFirst : Queue → Option ℕ → Type 0
 IsFirst q head =
     ((k : Bool) × (p : ℕ) × IsFirstChain q k p
     × (head ≡ slice_index_or (side_of k q).heads p None))
     ⊎ (HasNoWaiter q × (head ≡ None))
 
--- the head of the first chain of writers, if one isn't empty  [XSH pthread_rwlock_unlock]
+-- it is the head of the first chain of writers, or none if all of these are empty
+-- [XSH pthread_rwlock_unlock]
 abbrev pub IsFirstWriter : Queue → Option ℕ → Type 0
 IsFirstWriter q head =
     ((p : ℕ) × (p < most_priority) × (slice_index q.writers.counts p ≢ 0)
@@ -219,7 +221,7 @@ IsFirstWriter q head =
     × (head ≡ slice_index_or q.writers.heads p None))
     ⊎ (((p : ℕ) → p < most_priority → slice_index q.writers.counts p ≡ 0) × (head ≡ None))
 
--- a chain of writers of this priority or a higher one isn't empty  [XSH pthread_rwlock_rdlock]
+-- a chain of writers of this priority or a higher one is not empty  [XSH pthread_rwlock_rdlock]
 abbrev pub HasWriterFrom : Queue → ℕ → Type 0
 HasWriterFrom q p =
     (i : ℕ) × (p ≤ i) × (i < most_priority) × (slice_index q.writers.counts i ≢ 0)

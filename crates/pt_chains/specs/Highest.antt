@@ -1,21 +1,21 @@
--- Highest: the highest chain of one kind that isn't empty, by the counts of its chains.
+-- Highest: the highest chain of one kind that is not empty, by the counts of the chains.
 use Rattle.std.specs.Prelude.{ℕ, ◌≡◌, ◌≢◌, ◌<◌, List, Option, slice_index, MatchOption}
 use Rattle.pt_types.specs.Limits.{most_priority}
 
--- each chain is empty
+-- all chains are empty
 abbrev pub NoneSet : List ℕ → Type 0
 NoneSet counts = (i : ℕ) → i < most_priority → slice_index counts i ≡ 0
 
--- each chain above this one is empty
+-- all chains above this one are empty
 abbrev pub NoneAbove : List ℕ → ℕ → Type 0
 NoneAbove counts p = (i : ℕ) → i < most_priority → p < i → slice_index counts i ≡ 0
 
--- no chain above this one isn't empty; with none, no chain at all
+-- all chains above this one are empty, or all chains if none is given
 abbrev pub IsBound : List ℕ → Option ℕ → Type 0
 IsBound counts bound =
     MatchOption bound (NoneSet counts) (λ p. (p < most_priority) × NoneAbove counts p)
 
--- the highest chain that isn't empty, or none if each is
+-- it is the highest chain that is not empty, or none if all are empty
 abbrev pub IsHighestChain : List ℕ → Option ℕ → Type 0
 IsHighestChain counts found =
     MatchOption found

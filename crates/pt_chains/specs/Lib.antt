@@ -1,11 +1,11 @@
 pub mod Links
--- Chains: what nodes and the ends of chains say of the queued waiters
+-- Chains: what nodes and the ends of chains say about the queued waiters
 pub mod Chains
--- Highest: the highest chain of one kind that isn't empty
+-- Highest: the highest chain of one kind that is not empty
 pub mod Highest
--- Boxes: which queues have a box, and how many boxes there are
+-- Boxes: which queues have a box, and the number of boxes
 pub mod Boxes
--- Opened: the queues that are made, of which those with a row have its chains
+-- Opened: the queues that exist, each with the chains of its row, if it has one
 pub mod Opened
 -- Rows: the chains of queues, each in a slot, and the slots by the queues' numbers
 pub mod Rows

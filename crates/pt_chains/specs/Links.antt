@@ -1,6 +1,6 @@
--- Links: what the number of a link stands for.
+-- Links: the meaning of a link's number.
 use Rattle.std.specs.Prelude.{ℕ, ◌-◌, ◌^◌, ◌==◌, Option, Some, None, if◌then◌else◌}
 
--- the index of a node, or none: that is the greatest number of 4 bytes
+-- the index of a node, or none for the greatest number of 4 bytes
 abbrev pub linked : ℕ → Option ℕ
 linked n = if n == 2 ^ 32 - 1 then None else Some n

@@ -1,4 +1,4 @@
--- Opened: the queues that are made, of which those with a row have its chains.
+-- Opened: the queues that exist, each with the chains of its row, if it has one.
 use Rattle.std.specs.Prelude.{ℕ, ◌≡◌, ◌==◌, ◌+◌, ◌<◌, ◌≤◌, ◌^◌, ◌%◌, Bool, true, false, not, List}
 use Rattle.std.specs.Prelude.{[], ◌∷◌, ◌++◌, filter, map, length, slice_index_or, unwrap_or, nat_eq}
 use Rattle.std.specs.Map.{lookup}
@@ -16,11 +16,11 @@ abbrev pub made_from : List ℕ → List (Bool × ℕ) → List ℕ
 made_from os [] = os
 made_from os (a ∷ log) = made_from (with_made os a.0 a.1) log
 
--- the numbers of those that are made, in the order in which they were made
+-- the numbers of the queues that exist, in the order in which they were made
 abbrev pub made_by : List (Bool × ℕ) → List ℕ
 made_by log = made_from [] log
 
--- the chains in a queue's row, or empty ones
+-- the chains in a queue's row, or empty chains if it has no row
 abbrev pub queue_at : List (ℕ × Queue) → ℕ → Queue
 queue_at rows o = unwrap_or (lookup (nat_eq o) rows) no_queue
 
@@ -28,11 +28,11 @@ queue_at rows o = unwrap_or (lookup (nat_eq o) rows) no_queue
 abbrev pub queues_by : List ℕ → List (ℕ × Queue) → List (ℕ × Queue)
 queues_by os rows = map (λ o. (o, queue_at rows o)) os
 
--- whether a queue with such low bits of its number is noted to have had a row
+-- whether it is noted that a queue with the same low bits of its number has had a row
 abbrev pub is_open : List Bool → ℕ → Bool
 is_open opened o = slice_index_or opened (o % 4096) false
 
--- rows are those of queues that are made, each is noted, and there is room for one of each queue
+-- each row is that of a queue that exists and is noted, and there is room for a row of each queue
 pub record AreQueues (os : List ℕ) (rows : List (ℕ × Queue)) (spare : ℕ) (opened : List Bool)
     (len : ℕ) : Type 0 where
   pub once : Unique os

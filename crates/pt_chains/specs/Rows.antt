@@ -7,7 +7,7 @@ use Rattle.pt_chains.specs.declared.sides.Queue.{Queue}
 use Rattle.pt_chains.specs.Chains.{numbers, Unique}
 use Rattle.pt_chains.specs.Boxes.{no_queue}
 
--- the slot of each number, what is in each slot, and for how many more rows there is room
+-- the slot of each number, the content of each slot, and the number of further rows that fit
 pub record RowsView : Type 0 where
   pub places : List (ℕ × ℕ)
   pub slots : List (Option (ℕ × Queue))
@@ -17,15 +17,15 @@ pub record RowsView : Type 0 where
 abbrev pub row_in : List (Option (ℕ × Queue)) → ℕ → Option (ℕ × Queue)
 row_in slots slot = slice_index_or slots slot None
 
--- whose row is in a slot
+-- the number of the queue whose row is in a slot
 abbrev pub number_in : List (Option (ℕ × Queue)) → ℕ → Option ℕ
 number_in slots slot = option_map (λ r. r.0) (row_in slots slot)
 
--- the chains in a slot, or empty ones
+-- the chains in a slot, or empty chains if it has no row
 abbrev pub chains_in : List (Option (ℕ × Queue)) → ℕ → Queue
 chains_in slots slot = unwrap_or (option_map (λ r. r.1) (row_in slots slot)) no_queue
 
--- the chains of each number
+-- each number with the chains of its row
 abbrev pub rows_by : List (ℕ × ℕ) → List (Option (ℕ × Queue)) → List (ℕ × Queue)
 rows_by places slots = map (λ e. (e.0, chains_in slots e.1)) places
 
@@ -38,7 +38,7 @@ pub record AreRows (places : List (ℕ × ℕ)) (slots : List (Option (ℕ × Qu
   pub own : (s o : ℕ) → number_in slots s ≡ Some o → lookup (nat_eq o) places ≡ Some s
   pub once : Unique (numbers places)
 
--- the numbers whose row isn't in this slot have the chains that they had
+-- the numbers whose row is not in this slot have the same chains as before
 abbrev pub AreOthersKept : ℕ → RowsView → RowsView → Type 0
 AreOthersKept slot old new =
     (number x : ℕ) → lookup (nat_eq number) old.places ≡ Some slot → (number == x) ≡ false

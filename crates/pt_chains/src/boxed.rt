@@ -1,4 +1,4 @@
-//! Queues that have a box only while one waits in them.
+//! Queues that have a box only while a call waits in them.
 
 ghost use Rattle.std.specs.Prelude.{◌≡◌, ◌≢◌, ◌↔◌, ◌+◌, ◌<◌, ◌≤◌, ◌^◌, ◌==◌, IfSome};
 ghost use Rattle.std.specs.Prelude.{IsTrue, IsSome, Some, None, slice_index, is_some, true, false};
@@ -18,20 +18,20 @@ use crate::spares::Spares;
 use std::alloc::Allocator;
 use std::marker::Model;
 
-/// A queue. Its chains take 2.4 kB, so it has a box for them only while one waits there. Those who
-/// wait in one chain are not put into the box until one of another chain comes.
+/// A queue. Its chains take 2.4 kB, so it has a box for them only while a call waits in it. Waiters
+/// of a single chain are not put into the box until a waiter of another chain comes.
 #[derive(Drop)]
 pub(crate) struct BoxedQueue<A: Allocator> {
     boxed: Option<Box<MarkedQueue, A>>,
-    /// The first of the lone chain, unless that is put into the box.
+    /// The first node of the lone chain, unless the chain is in the box.
     head: Link,
-    /// The last of it.
+    /// The last node of the lone chain.
     tail: Link,
-    /// How many wait in it.
+    /// The number of waiters in the lone chain.
     count: u32,
-    /// Its index.
+    /// The index of the lone chain.
     p: u8,
-    /// Whether it is one of writers.
+    /// Whether the lone chain is one of writers.
     writer: bool,
 }
 
@@ -72,7 +72,8 @@ fn put_lone<A: Allocator>(
     queue.put_chain(Link::to(head), tail, count, writer, p);
 }
 
-// All that wait are in the box then.
+// Puts the lone chain into the box, unless it is there already. All waiters are in the box
+// afterwards.
 #[inline(always)]
 fn join<A: Allocator>(
     boxed: &mut Option<Box<MarkedQueue, A>>,
@@ -97,7 +98,7 @@ fn join<A: Allocator>(
     }
 }
 
-// Whether a chain is this one.
+// Returns whether a chain has this kind and index.
 #[inline(always)]
 fn is_chain(own: bool, own_p: u8, writer: bool, p: usize) -> bool
     ensures { result ≡ true → (writer ≡ own) × (p ≡ own_p) }
@@ -105,7 +106,7 @@ fn is_chain(own: bool, own_p: u8, writer: bool, p: usize) -> bool
     own_p as usize == p && own == writer
 }
 
-// Whether a node between these two is all of a chain of so many.
+// Returns whether a node between these two is the only one of a chain with `count` waiters.
 #[inline(always)]
 fn is_last(count: u32, before: Link, next: Link) -> bool
     ensures { result ≡ true
@@ -114,7 +115,7 @@ fn is_last(count: u32, before: Link, next: Link) -> bool
     before.is_none() && next.is_none() && count == 1
 }
 
-// Whether a node between these two is one of more in a chain of so many.
+// Returns whether a node between these two is one of several in a chain with `count` waiters.
 #[inline(always)]
 fn is_of_more(count: u32, before: Link, next: Link) -> bool
     ensures { result ≡ true → (count ≢ 1) × ((is_some before || is_some next) ≡ true) }
@@ -123,7 +124,7 @@ fn is_of_more(count: u32, before: Link, next: Link) -> bool
 }
 
 impl<A: Allocator + Copy> BoxedQueue<A> {
-    /// A queue with no waiter. It takes no memory.
+    /// Creates a queue with no waiter, which allocates nothing.
     pub(crate) fn new() -> Self
         ensures { result ≡ no_queue }
     {
@@ -137,7 +138,7 @@ impl<A: Allocator + Copy> BoxedQueue<A> {
         }
     }
 
-    /// How many wait in it.
+    /// Returns the number of waiters in the queue.
     pub(crate) fn len(&self) -> usize
         ensures { result ≡ self.now.len }
     {
@@ -150,7 +151,7 @@ impl<A: Allocator + Copy> BoxedQueue<A> {
         }
     }
 
-    /// Makes a node the tail of one of its chains, and returns the previous tail.
+    /// Makes a node the tail of one of the queue's chains, and returns the previous tail.
     #[inline(always)]
     pub(crate) fn put_in(
         &mut self,
@@ -196,8 +197,8 @@ impl<A: Allocator + Copy> BoxedQueue<A> {
         self.boxed.as_mut().unwrap().put_in(writer, p, node)
     }
 
-    /// Takes a node, which is between these two, out of one of its chains. Returns its box if no
-    /// one waits any more.
+    /// Removes the node between these two from one of the queue's chains, and returns the queue's
+    /// box if no waiter is left.
     #[inline(always)]
     pub(crate) fn take_out(
         &mut self,
@@ -240,7 +241,7 @@ impl<A: Allocator + Copy> BoxedQueue<A> {
         }
     }
 
-    /// The first waiter's node: of the highest chain, writers first.
+    /// Returns the first waiter's node, the head of the highest chain, writers first.
     /// [XSH pthread_rwlock_unlock, 2.8.4]
     pub(crate) fn first(&self) -> Option<NodeIndex>
         ensures { IsFirst self.now result }
@@ -254,7 +255,7 @@ impl<A: Allocator + Copy> BoxedQueue<A> {
         }
     }
 
-    /// The first writer's node.  [XSH pthread_rwlock_unlock]
+    /// Returns the first writer's node.  [XSH pthread_rwlock_unlock]
     pub(crate) fn first_writer(&self) -> Option<NodeIndex>
         ensures { IsFirstWriter self.now result }
     {
@@ -267,7 +268,7 @@ impl<A: Allocator + Copy> BoxedQueue<A> {
         }
     }
 
-    /// Whether there is a writer of the priority with this index or of a higher one.
+    /// Returns whether there is a writer of the priority with this index or of a higher one.
     /// [XSH pthread_rwlock_rdlock]
     pub(crate) fn has_writer_from(&self, p: usize) -> bool
         ensures { IsTrue result ↔ HasWriterFrom self.now p }

@@ -14,19 +14,19 @@ use slab::Slab;
 use std::alloc::{Allocator, Global};
 use std::marker::Model;
 
-/// All queues as chains of nodes, each linked both ways by the nodes' indices.
+/// All queues, as chains of nodes that are linked both ways by the nodes' indices.
 ///
 /// A queue counts its writers and its readers by priority.
 pub struct Chains<A: Allocator + Copy = Global> {
     homes: Homes<A>,
     nodes: Slab<Node, A>,
     queues: Queues<A>,
-    /// The boxes of no queue.
+    /// The boxes that belong to no queue.
     spares: Spares<A>,
-    /// How many boxes there are in all: as many as queues may have a waiter at once, which are no
-    /// more than the clients and no more than the queues.
+    /// The number of boxes in total. They suffice for all queues that may have a waiter at once: no
+    /// more than there are clients, and no more than there are queues.
     boxes: usize,
-    /// What was put in and taken out. Only proofs read it.
+    /// The log of waiters that were put in and removed. Only proofs read it.
     log: Log<Option<u64>, Waiter>,
 }
 
@@ -49,7 +49,7 @@ impl<A: Allocator + Copy> Model for Chains<A> {
         × Each (λ b. HasNone b.value) p.spares.items };
 }
 
-// Not derived, so that those that drop chains prove nothing of their parts.
+// Not derived, so that code that drops chains need not prove anything about their parts.
 impl<A: Allocator + Copy> Drop for Chains<A> {
     fn drop(self) {
         let Chains {
@@ -64,7 +64,7 @@ impl<A: Allocator + Copy> Drop for Chains<A> {
 }
 
 impl<A: Allocator + Copy> Chains<A> {
-    /// No client and no queue. It takes no memory.
+    /// Creates a list with no client and no queue, which allocates nothing.
     pub fn new(alloc: A) -> Self
         ensures { result ≡ no_waits }
     {
@@ -176,7 +176,7 @@ impl<A: Allocator + Copy> WaitList for Chains<A> {
         let place = nodes::place_at(&self.nodes, node);
         let waiter = place.waiter;
         let p = waiter.prio.level() as usize - 1;
-        // No one is ahead of it in its chain.
+        // The first waiter of a queue has no other ahead of it in its chain.
         let before = Link::none();
         let freed = queues::remove(
             &mut self.queues,

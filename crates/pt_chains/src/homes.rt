@@ -11,12 +11,12 @@ use std::hash::{BuildHasherDefault, FoldHasher};
 #[derive(Drop)]
 pub(crate) struct Homes<A: Allocator + Copy> {
     pub(crate) map: HashMap<u64, NodeIndex, BuildHasherDefault<FoldHasher>, A>,
-    // The number of the client that was admitted first.
+    // The number of the last client that was admitted while there was no other.
     first: u64,
 }
 
 impl<A: Allocator + Copy> Homes<A> {
-    /// No client. It takes no memory.
+    /// Creates an empty map, which allocates nothing.
     pub(crate) fn new(alloc: A) -> Self
         ensures { result.map.entries ≡ [] }
     {
@@ -26,13 +26,14 @@ impl<A: Allocator + Copy> Homes<A> {
         }
     }
 
-    /// How far a client's number is above the first one. The distance of a lower number wraps.
+    /// Returns how far a client's number is above the first one. The distance of a lower number
+    /// wraps.
     #[inline(always)]
     pub(crate) fn distance_of(&self, client: u64) -> usize {
         client.wrapping_sub(self.first) as usize
     }
 
-    /// Notes the number of a new client, if it is the only one.
+    /// Notes the number of a new client if it is the only one.
     pub(crate) fn note_first(&mut self, client: u64)
         ensures { self.new.map ≡ self.old.map }
     {

@@ -1,7 +1,7 @@
 //! The queues of a core: a `WaitList` whose queues are chains of nodes.
 //!
-//! Contracts see the queues alone, as those of the trait do. No clause speaks of nodes or chains.
-//! Only tests show that room which is asked for is found.
+//! Contracts see only the queues, as those of the trait do, and no clause mentions nodes or chains.
+//! Only tests show that room is found when it is asked for.
 #![tactic(auto)]
 
 mod boxed;

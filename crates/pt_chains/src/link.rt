@@ -1,11 +1,11 @@
-//! The index of a node, and a link to a node or to none, each in 4 bytes.
+//! The index of a node, and a link to a node or to none. Each takes 4 bytes.
 
 ghost use Rattle.std.specs.Prelude.{◌≡◌, ◌<◌, ◌-◌, ◌^◌, None, Some, is_some, not};
 ghost use Rattle.std.specs.Prelude.{if◌then◌else◌};
 
 use std::marker::Model;
 
-/// How many nodes there may be, so that the greatest number of 4 bytes is no node's index.
+/// The most nodes that there may be, so that the greatest number of 4 bytes is no node's index.
 pub(crate) const MOST_NODES: usize = 4294967295;
 
 /// The index of a node.
@@ -27,7 +27,7 @@ impl Model for NodeIndex {
 }
 
 impl NodeIndex {
-    /// The index of the node there.
+    /// Creates the index of the node at this position.
     pub(crate) fn new(index: usize) -> NodeIndex
         requires { index < 2 ^ 32 - 1 }
         ensures { result ≡ index }
@@ -37,7 +37,7 @@ impl NodeIndex {
         }
     }
 
-    /// Where the node is.
+    /// Returns the position of the node.
     pub(crate) fn get(self) -> usize
         ensures { result ≡ self }
     {
@@ -48,7 +48,7 @@ impl NodeIndex {
 /// A link to a node, or to none.
 #[derive(Clone, Copy)]
 pub(crate) struct Link {
-    // The index of the node, or the greatest number for none: an `Option<u32>` takes 8 bytes.
+    // The index of the node, or the greatest number for none, since an `Option<u32>` takes 8 bytes.
     number: u32,
 }
 
@@ -64,14 +64,14 @@ impl Model for Link {
 }
 
 impl Link {
-    /// A link to no node.
+    /// Creates a link to no node.
     pub(crate) fn none() -> Link
         ensures { result ≡ None }
     {
         Link { number: u32::MAX }
     }
 
-    /// A link to a node.
+    /// Creates a link to a node.
     pub(crate) fn to(node: NodeIndex) -> Link
         ensures { result ≡ Some node }
     {
@@ -80,7 +80,7 @@ impl Link {
         }
     }
 
-    /// The node, if it leads to one.
+    /// Returns the node to which the link leads, if any.
     pub(crate) fn get(self) -> Option<NodeIndex>
         ensures { result ≡ self }
     {
@@ -92,14 +92,14 @@ impl Link {
         })
     }
 
-    /// Whether it leads to none.
+    /// Returns whether the link leads to no node.
     pub(crate) fn is_none(self) -> bool
         ensures { is_some self ≡ not result }
     {
         self.number == u32::MAX
     }
 
-    /// This link if the first of these leads to a node, and otherwise the second.
+    /// Returns this link if `first` leads to a node, and `second` otherwise.
     #[inline(always)]
     pub(crate) fn unless_after(self, first: Link, second: Link) -> Link
         ensures { result ≡ (if is_some first then self else second) }

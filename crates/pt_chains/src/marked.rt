@@ -16,7 +16,8 @@ use pt_types::MOST_PRIORITY;
 use std::marker::Model;
 
 /// A queue with its highest chains, so that its first waiter is found without a search. While no
-/// one waits in it they are not known, so the last waiter is taken out without a search too.
+/// call waits in it, the highest chains are not known, so the last waiter is removed without a
+/// search too.
 #[derive(Drop)]
 pub(crate) struct MarkedQueue {
     queue: Queue,
@@ -36,7 +37,7 @@ impl Model for MarkedQueue {
         × IsHighestChain m.queue.readers.counts m.reader };
 }
 
-// The index of the highest chain, after a waiter was put into the chain of index `p`.
+// Returns the index of the highest chain after a waiter was put into the chain of index `p`.
 fn raised(before: Option<usize>, p: usize) -> Option<usize>
     ensures { MatchOption before (result ≡ Some p) (λ i. result ≡ Some (max i p)) }
 {
@@ -46,7 +47,7 @@ fn raised(before: Option<usize>, p: usize) -> Option<usize>
     }
 }
 
-// The index of the highest chain, after a waiter was taken out; it was `before` until then.
+// Returns the index of the highest chain after a waiter was removed. Until then it was `before`.
 fn lowered(counts: &[u32; MOST_PRIORITY], before: Option<usize>) -> Option<usize>
     requires { IsBound counts.now before }
     ensures { IsHighestChain counts.now result }
@@ -58,7 +59,7 @@ fn lowered(counts: &[u32; MOST_PRIORITY], before: Option<usize>) -> Option<usize
 }
 
 impl MarkedQueue {
-    /// A queue with no waiter.
+    /// Creates a queue with no waiter.
     pub(crate) fn new() -> Self
         ensures { HasNone result }
     {
@@ -73,14 +74,14 @@ impl MarkedQueue {
         }
     }
 
-    /// How many wait in it.
+    /// Returns the number of waiters in the queue.
     pub(crate) fn len(&self) -> usize
         ensures { result ≡ self.now.len }
     {
         self.queue.len
     }
 
-    /// Makes a node the tail of one of its chains, and returns the previous tail.
+    /// Makes a node the tail of one of the queue's chains, and returns the previous tail.
     #[inline(always)]
     pub(crate) fn put_in(&mut self, writer: bool, p: usize, node: NodeIndex) -> Link
         requires index { p < most_priority }
@@ -113,8 +114,8 @@ impl MarkedQueue {
         sides::put_chain(&mut self.queue, head, tail, count, writer, p);
     }
 
-    /// Takes a node, which is between these two, out of one of its chains. Returns whether no one
-    /// waits any more.
+    /// Removes the node between these two from one of the queue's chains, and returns whether no
+    /// waiter is left.
     #[inline(always)]
     pub(crate) fn take_out(&mut self, writer: bool, p: usize, before: Link, next: Link) -> bool
         requires index { p < most_priority }
@@ -137,7 +138,7 @@ impl MarkedQueue {
         false
     }
 
-    /// The first waiter's node: of the highest chain, writers first.
+    /// Returns the first waiter's node, the head of the highest chain, writers first.
     /// [XSH pthread_rwlock_unlock, 2.8.4]
     pub(crate) fn first(&self) -> Option<NodeIndex>
         requires { self.now.len ≢ 0 }
@@ -151,7 +152,7 @@ impl MarkedQueue {
         }
     }
 
-    /// The first writer's node.  [XSH pthread_rwlock_unlock]
+    /// Returns the first writer's node.  [XSH pthread_rwlock_unlock]
     pub(crate) fn first_writer(&self) -> Option<NodeIndex>
         requires { self.now.len ≢ 0 }
         ensures { IsFirstWriter self.now result }
@@ -159,7 +160,7 @@ impl MarkedQueue {
         self.queue.writers.heads[self.writer?].get()
     }
 
-    /// Whether there is a writer of the priority with this index or of a higher one.
+    /// Returns whether there is a writer of the priority with this index or of a higher one.
     /// [XSH pthread_rwlock_rdlock]
     pub(crate) fn has_writer_from(&self, p: usize) -> bool
         requires { self.now.len ≢ 0 }

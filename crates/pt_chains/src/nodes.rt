@@ -1,4 +1,4 @@
-//! A node for each client, linked to those next to it in its chain.
+//! A node for each client, linked to the nodes next to it in its chain.
 
 ghost use Rattle.std.specs.Prelude.{◌≡◌, ◌≢◌, ◌+◌, ◌-◌, ◌<◌, ◌≤◌, ◌^◌, ◌==◌, Some, None, IsSome};
 ghost use Rattle.std.specs.Prelude.{IfSome, IfNone, false, OnOk, []};
@@ -22,9 +22,9 @@ use std::alloc::{AllocError, Allocator};
 /// A client's place in a chain, if it is in one.
 #[derive(Clone, Copy)]
 pub(crate) struct Node {
-    /// The number of the queue in which it is.
+    /// The number of the queue in which the node is, if any.
     pub(crate) object: Option<u64>,
-    /// The client's waiter. While it is in no chain, the client alone counts.
+    /// The client's waiter. While the node is in no chain, only the waiter's client counts.
     pub(crate) waiter: Waiter,
     pub(crate) next: Link,
     pub(crate) before: Link,
@@ -40,7 +40,7 @@ pub(crate) struct Place {
     pub(crate) next: Link,
 }
 
-/// Lets a node lead to this one.
+/// Sets the link from a node to the next one.
 pub(crate) fn set_next<A: Allocator + Copy>(nodes: &mut Slab<Node, A>, node: NodeIndex, next: Link)
     requires { IsSome (node_in nodes.old.slots node) }
     ensures there { (n : ℕ)
@@ -54,7 +54,7 @@ pub(crate) fn set_next<A: Allocator + Copy>(nodes: &mut Slab<Node, A>, node: Nod
     nodes.get_mut(node.get()).unwrap().next = next;
 }
 
-/// Lets a node lead back to this one.
+/// Sets the link from a node to the one before it.
 pub(crate) fn set_before<A: Allocator + Copy>(
     nodes: &mut Slab<Node, A>,
     node: NodeIndex,
@@ -73,7 +73,7 @@ pub(crate) fn set_before<A: Allocator + Copy>(
     nodes.get_mut(node.get()).unwrap().before = before;
 }
 
-/// Writes a node anew.
+/// Replaces a node.
 pub(crate) fn set_node<A: Allocator + Copy>(nodes: &mut Slab<Node, A>, node: NodeIndex, value: Node)
     requires { IsSome (node_in nodes.old.slots node) }
     ensures there { (n : ℕ)
@@ -94,7 +94,7 @@ pub(crate) fn set_node<A: Allocator + Copy>(nodes: &mut Slab<Node, A>, node: Nod
     *nodes.get_mut(node.get()).unwrap() = value;
 }
 
-/// Writes in a node that it is in no chain.
+/// Marks a node as being in no chain.
 fn clear<A: Allocator + Copy>(nodes: &mut Slab<Node, A>, node: NodeIndex)
     requires { IsSome (node_in nodes.old.slots node) }
     ensures there { (n : ℕ)
@@ -113,7 +113,7 @@ fn clear<A: Allocator + Copy>(nodes: &mut Slab<Node, A>, node: NodeIndex)
     node.before = Link::none();
 }
 
-/// The waiter of a node, which is in a chain.
+/// Returns the waiter of a node, if a node is given. The node must be in a chain.
 pub(crate) fn waiter_of<A: Allocator + Copy>(
     nodes: &Slab<Node, A>,
     node: Option<NodeIndex>,
@@ -126,7 +126,7 @@ pub(crate) fn waiter_of<A: Allocator + Copy>(
     Some(node.waiter)
 }
 
-/// Puts a node after the last of its chain.
+/// Puts a node after the last node of its chain, if the chain has one.
 pub(crate) fn insert<A: Allocator + Copy>(
     nodes: &mut Slab<Node, A>,
     last: Link,
@@ -163,7 +163,7 @@ pub(crate) fn insert<A: Allocator + Copy>(
     set_node(nodes, node, value);
 }
 
-/// Takes a node out from between these two.
+/// Removes a node, which is between these two, from its chain.
 pub(crate) fn remove<A: Allocator + Copy>(
     nodes: &mut Slab<Node, A>,
     node: NodeIndex,
@@ -198,8 +198,8 @@ pub(crate) fn remove<A: Allocator + Copy>(
     clear(nodes, node);
 }
 
-// The node that is as far from the start as the client's number is above the first one, if it is
-// the client's.
+// Returns the node whose index is the distance of the client's number above the first one, if it is
+// the client's node.
 #[inline(always)]
 fn node_by_distance<A: Allocator + Copy>(
     homes: &Homes<A>,
@@ -217,7 +217,7 @@ fn node_by_distance<A: Allocator + Copy>(
     }
 }
 
-// The node of a client, looked up.
+// Returns the node of a client, looked up in the map.
 #[cold]
 #[inline(never)]
 fn node_by_number<A: Allocator + Copy>(homes: &Homes<A>, client: u64) -> Option<NodeIndex>
@@ -226,8 +226,8 @@ fn node_by_number<A: Allocator + Copy>(homes: &Homes<A>, client: u64) -> Option<
     homes.map.get(&client).copied()
 }
 
-// The node of a client, if it has one. Clients whose numbers follow one another are found by the
-// distance of the number, without a look at the list of numbers.
+// Returns the node of a client, if it has one. If the numbers of clients follow one another, a node
+// is found by the distance of the number, without a look-up in the map.
 #[inline(always)]
 fn node_of<A: Allocator + Copy>(
     homes: &Homes<A>,
@@ -243,7 +243,7 @@ fn node_of<A: Allocator + Copy>(
     }
 }
 
-/// The index of a client's node, which it has.
+/// Returns the index of a client's node. The client must have one.
 #[inline(always)]
 pub(crate) fn home_of<A: Allocator + Copy>(
     homes: &Homes<A>,
@@ -257,7 +257,7 @@ pub(crate) fn home_of<A: Allocator + Copy>(
     node_of(homes, nodes, client).unwrap()
 }
 
-/// Where a client waits, if it does.
+/// Returns the place at which a client waits, if it does.
 pub(crate) fn place_of<A: Allocator + Copy>(
     homes: &Homes<A>,
     nodes: &Slab<Node, A>,
@@ -285,7 +285,7 @@ pub(crate) fn place_of<A: Allocator + Copy>(
     })
 }
 
-/// The place of a node that is in a chain.
+/// Returns the place of a node that is in a chain.
 #[inline(always)]
 pub(crate) fn place_at<A: Allocator + Copy>(nodes: &Slab<Node, A>, index: NodeIndex) -> Place
     requires { IsSome (entry_in nodes.now.slots index) }
@@ -308,7 +308,7 @@ pub(crate) fn place_at<A: Allocator + Copy>(nodes: &Slab<Node, A>, index: NodeIn
     }
 }
 
-/// Makes room for one more node, if there are not too many.
+/// Makes room for one more node, unless there are too many already.
 pub(crate) fn make_room<A: Allocator + Copy>(
     homes: &mut Homes<A>,
     nodes: &mut Slab<Node, A>,
@@ -329,7 +329,7 @@ pub(crate) fn make_room<A: Allocator + Copy>(
     nodes.reserve(1)
 }
 
-// A client's node that is in no chain.
+// Creates a client's node, which is in no chain.
 fn idle(client: u64) -> Node
     ensures entry { entry_at result ≡ None }
     ensures client { result.waiter.client ≡ client }
@@ -348,7 +348,7 @@ fn idle(client: u64) -> Node
     }
 }
 
-/// Adds a node that is in no chain, and returns its index.
+/// Adds a client's node, which is in no chain, and returns its index.
 pub(crate) fn admit<A: Allocator + Copy>(
     homes: &mut Homes<A>,
     nodes: &mut Slab<Node, A>,
@@ -376,7 +376,7 @@ pub(crate) fn admit<A: Allocator + Copy>(
     node
 }
 
-/// Takes a client's node away.
+/// Removes a client's node, if it has one.
 pub(crate) fn dismiss<A: Allocator + Copy>(
     homes: &mut Homes<A>,
     nodes: &mut Slab<Node, A>,

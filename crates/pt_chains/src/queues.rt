@@ -1,4 +1,4 @@
-//! The queues that are made. A queue has a row from its first waiter on.
+//! The queues that exist. A queue has a row from its first waiter on.
 
 ghost use Rattle.std.specs.Prelude.{◌≡◌, ◌↔◌, ◌+◌, ◌-◌, ◌++◌, ◌∷◌, [], ℕ, ◌<◌, ◌≤◌, ◌^◌, ◌==◌};
 ghost use Rattle.std.specs.Prelude.{◌||◌, Some, None, IsSome, IfSome, IsTrue, unwrap_or, true};
@@ -25,24 +25,25 @@ use http_server::Log;
 use std::alloc::Allocator;
 use std::marker::Model;
 
-/// For how many values of a number's low bits it is noted whether such a queue ever had a row.
+/// The number of values of a number's low bits for which it is noted whether a queue with such a
+/// number ever had a row.
 const COUNT: usize = 4096;
 
-/// How many queues there may be.
+/// The most queues that there may be.
 const MOST_QUEUES: usize = 4294967295;
 
-/// The queues that are made.
+/// The queues that exist.
 ///
-/// A queue has a row from its first waiter on. So one that nobody waits in is made, asked and
-/// discarded without a look at the rows.
+/// A queue has a row from its first waiter on. So one in which no call ever waited is made,
+/// discarded and mostly asked without a search for its row.
 #[derive(Drop)]
 pub(crate) struct Queues<A: Allocator + Copy> {
     rows: Rows<A>,
     /// For each value of a number's low bits, whether a queue with such a number ever had a row.
     opened: [bool; COUNT],
-    /// How many queues there are. There is room for a row of each.
+    /// The number of queues. There is room for a row of each.
     len: usize,
-    /// What was made (true) and discarded (false). Only proofs read it.
+    /// The log of queues that were made (true) and discarded (false). Only proofs read it.
     log: Log<bool, u64>,
 }
 
@@ -61,7 +62,7 @@ impl<A: Allocator + Copy> Model for Queues<A> {
 }
 
 impl<A: Allocator + Copy> Queues<A> {
-    /// No queue. It takes no memory.
+    /// Creates an empty set of queues, which allocates nothing.
     pub(crate) fn new(alloc: A) -> Self
         ensures { result ≡ [] }
     {
@@ -73,7 +74,7 @@ impl<A: Allocator + Copy> Queues<A> {
         }
     }
 
-    /// How many there are.
+    /// Returns the number of queues.
     pub(crate) fn len(&self) -> usize
         ensures len { result ≡ length self.now }
         ensures within { length self.now < 2 ^ 32 }
@@ -82,7 +83,7 @@ impl<A: Allocator + Copy> Queues<A> {
     }
 }
 
-// Whether a queue with such low bits of its number ever had a row.
+// Returns whether a queue with the same low bits of its number ever had a row.
 #[inline(always)]
 fn is_open(opened: &[bool; COUNT], object: u64) -> bool
     ensures { result ≡ is_open opened.now object }
@@ -98,7 +99,7 @@ fn set_open(opened: &mut [bool; COUNT], object: u64)
     opened[object as usize % COUNT] = true;
 }
 
-// The slot of a queue's row, which it gets if it has none.
+// Returns the slot of a queue's row. The row is added if the queue has none.
 #[inline(always)]
 fn row_slot<A: Allocator + Copy>(
     rows: &mut Rows<A>,
@@ -126,7 +127,7 @@ fn row_slot<A: Allocator + Copy>(
     slot
 }
 
-// How many wait in a queue whose row is not at the place that its hint gives.
+// Returns the number of waiters in a queue whose row is not in the slot that its hint gives.
 #[cold]
 #[inline(never)]
 fn len_far<A: Allocator + Copy>(queues: &Queues<A>, object: u64) -> usize
@@ -139,7 +140,7 @@ fn len_far<A: Allocator + Copy>(queues: &Queues<A>, object: u64) -> usize
     sides::len_of(&queues.rows, object)
 }
 
-/// How many wait in a queue.
+/// Returns the number of waiters in a queue.
 #[inline(always)]
 pub(crate) fn len_of<A: Allocator + Copy>(queues: &Queues<A>, object: u64) -> usize
     ensures { result
@@ -151,7 +152,7 @@ pub(crate) fn len_of<A: Allocator + Copy>(queues: &Queues<A>, object: u64) -> us
     }
 }
 
-/// Makes a node the tail of a chain of a queue that there is, and returns the tail before. A queue
+/// Makes a node the tail of a chain of an existing queue, and returns the previous tail. A queue
 /// with no waiter takes a spare box.
 #[inline(always)]
 pub(crate) fn insert<A: Allocator + Copy>(
@@ -188,8 +189,8 @@ pub(crate) fn insert<A: Allocator + Copy>(
     queues.rows.put_in(slot, spares, writer, p, node)
 }
 
-/// Takes a node out of a chain of a queue in which it is, if it was between these two. Returns the
-/// queue's box if no one waits there any more.
+/// Removes the node between these two from a chain of its queue, and returns the queue's box if no
+/// waiter is left.
 #[inline(always)]
 pub(crate) fn remove<A: Allocator + Copy>(
     queues: &mut Queues<A>,
@@ -217,7 +218,7 @@ pub(crate) fn remove<A: Allocator + Copy>(
     sides::remove(&mut queues.rows, at, object, writer, p, before, next)
 }
 
-/// Makes an empty queue, and returns whether there was memory for its row.
+/// Makes an empty queue. Returns false if there are too many queues or no memory for its row.
 pub(crate) fn make<A: Allocator + Copy>(queues: &mut Queues<A>, object: u64) -> bool
     requires { lookup (nat_eq object) queues.old ≡ None }
     ensures numbers { numbers queues.new
@@ -240,7 +241,7 @@ pub(crate) fn make<A: Allocator + Copy>(queues: &mut Queues<A>, object: u64) -> 
     true
 }
 
-// Takes a queue's row away, if such a queue ever had one.
+// Removes a queue's row, if a queue with the same low bits of its number ever had one.
 #[inline(always)]
 fn close<A: Allocator + Copy>(rows: &mut Rows<A>, opened: &[bool; COUNT], object: u64)
     requires { is_open opened.now object ≡ false
@@ -256,7 +257,7 @@ fn close<A: Allocator + Copy>(rows: &mut Rows<A>, opened: &[bool; COUNT], object
     rows.take(object);
 }
 
-/// Takes a queue away, which is there.
+/// Removes an existing queue.
 #[inline(always)]
 pub(crate) fn discard<A: Allocator + Copy>(queues: &mut Queues<A>, object: u64)
     requires { IsSome (lookup (nat_eq object) queues.old) }
@@ -269,7 +270,7 @@ pub(crate) fn discard<A: Allocator + Copy>(queues: &mut Queues<A>, object: u64)
     queues.len -= 1;
 }
 
-/// The node of the first of a queue.
+/// Returns the node of the first waiter in a queue.
 #[inline(always)]
 pub(crate) fn first_of<A: Allocator + Copy>(queues: &Queues<A>, object: u64) -> Option<NodeIndex>
     ensures none { lookup (nat_eq object) queues.now ≡ None → result ≡ None }
@@ -283,13 +284,15 @@ pub(crate) fn first_of<A: Allocator + Copy>(queues: &Queues<A>, object: u64) -> 
     sides::first_of(&queues.rows, object)
 }
 
-/// The slot in which a queue's row is looked for first. The row there may be another's.
+/// Returns the slot in which a queue's row is looked for first. The row in it may be that of
+/// another queue.
 #[inline(always)]
 pub(crate) fn noted_row<A: Allocator + Copy>(queues: &Queues<A>, object: u64) -> usize {
     queues.rows.hint(object)
 }
 
-/// As `first_of`, for a queue that has a row, most likely. That is looked for in this slot first.
+/// Does what `first_of` does, for a queue that most likely has a row. The row is looked for in this
+/// slot first.
 #[inline(always)]
 pub(crate) fn first_in_row<A: Allocator + Copy>(
     queues: &Queues<A>,
@@ -304,7 +307,7 @@ pub(crate) fn first_in_row<A: Allocator + Copy>(
     sides::first_from(&queues.rows, at, object)
 }
 
-/// The node of the first of a queue that asks for a write lock.
+/// Returns the node of the first waiter in a queue that asks for a write lock.
 pub(crate) fn first_writer_of<A: Allocator + Copy>(
     queues: &Queues<A>,
     object: u64,
@@ -320,7 +323,7 @@ pub(crate) fn first_writer_of<A: Allocator + Copy>(
     sides::first_writer_of(&queues.rows, object)
 }
 
-/// Whether a queue has a writer of the priority with this index or a higher one.
+/// Returns whether a queue has a writer of the priority with this index or a higher one.
 pub(crate) fn has_writer_from<A: Allocator + Copy>(
     queues: &Queues<A>,
     object: u64,

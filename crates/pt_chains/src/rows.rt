@@ -24,7 +24,7 @@ use std::collections::HashMap;
 use std::hash::{BuildHasherDefault, FoldHasher};
 use std::marker::Model;
 
-/// For how many values of a number's low bits there is a hint.
+/// The number of hints, one for each value of a number's low bits.
 const COUNT: usize = 4096;
 
 /// The chains of queues, by the queues' numbers.
@@ -34,10 +34,10 @@ const COUNT: usize = 4096;
 pub(crate) struct Rows<A: Allocator + Copy> {
     /// The slot of each number.
     places: HashMap<u64, usize, BuildHasherDefault<FoldHasher>, A>,
-    /// In each slot a queue, with its number.
+    /// The slots, each with a queue and its number.
     slots: Slab<(u64, BoxedQueue<A>), A>,
     /// For each value of a number's low bits, the slot that was noted last with such a number. The
-    /// row there may be another's.
+    /// row in it may be that of another number.
     hints: [u16; COUNT],
 }
 
@@ -59,7 +59,7 @@ impl<A: Allocator + Copy> Model for Rows<A> {
 }
 
 impl<A: Allocator + Copy> Rows<A> {
-    /// No row. It takes no memory.
+    /// Creates an empty set of rows, which allocates nothing.
     pub(crate) fn new(alloc: A) -> Self
         ensures { rows_of result ≡ [] }
     {
@@ -70,14 +70,15 @@ impl<A: Allocator + Copy> Rows<A> {
         }
     }
 
-    /// How many rows there are.
+    /// Returns the number of rows.
     pub(crate) fn len(&self) -> usize
         ensures { result ≡ length (rows_of self.now) }
     {
         self.places.len()
     }
 
-    /// The slot in which a number's row is looked for first. The row there may be another's.
+    /// Returns the slot in which a number's row is looked for first. The row in it may be that of
+    /// another number.
     #[inline(always)]
     pub(crate) fn hint(&self, number: u64) -> usize {
         self.hints[number as usize % COUNT] as usize
@@ -92,7 +93,7 @@ impl<A: Allocator + Copy> Rows<A> {
         }
     }
 
-    // The queue in a slot, if it is the number's.
+    // Returns the queue in a slot if it is the number's.
     #[inline(always)]
     fn queue_in(&self, slot: usize, number: u64) -> Option<&BoxedQueue<A>>
         ensures { IfSome result (λ queue.
@@ -104,7 +105,7 @@ impl<A: Allocator + Copy> Rows<A> {
         }
     }
 
-    // The queue of a number, by its hash.
+    // Returns the queue of a number, found by the number's hash.
     #[cold]
     #[inline(never)]
     fn queue_by_hash(&self, number: u64) -> Option<&BoxedQueue<A>>
@@ -115,7 +116,7 @@ impl<A: Allocator + Copy> Rows<A> {
         Some(queue)
     }
 
-    /// The queue of a number, if it is in the slot of its hint.
+    /// Returns the queue of a number if it is in the slot of the number's hint.
     #[inline(always)]
     pub(crate) fn get_by_hint(&self, number: u64) -> Option<&BoxedQueue<A>>
         ensures { IfSome result (λ queue.
@@ -124,7 +125,7 @@ impl<A: Allocator + Copy> Rows<A> {
         self.queue_in(self.hint(number), number)
     }
 
-    /// The queue of a number, if there is one. It is looked for in this slot first.
+    /// Returns the queue of a number, if there is one. The given slot is tried first.
     #[inline(always)]
     pub(crate) fn get_from(&self, slot: usize, number: u64) -> Option<&BoxedQueue<A>>
         ensures { option_copied result ≡ lookup (nat_eq number) (rows_of self.now) }
@@ -135,7 +136,7 @@ impl<A: Allocator + Copy> Rows<A> {
         }
     }
 
-    /// The queue of a number, if there is one.
+    /// Returns the queue of a number, if there is one.
     #[inline(always)]
     pub(crate) fn get(&self, number: u64) -> Option<&BoxedQueue<A>>
         ensures { option_copied result ≡ lookup (nat_eq number) (rows_of self.now) }
@@ -143,7 +144,7 @@ impl<A: Allocator + Copy> Rows<A> {
         self.get_from(self.hint(number), number)
     }
 
-    // Whether a number's row is in a slot.
+    // Returns whether a number's row is in a slot.
     #[inline(always)]
     fn is_in(&self, slot: usize, number: u64) -> bool
         ensures { OnTrue result (lookup (nat_eq number) self.now.places ≡ Some slot) }
@@ -154,7 +155,7 @@ impl<A: Allocator + Copy> Rows<A> {
         }
     }
 
-    // The slot of a number's row, by the number's hash.
+    // Returns the slot of a number's row, found by the number's hash.
     #[cold]
     #[inline(never)]
     fn slot_by_hash(&self, number: u64) -> Option<usize>
@@ -163,7 +164,7 @@ impl<A: Allocator + Copy> Rows<A> {
         self.places.get(&number).copied()
     }
 
-    /// The slot of a number's row, if there is one. It is looked for in this slot first.
+    /// Returns the slot of a number's row, if there is one. The given slot is tried first.
     #[inline(always)]
     pub(crate) fn slot_from(&self, slot: usize, number: u64) -> Option<usize>
         ensures { result ≡ lookup (nat_eq number) self.now.places }
@@ -174,7 +175,7 @@ impl<A: Allocator + Copy> Rows<A> {
         self.slot_by_hash(number)
     }
 
-    /// Makes room for this many rows in all, and returns whether there was memory.
+    /// Makes room for this many rows in total, and returns whether there was memory for them.
     pub(crate) fn reserve(&mut self, rows: usize) -> bool
         ensures same { (x : ℕ)
             → lookup (nat_eq x) (rows_of self.new) ≡ lookup (nat_eq x) (rows_of self.old) }
@@ -206,7 +207,7 @@ impl<A: Allocator + Copy> Rows<A> {
         slot
     }
 
-    /// Makes a node the tail of a chain of the queue in a slot, and returns the tail before. A
+    /// Makes a node the tail of a chain of the queue in a slot, and returns the previous tail. A
     /// queue with no waiter takes a spare box.
     #[inline(always)]
     pub(crate) fn put_in(
@@ -238,8 +239,8 @@ impl<A: Allocator + Copy> Rows<A> {
         queue.put_in(spares, writer, p, node)
     }
 
-    /// Takes a node out of a chain of the queue in a slot, if it was between these two. Returns the
-    /// queue's box if no one waits there any more.
+    /// Removes the node between these two from a chain of the queue in a slot, and returns the
+    /// queue's box if no waiter is left.
     #[inline(always)]
     pub(crate) fn take_out(
         &mut self,
@@ -263,7 +264,7 @@ impl<A: Allocator + Copy> Rows<A> {
         queue.take_out(writer, p, before, next)
     }
 
-    /// Takes a number's row away, if there is one.
+    /// Removes a number's row, if there is one.
     #[cold]
     #[inline(never)]
     pub(crate) fn take(&mut self, number: u64)

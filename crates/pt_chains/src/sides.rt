@@ -1,4 +1,4 @@
-//! Queues as the ends and the counts of their chains.
+//! Queues, stored as the ends and the counts of their chains.
 
 ghost use Rattle.std.specs.Prelude.{◌≡◌, ◌↔◌, ◌+◌, false, IsTrue, ◌-◌, ◌<◌, ◌≤◌};
 ghost use Rattle.std.specs.Prelude.{◌^◌, ◌==◌, ◌&&◌, Some, None, IsSome, IfSome, unwrap_or};
@@ -35,7 +35,7 @@ pub(crate) struct Queue {
     pub(crate) len: usize,
 }
 
-/// Empty chains of one kind.
+/// Creates empty chains of one kind.
 pub(crate) fn no_side() -> Side
     ensures counts { (p : ℕ) → p < most_priority → slice_index result.counts p ≡ 0 }
     ensures heads { (p : ℕ) → p < most_priority → slice_index_or result.heads p None ≡ None }
@@ -49,7 +49,7 @@ pub(crate) fn no_side() -> Side
     }
 }
 
-/// Makes this node the tail of a chain, and returns the tail before.
+/// Makes a node the tail of a chain, and returns the previous tail.
 pub(crate) fn add(side: &mut Side, p: usize, node: NodeIndex) -> Link
     requires index { p < most_priority }
     requires room { slice_index side.old.counts p + 1 < 2 ^ 32 }
@@ -79,7 +79,7 @@ pub(crate) fn add(side: &mut Side, p: usize, node: NodeIndex) -> Link
     last
 }
 
-/// Takes a node out of a chain, which was between these two.
+/// Removes the node between these two from a chain.
 pub(crate) fn take(side: &mut Side, p: usize, before: Link, next: Link)
     requires index { p < most_priority }
     requires stands { 1 ≤ slice_index side.old.counts p }
@@ -109,7 +109,7 @@ pub(crate) fn take(side: &mut Side, p: usize, before: Link, next: Link)
     side.counts[p] -= 1;
 }
 
-/// Makes a node the tail of one of a queue's chains, and returns the tail before.
+/// Makes a node the tail of one of a queue's chains, and returns the previous tail.
 #[inline(always)]
 pub(crate) fn put_in(queue: &mut Queue, writer: bool, p: usize, node: NodeIndex) -> Link
     requires index { p < most_priority }
@@ -143,7 +143,7 @@ pub(crate) fn put_in(queue: &mut Queue, writer: bool, p: usize, node: NodeIndex)
     }
 }
 
-/// Takes a node out of one of a queue's chains, which was between these two.
+/// Removes the node between these two from one of a queue's chains.
 pub(crate) fn take_out(queue: &mut Queue, writer: bool, p: usize, before: Link, next: Link)
     requires index { p < most_priority }
     requires stands { 1 ≤ slice_index (side_of writer queue.old).counts p }
@@ -177,7 +177,7 @@ pub(crate) fn take_out(queue: &mut Queue, writer: bool, p: usize, before: Link, 
     }
 }
 
-// Gives a chain its ends and its count.
+// Sets the ends and the count of a chain.
 fn set_chain(side: &mut Side, p: usize, head: Link, tail: Link, count: u32)
     requires index { p < most_priority }
     ensures counts { (i : ℕ)
@@ -198,7 +198,7 @@ fn set_chain(side: &mut Side, p: usize, head: Link, tail: Link, count: u32)
     side.counts[p] = count;
 }
 
-/// Gives a queue this chain, in which all of its waiters are.
+/// Puts a chain that has all of a queue's waiters into the queue.
 pub(crate) fn put_chain(
     queue: &mut Queue,
     head: Link,
@@ -231,7 +231,7 @@ pub(crate) fn put_chain(
     }
 }
 
-/// How many wait in a queue.
+/// Returns the number of waiters in a queue.
 pub(crate) fn len_of<A: Allocator + Copy>(queues: &Rows<A>, object: u64) -> usize
     ensures { result
         ≡ unwrap_or (option_map (λ q. q.len) (lookup (nat_eq object) (rows_of queues.now))) 0 }
@@ -242,7 +242,7 @@ pub(crate) fn len_of<A: Allocator + Copy>(queues: &Rows<A>, object: u64) -> usiz
     }
 }
 
-/// How many wait in a queue, if its row is at the place that its hint gives.
+/// Returns the number of waiters in a queue if its row is in the slot that its hint gives.
 #[inline(always)]
 pub(crate) fn len_by_hint<A: Allocator + Copy>(queues: &Rows<A>, object: u64) -> Option<usize>
     ensures { IfSome result (λ len. len
@@ -254,8 +254,8 @@ pub(crate) fn len_by_hint<A: Allocator + Copy>(queues: &Rows<A>, object: u64) ->
     }
 }
 
-/// Takes a node out of a chain of a queue that there is, if it was between these two. Returns the
-/// queue's box if no one waits there any more. Its row is looked for in this slot first.
+/// Removes the node between these two from a chain of an existing queue, and returns the queue's
+/// box if no waiter is left. The queue's row is looked for in this slot first.
 #[inline(always)]
 pub(crate) fn remove<A: Allocator + Copy>(
     queues: &mut Rows<A>,
@@ -285,7 +285,7 @@ pub(crate) fn remove<A: Allocator + Copy>(
     queues.take_out(slot, writer, p, before, next)
 }
 
-/// The node of the first of a queue.
+/// Returns the node of the first waiter in a queue.
 pub(crate) fn first_of<A: Allocator + Copy>(queues: &Rows<A>, object: u64) -> Option<NodeIndex>
     ensures none { lookup (nat_eq object) (rows_of queues.now) ≡ None → result ≡ None }
     ensures queue { (queue : Queue)
@@ -295,7 +295,7 @@ pub(crate) fn first_of<A: Allocator + Copy>(queues: &Rows<A>, object: u64) -> Op
     queues.get(object)?.first()
 }
 
-/// As `first_of`. The queue's row is looked for in this slot first.
+/// Does what `first_of` does. The queue's row is looked for in this slot first.
 #[inline(always)]
 pub(crate) fn first_from<A: Allocator + Copy>(
     queues: &Rows<A>,
@@ -310,7 +310,7 @@ pub(crate) fn first_from<A: Allocator + Copy>(
     queues.get_from(at, object)?.first()
 }
 
-/// The node of the first of a queue that asks for a write lock.
+/// Returns the node of the first waiter in a queue that asks for a write lock.
 pub(crate) fn first_writer_of<A: Allocator + Copy>(
     queues: &Rows<A>,
     object: u64,
@@ -323,7 +323,7 @@ pub(crate) fn first_writer_of<A: Allocator + Copy>(
     queues.get(object)?.first_writer()
 }
 
-/// Whether a queue has a writer of the priority with this index or a higher one.
+/// Returns whether a queue has a writer of the priority with this index or a higher one.
 pub(crate) fn has_writer_from<A: Allocator + Copy>(queues: &Rows<A>, object: u64, p: usize) -> bool
     ensures none { lookup (nat_eq object) (rows_of queues.now) ≡ None → result ≡ false }
     ensures queue { (queue : Queue)

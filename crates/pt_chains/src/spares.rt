@@ -1,4 +1,4 @@
-//! Boxes of no queue, which queues take as calls come to wait.
+//! Boxes that belong to no queue. Queues take them as calls come to wait.
 
 ghost use Rattle.std.specs.Prelude.{◌≡◌, ◌+◌, ◌≤◌, ◌<◌, if◌then◌else◌, is_some, IfSome, IfOk};
 ghost use Rattle.std.specs.Prelude.{OnErr, IsSome, vec_len, vec_capacity};
@@ -8,10 +8,10 @@ ghost use Rattle.pt_chains.specs.Chains.{HasNone};
 use crate::marked::MarkedQueue;
 use std::alloc::{AllocError, Allocator};
 
-/// Boxes of no queue.
+/// The boxes that belong to no queue.
 pub(crate) type Spares<A> = Vec<Box<MarkedQueue, A>, A>;
 
-// A box with no waiter.
+// Creates a box with no waiter.
 #[cold]
 #[inline(never)]
 fn new_box<A: Allocator + Copy>(alloc: A) -> Result<Box<MarkedQueue, A>, AllocError>
@@ -20,8 +20,8 @@ fn new_box<A: Allocator + Copy>(alloc: A) -> Result<Box<MarkedQueue, A>, AllocEr
     Ok(Box::new(alloc, MarkedQueue::new())?)
 }
 
-/// Makes one more box if there are fewer than these, and returns how many there are then. There is
-/// room for each among the spares.
+/// Makes one more box if there are fewer than `wanted`, and returns how many there are afterwards.
+/// The spares have room for all of them.
 pub(crate) fn grow<A: Allocator + Copy>(
     spares: &mut Spares<A>,
     boxes: usize,
@@ -46,7 +46,7 @@ pub(crate) fn grow<A: Allocator + Copy>(
     Ok(wanted)
 }
 
-/// Puts back the box of a queue that has no waiter any more. It takes no memory.
+/// Puts back the box of a queue that has no waiter any more, if there is one. It allocates nothing.
 pub(crate) fn put_back<A: Allocator + Copy>(
     spares: &mut Spares<A>,
     emptied: Option<Box<MarkedQueue, A>>,

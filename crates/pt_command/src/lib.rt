@@ -1,7 +1,7 @@
 //! The command line of `ptserver`: its words, their texts, and the exit statuses that they give.
 //!
-//! What the words `script` and `serve` ask for is left to the program. Only tests and runs show
-//! what is said here: contracts speak of no text that is shown, and of no word of a command line.
+//! The program itself does what the words `script` and `serve` ask for. Only tests and runs show
+//! what is said here: contracts describe no text that is shown, and no word of a command line.
 #![tactic(auto)]
 
 mod reading;

@@ -5,37 +5,37 @@ use std::alloc::Global;
 use std::process::ExitCode;
 use std::{env, io};
 
-/// The exit status of a fault of the command line.  [profile]
+/// The exit status after a fault of the command line.  [profile]
 const USAGE: u8 = 2;
 
-/// The exit status of lack of memory.  [profile]
+/// The exit status after a lack of memory.  [profile]
 const MEMORY: u8 = 5;
 
-/// Whose clock deadlines are compared with.
+/// The clock that deadlines are compared with.
 #[derive(Clone, Copy)]
 pub enum ClockWord {
-    /// The connections': they send moment lines.
+    /// The clock of the connections, which send moment lines.
     Lines,
     System,
 }
 
-/// What is served, and for how long.
+/// The socket to serve, and for how long.
 #[derive(Drop)]
 pub struct Service {
     /// The path of the socket.
     pub path: String,
     pub clock: ClockWord,
-    /// How many connections; 0 is without end.
+    /// The number of connections, or 0 for no limit.
     pub sessions: u64,
 }
 
-/// What a command line asks of the program.
+/// The task that a command line asks of the program.
 pub enum Task {
-    /// To answer a script.
+    /// Answer a script.
     Script,
-    /// To serve a socket.
+    /// Serve a socket.
     Serve(Service),
-    /// Nothing more: what was asked for, or what is wrong, has been shown.
+    /// Do nothing more. What was asked for, or what is wrong, has been shown.
     End(ExitCode),
 }
 
@@ -48,7 +48,7 @@ fn show(rt: &HostRuntime, error: &Error) -> ExitCode {
     ExitCode::SUCCESS
 }
 
-// What the options of `serve` ask for. The error is lack of memory.
+// Returns what the options of `serve` ask for, or an error if memory is lacking.
 fn read_service(alloc: Global, options: &ArgMatches) -> Result<Service, Error> {
     let clock = match options.get_str("clock") {
         Some("system") => ClockWord::System,
@@ -61,7 +61,7 @@ fn read_service(alloc: Global, options: &ArgMatches) -> Result<Service, Error> {
     })
 }
 
-// The task that these words ask for. The error is lack of memory.
+// Returns the task that these words ask for, or an error if memory is lacking.
 fn task_of(rt: &HostRuntime, words: &[String]) -> Result<Task, Error> {
     let matches = match command(rt.alloc())?.try_get_matches_from(words) {
         Ok(matches) => matches,
@@ -80,7 +80,8 @@ fn out_of_memory(rt: &HostRuntime) -> ExitCode {
     ExitCode::from(MEMORY)
 }
 
-// The words of the command line cannot be had: memory was refused, or one is not UTF-8.
+// Reports that the words of the command line can't be read: memory was refused, or one is not
+// UTF-8.
 fn refuse_words(rt: &HostRuntime, error: &io::Error) -> ExitCode {
     if error.kind() == io::ErrorKind::OutOfMemory {
         return out_of_memory(rt);
@@ -89,7 +90,7 @@ fn refuse_words(rt: &HostRuntime, error: &io::Error) -> ExitCode {
     ExitCode::from(USAGE)
 }
 
-/// Reads the command line, and shows what it asks to be shown, or what is wrong with it.
+/// Reads the command line. Shows what it asks to be shown, or what is wrong with it.
 pub fn read_task(rt: &HostRuntime) -> Task {
     let args = match env::args(rt) {
         Ok(args) => args,

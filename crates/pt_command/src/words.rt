@@ -70,7 +70,7 @@ docs/RULES.md has the rules, and examples/ has scripts to try:
 
   ptserver script < examples/two-clients.script";
 
-// An option, by its name, what its value is called and what it is for.
+// Returns an option with its name, what its value is called, and what it is for.
 fn option<'a>(alloc: Global, name: &'a str, value: &'a str, help: &'a str) -> Arg<'a> {
     Arg::new(alloc, name)
         .long(name)
@@ -96,18 +96,18 @@ fn sessions<'a>(alloc: Global) -> Arg<'a> {
         .default_value("0")
 }
 
-// A word, by its name, what it does and what else its help says.
+// Returns a word with its name, what it does, and what else its help says.
 fn word<'a>(alloc: Global, name: &'a str, about: &'a str, more: &'a str) -> Command<'a> {
     Command::new(alloc, name).about(about).after_help(more)
 }
 
-// The word `serve` and its options.
+// Returns the word `serve` with its options.
 fn serve<'a>(alloc: Global) -> Result<Command<'a>, Error> {
     let options = Vec::from_array(alloc, [socket(alloc), clock(alloc), sessions(alloc)])?;
     Ok(word(alloc, "serve", SERVE, CONNECTIONS).args(options)?)
 }
 
-/// The command line: `script`, `serve`, `--help` and `--version`.
+/// Returns the command line: `script`, `serve`, `--help` and `--version`.
 pub fn command<'a>(alloc: Global) -> Result<Command<'a>, Error> {
     let serve = serve(alloc)?;
     let script = word(alloc, "script", SCRIPT, LINES);

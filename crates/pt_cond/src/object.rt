@@ -25,18 +25,18 @@ impl Model for CondObj {
 }
 
 impl CondObj {
-    /// A condition at which nobody waits.  [XSH pthread_cond_init]
+    /// Creates a condition at which nobody waits.  [XSH pthread_cond_init]
     pub fn new() -> CondObj
         ensures { result ≡ record { bound = None } }
     {
         CondObj { bound: None }
     }
 
-    /// What becomes of a wait with this mutex, which its caller owns or doesn't, with a deadline
-    /// if it is a `timedwait`. EINVAL by another mutex is profile, and so is EPERM if the
-    /// standard leaves it open.  [XSH pthread_cond_timedwait]
+    /// Returns the verdict of a wait with this mutex. `owns` is whether its caller owns the mutex,
+    /// and a `timedwait` has a deadline. EINVAL for another mutex is profile, and so is EPERM if
+    /// the standard leaves it open.  [XSH pthread_cond_timedwait]
     ///
-    /// Both EINVALs come before EPERM. Whether the deadline is due is not asked here.
+    /// Both kinds of EINVAL come before EPERM. Doesn't check whether the deadline is due.
     pub fn verdict_wait(&self, mutex: ObjectId, owns: bool, deadline: Option<Deadline>) -> Verdict
         ensures { result ≡ wait_verdict self.now mutex owns deadline }
     {
@@ -52,14 +52,15 @@ impl CondObj {
         Verdict::Stands
     }
 
-    // Whether calls wait at it with another mutex.  [XSH pthread_cond_wait]
+    // Returns whether calls wait at the condition with another mutex.  [XSH pthread_cond_wait]
     fn is_elsewhere(&self, mutex: ObjectId) -> bool
         ensures { result ≡ is_elsewhere self.now.bound mutex }
     {
         self.bound.is_some_and(|bound| bound != mutex)
     }
 
-    /// A call begins to wait at it with this mutex.  [XSH pthread_cond_wait]
+    /// Binds the condition to the mutex with which a call begins to wait there.
+    /// [XSH pthread_cond_wait]
     pub fn bind(&mut self, mutex: ObjectId)
         requires { is_elsewhere self.old.bound mutex ≡ false }
         ensures { self.new ≡ record { bound = Some mutex } }
@@ -67,22 +68,24 @@ impl CondObj {
         self.bound = Some(mutex);
     }
 
-    /// The last call that waited at it is gone.  [XSH pthread_cond_wait]
+    /// Unbinds the condition, after the last call that waited there has left.
+    /// [XSH pthread_cond_wait]
     pub fn unbind(&mut self)
         ensures { self.new ≡ record { bound = None } }
     {
         self.bound = None;
     }
 
-    /// The mutex with which calls wait at it.  [XSH pthread_cond_wait]
+    /// Returns the mutex with which calls wait at the condition, if any do.
+    /// [XSH pthread_cond_wait]
     pub fn bound(&self) -> Option<ObjectId>
         ensures { result ≡ self.now.bound }
     {
         self.bound
     }
 
-    /// The call that a signal wakes: the first of the condition's queue, if calls wait there.
-    /// [XSH pthread_cond_signal, 2.8.4]
+    /// Returns the call that a signal wakes: the first of the condition's queue, if calls wait
+    /// there.  [XSH pthread_cond_signal, 2.8.4]
     pub fn least<W: WaitList>(&self, list: &W, queue: ObjectId) -> Option<Waiter>
         ensures { result ≡ head_of ((W.seen list.now).queue queue) }
     {

@@ -9,7 +9,7 @@ use pt_script::{ENTRIES_BETWEEN_SEALS, script};
 use std::fs;
 use std::rt::Files;
 
-// Plays a script that lies in memory, in reads and writes of up to `step` bytes.
+// Plays a script from memory, in reads and writes of up to `step` bytes. Returns whether it agrees.
 fn agrees_in_pieces(rt: &(impl Print + AllocGlobal), step: usize, case: &Case) -> Result<bool>
     requires { 0 < step }
 {
@@ -21,7 +21,7 @@ fn agrees_in_pieces(rt: &(impl Print + AllocGlobal), step: usize, case: &Case) -
     Ok(agrees(rt, case, writer.written())?)
 }
 
-// Plays a script while its file is read.
+// Plays a script while its file is read. Returns whether it agrees.
 fn agrees_from_file(rt: &(impl Files + Print + AllocGlobal), case: &Case) -> Result<bool> {
     let path = format!(in rt.alloc(); "{}.script", case.path)?;
     let mut reader = Counted::new(fs::open(rt, path.as_str())?);
@@ -31,7 +31,7 @@ fn agrees_from_file(rt: &(impl Files + Print + AllocGlobal), case: &Case) -> Res
     Ok(agrees(rt, case, writer.written())?)
 }
 
-// Plays a case in this way.
+// Plays a case in this way, and returns whether it agrees.
 fn agrees_by(rt: &(impl Files + Print + AllocGlobal), way: Way, case: &Case) -> Result<bool> {
     match way {
         Way::Large => agrees_in_pieces(rt, 4096, case),
@@ -41,7 +41,8 @@ fn agrees_by(rt: &(impl Files + Print + AllocGlobal), way: Way, case: &Case) -> 
     }
 }
 
-/// Plays these cases in this way, up to the first that differs, and says how many agree if all do.
+/// Plays these cases in this way, up to the first that differs, and returns whether all agree. If
+/// they do, prints how many.
 pub fn all_agree(
     rt: &(impl Files + Print + AllocGlobal),
     group: &str,

@@ -7,8 +7,8 @@ use Rattle.pt_model.specs.StartRows.{reads_of}
 use Rattle.pt_history.specs.Stored.{Stored, past_of}
 use Rattle.pt_core.specs.Settling.{Enters, IsReady}
 
--- the history was sealed, with room for the event; then the event's entry was added, and forced
--- ones until none must follow
+-- the history was sealed with room for the event, then the event's entry was added, and then forced
+-- entries until none must follow
 pub record EntersSealed (old : Stored) (event : Event) (new : Stored) : Type 0 where
   pub sealed : Stored
   pub starts : reads_of sealed.start ≡ seal (past_of old)

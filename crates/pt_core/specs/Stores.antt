@@ -8,7 +8,7 @@ use Rattle.pt_model.specs.Steps.{IsStart}
 use Rattle.pt_history.specs.Stored.{Stored, past_of}
 use Rattle.pt_legal.specs.Cores.{Kept, Seen}
 
--- what is seen of a stored history
+-- what contracts see of a stored history
 abbrev pub seen : Stored → Seen
 seen s = record { start = s.start; entries = s.entries; limit = s.limit }
 

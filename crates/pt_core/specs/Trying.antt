@@ -1,4 +1,4 @@
--- Trying: what came of an event that is written if there is room for it already.
+-- Trying: the result of an event that is written if there is room for it already.
 use Rattle.std.specs.Prelude.{◌≡◌, Bool, true, false, Some, None, Option}
 use Rattle.std.specs.Prelude.{Result, Ok, Err}
 use Rattle.pt_types.specs.declared.outcome.Outcome.{Outcome}
@@ -15,20 +15,21 @@ use Rattle.pt_legal.specs.Applying.{IsNotWritten, IsWritten, is_death}
 use Rattle.pt_core.specs.Stores.{kept, seen}
 use Rattle.pt_core.specs.Wholes.{IsWhole}
 
--- what came of an event that has this answer, if it has one, by whether it is known to have
--- answered no other call
+-- the result of an event that was written with this answer, if it has one, by whether it is known
+-- that no other call was answered
 abbrev pub tried_with : (alone : Bool) → Option Outcome → Tried
 tried_with true (Some x) = Alone x
 tried_with false (Some x) = Answered x
 tried_with alone None = Unanswered
 
--- what came of an event, without its places
+-- the result of an event without its places
 abbrev pub tried_as : Result Applied Refusal → Tried
 tried_as (Ok a) = tried_with a.alone a.outcome
 tried_as (Err r) = Refused r
 
 module _ {A : Type 0} where
-  -- the event is written without a seal, and has this answer by then, the only one if so it is said
+  -- the event is written without a seal and has this answer; if `alone` is true, no other call was
+  -- answered
   pub record Wrote (old : State A) (event : Event) (new : State A) (x : Option Outcome)
       (alone : Bool) : Type 0 where
     pub whole : IsWhole new
@@ -46,7 +47,7 @@ module _ {A : Type 0} where
     pub unchanged : seen new.stored ≡ seen old.stored
     pub other : is_death event ≡ false
 
-  -- what came of it
+  -- the event was tried with this result
   abbrev pub IsTried : State A → Event → State A → Tried → Type 0
   IsTried old v new (Alone x) = Wrote old v new (Some x) true
   IsTried old v new (Answered x) = Wrote old v new (Some x) false

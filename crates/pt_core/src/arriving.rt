@@ -1,4 +1,4 @@
-//! Arrivals at barriers: each that waits is pushed by what is for arrivals alone.
+//! Arrivals at barriers. Those that wait are pushed by functions for arrivals alone.
 
 ghost use Rattle.std.specs.Prelude.{◌≡◌, None, false};
 ghost use Rattle.pt_types.specs.Operations.{Arrives, operation};
@@ -20,8 +20,8 @@ use pt_types::{Call, ClientId, Name, Outcome};
 use pt_waitq::WaitList;
 use std::alloc::Allocator;
 
-// Pushes an arrival that waits, and all that must follow it. Returns the answer that it has by
-// then.  [XSH pthread_barrier_wait]
+// Pushes an arrival that waits, and all that must follow it. Returns the answer that the arrival
+// has after that, if it has one.  [XSH pthread_barrier_wait]
 #[inline(always)]
 fn enter_arrival<Q: WaitList, A: Allocator + Copy>(
     body: &mut Body<Q, A>,
@@ -50,7 +50,8 @@ fn enter_arrival<Q: WaitList, A: Allocator + Copy>(
     }
 }
 
-// What came of an arrival that waits, for which there is room.  [XSH pthread_barrier_wait]
+// Writes an arrival that waits, for which there is room, and returns the result.
+// [XSH pthread_barrier_wait]
 #[inline(always)]
 fn write_arrival<Q: WaitList, A: Allocator + Copy>(
     body: &mut Body<Q, A>,
@@ -74,8 +75,8 @@ fn write_arrival<Q: WaitList, A: Allocator + Copy>(
     }
 }
 
-/// An arrival at a barrier, and all that must follow it, if it waits there and there is room for
-/// that already.  [XSH pthread_barrier_wait]
+/// Writes an arrival at a barrier, and all that must follow it, if the arrival waits there and
+/// there is room for that already. Does nothing otherwise.  [XSH pthread_barrier_wait]
 #[inline(never)]
 pub fn try_arrival<Q: WaitList, A: Allocator + Copy>(body: &mut Body<Q, A>, event: &Event) -> Tried
     requires whole { IsWhole body.old }

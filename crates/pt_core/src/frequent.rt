@@ -1,5 +1,5 @@
-//! Events that come often: each is applied by a copy of the steps, in which the compiler leaves out
-//! what such an event never does.
+//! Frequent events. Each kind is applied by its own copy of the steps, from which the compiler
+//! leaves out what such an event never does.
 
 ghost use Rattle.std.specs.Prelude.{◌≡◌, ◌+◌, ◌<◌, ℕ, None, true, length, IfErr, IfOk, IsOk, OnErr};
 ghost use Rattle.pt_model.specs.Clients.{is_alive};
@@ -21,9 +21,9 @@ use pt_types::{Call, Outcome, Refusal};
 use pt_waitq::WaitList;
 use std::alloc::Allocator;
 
-// A kind of event that comes often.
+// A frequent kind of event.
 trait Frequent {
-    // Whether an event is of this kind.
+    // Returns whether an event is of this kind.
     fn is(event: &Event) -> bool;
 }
 
@@ -189,8 +189,8 @@ impl Frequent for Moments {
     }
 }
 
-// Any accepted event, and all that must follow it, after a seal if the event needs that. A refused
-// event changes nothing.  [profile]
+// Applies any accepted event, and all that must follow it, after a seal if the event needs one. A
+// refused event changes nothing.  [profile]
 #[inline(never)]
 fn apply_any<Q: WaitList, A: Allocator + Copy>(
     body: &mut Body<Q, A>,
@@ -213,22 +213,22 @@ fn apply_any<Q: WaitList, A: Allocator + Copy>(
     apply(body, event, &plan)
 }
 
-/// What came of an event for which a copy of the steps was tried.
+/// The result of trying a copy of the steps on an event.
 #[derive(Clone, Copy)]
 pub enum Tried {
-    /// It is written, its call has this answer by then, and no other call was answered.
+    /// The event is written, its call has this answer, and no other call was answered.
     Alone(Outcome),
-    /// It is written, and its call has this answer by then.
+    /// The event is written, and its call has this answer.
     Answered(Outcome),
-    /// It is written, and has no answer.
+    /// The event is written, and has no answer.
     Unanswered,
-    /// It is refused.
+    /// The event is refused.
     Refused(Refusal),
-    /// It is of another kind, or has no room yet: nothing is done.
+    /// The event is of another kind, or has no room yet. Nothing was done.
     Left,
 }
 
-// What came of an event, without its places.
+// Returns the result of an event without its places.
 #[inline(always)]
 fn without_places(written: Result<Applied, Refusal>) -> Tried
     ensures { result ≡ tried_as written }
@@ -243,9 +243,9 @@ fn without_places(written: Result<Applied, Refusal>) -> Tried
     }
 }
 
-// An event of this kind, and all that must follow it, if there is room for that already. What makes
-// room is kept out of this copy, and the kind is asked again after the plan, which can call other
-// functions: so the compiler knows it as the entry is pushed.  [profile]
+// Writes an event of this kind, and all that must follow it, if there is room for that already. The
+// code that makes room is left out of this copy. The kind is tested again after the plan, which may
+// call other functions, so that the compiler still knows it when the entry is pushed.  [profile]
 #[inline(never)]
 fn try_frequent<F: Frequent, Q: WaitList, A: Allocator + Copy>(
     body: &mut Body<Q, A>,
@@ -267,7 +267,7 @@ fn try_frequent<F: Frequent, Q: WaitList, A: Allocator + Copy>(
     Tried::Left
 }
 
-// What came of an event for which the copy of the steps for its kind was tried.  [profile]
+// Tries the copy of the steps for an event's kind, and returns the result.  [profile]
 #[inline(always)]
 fn try_by_kind<Q: WaitList, A: Allocator + Copy>(body: &mut Body<Q, A>, event: &Event) -> Tried
     requires whole { IsWhole body.old }
@@ -298,8 +298,8 @@ fn try_by_kind<Q: WaitList, A: Allocator + Copy>(body: &mut Body<Q, A>, event: &
     }
 }
 
-// What an event wrote from a place on, that did not seal, and whether it is known that it answered
-// no other call.
+// Returns what an event wrote from a place on without a seal, with the answer, and whether it is
+// known that no other call was answered.
 #[inline(always)]
 fn applied<Q: WaitList, A: Allocator + Copy>(
     body: &Body<Q, A>,
@@ -324,7 +324,7 @@ fn applied<Q: WaitList, A: Allocator + Copy>(
     }
 }
 
-/// As `apply_any`, with a copy of the steps for each kind of event that comes often.  [profile]
+/// Does what `apply_any` does, with a copy of the steps for each frequent kind of event.  [profile]
 #[inline(always)]
 pub fn apply_accepted<Q: WaitList, A: Allocator + Copy>(
     body: &mut Body<Q, A>,

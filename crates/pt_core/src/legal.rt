@@ -1,4 +1,4 @@
-//! A core is a history that is the one legal list for its events.
+//! The trait `LegalHistory` for a core, whose history is the one legal list for its events.
 
 use crate::machine::Core;
 use pt_legal::{Applied, LegalHistory, Reply};

@@ -1,4 +1,4 @@
-//! An accepted event's entry, and the forced ones after it, pushed after a seal.
+//! Sealing the history, then pushing an accepted event's entry and the forced ones after it.
 
 ghost use Rattle.std.specs.Prelude.{◌≡◌, ◌≤◌, None, OnOk, OnErr, IfErr};
 ghost use Rattle.pt_types.specs.Limits.{most_places};
@@ -16,7 +16,7 @@ use pt_waitq::WaitList;
 use std::alloc::Allocator;
 
 /// Seals the history, and pushes the entry of an accepted event and what must follow it. ENOMEM if
-/// a growth is refused: then nothing is sealed or pushed.  [profile]
+/// a growth is refused; then nothing is sealed or pushed.  [profile]
 pub fn enter_sealed<Q: WaitList, A: Allocator + Copy>(
     body: &mut Body<Q, A>,
     event: &Event,

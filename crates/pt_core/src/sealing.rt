@@ -1,4 +1,4 @@
-//! A core whose entries are dropped.
+//! Seals, which drop the entries of a core.
 
 ghost use Rattle.std.specs.Prelude.{IfErr, IfOk, None, OnErr, Some, nat_lt, if◌then◌else◌, ◌≡◌};
 ghost use Rattle.pt_types.specs.Limits.{most_places};
@@ -11,10 +11,10 @@ use pt_types::Refusal;
 use pt_waitq::WaitList;
 use std::alloc::Allocator;
 
-/// The greatest place with which a history can begin.  [profile]
+/// The greatest place at which a history can begin.  [profile]
 const MOST_PLACES: u64 = 1 << 62;
 
-/// Why a history can't go on from this place.  [profile]
+/// Returns the reason why a history cannot go on from this place, if there is one.  [profile]
 pub fn refusal_of_seal(place: u64) -> Option<Refusal>
     ensures { result ≡ if nat_lt most_places place then Some Refusal.Full else None }
 {
@@ -25,8 +25,8 @@ pub fn refusal_of_seal(place: u64) -> Option<Refusal>
     }
 }
 
-/// Drops the entries: the history goes on from its seal, with the place that is returned.
-/// [profile]
+/// Seals the history: drops its entries, and goes on from a Start with all that counts of them.
+/// Returns the place of the next entry.  [profile]
 pub fn seal<Q: WaitList, A: Allocator + Copy>(body: &mut Body<Q, A>) -> Result<u64, Refusal>
     requires { IsWhole body.old }
     ensures whole { IsWhole body.new }

@@ -1,6 +1,7 @@
 use pt_types::Refusal;
 
-/// Where a run of events stopped, and why. The events before that one are applied.
+/// The index of the event at which a run of events stopped, and the reason. The events before it
+/// are applied.
 #[derive(Clone, Copy, PartialEq, Eq)]
 pub struct Stopped {
     pub at: usize,

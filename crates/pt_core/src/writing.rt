@@ -1,4 +1,4 @@
-//! One accepted event, written without a seal.
+//! Writing one accepted event without a seal.
 
 ghost use Rattle.std.specs.Prelude.{◌≡◌, ◌≤◌, ◌<◌, ◌+◌, length, None, true, false, IfOk, IfErr};
 ghost use Rattle.std.specs.Prelude.{IsOk, OnErr};
@@ -20,7 +20,7 @@ use pt_types::{Outcome, Refusal};
 use pt_waitq::WaitList;
 use std::alloc::Allocator;
 
-/// The answer that an event's own call has by now.
+/// Returns the answer that an event's own call has so far, if it has one.
 pub fn told<Q: WaitList, A: Allocator + Copy>(
     body: &Body<Q, A>,
     event: &Event,
@@ -36,8 +36,8 @@ pub fn told<Q: WaitList, A: Allocator + Copy>(
     }
 }
 
-// The answer that an event's own call has by now: the one that it had as it came, if it had one; or
-// none, if its entry is the last.
+// Returns the answer that an event's own call has so far. It is the answer that the call had when
+// its entry was pushed, if it had one. If it had none, it has none while its entry is the last.
 #[inline(always)]
 fn outcome_by_answer<Q: WaitList, A: Allocator + Copy>(
     body: &Body<Q, A>,
@@ -58,8 +58,8 @@ fn outcome_by_answer<Q: WaitList, A: Allocator + Copy>(
     }
 }
 
-/// An accepted event with its plan, and all that must follow it, without a seal. A refusal changes
-/// nothing.  [profile]
+/// Writes an accepted event by its plan, and all that must follow it, without a seal. A refusal
+/// changes nothing.  [profile]
 #[inline(always)]
 pub fn write<W: Way, Q: WaitList, A: Allocator + Copy>(
     body: &mut Body<Q, A>,

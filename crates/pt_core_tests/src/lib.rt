@@ -1,6 +1,6 @@
 //! Tests of the core: worked rows, and what a whole run answers.
 //!
-//! There are only tests here. They see what is public of the core.
+//! This crate has only tests. They use public items of the core alone.
 #![tactic(auto)]
 
 #[cfg(test)]

@@ -28,15 +28,16 @@ use Rattle.pt_engine.specs.Scripts.{Script, line_at, told_line, clients_joined}
 use Rattle.pt_engine.specs.Scripts.{entries_between_seals}
 use Rattle.pt_engine.specs.Says.{SaysAll}
 
--- what is seen of an engine: its core as that is seen, whose the lines were, the number of each
--- client that has joined under a name, and which line made the call at each place
+-- what contracts see of an engine: its core as contracts see it, which client each line belongs to,
+-- the number of each client that has joined under a name, and which line made the call at each
+-- place
 pub record Heard : Type 0 where
   pub core : Seen
   pub seen : List Who
   pub clients : List (List ℕ × ℕ)
   pub calls : List (ℕ × LineId)
 
--- what is known by an engine
+-- what an engine knows, as a script
 abbrev pub known_by : Heard → Script
 known_by e = record {
   start = (shown e.core).start;
@@ -46,13 +47,13 @@ known_by e = record {
   calls = e.calls;
 }
 
--- a text of which this holds was appended
+-- a text for which this holds was appended
 pub record Adds (Holds : List ℕ → Type 0) (old new : List ℕ) : Type 0 where
   pub text : List ℕ
   pub grows : new ≡ old ++ text
   pub holds : Holds text
 
--- no call is noted at a place that comes
+-- no call is noted at this place or a later one
 abbrev pub IsFresh : List (ℕ × LineId) → ℕ → Type 0
 IsFresh calls next = (j : ℕ) → next ≤ j → line_at calls j ≡ None
 
@@ -60,13 +61,13 @@ IsFresh calls next = (j : ℕ) → next ≤ j → line_at calls j ≡ None
 abbrev pub latest_line : List (ℕ × LineId) → ℕ → Option LineId
 latest_line asked c = lookup (nat_eq c) asked
 
--- what is seen of the lines that are stored: those of each client's latest call that had to wait,
--- and how many more can be stored in the room that there is
+-- what contracts see of the stored lines: those of each client's latest call that had to wait, and
+-- how many more fit into the allocated room
 pub record Stored : Type 0 where
   pub entries : List (ℕ × LineId)
   pub room : ℕ
 
--- a client's line is this one, and all others are as they were
+-- a client's line is this one, and all others are unchanged
 abbrev pub IsLatest : List (ℕ × LineId) → ℕ → LineId → List (ℕ × LineId) → Type 0
 IsLatest old c line new =
     (d : ℕ) → latest_line new d ≡ (if nat_eq c d then Some line else latest_line old d)
@@ -75,13 +76,13 @@ IsLatest old c line new =
 abbrev pub latest_text : List (ℕ × LineId) → List Told → List ℕ
 latest_text asked ts = flat_map (λ t. told_line (latest_line asked t.client) t.outcome) ts
 
--- a client's line is stored, and it is the one that made the call at this place
+-- a client's line is stored, and it made the call at this place
 abbrev pub IsLineOf : List (ℕ × LineId) → List (ℕ × LineId) → ℕ → ℕ → Type 0
 IsLineOf asked calls c j =
     (line : LineId) × ((latest_line asked c ≡ Some line) × (line_at calls j ≡ Some line))
 
--- after this history the line of each open call is stored for its client, and no call is noted at
--- a place that comes
+-- after this history the line of each open call is stored for its client, and no call is noted at a
+-- place that is still to come
 pub record AreLines (asked calls : List (ℕ × LineId)) (h : History) : Type 0 where
   pub fresh : IsFresh calls (place h)
   pub stored : (w : WaitingCall) → In w (open_calls h) → IsLineOf asked calls w.client w.place
@@ -91,23 +92,23 @@ pub record IsLegal (core : Kept) : Type 0 where
   pub starts : IsStart core.start
   pub legal : LegalBehind core.start core.entries (events_of core.entries)
 
--- so they are, and there may be as many of them as in any core
+-- a core's entries are legal in this way, and its limit is that of a script's history
 pub record IsSound (core : Kept) : Type 0 where
   pub limit : core.limit ≡ entries_between_seals
   pub legal : IsLegal core
 
--- what is noted of an event, once it is accepted
+-- what is noted of an accepted event
 abbrev pub mark_of : Event → Mark
 mark_of (event.Join p) = Client
 mark_of (event.Call c call) = Call c
 mark_of _ = Nothing
 
--- the lines of clients, that of a call which is noted just now before those that are stored
+-- the lines of clients, with that of a call that is just being noted before those that are stored
 abbrev pub own_first : Mark → LineId → List (ℕ × LineId) → List (ℕ × LineId)
 own_first (Call c) line asked = (c, line) ∷ asked
 own_first _ line asked = asked
 
--- the answer of an event's own call, if it has one by then
+-- the answer to an event's own call, if it is already answered
 abbrev pub own_answers : Mark → ℕ → Option Outcome → List Told
 own_answers (Call c) place (Some x) = record { client = c; place = place; outcome = x } ∷ []
 own_answers _ place x = []
@@ -117,35 +118,35 @@ abbrev pub own_text : Mark → LineId → Option Outcome → List ℕ
 own_text (Call c) line (Some x) = told_line (Some line) x
 own_text _ line x = []
 
--- the clients after a line of this mark
+-- the clients after a line with this mark
 abbrev pub clients_marked : Mark → Who → ℕ → List (List ℕ × ℕ) → List (List ℕ × ℕ)
 clients_marked Client who place rows = clients_joined who place rows
 clients_marked _ who place rows = rows
 
--- the lines of calls after it
+-- the lines of calls after a line with this mark
 abbrev pub calls_marked : Mark → LineId → ℕ → List (ℕ × LineId) → List (ℕ × LineId)
 calls_marked (Call c) line place rows = rows ++ (place, line) ∷ []
 calls_marked _ line place rows = rows
 
--- after a call that has no answer yet its line is stored for its client; else nothing changes
+-- after a call with no answer yet, its line is stored for its client; otherwise nothing changes
 abbrev pub IsAsked : Option Outcome → Mark → LineId → List (ℕ × LineId) → List (ℕ × LineId)
     → Type 0
 IsAsked None (Call c) line old new = IsLatest old c line new
 IsAsked _ _ line old new = new ≡ old
 
--- the greeting that a line is written for
+-- the greeting that is written for a line
 abbrev pub greeting_marked : Mark → LineId → List ℕ
 greeting_marked Client line = reply_line (Some line.who) line.number (word.Outcome Done)
 greeting_marked _ line = []
 
--- these lines were answered, and what may be written for them was appended
+-- these lines were answered, and a text that may be written for them was appended
 pub record IsAnswered (s : Script) (cuts : List Cut) (old : List ℕ) (last : Script)
     (new : List ℕ) : Type 0 where
   pub text : List ℕ
   pub says : SaysAll s (map script_of cuts) last text
   pub grows : new ≡ old ++ text
 
--- so were all lines that a cutter had whole
+-- the lines that a cutter gave between two states were answered in this way
 pub record Answers (held : Held) (s : Script) (old : List ℕ) (next : Held) (last : Script)
     (new : List ℕ) : Type 0 where
   pub cuts : List Cut

@@ -6,5 +6,5 @@ pub mod Says
 pub mod Names
 -- Engines: what the parts of the engine do, one line at a time
 pub mod Engines
--- Places: rows in the order in which they were added, and the place of each by its key
+-- Places: rows in the order in which they were added, and the index of each by its key
 pub mod Places

@@ -7,17 +7,18 @@ use Rattle.pt_grammar.specs.declared.client.Who.TheVariants.{Named, Star, Unknow
 use Rattle.pt_engine.specs.declared.names.Row.{Row}
 use Rattle.pt_engine.specs.Scripts.{same_who, lines_of_who, number_named}
 
--- whose the lines were so far, and the number of each client that has joined under a name
+-- which client each line so far belongs to, and the number of each client that has joined under a
+-- name
 pub record Known : Type 0 where
   pub seen : List Who
   pub clients : List (List ℕ × ℕ)
 
--- the number of a client's lines, by its row
+-- the number of a client's lines, from its row
 abbrev pub lines_in : Option Row → ℕ
 lines_in None = 0
 lines_in (Some row) = row.lines
 
--- the number of the client that has joined, by its row
+-- the number of the client that has joined, from its row
 abbrev pub client_in : Option Row → Option ℕ
 client_in None = None
 client_in (Some row) = row.client
@@ -32,7 +33,7 @@ pub record Counted : Type 0 where
   pub star : ℕ
   pub unknown : ℕ
 
--- how many lines are counted for a client
+-- the number of lines that are counted for a client
 abbrev pub lines_counted : Counted → Who → ℕ
 lines_counted k (Named name) = lines_in (row_of k.rows name)
 lines_counted k Star = k.star
@@ -43,7 +44,7 @@ abbrev pub client_counted : Counted → Who → Option ℕ
 client_counted k (Named name) = client_in (row_of k.rows name)
 client_counted k _ = None
 
--- the same is counted of each client, named or not: a row of no line is as good as none
+-- the same is counted for each client, named or not: a row with no line is equivalent to none
 pub record AreAlike (old new : Counted) : Type 0 where
   pub lines : (who : Who) → lines_counted new who ≡ lines_counted old who
   pub clients :
@@ -66,7 +67,7 @@ pub record IsGiven (old : Counted) (name : List ℕ) (c : ℕ) (new : Counted) :
       → client_in (row_of new.rows other)
       ≡ (if bytes_eq name other then Some c else client_in (row_of old.rows other))
 
--- what is counted is what came so far
+-- the counts are those of the lines and clients so far
 pub record AreCounted (k : Counted) (total : ℕ) (known : Known) : Type 0 where
   pub lines : (who : Who) → lines_counted k who ≡ lines_of_who known.seen who
   pub all : total ≡ length known.seen

@@ -17,17 +17,16 @@ use Rattle.pt_engine.specs.Scripts.{Script, core_of, line_id, event_of_line, tol
 use Rattle.pt_engine.specs.Scripts.{refusal_text, clients_with, calls_with, greeting}
 use Rattle.pt_engine.specs.Scripts.{entries_between_seals}
 
--- the core to which an accepted event's entries are added: its history is sealed before, if the
+-- the core to which an accepted event's entries are added: its history is sealed first, if the
 -- event needs that room  [profile]
 abbrev pub opened_for : Script → Event → Kept
 opened_for s event = opened (core_of s) event
 
--- why an event of a line is refused, or none; the line may have a refusal of its own before
--- [profile]
+-- why a line's event is refused, or none; the line may already have a refusal of its own  [profile]
 abbrev pub refusal_of_event : Script → Event → Option Refusal
 refusal_of_event s event = refusal_with_seals entries_between_seals (past (core_of s)) event
 
--- one line more was seen, and nothing else came of it yet
+-- one more line was seen, and nothing else has come of it yet
 abbrev pub counted : Script → Who → Script
 counted s who = record s { seen = s.seen ++ who ∷ [] }
 
@@ -39,7 +38,7 @@ pub record IsRefused (s : Script) (event : Event) (line : LineId) (next : Script
   pub same : next ≡ s
   pub written : text ≡ refusal_text line why
 
--- a growth was refused: ENOMEM is written if there is no other refusal, and for no `die`
+-- a growth was refused: ENOMEM is written if there is no other refusal, and never for a `die`
 -- [profile]
 pub record IsUnmet (s : Script) (event : Event) (line : LineId) (next : Script)
     (text : List ℕ) : Type 0 where
@@ -71,18 +70,18 @@ pub data SaysOf (s : Script) (event : Event) (line : LineId) (next : Script)
   lacks : IsUnmet s event line next text → SaysOf s event line next text
   accepts : IsAccepted s event line next text → SaysOf s event line next text
 
--- the same, if the line may ask for none: its own refusal is written then, and it leaves no
+-- the same for a line that may ask for no event: if so, its own refusal is written and it leaves no
 -- entry  [profile]
 abbrev pub SaysTo : Script → LineId → Result Event Refusal → Script → List ℕ → Type 0
 SaysTo s line (Err why) next text = (next ≡ s) × (text ≡ refusal_text line why)
 SaysTo s line (Ok event) next text = SaysOf s event line next text
 
--- what may be written for a line: it is counted, and then what it asks for is done
+-- what may be written for a line: the line is counted, and then what it asks for is done
 abbrev pub Says : Script → ScriptLine → Script → List ℕ → Type 0
 Says s line next text =
     SaysTo (counted s line.who) (line_id s line.who) (event_of_line s line) next text
 
--- what may be written for these lines, one after the other
+-- what may be written for these lines, one after another
 abbrev pub SaysAll : Script → List ScriptLine → Script → List ℕ → Type 0
 SaysAll s [] last text = (last ≡ s) × (text ≡ [])
 SaysAll s (line ∷ more) last text =

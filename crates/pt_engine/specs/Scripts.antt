@@ -25,9 +25,9 @@ use Rattle.pt_model.specs.Records.{Told}
 use Rattle.pt_legal.specs.Cores.{Kept, past}
 use Rattle.pt_engine.specs.declared.line_id.LineId.{LineId}
 
--- after some lines: what the history of the accepted ones begins with and its entries since, whose
--- the lines were, the number of each client that has joined under a name, and which line made the
--- call at each place, also before the history was sealed
+-- what is known after some lines: what the history of the accepted ones begins with and its entries
+-- since, which client each line belongs to, the number of each client that has joined under a name,
+-- and which line made the call at each place, including those before the history was sealed
 pub record Script : Type 0 where
   pub start : Start
   pub entries : List Entry
@@ -35,12 +35,12 @@ pub record Script : Type 0 where
   pub clients : List (List ℕ × ℕ)
   pub calls : List (ℕ × LineId)
 
--- entries of a script's history between two seals, with the room reserved for what must follow:
+-- the entries of a script's history between two seals, with the room reserved for what must follow:
 -- more than any event may need  [profile]
 abbrev pub entries_between_seals : ℕ
 entries_between_seals = 65536
 
--- before the first line
+-- what is known before the first line
 abbrev pub begun : Script
 begun = record { start = nothing; entries = []; seen = []; clients = []; calls = [] }
 
@@ -48,18 +48,18 @@ begun = record { start = nothing; entries = []; seen = []; clients = []; calls =
 abbrev pub core_of : Script → Kept
 core_of s = record { start = s.start; entries = s.entries; limit = entries_between_seals }
 
--- whether two lines are of one client; the lines of `*` are, and so are those of `?`  [profile]
+-- whether two lines are of one client; all lines of `*` are, and so are those of `?`  [profile]
 abbrev pub same_who : Who → Who → Bool
 same_who (Named n) (Named m) = bytes_eq n m
 same_who Star Star = true
 same_who Unknown Unknown = true
 same_who _ _ = false
 
--- how many of these lines are the client's
+-- the number of these lines that are the client's
 abbrev pub lines_of_who : List Who → Who → ℕ
 lines_of_who seen who = count_by (λ w. same_who w who) seen
 
--- the client's next line, under its number among the client's lines, from 1  [profile]
+-- the client's next line, with its number among the client's lines, from 1  [profile]
 abbrev pub line_id : Script → Who → LineId
 line_id s who = record { who = who; number = suc (lines_of_who s.seen who) }
 
@@ -76,7 +76,8 @@ number_of rows _ = None
 abbrev pub line_at : List (ℕ × LineId) → ℕ → Option LineId
 line_at rows j = lookup (nat_eq j) rows
 
--- a hello of a name under which a client has joined: DEAD once that client has died  [profile]
+-- why a hello under a name with which a client has joined is refused: DEAD once that client has
+-- died  [profile]
 abbrev pub refusal_of_hello : History → ℕ → Refusal
 refusal_of_hello h c = if is_alive h c then Nohello else Dead
 
@@ -85,7 +86,7 @@ abbrev pub join_for : History → ℕ → Option ℕ → Result Event Refusal
 join_for h p None = Ok (event.Join p)
 join_for h p (Some c) = Err (refusal_of_hello h c)
 
--- what else a client asks for: hello comes first  [profile]
+-- what any other line of a client asks for: hello comes first  [profile]
 abbrev pub of_client : (ℕ → Event) → Option ℕ → Result Event Refusal
 of_client make None = Err Nohello
 of_client make (Some c) = Ok (make c)
@@ -121,17 +122,17 @@ told_text calls ts = flat_map (λ t. told_line (line_at calls t.place) t.outcome
 abbrev pub refusal_text : LineId → Refusal → List ℕ
 refusal_text line r = reply_line (Some line.who) line.number (word.Refusal r)
 
--- the clients after a join, with the number of its client
+-- the clients after a join, including the number of its client
 abbrev pub clients_joined : Who → ℕ → List (List ℕ × ℕ) → List (List ℕ × ℕ)
 clients_joined (Named name) c rows = rows ++ (name, c) ∷ []
 clients_joined who c rows = rows
 
--- the clients after an accepted event of this line, whose entry is at that place
+-- the clients after an accepted event of this line, whose entry is at this place
 abbrev pub clients_with : Event → Who → ℕ → List (List ℕ × ℕ) → List (List ℕ × ℕ)
 clients_with (event.Join p) who place rows = clients_joined who place rows
 clients_with _ who place rows = rows
 
--- the lines of calls after it
+-- the lines of calls after an accepted event of this line, whose entry is at this place
 abbrev pub calls_with : Event → LineId → ℕ → List (ℕ × LineId) → List (ℕ × LineId)
 calls_with (event.Call c call) line place rows = rows ++ (place, line) ∷ []
 calls_with _ line place rows = rows

@@ -20,11 +20,11 @@ use pt_lines::Word;
 use pt_types::{ClientId, Outcome};
 use std::alloc::Allocator;
 
-/// The line that made the call at each place. It is for proofs alone and takes no memory.
+/// The line that made the call at each place. It exists for proofs alone and takes no memory.
 pub type Calls = Log<u64, LineId>;
 
-/// Notes an accepted line, whose event was applied. It is stored for its client if its call waits,
-/// since all later answers are to calls that wait.
+/// Notes an accepted line, whose event was applied. The line is stored for its client if its call
+/// waits, since later answers are only to calls that wait.
 #[inline(always)]
 pub fn note<A: Allocator + Copy>(
     names: &mut Names<A>,
@@ -57,7 +57,7 @@ pub fn note<A: Allocator + Copy>(
     }
 }
 
-/// An accepted hello is answered 0.
+/// Answers 0 to an accepted hello.
 #[inline(always)]
 pub fn greet<A: Allocator + Copy>(
     out: &mut Vec<u8, A>,
@@ -73,9 +73,9 @@ pub fn greet<A: Allocator + Copy>(
     }
 }
 
-/// Appends the answers that an event gave, whose mark and line these are. If it is known that it
-/// answered its own call alone, or none, as if no entry followed its own, its answers need not be
-/// looked for.
+/// Appends the answers that an event gave. The mark and the line are the event's. If the event is
+/// known to have answered its own call alone, or none, its answers need not be looked for. This is
+/// also known if no entry followed its own.
 #[inline(always)]
 #[tactic(auto, using(crate::proofs::Alone::alone_text))]
 pub fn tell_from<'a, C: LegalHistory, A: Allocator + Copy>(

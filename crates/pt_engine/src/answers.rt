@@ -1,4 +1,4 @@
-//! The answers that the entries of a core gave, from a place on.
+//! The answers that the entries of a core gave, from a given place on.
 
 ghost use Rattle.std.specs.Prelude.{◌≡◌, ◌∷◌, [], MatchOption};
 ghost use Rattle.pt_model.specs.Queries.{answers_behind};
@@ -8,7 +8,7 @@ ghost use Rattle.pt_legal.specs.Replies.{told_of};
 use pt_legal::{LegalHistory, Reply};
 use std::marker::Model;
 
-/// The answers that are left of those that entries gave, one after another.
+/// The remaining answers that entries gave, one after another.
 #[derive(Drop)]
 pub struct Answers<'a, C: LegalHistory> {
     core: &'a C,
@@ -28,7 +28,8 @@ impl<'a, C: LegalHistory> Model for Answers<'a, C> {
 }
 
 impl<'a, C: LegalHistory> Answers<'a, C> {
-    /// The answers that the entries from a place on gave, which are read where they are stored.
+    /// Returns the answers that the entries from a place on gave. They are read where they are
+    /// stored.
     #[inline(always)]
     pub fn since(core: &'a C, place: u64) -> Answers<'a, C>
         ensures { result ≡ answers_behind
@@ -40,7 +41,7 @@ impl<'a, C: LegalHistory> Answers<'a, C> {
         }
     }
 
-    /// The next answer, if one is left.
+    /// Returns the next answer, if one is left.
     #[inline(always)]
     pub fn next(&mut self) -> Option<Reply>
         ensures { MatchOption result ((self.old ≡ []) × (self.new ≡ []))

@@ -18,10 +18,10 @@ type Lines<A> = Vec<(u64, LineId), A>;
 
 type Places<A> = HashMap<u64, usize, BuildHasherDefault<FoldHasher>, A>;
 
-/// The line that made the latest call of each client that had to wait, by the client's number.
+/// The line that made each client's latest call that had to wait, by the client's number.
 ///
 /// A line is found by a hint, if no call of another client with the same low bits of its number had
-/// to wait since, or else by the hash of the number.
+/// to wait since. Otherwise it is found by the hash of the number.
 #[derive(Drop)]
 pub struct Asked<A: Allocator + Copy = Global> {
     lines: Lines<A>,
@@ -50,7 +50,7 @@ impl<A: Allocator + Copy> Model for Asked<A> {
         (0 < min (vec_capacity a.lines - vec_len a.lines) (spare a.places)) };
 }
 
-// The number of the client whose line is at an index, and the index.
+// Returns the number of the client whose line is at an index, and the index.
 fn keyed(lines: &[(u64, LineId)], index: usize) -> Option<(u64, usize)> {
     let (client, _) = lines.get(index)?;
     Some((*client, index))
@@ -62,7 +62,7 @@ fn grow<A: Allocator + Copy>(hints: &mut Hints<A>, lines: &Lines<A>) -> Result<(
 }
 
 impl<A: Allocator + Copy> Asked<A> {
-    /// No line. It takes no memory.
+    /// Creates an empty set of lines, which allocates nothing.
     pub fn new(alloc: A) -> Asked<A>
         ensures { result.entries ≡ [] }
     {
@@ -74,7 +74,7 @@ impl<A: Allocator + Copy> Asked<A> {
         }
     }
 
-    // Makes room for one line more, and more hints if there are too few.
+    // Makes room for one more line, and makes more hints if there are too few.
     #[cold]
     #[inline(never)]
     fn make_room(&mut self) -> Result<(), ScriptFault>
@@ -92,7 +92,7 @@ impl<A: Allocator + Copy> Asked<A> {
         Ok(())
     }
 
-    /// Makes room for one line more.
+    /// Makes room for one more line.
     #[inline(always)]
     pub fn reserve(&mut self) -> Result<(), ScriptFault>
         ensures entries { self.new.entries ≡ self.old.entries }
@@ -105,8 +105,8 @@ impl<A: Allocator + Copy> Asked<A> {
         self.make_room()
     }
 
-    // The client's line, if one is stored, by the hash of its number. It isn't inlined, since the
-    // lines of most clients are found by their hints.
+    // Returns the client's line, if one is stored, by the hash of the client's number. It isn't
+    // inlined, since the lines of most clients are found by their hints.
     #[cold]
     #[inline(never)]
     fn find(&self, client: ClientId) -> Option<&LineId>
@@ -116,7 +116,7 @@ impl<A: Allocator + Copy> Asked<A> {
         Some(&self.lines[*index].1)
     }
 
-    /// The client's line, if one is stored.
+    /// Returns the client's line, if one is stored.
     #[inline(always)]
     pub fn get(&self, client: ClientId) -> Option<&LineId>
         ensures { option_copied result ≡ latest_line self.now.entries client }
@@ -128,7 +128,7 @@ impl<A: Allocator + Copy> Asked<A> {
         }
     }
 
-    // The index to which the client's hint leads, if its line is there.
+    // Returns the index to which the client's hint leads, if the client's line is there.
     #[inline(always)]
     fn hinted(&self, client: ClientId) -> Option<usize>
         ensures { IfSome result (λ index. key_at self.now.entries index ≡ Some client) }
@@ -140,7 +140,7 @@ impl<A: Allocator + Copy> Asked<A> {
         }
     }
 
-    // The line at an index, which is this client's, is this one from now on.
+    // Replaces the line at an index, which is this client's.
     #[inline(always)]
     fn store_at(&mut self, index: usize, client: ClientId, line: &LineId)
         requires { key_at self.old.entries index ≡ Some client }
@@ -149,7 +149,7 @@ impl<A: Allocator + Copy> Asked<A> {
         self.lines[index].1 = line.copied();
     }
 
-    // Adds the line of a client of which none is stored.
+    // Adds the line of a client that has none stored.
     fn add(&mut self, client: ClientId, line: &LineId)
         requires room { 0 < self.old.room }
         requires new { latest_line self.old.entries client ≡ None }
@@ -163,7 +163,8 @@ impl<A: Allocator + Copy> Asked<A> {
         self.lines.push_reserved((client.0, line.copied()));
     }
 
-    // Stores the line of a client to whose line no hint leads. It isn't inlined: few are such.
+    // Stores the line of a client whose line is not found by a hint. It isn't inlined, since this
+    // is rare.
     #[cold]
     #[inline(never)]
     fn insert(&mut self, client: ClientId, line: &LineId)
@@ -179,7 +180,7 @@ impl<A: Allocator + Copy> Asked<A> {
         }
     }
 
-    /// The client's line is this one from now on. It takes no memory.
+    /// Stores this line as the client's, in place of any before it. It allocates nothing.
     #[inline(always)]
     pub fn store(&mut self, client: ClientId, line: &LineId)
         requires { 0 < self.old.room }

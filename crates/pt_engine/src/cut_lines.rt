@@ -1,4 +1,4 @@
-//! The lines of a cutter, answered one after the other.
+//! The lines of a cutter, answered one after another.
 
 ghost use Rattle.std.specs.Prelude.{◌≡◌, ◌<◌, ◌+◌, ◌^◌, [], length, OnOk, IfOk, IfErr};
 
@@ -13,8 +13,8 @@ impl<C: LegalHistory, A: Allocator + Copy> Engine<C, A> {
     ghost use Rattle.pt_grammar.specs.Lines.{to_come, IsBegun};
     ghost use Rattle.pt_engine.specs.Engines.{Answers, IsAnswered, known_by};
 
-    // Answers the next line as the cutter reads it, and returns true, if it has the line whole. It
-    // isn't inlined, so that other lines have no room to clear for it.
+    // Answers the next line as the cutter reads it and returns true, if the cutter has the whole
+    // line. It isn't inlined, so that other lines need not clear space for it.
     #[inline(never)]
     #[tactic(auto, using(crate::proofs::Runs::answers_none, crate::proofs::Runs::answers_same))]
     fn answer_cut(
@@ -40,7 +40,7 @@ impl<C: LegalHistory, A: Allocator + Copy> Engine<C, A> {
         }
     }
 
-    // Answers the next line, and returns true, if the cutter has it whole.
+    // Answers the next line and returns true, if the cutter has the whole line.
     #[inline(always)]
     #[tactic(auto, using(crate::proofs::Runs::answers_none, crate::proofs::Runs::answers_same))]
     fn answer_next(
@@ -66,8 +66,8 @@ impl<C: LegalHistory, A: Allocator + Copy> Engine<C, A> {
         self.answer_cut(cutter, out)
     }
 
-    /// Answers all lines that the cutter has whole, and appends their answers. A refused growth
-    /// that no line is answered ENOMEM for is a fault; the engine is of no use after it.
+    /// Answers all lines that the cutter has in whole, and appends their answers. A refused growth
+    /// for which no line is answered ENOMEM is a fault. The engine is of no use after it.
     #[tactic(auto, using(crate::proofs::Runs::answers_none, crate::proofs::Runs::answers_join))]
     pub fn answer_all(
         &mut self,
@@ -85,8 +85,7 @@ impl<C: LegalHistory, A: Allocator + Copy> Engine<C, A> {
         Ok(())
     }
 
-    /// Answers the last line, which no newline ended, if there is one. A fault comes as in
-    /// `answer_all`.
+    /// Answers the last line, if there is one that no newline ended. Faults are as in `answer_all`.
     #[tactic(auto, using(crate::proofs::Runs::last_none))]
     pub fn answer_last(
         &mut self,

@@ -16,19 +16,19 @@ use pt_types::{Call, ClientId, Clock, Moment, Priority, Refusal};
 use std::alloc::{Allocator, Global};
 use std::marker::Model;
 
-/// Entries of a script's history between two seals, with the room reserved for what must follow:
-/// the limit of the core that an engine is given.
+/// The limit of the core that an engine is given: the entries of a script's history between two
+/// seals, with the room reserved for what must follow.
 ///
-/// It is more than any event may need. A script shows no entry, so it needs no more of them, and so
-/// many fit into the caches of a processor.  [profile]
+/// It is more than any event may need. A script shows no entry, so it needs no more of them, and
+/// this many entries fit into the caches of a processor.  [profile]
 pub const ENTRIES_BETWEEN_SEALS: u32 = 65_536;
 
-/// All clients of a script, the lines that they sent, and the core that these asked.
+/// The clients of a script, the lines that they sent, and the core that answers them.
 ///
-/// Of each client one line is stored: that of its latest call that had to wait, since no other can
-/// still be answered. Contracts see what is known after the lines so far, the lines of all calls
-/// too. The history is sealed for an event that needs the room, so the core has never more than
-/// 65,536 entries, however many lines come.
+/// One line is stored for each client: that of its latest call that had to wait, since no other can
+/// still be answered. Contracts see what is known after the lines so far, including the lines of
+/// all calls. The history is sealed for an event that needs the room, so the core never has more
+/// than 65,536 entries, however many lines come.
 pub struct Engine<C: LegalHistory, A: Allocator + Copy = Global> {
     core: C,
     names: Names<A>,
@@ -53,7 +53,7 @@ impl<C: LegalHistory, A: Allocator + Copy> Model for Engine<C, A> {
         × AreLines e.asked.entries e.calls.items (past (shown (C.seen e.core))) };
 }
 
-// Not derived, so that those that drop an engine prove nothing of its parts.
+// Not derived, so that code that drops an engine proves nothing of its parts.
 impl<C: LegalHistory, A: Allocator + Copy> Drop for Engine<C, A> {
     fn drop(self) {
         let Engine {
@@ -77,7 +77,7 @@ impl<C: LegalHistory, A: Allocator + Copy> Engine<C, A> {
     ghost use Rattle.pt_engine.specs.Says.{Says, SaysOf, SaysTo};
     ghost use Rattle.pt_engine.specs.Engines.{Adds, known_by, mark_of};
 
-    /// An engine over an empty core, that has read no line.
+    /// Creates an engine over an empty core. It has read no line.
     pub fn new(core: C, alloc: A) -> Engine<C, A>
         requires { shown (C.seen core)
             ≡ record { start = nothing; entries = []; limit = entries_between_seals } }
@@ -91,21 +91,22 @@ impl<C: LegalHistory, A: Allocator + Copy> Engine<C, A> {
         }
     }
 
-    /// How many lines came.
+    /// Returns the number of lines that came.
     pub fn lines(&self) -> u64
         ensures { result ≡ length self.now.seen }
     {
         self.names.total()
     }
 
-    /// The place of the next entry.
+    /// Returns the place of the next entry.
     pub fn entries(&self) -> u64
         ensures { result ≡ place (past (core_of (known_by self.now))) }
     {
         self.core.len()
     }
 
-    // Whether this client lives. The Death of one that doesn't is refused for that alone.
+    // Returns whether this client lives. The Death of a client that doesn't live is refused for
+    // that alone.
     fn lives(&self, client: ClientId) -> bool
         ensures { result ≡ is_alive (past (core_of (known_by self.now))) client }
     {
@@ -115,7 +116,7 @@ impl<C: LegalHistory, A: Allocator + Copy> Engine<C, A> {
         }
     }
 
-    // Why a hello is refused under a name with which this client joined.
+    // Returns why a hello is refused under a name with which this client joined.
     fn refusal_of_hello(&self, client: ClientId) -> Refusal
         ensures { result ≡ refusal_of_hello (past (core_of (known_by self.now))) client }
     {
@@ -126,7 +127,7 @@ impl<C: LegalHistory, A: Allocator + Copy> Engine<C, A> {
         }
     }
 
-    // Does what a counted line asks for, and appends its answer. The mark is that of the event.
+    // Does what a counted line asks for, and appends its answer. The mark is the event's.
     #[inline(always)]
     fn run_marked(
         &mut self,
@@ -185,7 +186,7 @@ impl<C: LegalHistory, A: Allocator + Copy> Engine<C, A> {
     }
 
     // Does what a counted line of this client asks for, which is a call, and appends its answer.
-    // Most lines are such.
+    // Most lines are of this kind.
     #[inline(always)]
     fn run_call(
         &mut self,
@@ -204,7 +205,7 @@ impl<C: LegalHistory, A: Allocator + Copy> Engine<C, A> {
         self.run_marked(event, &Mark::Call(client), line, out)
     }
 
-    // Does what a counted line of the clocks says, which is what a clock reads, and appends its
+    // Does what a counted line of the clocks says, which is a clock's reading, and appends its
     // answers.
     #[inline(always)]
     pub(crate) fn tick(
@@ -223,7 +224,7 @@ impl<C: LegalHistory, A: Allocator + Copy> Engine<C, A> {
         self.run_marked(&Event::Moment(clock, moment), &Mark::Nothing, line, out)
     }
 
-    // Answers a hello under a name with which this client joined, if one did.
+    // Answers a hello. The client is the one that joined under the line's name, if one did.
     #[tactic(auto, using(crate::proofs::Lines::says_refused))]
     fn hello(
         &mut self,
@@ -245,7 +246,7 @@ impl<C: LegalHistory, A: Allocator + Copy> Engine<C, A> {
         }
     }
 
-    // Answers a call of the client that joined under the line's name, if one did.
+    // Answers a call. The client is the one that joined under the line's name, if one did.
     #[inline(always)]
     #[tactic(auto, using(crate::proofs::Lines::says_refused))]
     pub(crate) fn ask(
@@ -267,7 +268,7 @@ impl<C: LegalHistory, A: Allocator + Copy> Engine<C, A> {
         }
     }
 
-    // Answers the end of the client's process.
+    // Answers the end of a client's process.
     #[tactic(auto, using(crate::proofs::Lines::says_refused))]
     fn die(
         &mut self,
@@ -288,7 +289,7 @@ impl<C: LegalHistory, A: Allocator + Copy> Engine<C, A> {
     }
 
     // Does what a counted line says, and appends its answer. The client is the one that joined
-    // under the line's name.
+    // under the line's name, if one did.
     #[tactic(auto, using(crate::proofs::Lines::says_refused))]
     pub(crate) fn answer_body(
         &mut self,
@@ -315,8 +316,8 @@ impl<C: LegalHistory, A: Allocator + Copy> Engine<C, A> {
         }
     }
 
-    /// Counts a line, does what it asks for, and appends its answer. A refused growth that
-    /// the line is not answered ENOMEM for is a fault.
+    /// Counts a line, does what it asks for, and appends its answer. A refused growth for which the
+    /// line is not answered ENOMEM is a fault.
     #[inline(never)]
     pub(crate) fn answer(
         &mut self,
@@ -338,7 +339,7 @@ impl<C: LegalHistory, A: Allocator + Copy> Engine<C, A> {
         }
     }
 
-    // Answers the line of a text that is not too long, as `answer` does.
+    // Answers the line in a text that is not too long, as `answer` does.
     #[inline(always)]
     pub(crate) fn answer_text(
         &mut self,

@@ -1,6 +1,7 @@
 use pt_lines::Who;
 
-/// A line of a script: whose it is, and its number among that client's lines, from 1.
+/// A line of a script: the client that it belongs to, and its number among that client's lines,
+/// from 1.
 #[derive(Drop)]
 pub struct LineId {
     pub who: Who,
@@ -10,7 +11,7 @@ pub struct LineId {
 impl LineId {
     ghost use Rattle.std.specs.Prelude.{◌≡◌};
 
-    /// A copy of the line. It takes no memory.
+    /// Returns a copy of the line, without allocating.
     pub fn copied(&self) -> LineId
         ensures { result ≡ self.now }
     {

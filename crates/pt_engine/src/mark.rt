@@ -4,7 +4,7 @@ ghost use Rattle.pt_engine.specs.Engines.{mark_of};
 use pt_model::Event;
 use pt_types::ClientId;
 
-/// What is noted of an event, once it is accepted.
+/// What is noted of an accepted event.
 #[derive(Drop)]
 pub enum Mark {
     Client,
@@ -12,7 +12,7 @@ pub enum Mark {
     Nothing,
 }
 
-/// What is noted of this event, once it is accepted.
+/// Returns what is noted of this event once it is accepted.
 pub fn mark_of(event: &Event) -> Mark
     ensures { result ≡ mark_of event.now }
 {

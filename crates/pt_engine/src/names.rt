@@ -14,7 +14,8 @@ use std::collections::HashMap;
 use std::hash::{BuildHasherDefault, FoldHasher};
 use std::marker::Model;
 
-/// What is stored of a client's name: how many of its lines came, and its number once it joined.
+/// What is stored of a client's name: the number of its lines that came, and the client's number
+/// once it joined.
 #[derive(Drop)]
 pub struct Row {
     pub lines: u64,
@@ -24,9 +25,9 @@ pub struct Row {
 /// A line that was counted.
 #[derive(Clone, Copy)]
 pub struct CountedLine {
-    /// Its number among the lines of its client, from 1.
+    /// The line's number among the lines of its client, from 1.
     pub number: u64,
-    /// The client that joined under its name, if one did.
+    /// The client that joined under the line's name, if one did.
     pub client: Option<ClientId>,
 }
 
@@ -34,8 +35,9 @@ type Rows<A> = Vec<(ClientName, Row), A>;
 
 type Places<A> = HashMap<ClientName, usize, BuildHasherDefault<FoldHasher>, A>;
 
-// How many lines came of each client, with the number of each that joined. A row is found by a
-// hint, if no other name with that hint came since, or else by the hash of its name.
+// The number of lines that came of each client, and the number of each client that joined. A row is
+// found by a hint, if no other name with that hint came since. Otherwise it is found by the hash of
+// its name.
 #[derive(Drop)]
 struct Counts<A: Allocator + Copy> {
     rows: Rows<A>,
@@ -58,10 +60,11 @@ impl<A: Allocator + Copy> Model for Counts<A> {
     ghost invariant = { λ k. ArePlaces bytes_eq k.rows.items k.places.entries };
 }
 
-/// The clients of a script: how many lines of each came, and the number of each that joined.
+/// The clients of a script: the number of lines that came of each, and the number of each client
+/// that joined.
 ///
-/// Contracts see whose the lines were, and the clients in the order of their joins. These two
-/// lists are for proofs alone and take no memory.
+/// Contracts see which client each line belongs to, and the clients in the order of their joins.
+/// These two lists exist for proofs alone and take no memory.
 #[derive(Drop)]
 pub struct Names<A: Allocator + Copy = Global> {
     counts: Counts<A>,
@@ -82,7 +85,7 @@ impl<A: Allocator + Copy> Model for Names<A> {
         (record { seen = map (λ p. p.0) n.seen.items; clients = n.joined.items }) };
 }
 
-// The key of the name whose row is at an index, and the index.
+// Returns the key of the name whose row is at an index, and the index.
 fn keyed(rows: &[(ClientName, Row)], index: usize) -> Option<(u64, usize)> {
     let (name, _) = rows.get(index)?;
     Some((key_of(name.as_bytes()), index))
@@ -98,7 +101,7 @@ fn grow<A: Allocator + Copy>(hints: &mut Hints<A>, rows: &Rows<A>) -> Result<(),
     }
 }
 
-// Whether the row at an index is a name's.
+// Returns whether the row at an index is this name's.
 #[inline(always)]
 fn is_at(rows: &[(ClientName, Row)], index: usize, name: &ClientName) -> bool
     ensures { OnTrue result (key_at rows.now index ≡ Some name.now) }
@@ -109,7 +112,8 @@ fn is_at(rows: &[(ClientName, Row)], index: usize, name: &ClientName) -> bool
     }
 }
 
-// A line of the clocks, or of no client that can be read, by its number.
+// Returns the counted line for a line of the clocks, or of no client that can be read, with its
+// number.
 fn unnamed(number: u64) -> CountedLine
     ensures number { result.number ≡ number }
     ensures client { result.client ≡ None }
@@ -124,7 +128,7 @@ impl<A: Allocator + Copy> Counts<A> {
     ghost use Rattle.pt_engine.specs.Names.{client_counted, lines_counted, IsRaised, IsGiven};
     ghost use Rattle.pt_engine.specs.Names.{AreAlike};
 
-    // Adds the row of a name of which no line is counted, and returns its index.
+    // Adds the row of a name with no counted line, and returns its index.
     fn begin(&mut self, name: &ClientName) -> Result<usize, ScriptFault>
         requires { row_of self.old.rows name.now ≡ None }
         ensures at { IfOk result (λ index. key_at self.new.rows index ≡ Some name.now) }
@@ -148,8 +152,9 @@ impl<A: Allocator + Copy> Counts<A> {
         }
     }
 
-    // The index of the row of a name to which no hint leads. The row is found by the hash of the
-    // name, or made. It isn't inlined: the rows of most lines are found by their hints.
+    // Returns the index of the row of a name whose row is not found by a hint. The row is found by
+    // the hash of the name, or made. It isn't inlined, since the rows of most lines are found by
+    // their hints.
     #[cold]
     #[inline(never)]
     fn look_up(&mut self, name: &ClientName) -> Result<usize, ScriptFault>
@@ -168,7 +173,7 @@ impl<A: Allocator + Copy> Counts<A> {
         Ok(index)
     }
 
-    // The index of a name's row, which is made if there is none.
+    // Returns the index of a name's row, which is made if there is none.
     #[inline(always)]
     fn index_of(&mut self, name: &ClientName) -> Result<usize, ScriptFault>
         ensures at { IfOk result (λ index. key_at self.new.rows index ≡ Some name.now) }
@@ -237,7 +242,7 @@ impl<A: Allocator + Copy> Counts<A> {
         }
     }
 
-    // Gives the client of this name its number.
+    // Stores the number of the client with this name.
     fn give(&mut self, name: &ClientName, client: ClientId)
         requires { IsSome (row_of self.old.rows name.now) }
         ensures { IsGiven self.old name.now client self.new }
@@ -252,7 +257,7 @@ impl<A: Allocator + Copy> Names<A> {
     ghost use Rattle.pt_engine.specs.Scripts.{lines_of_who, number_of};
     ghost use Rattle.pt_engine.specs.Scripts.{clients_joined};
 
-    /// No client, and no line. It takes no memory.
+    /// Creates a set of names with no client and no line, which allocates nothing.
     pub fn new(alloc: A) -> Names<A>
         ensures { result ≡ record { seen = []; clients = [] } }
     {
@@ -271,14 +276,14 @@ impl<A: Allocator + Copy> Names<A> {
         }
     }
 
-    /// How many lines came.
+    /// Returns the number of lines that came.
     pub fn total(&self) -> u64
         ensures { result ≡ length self.now.seen }
     {
         self.total
     }
 
-    /// Counts a line. A refused growth is a fault, and changes nothing.
+    /// Counts a line. A refused growth is a fault and changes nothing.
     #[inline(always)]
     pub fn count(&mut self, who: &Who) -> Result<CountedLine, ScriptFault>
         requires { length self.old.seen < 2 ^ 53 }
@@ -295,7 +300,8 @@ impl<A: Allocator + Copy> Names<A> {
         Ok(counted)
     }
 
-    /// A client of which a line came joins under its name, with this number; `*` and `?` never do.
+    /// Joins a client that has sent a line, under its name and with this number. `*` and `?` never
+    /// join.
     #[tactic(auto, using(crate::proofs::Rows::has_row, crate::proofs::Rows::joined_counted))]
     pub fn join(&mut self, who: &Who, client: ClientId)
         requires counted { 0 < lines_of_who self.old.seen who.now }

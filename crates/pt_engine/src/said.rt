@@ -1,4 +1,4 @@
-//! What is said after a client and a space, read and answered.
+//! What a line says after its client and a space, and how it is answered.
 
 ghost use Rattle.std.specs.Prelude.{◌≡◌, ◌<◌, List, ℕ, OnOk, IfErr};
 
@@ -20,8 +20,8 @@ impl<C: LegalHistory, A: Allocator + Copy> Engine<C, A> {
     ghost use Rattle.pt_engine.specs.Says.{SaysTo};
     ghost use Rattle.pt_engine.specs.Engines.{Adds, known_by};
 
-    // Answers what is seldom said. It isn't inlined, so that what is said more often has no room to
-    // clear for it.
+    // Answers what is rarely said. It isn't inlined, so that more frequent lines need not clear
+    // space for it.
     #[inline(never)]
     #[tactic(auto, using(crate::proofs::Lines::says_refused))]
     fn answer_rare(
@@ -44,7 +44,7 @@ impl<C: LegalHistory, A: Allocator + Copy> Engine<C, A> {
         }
     }
 
-    // Answers a client's line that says a call or nothing that can be read.
+    // Answers a client's line that is a call, or refuses one that can't be read.
     #[inline(always)]
     fn ask_or_refuse(
         &mut self,
@@ -67,8 +67,8 @@ impl<C: LegalHistory, A: Allocator + Copy> Engine<C, A> {
         }
     }
 
-    // Answers what begins as a wait with a deadline may. It isn't inlined, so that other lines have
-    // no room to clear for it.
+    // Answers a line that begins like a wait with a deadline. It isn't inlined, so that other lines
+    // need not clear space for it.
     #[inline(never)]
     fn answer_timedwait(
         &mut self,
@@ -93,8 +93,8 @@ impl<C: LegalHistory, A: Allocator + Copy> Engine<C, A> {
         self.answer_rare(line, client, rest, out)
     }
 
-    // Answers what begins as the making of a mutex may. It isn't inlined, so that other lines have
-    // no room to clear for it.
+    // Answers a line that begins like the making of a mutex. It isn't inlined, so that other lines
+    // need not clear space for it.
     #[inline(never)]
     fn answer_mutex_init(
         &mut self,
@@ -119,8 +119,8 @@ impl<C: LegalHistory, A: Allocator + Copy> Engine<C, A> {
         self.answer_rare(line, client, rest, out)
     }
 
-    // Answers what begins as the making of a barrier may. It isn't inlined, so that other lines
-    // have no room to clear for it.
+    // Answers a line that begins like the making of a barrier. It isn't inlined, so that other
+    // lines need not clear space for it.
     #[inline(never)]
     fn answer_barrier_init(
         &mut self,
@@ -145,8 +145,8 @@ impl<C: LegalHistory, A: Allocator + Copy> Engine<C, A> {
         self.answer_rare(line, client, rest, out)
     }
 
-    // Answers what begins as a wait may. It isn't inlined, so that other lines have no room to
-    // clear for it.
+    // Answers a line that begins like a wait. It isn't inlined, so that other lines need not clear
+    // space for it.
     #[inline(never)]
     fn answer_wait(
         &mut self,
@@ -172,8 +172,8 @@ impl<C: LegalHistory, A: Allocator + Copy> Engine<C, A> {
         self.answer_rare(line, client, rest, out)
     }
 
-    // Answers what begins as a call with a deadline may. It isn't inlined, so that other lines have
-    // no room to clear for it.
+    // Answers a line that begins like a call with a deadline. It isn't inlined, so that other lines
+    // need not clear space for it.
     #[inline(never)]
     fn answer_timed(
         &mut self,
@@ -198,8 +198,8 @@ impl<C: LegalHistory, A: Allocator + Copy> Engine<C, A> {
         self.answer_rare(line, client, rest, out)
     }
 
-    // Answers what the clocks say, most often a moment. It isn't inlined, so that other lines have
-    // no room to clear for it.
+    // Answers a line of the clocks, which is most often a moment. It isn't inlined, so that other
+    // lines need not clear space for it.
     #[inline(never)]
     fn answer_moment(
         &mut self,
@@ -223,7 +223,7 @@ impl<C: LegalHistory, A: Allocator + Copy> Engine<C, A> {
         self.answer_rare(line, client, rest, out)
     }
 
-    // Answers what else is said than calls of one name.
+    // Answers what is said, other than calls of one name.
     #[inline(never)]
     fn answer_other(
         &mut self,
@@ -251,7 +251,7 @@ impl<C: LegalHistory, A: Allocator + Copy> Engine<C, A> {
     }
 
     // Answers what is said after a client and a space. Most lines are calls of one name: these are
-    // moved once.
+    // moved only once.
     #[inline(always)]
     pub(crate) fn answer_rest(
         &mut self,

@@ -26,7 +26,7 @@ pub fn tell<A: Allocator + Copy>(
         ≡ out.old.items ++ reply_line (Some line.now.who) line.now.number word) }
     ensures why { IfErr result (λ fault. fault ≡ ScriptFault.Memory) }
 
-    // An answer for which there is room is never refused.
+    // An answer that the buffer has room for is never refused.
     ensures enough { vec_len out.old + length (reply_line (Some line.now.who) line.now.number word)
         ≤ vec_capacity out.old → IsOk result }
 {
@@ -48,7 +48,8 @@ pub fn refuse<A: Allocator + Copy>(
     tell(out, line, Word::Refusal(refusal))
 }
 
-// The line that is stored for a client. That of a call that is noted just now is at hand.
+// Returns the line that is stored for a client. The line of a call that is just being noted is
+// already at hand.
 #[inline(always)]
 fn line_of<'a, A: Allocator + Copy>(
     asked: &'a Asked<A>,
@@ -65,7 +66,7 @@ fn line_of<'a, A: Allocator + Copy>(
     }
 }
 
-// Appends an answer of the core under the line that made the call.
+// Appends an answer of the core, under the line that made the call.
 #[inline(always)]
 fn tell_reply<A: Allocator + Copy>(
     out: &mut Vec<u8, A>,
@@ -85,7 +86,7 @@ fn tell_reply<A: Allocator + Copy>(
     }
 }
 
-/// Appends the answer of the event's own call, if it has one.
+/// Appends the answer to the event's own call, if it has one.
 #[inline(always)]
 pub fn tell_own<A: Allocator + Copy>(
     out: &mut Vec<u8, A>,
@@ -104,7 +105,7 @@ pub fn tell_own<A: Allocator + Copy>(
 }
 
 /// Appends answers of the core, each under the line that made the call. The line of a call that is
-/// noted just now is at hand, and is not looked up.
+/// just being noted is at hand, so it is not looked up.
 #[inline(always)]
 #[tactic(auto, using(crate::proofs::Texts::latest_next))]
 pub fn tell_all<'a, C: LegalHistory, A: Allocator + Copy>(

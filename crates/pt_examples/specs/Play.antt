@@ -1,4 +1,4 @@
--- Play: events played out by the definitions alone.
+-- Play: events played by the definitions alone.
 use Rattle.std.specs.Prelude.{ℕ, zero, suc, List, [], ◌∷◌, ◌++◌, map, Option, Some, None, Result}
 use Rattle.std.specs.Prelude.{Ok, Err}
 use Rattle.pt_types.specs.Limits.{most_entries}
@@ -13,21 +13,21 @@ use Rattle.pt_model.specs.Answers.{replies_from}
 use Rattle.pt_model.specs.Forced.{forced}
 use Rattle.pt_model.specs.Room.{need, entry_for, refusal_within}
 
--- a deadline as a line has it
+-- a deadline of these seconds and nanoseconds, as a line has it
 abbrev pub at : ℕ → ℕ → Timespec
 at s n = record { sec = s; nsec = n }
 
--- this entry, and what must follow it, at most so many entries more
+-- this entry and those that must follow it, at most this many in all
 abbrev pub settled_by : ℕ → History → Option Entry → List Entry
 settled_by zero h next = []
 settled_by (suc n) h None = []
 settled_by (suc n) h (Some e) = e ∷ settled_by n (h ▷ e) (forced (h ▷ e))
 
--- an accepted event's entries
+-- the entries of an accepted event, of which this is the outer one
 abbrev pub entered_by : History → Entry → List Entry
 entered_by h e = settled_by 20 h (Some e)
 
--- what an accepted event or a refused one gives, and what all later events give
+-- the entries of an event or its refusal, then those of all later events
 abbrev pub played_by :
     History → Event → (History → List (Result (List Entry) Refusal)) → Option Refusal
     → List (Result (List Entry) Refusal)
@@ -35,13 +35,13 @@ played_by h v rest (Some r) = Err r ∷ rest h
 played_by h v rest None =
     Ok (entered_by h (entry_for h v)) ∷ rest (onto h (entered_by h (entry_for h v)))
 
--- the entries of each event, or its refusal, with so many entries at most
+-- the entries of each event, or its refusal, in a history of at most this many entries
 abbrev pub play_within : ℕ → History → List Event → List (Result (List Entry) Refusal)
 play_within limit h [] = []
 play_within limit h (v ∷ vs) =
     played_by h v (λ g. play_within limit g vs) (refusal_within limit h v)
 
--- the same, within the limit of every history
+-- the entries of each event, or its refusal, within the limit of every history
 abbrev pub play : History → List Event → List (Result (List Entry) Refusal)
 play h vs = play_within most_entries h vs
 
@@ -49,26 +49,26 @@ play h vs = play_within most_entries h vs
 abbrev pub said : Told → ℕ × Outcome
 said t = (t.client, t.outcome)
 
--- which answers each accepted event gives, and to whom
+-- the answers that each accepted event gives, each with its client
 abbrev pub told_in : History → List (Result (List Entry) Refusal) → List (List (ℕ × Outcome))
 told_in h [] = []
 told_in h (Err r ∷ gs) = told_in h gs
 told_in h (Ok es ∷ gs) = map said (replies_from h es) ∷ told_in (onto h es) gs
 
--- all entries of these events
+-- all entries of these events, in order
 abbrev pub entries_in : List (Result (List Entry) Refusal) → List Entry
 entries_in [] = []
 entries_in (Err r ∷ gs) = entries_in gs
 entries_in (Ok es ∷ gs) = es ++ entries_in gs
 
--- the accepted ones of these events
+-- those of these events that were accepted
 abbrev pub accepted_of : List Event → List (Result (List Entry) Refusal) → List Event
 accepted_of [] gs = []
 accepted_of (v ∷ vs) [] = []
 accepted_of (v ∷ vs) (Err r ∷ gs) = accepted_of vs gs
 accepted_of (v ∷ vs) (Ok es ∷ gs) = v ∷ accepted_of vs gs
 
--- the length and the need after an accepted event or a refused one
+-- the length and the need after an event or its refusal, then those of all later events
 abbrev pub measured_by :
     History → Event → (History → List (Result (ℕ × ℕ) Refusal)) → Option Refusal
     → List (Result (ℕ × ℕ) Refusal)

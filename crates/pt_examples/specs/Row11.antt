@@ -22,7 +22,7 @@ named_c = codes "c"
 abbrev pub named_m : List ℕ
 named_m = codes "m"
 
--- what happens
+-- the events of the row
 abbrev pub events : List Event
 events =
     event.Moment Real (nanos 10 0)
@@ -36,7 +36,7 @@ events =
     ∷ event.Call 2 (call.Unlock named_m)
     ∷ []
 
--- what each event writes, or why it is refused
+-- the entries that each event writes, or its refusal
 abbrev pub entered : List (Result (List Entry) Refusal)
 entered =
     Ok (Moment Real (nanos 10 0) ∷ [])
@@ -50,7 +50,7 @@ entered =
     ∷ Ok (Call 2 (call.Unlock named_m) (Some Done) ∷ Grant 8 Etimedout ∷ [])
     ∷ []
 
--- which answers each accepted event gives, and to whom
+-- the answers that each accepted event gives, each with its client
 abbrev pub told : List (List (ℕ × Outcome))
 told =
     []
@@ -64,7 +64,7 @@ told =
     ∷ ((2, Done) ∷ (1, Etimedout) ∷ [])
     ∷ []
 
--- the definitions alone play the events so
+-- the definitions alone give these entries and answers for the events
 abbrev pub IsPlayed11 : Type 0
 IsPlayed11 = (play (Begin nothing) events ≡ entered) × (told_in (Begin nothing) entered ≡ told)
 

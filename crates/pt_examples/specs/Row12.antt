@@ -17,7 +17,7 @@ use Rattle.pt_examples.specs.Play.{play, told_in, at}
 abbrev pub named_r : List ℕ
 named_r = codes "r"
 
--- what happens
+-- the events of the row
 abbrev pub events : List Event
 events =
     event.Join 10
@@ -31,7 +31,7 @@ events =
     ∷ event.Moment Real (nanos 5 0)
     ∷ []
 
--- what each event writes, or why it is refused
+-- the entries that each event writes, or its refusal
 abbrev pub entered : List (Result (List Entry) Refusal)
 entered =
     Ok (Join 0 10 ∷ [])
@@ -45,7 +45,7 @@ entered =
     ∷ Ok (Moment Real (nanos 5 0) ∷ Expire 6 ∷ Grant 7 Done ∷ [])
     ∷ []
 
--- which answers each accepted event gives, and to whom
+-- the answers that each accepted event gives, each with its client
 abbrev pub told : List (List (ℕ × Outcome))
 told =
     []
@@ -59,6 +59,6 @@ told =
     ∷ ((1, Etimedout) ∷ (2, Done) ∷ [])
     ∷ []
 
--- the definitions alone play the events so
+-- the definitions alone give these entries and answers for the events
 abbrev pub IsPlayed12 : Type 0
 IsPlayed12 = (play (Begin nothing) events ≡ entered) × (told_in (Begin nothing) entered ≡ told)

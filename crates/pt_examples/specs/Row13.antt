@@ -22,7 +22,7 @@ named_c = codes "c"
 abbrev pub named_m : List ℕ
 named_m = codes "m"
 
--- what happens
+-- the events of the row
 abbrev pub events : List Event
 events =
     event.Join 10
@@ -36,7 +36,7 @@ events =
     ∷ event.Death 1
     ∷ []
 
--- what each event writes, or why it is refused
+-- the entries that each event writes, or its refusal
 abbrev pub entered : List (Result (List Entry) Refusal)
 entered =
     Ok (Join 0 10 ∷ [])
@@ -50,7 +50,7 @@ entered =
     ∷ Ok (Death 1 ∷ Yield 2 ∷ Grant 6 Eownerdead ∷ [])
     ∷ []
 
--- which answers each accepted event gives, and to whom
+-- the answers that each accepted event gives, each with its client
 abbrev pub told : List (List (ℕ × Outcome))
 told =
     []
@@ -64,6 +64,6 @@ told =
     ∷ ((0, Eownerdead) ∷ [])
     ∷ []
 
--- the definitions alone play the events so
+-- the definitions alone give these entries and answers for the events
 abbrev pub IsPlayed13 : Type 0
 IsPlayed13 = (play (Begin nothing) events ≡ entered) × (told_in (Begin nothing) entered ≡ told)

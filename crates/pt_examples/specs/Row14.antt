@@ -21,7 +21,7 @@ named_d = codes "d"
 abbrev pub named_x : List ℕ
 named_x = codes "x"
 
--- what happens
+-- the events of the row
 abbrev pub events : List Event
 events =
     event.Join 10
@@ -41,7 +41,7 @@ events =
     ∷ event.Call 0 (call.BarrierInit named_x 1024)
     ∷ []
 
--- what each event writes, or why it is refused
+-- the entries that each event writes, or its refusal
 abbrev pub entered : List (Result (List Entry) Refusal)
 entered =
     Ok (Join 0 10 ∷ [])
@@ -61,7 +61,7 @@ entered =
     ∷ Ok (Call 0 (call.BarrierInit named_x 1024) (Some Done) ∷ [])
     ∷ []
 
--- which answers each accepted event gives, and to whom
+-- the answers that each accepted event gives, each with its client
 abbrev pub told : List (List (ℕ × Outcome))
 told =
     []
@@ -81,6 +81,6 @@ told =
     ∷ ((0, Done) ∷ [])
     ∷ []
 
--- the definitions alone play the events so
+-- the definitions alone give these entries and answers for the events
 abbrev pub IsPlayed14 : Type 0
 IsPlayed14 = (play (Begin nothing) events ≡ entered) × (told_in (Begin nothing) entered ≡ told)

@@ -20,7 +20,7 @@ use Rattle.pt_examples.specs.Play.{play, told_in, at}
 abbrev pub named_m : List ℕ
 named_m = codes "m"
 
--- what happens
+-- the events of the row
 abbrev pub events : List Event
 events =
     event.Join 10
@@ -37,7 +37,7 @@ events =
     ∷ event.Call 1 (call.MutexInit named_m Normal false)
     ∷ []
 
--- what each event writes, or why it is refused
+-- the entries that each event writes, or its refusal
 abbrev pub entered : List (Result (List Entry) Refusal)
 entered =
     Ok (Join 0 10 ∷ [])
@@ -54,7 +54,7 @@ entered =
     ∷ Ok (Call 1 (call.MutexInit named_m Normal false) (Some Done) ∷ [])
     ∷ []
 
--- which answers each accepted event gives, and to whom
+-- the answers that each accepted event gives, each with its client
 abbrev pub told : List (List (ℕ × Outcome))
 told =
     []
@@ -70,6 +70,6 @@ told =
     ∷ ((1, Done) ∷ [])
     ∷ []
 
--- the definitions alone play the events so
+-- the definitions alone give these entries and answers for the events
 abbrev pub IsPlayed16 : Type 0
 IsPlayed16 = (play (Begin nothing) events ≡ entered) × (told_in (Begin nothing) entered ≡ told)

@@ -1,4 +1,4 @@
--- Row18: woken waits queue after those who came before the broadcast.
+-- Row18: woken waits queue after those that came before the broadcast.
 use Rattle.std.specs.Prelude.{◌≡◌, List, [], ◌∷◌, ℕ, false, Some, None, Result, Ok, codes}
 use Rattle.pt_types.specs.declared.call.Call.TheVariants as call
 use Rattle.pt_types.specs.declared.call.MutexKind.TheVariants.{Normal}
@@ -19,7 +19,7 @@ named_c = codes "c"
 abbrev pub named_m : List ℕ
 named_m = codes "m"
 
--- what happens
+-- the events of the row
 abbrev pub events : List Event
 events =
     event.Join 10
@@ -44,7 +44,7 @@ events =
     ∷ event.Call 0 (call.Unlock named_m)
     ∷ []
 
--- what each event writes, or why it is refused
+-- the entries that each event writes, or its refusal
 abbrev pub entered : List (Result (List Entry) Refusal)
 entered =
     Ok (Join 0 10 ∷ [])
@@ -69,7 +69,7 @@ entered =
     ∷ Ok (Call 0 (call.Unlock named_m) (Some Done) ∷ Grant 12 Done ∷ [])
     ∷ []
 
--- which answers each accepted event gives, and to whom
+-- the answers that each accepted event gives, each with its client
 abbrev pub told : List (List (ℕ × Outcome))
 told =
     []
@@ -94,6 +94,6 @@ told =
     ∷ ((0, Done) ∷ (1, Done) ∷ [])
     ∷ []
 
--- the definitions alone play the events so
+-- the definitions alone give these entries and answers for the events
 abbrev pub IsPlayed18 : Type 0
 IsPlayed18 = (play (Begin nothing) events ≡ entered) × (told_in (Begin nothing) entered ≡ told)

@@ -22,7 +22,7 @@ named_k = codes "k"
 abbrev pub named_m : List ℕ
 named_m = codes "m"
 
--- what happens
+-- the events of the row
 abbrev pub events : List Event
 events =
     event.Join 10
@@ -42,7 +42,7 @@ events =
     ∷ event.Call 1 (call.CondDestroy named_c)
     ∷ []
 
--- what each event writes, or why it is refused
+-- the entries that each event writes, or its refusal
 abbrev pub entered : List (Result (List Entry) Refusal)
 entered =
     Ok (Join 0 10 ∷ [])
@@ -62,7 +62,7 @@ entered =
     ∷ Ok (Call 1 (call.CondDestroy named_c) (Some Done) ∷ [])
     ∷ []
 
--- which answers each accepted event gives, and to whom
+-- the answers that each accepted event gives, each with its client
 abbrev pub told : List (List (ℕ × Outcome))
 told =
     []
@@ -82,6 +82,6 @@ told =
     ∷ ((1, Done) ∷ [])
     ∷ []
 
--- the definitions alone play the events so
+-- the definitions alone give these entries and answers for the events
 abbrev pub IsPlayed19 : Type 0
 IsPlayed19 = (play (Begin nothing) events ≡ entered) × (told_in (Begin nothing) entered ≡ told)

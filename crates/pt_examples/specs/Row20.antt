@@ -15,7 +15,7 @@ use Rattle.pt_examples.specs.Play.{play, told_in}
 abbrev pub named_r : List ℕ
 named_r = codes "r"
 
--- what happens
+-- the events of the row
 abbrev pub events : List Event
 events =
     event.Join 10
@@ -32,7 +32,7 @@ events =
     ∷ event.Call 1 (call.RwlockDestroy named_r)
     ∷ []
 
--- what each event writes, or why it is refused
+-- the entries that each event writes, or its refusal
 abbrev pub entered : List (Result (List Entry) Refusal)
 entered =
     Ok (Join 0 10 ∷ [])
@@ -49,7 +49,7 @@ entered =
     ∷ Ok (Call 1 (call.RwlockDestroy named_r) (Some Done) ∷ [])
     ∷ []
 
--- which answers each accepted event gives, and to whom
+-- the answers that each accepted event gives, each with its client
 abbrev pub told : List (List (ℕ × Outcome))
 told =
     []
@@ -66,6 +66,6 @@ told =
     ∷ ((1, Done) ∷ [])
     ∷ []
 
--- the definitions alone play the events so
+-- the definitions alone give these entries and answers for the events
 abbrev pub IsPlayed20 : Type 0
 IsPlayed20 = (play (Begin nothing) events ≡ entered) × (told_in (Begin nothing) entered ≡ told)

@@ -35,29 +35,29 @@ second =
 abbrev pub third : List Event
 third = event.Moment Real (nanos 1 0) ∷ event.Moment Real (nanos 2 0) ∷ event.Death 0 ∷ []
 
--- with seven entries at most
+-- the lengths, needs and refusals with at most seven entries
 abbrev pub IsFullAtSeven : Type 0
 IsFullAtSeven =
     lengths 7 (Begin nothing) (first ++ second)
     ≡ Ok (1, 1) ∷ Ok (2, 1) ∷ Ok (4, 2) ∷ Ok (5, 1) ∷ Err Full ∷ Ok (6, 1) ∷ Err Full
     ∷ Ok (7, 0) ∷ Err Dead ∷ Err Nohello ∷ []
 
--- the same, if a Yield must still be written
+-- the same, if a Yield may still have to be written
 abbrev pub IsFullBeforeYield : Type 0
 IsFullBeforeYield =
     lengths 7 (Begin nothing) (first ++ third)
     ≡ Ok (1, 1) ∷ Ok (2, 1) ∷ Ok (4, 2) ∷ Ok (5, 2) ∷ Err Full ∷ Ok (7, 0) ∷ []
 
--- with six entries at most the lock finds no room
+-- with at most six entries there is no room for the lock
 abbrev pub IsFullAtSix : Type 0
 IsFullAtSix = lengths 6 (Begin nothing) first ≡ Ok (1, 1) ∷ Ok (2, 1) ∷ Err Full ∷ []
 
--- with one entry at most nobody can join
+-- with at most one entry nobody can join
 abbrev pub IsFullAtOne : Type 0
 IsFullAtOne =
     lengths 1 (Begin nothing) (event.Join 10 ∷ event.Moment Real 1 ∷ event.Moment Real 2 ∷ [])
     ≡ Err Full ∷ Ok (1, 0) ∷ Err Full ∷ []
 
--- with none nothing is accepted
+-- with no entries nothing is accepted
 abbrev pub IsFullAtNone : Type 0
 IsFullAtNone = lengths 0 (Begin nothing) (event.Moment Real 1 ∷ []) ≡ Err Full ∷ []

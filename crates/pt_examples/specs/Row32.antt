@@ -18,7 +18,7 @@ use Rattle.pt_examples.specs.Play.{play, told_in, at}
 abbrev pub named_m : List ℕ
 named_m = codes "m"
 
--- what happens
+-- the events of the row
 abbrev pub events : List Event
 events =
     event.Join 10
@@ -35,7 +35,7 @@ events =
     ∷ event.Call 0 (call.Unlock named_m)
     ∷ []
 
--- what each event writes, or why it is refused
+-- the entries that each event writes, or its refusal
 abbrev pub entered : List (Result (List Entry) Refusal)
 entered =
     Ok (Join 0 10 ∷ [])
@@ -52,7 +52,7 @@ entered =
     ∷ Ok (Call 0 (call.Unlock named_m) (Some Done) ∷ Grant 14 Done ∷ [])
     ∷ []
 
--- which answers each accepted event gives, and to whom
+-- the answers that each accepted event gives, each with its client
 abbrev pub told : List (List (ℕ × Outcome))
 told =
     []
@@ -69,6 +69,6 @@ told =
     ∷ ((0, Done) ∷ (1, Done) ∷ [])
     ∷ []
 
--- the definitions alone play the events so
+-- the definitions alone give these entries and answers for the events
 abbrev pub IsPlayed32 : Type 0
 IsPlayed32 = (play (Begin nothing) events ≡ entered) × (told_in (Begin nothing) entered ≡ told)

@@ -19,7 +19,7 @@ named_c = codes "c"
 abbrev pub named_m : List ℕ
 named_m = codes "m"
 
--- what happens
+-- the events of the row
 abbrev pub events : List Event
 events =
     event.Join 10
@@ -35,7 +35,7 @@ events =
     ∷ event.Call 2 (call.Signal named_c)
     ∷ []
 
--- what each event writes, or why it is refused
+-- the entries that each event writes, or its refusal
 abbrev pub entered : List (Result (List Entry) Refusal)
 entered =
     Ok (Join 0 10 ∷ [])
@@ -51,7 +51,7 @@ entered =
     ∷ Ok (Call 2 (call.Signal named_c) (Some Done) ∷ Grant 12 Enotrecoverable ∷ [])
     ∷ []
 
--- which answers each accepted event gives, and to whom
+-- the answers that each accepted event gives, each with its client
 abbrev pub told : List (List (ℕ × Outcome))
 told =
     []
@@ -67,6 +67,6 @@ told =
     ∷ ((2, Done) ∷ (1, Enotrecoverable) ∷ [])
     ∷ []
 
--- the definitions alone play the events so
+-- the definitions alone give these entries and answers for the events
 abbrev pub IsPlayed33 : Type 0
 IsPlayed33 = (play (Begin nothing) events ≡ entered) × (told_in (Begin nothing) entered ≡ told)

@@ -1,4 +1,4 @@
--- Row36: two clocks, of which each has deadlines of its own.
+-- Row36: two clocks, each with deadlines of its own.
 use Rattle.std.specs.Prelude.{◌≡◌, List, [], ◌∷◌, ℕ, false, Some, None, Result, Ok, codes}
 use Rattle.pt_types.specs.Times.{nanos}
 use Rattle.pt_types.specs.declared.time.Clock.TheVariants.{Real, Mono}
@@ -18,7 +18,7 @@ use Rattle.pt_examples.specs.Play.{play, told_in, at}
 abbrev pub named_m : List ℕ
 named_m = codes "m"
 
--- what happens
+-- the events of the row
 abbrev pub events : List Event
 events =
     event.Join 10
@@ -34,7 +34,7 @@ events =
     ∷ event.Call 0 (call.Unlock named_m)
     ∷ []
 
--- what each event writes, or why it is refused
+-- the entries that each event writes, or its refusal
 abbrev pub entered : List (Result (List Entry) Refusal)
 entered =
     Ok (Join 0 10 ∷ [])
@@ -50,7 +50,7 @@ entered =
     ∷ Ok (Call 0 (call.Unlock named_m) (Some Done) ∷ Grant 12 Done ∷ [])
     ∷ []
 
--- which answers each accepted event gives, and to whom
+-- the answers that each accepted event gives, each with its client
 abbrev pub told : List (List (ℕ × Outcome))
 told =
     []
@@ -66,6 +66,6 @@ told =
     ∷ ((0, Done) ∷ (1, Done) ∷ [])
     ∷ []
 
--- the definitions alone play the events so
+-- the definitions alone give these entries and answers for the events
 abbrev pub IsPlayed36 : Type 0
 IsPlayed36 = (play (Begin nothing) events ≡ entered) × (told_in (Begin nothing) entered ≡ told)

@@ -27,7 +27,7 @@ named_q = codes "q"
 abbrev pub named_r : List ℕ
 named_r = codes "r"
 
--- what happens up to the seal
+-- the events up to the seal
 abbrev pub events : List Event
 events =
     event.Join 10
@@ -43,7 +43,7 @@ events =
     ∷ event.Death 0
     ∷ []
 
--- what each event writes, or why it is refused
+-- the entries that each event writes, or its refusal
 abbrev pub entered : List (Result (List Entry) Refusal)
 entered =
     Ok (Join 0 10 ∷ [])
@@ -59,7 +59,7 @@ entered =
     ∷ Ok (Death 0 ∷ Yield 2 ∷ [])
     ∷ []
 
--- which answers each accepted event gives, and to whom
+-- the answers that each accepted event gives, each with its client
 abbrev pub told : List (List (ℕ × Outcome))
 told =
     []
@@ -75,7 +75,7 @@ told =
     ∷ []
     ∷ []
 
--- what happens after it
+-- the events after the seal
 abbrev pub later_events : List Event
 later_events =
     event.Call 1 (call.Trylock named_k)
@@ -84,7 +84,7 @@ later_events =
     ∷ event.Call 1 (call.Lock named_m)
     ∷ []
 
--- what each of these writes
+-- the entries that each later event writes
 abbrev pub later_entered : List (Result (List Entry) Refusal)
 later_entered =
     Ok (Call 1 (call.Trylock named_k) (Some Ebusy) ∷ [])
@@ -93,7 +93,7 @@ later_entered =
     ∷ Ok (Call 1 (call.Lock named_m) None ∷ Grant 19 Eownerdead ∷ [])
     ∷ []
 
--- which answers each of them gives, and to whom
+-- the answers that each later event gives, each with its client
 abbrev pub later_told : List (List (ℕ × Outcome))
 later_told =
     ((1, Ebusy) ∷ [])
@@ -102,7 +102,8 @@ later_told =
     ∷ ((1, Eownerdead) ∷ [])
     ∷ []
 
--- the definitions alone play the events so, with a seal between and without one
+-- the definitions alone give these entries and answers for the events, with a seal between the two
+-- parts and without one
 abbrev pub IsPlayed39 : Type 0
 IsPlayed39 =
     Plays (Begin nothing) events entered told
@@ -121,10 +122,10 @@ orphaned =
     ∷ Death 0
     ∷ []
 
--- what must follow after h
+-- the entries that must follow after h
 abbrev pub following : History → List Entry
 following h = settled_by 20 h (forced h)
 
--- after a seal there it is written, and the other client learns of the death
+-- after a seal at that point the Yield is written, and the other client learns of the death
 abbrev pub IsTold39 : Type 0
 IsTold39 = following (behind_seal (history orphaned)) ≡ Yield 2 ∷ Grant 5 Eownerdead ∷ []

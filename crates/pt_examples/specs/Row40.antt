@@ -1,4 +1,4 @@
--- Row40: when and why a wait was moved is known after a seal.
+-- Row40: after a seal it is known when and why a wait was moved.
 use Rattle.std.specs.Prelude.{◌≡◌, List, [], ◌∷◌, ℕ, false, Option, Some, None, Result, Ok, codes}
 use Rattle.pt_types.specs.Times.{nanos}
 use Rattle.pt_types.specs.declared.time.Clock.TheVariants.{Real}
@@ -24,7 +24,7 @@ named_c = codes "c"
 abbrev pub named_m : List ℕ
 named_m = codes "m"
 
--- what happens up to the seal
+-- the events up to the seal
 abbrev pub events : List Event
 events =
     event.Join 10
@@ -43,7 +43,7 @@ events =
     ∷ event.Call 2 (call.Signal named_c)
     ∷ []
 
--- what each event writes, or why it is refused
+-- the entries that each event writes, or its refusal
 abbrev pub entered : List (Result (List Entry) Refusal)
 entered =
     Ok (Join 0 10 ∷ [])
@@ -62,7 +62,7 @@ entered =
     ∷ Ok (Call 2 (call.Signal named_c) (Some Done) ∷ [])
     ∷ []
 
--- which answers each accepted event gives, and to whom
+-- the answers that each accepted event gives, each with its client
 abbrev pub told : List (List (ℕ × Outcome))
 told =
     []
@@ -81,7 +81,7 @@ told =
     ∷ ((2, Done) ∷ [])
     ∷ []
 
--- what happens after it
+-- the events after the seal
 abbrev pub later_events : List Event
 later_events =
     event.Call 2 (call.Unlock named_m)
@@ -89,7 +89,7 @@ later_events =
     ∷ event.Call 3 (call.Unlock named_m)
     ∷ []
 
--- what each of these writes
+-- the entries that each later event writes
 abbrev pub later_entered : List (Result (List Entry) Refusal)
 later_entered =
     Ok (Call 2 (call.Unlock named_m) (Some Done) ∷ Grant 11 Etimedout ∷ [])
@@ -97,7 +97,7 @@ later_entered =
     ∷ Ok (Call 3 (call.Unlock named_m) (Some Done) ∷ Grant 8 Done ∷ [])
     ∷ []
 
--- which answers each of them gives, and to whom
+-- the answers that each later event gives, each with its client
 abbrev pub later_told : List (List (ℕ × Outcome))
 later_told =
     ((2, Done) ∷ (1, Etimedout) ∷ [])
@@ -105,7 +105,8 @@ later_told =
     ∷ ((3, Done) ∷ (0, Done) ∷ [])
     ∷ []
 
--- the definitions alone play the events so, with a seal between and without one
+-- the definitions alone give these entries and answers for the events, with a seal between the two
+-- parts and without one
 abbrev pub IsPlayed40 : Type 0
 IsPlayed40 =
     Plays (Begin nothing) events entered told
@@ -116,7 +117,7 @@ IsPlayed40 =
 abbrev pub answered : Option Told
 answered = Some (record { client = 2; place = 17; outcome = Done })
 
--- after the seal the latest calls have the answers that they had, or none still
+-- after the seal each latest call has the answer that it had, or still has none
 abbrev pub IsAnswered40 : Type 0
 IsAnswered40 =
     let h = behind_seal (history (entries_in entered)) in

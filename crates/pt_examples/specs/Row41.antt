@@ -19,7 +19,7 @@ use Rattle.pt_examples.specs.SealedPlay.{Plays, behind_seal}
 abbrev pub named_m : List ℕ
 named_m = codes "m"
 
--- what happens up to the seal
+-- the events up to the seal
 abbrev pub events : List Event
 events =
     event.Join 10
@@ -32,7 +32,7 @@ events =
     ∷ event.Call 2 (call.Clocklock named_m Mono (at 6 0))
     ∷ []
 
--- what each event writes, or why it is refused
+-- the entries that each event writes, or its refusal
 abbrev pub entered : List (Result (List Entry) Refusal)
 entered =
     Ok (Join 0 10 ∷ [])
@@ -45,7 +45,7 @@ entered =
     ∷ Ok (Call 2 (call.Clocklock named_m Mono (at 6 0)) None ∷ [])
     ∷ []
 
--- which answers each accepted event gives, and to whom
+-- the answers that each accepted event gives, each with its client
 abbrev pub told : List (List (ℕ × Outcome))
 told =
     []
@@ -58,7 +58,7 @@ told =
     ∷ []
     ∷ []
 
--- what happens after it
+-- the events after the seal
 abbrev pub later_events : List Event
 later_events =
     event.Call 1 (call.Timedlock named_m (at 9 0))
@@ -70,7 +70,7 @@ later_events =
     ∷ event.Moment Mono (nanos 6 0)
     ∷ []
 
--- what each of these writes
+-- the entries that each later event writes
 abbrev pub later_entered : List (Result (List Entry) Refusal)
 later_entered =
     Ok (Call 1 (call.Timedlock named_m (at 9 0)) None ∷ Expire 9 ∷ [])
@@ -82,7 +82,7 @@ later_entered =
     ∷ Ok (Moment Mono (nanos 6 0) ∷ Expire 16 ∷ Expire 8 ∷ [])
     ∷ []
 
--- which answers each of them gives, and to whom
+-- the answers that each later event gives, each with its client
 abbrev pub later_told : List (List (ℕ × Outcome))
 later_told =
     ((1, Etimedout) ∷ [])
@@ -94,7 +94,8 @@ later_told =
     ∷ ((1, Etimedout) ∷ (2, Etimedout) ∷ [])
     ∷ []
 
--- the definitions alone play the events so, with a seal between and without one
+-- the definitions alone give these entries and answers for the events, with a seal between the two
+-- parts and without one
 abbrev pub IsPlayed41 : Type 0
 IsPlayed41 =
     Plays (Begin nothing) events entered told

@@ -17,7 +17,7 @@ use Rattle.pt_examples.specs.Play.{play, told_in, entries_in, accepted_of}
 abbrev pub named_m : List ℕ
 named_m = codes "m"
 
--- what happens
+-- the events of the row
 abbrev pub events : List Event
 events =
     event.Join 10
@@ -33,7 +33,7 @@ events =
     ∷ event.Call 2 (call.MutexDestroy named_m)
     ∷ []
 
--- what each event writes, or why it is refused
+-- the entries that each event writes, or its refusal
 abbrev pub entered : List (Result (List Entry) Refusal)
 entered =
     Ok (Join 0 10 ∷ [])
@@ -49,7 +49,7 @@ entered =
     ∷ Ok (Call 2 (call.MutexDestroy named_m) (Some Done) ∷ [])
     ∷ []
 
--- which answers each accepted event gives, and to whom
+-- the answers that each accepted event gives, each with its client
 abbrev pub told : List (List (ℕ × Outcome))
 told =
     []
@@ -65,7 +65,7 @@ told =
     ∷ ((2, Done) ∷ [])
     ∷ []
 
--- the definitions alone play the events so
+-- the definitions alone give these entries and answers for the events
 abbrev pub IsPlayed5 : Type 0
 IsPlayed5 = (play (Begin nothing) events ≡ entered) × (told_in (Begin nothing) entered ≡ told)
 

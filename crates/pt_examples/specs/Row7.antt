@@ -16,7 +16,7 @@ use Rattle.pt_examples.specs.Play.{play, told_in}
 abbrev pub named_m : List ℕ
 named_m = codes "m"
 
--- what happens
+-- the events of the row
 abbrev pub events : List Event
 events =
     event.Join 10
@@ -30,7 +30,7 @@ events =
     ∷ event.Death 1
     ∷ []
 
--- what each event writes, or why it is refused
+-- the entries that each event writes, or its refusal
 abbrev pub entered : List (Result (List Entry) Refusal)
 entered =
     Ok (Join 0 10 ∷ [])
@@ -44,7 +44,7 @@ entered =
     ∷ Ok (Death 1 ∷ Yield 3 ∷ Grant 7 Eownerdead ∷ [])
     ∷ []
 
--- which answers each accepted event gives, and to whom
+-- the answers that each accepted event gives, each with its client
 abbrev pub told : List (List (ℕ × Outcome))
 told =
     []
@@ -58,6 +58,6 @@ told =
     ∷ ((2, Eownerdead) ∷ [])
     ∷ []
 
--- the definitions alone play the events so
+-- the definitions alone give these entries and answers for the events
 abbrev pub IsPlayed7 : Type 0
 IsPlayed7 = (play (Begin nothing) events ≡ entered) × (told_in (Begin nothing) entered ≡ told)

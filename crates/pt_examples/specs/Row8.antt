@@ -1,4 +1,4 @@
--- Row8: readers after a writer of their priority wait, and a holder reads on.
+-- Row8: readers that come after a writer of their priority wait, and a holder reads on.
 use Rattle.std.specs.Prelude.{◌≡◌, List, [], ◌∷◌, ℕ, Some, None, Result, Ok, codes}
 use Rattle.pt_types.specs.declared.call.Call.TheVariants as call
 use Rattle.pt_types.specs.declared.outcome.Outcome.{Outcome}
@@ -15,7 +15,7 @@ use Rattle.pt_examples.specs.Play.{play, told_in}
 abbrev pub named_r : List ℕ
 named_r = codes "r"
 
--- what happens
+-- the events of the row
 abbrev pub events : List Event
 events =
     event.Join 10
@@ -34,7 +34,7 @@ events =
     ∷ event.Call 1 (call.Rwunlock named_r)
     ∷ []
 
--- what each event writes, or why it is refused
+-- the entries that each event writes, or its refusal
 abbrev pub entered : List (Result (List Entry) Refusal)
 entered =
     Ok (Join 0 10 ∷ [])
@@ -53,7 +53,7 @@ entered =
     ∷ Ok (Call 1 (call.Rwunlock named_r) (Some Done) ∷ Grant 8 Done ∷ [])
     ∷ []
 
--- which answers each accepted event gives, and to whom
+-- the answers that each accepted event gives, each with its client
 abbrev pub told : List (List (ℕ × Outcome))
 told =
     []
@@ -72,6 +72,6 @@ told =
     ∷ ((1, Done) ∷ (2, Done) ∷ [])
     ∷ []
 
--- the definitions alone play the events so
+-- the definitions alone give these entries and answers for the events
 abbrev pub IsPlayed8 : Type 0
 IsPlayed8 = (play (Begin nothing) events ≡ entered) × (told_in (Begin nothing) entered ≡ told)

@@ -15,7 +15,7 @@ use Rattle.pt_examples.specs.Play.{play, told_in}
 abbrev pub named_r : List ℕ
 named_r = codes "r"
 
--- what happens
+-- the events of the row
 abbrev pub events : List Event
 events =
     event.Join 10
@@ -29,7 +29,7 @@ events =
     ∷ event.Call 1 (call.Rwunlock named_r)
     ∷ []
 
--- what each event writes, or why it is refused
+-- the entries that each event writes, or its refusal
 abbrev pub entered : List (Result (List Entry) Refusal)
 entered =
     Ok (Join 0 10 ∷ [])
@@ -43,7 +43,7 @@ entered =
     ∷ Ok (Call 1 (call.Rwunlock named_r) (Some Done) ∷ Grant 6 Done ∷ [])
     ∷ []
 
--- which answers each accepted event gives, and to whom
+-- the answers that each accepted event gives, each with its client
 abbrev pub told : List (List (ℕ × Outcome))
 told =
     []
@@ -57,6 +57,6 @@ told =
     ∷ ((1, Done) ∷ (2, Done) ∷ [])
     ∷ []
 
--- the definitions alone play the events so
+-- the definitions alone give these entries and answers for the events
 abbrev pub IsPlayed9 : Type 0
 IsPlayed9 = (play (Begin nothing) events ≡ entered) × (told_in (Begin nothing) entered ≡ told)

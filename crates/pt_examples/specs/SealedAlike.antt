@@ -25,7 +25,7 @@ use Rattle.pt_examples.specs.Row18 as row_18
 use Rattle.pt_examples.specs.Row19 as row_19
 use Rattle.pt_examples.specs.Row20 as row_20
 
--- with so many entries at most after each seal, the history is sealed at these places, and the
+-- with at most this many entries after each seal, the history is sealed at these places, and the
 -- entries, their places and the answers are those of a history without seals
 abbrev pub IsAlike :
     (limit : ℕ) (seals : List ℕ) (events : List Event)

@@ -20,41 +20,41 @@ abbrev pub Plays :
     → Type 0
 Plays h events entered told = (play h events ≡ entered) × (told_in h entered ≡ told)
 
--- a history goes on from its seal
+-- the history that goes on from the seal of h
 abbrev pub behind_seal : History → History
 behind_seal h = Begin (seal h)
 
--- the history in which an event's entries are written: sealed, if they need it
+-- the history in which an event's entries are written: sealed first, if the event needs a seal
 abbrev pub opened : ℕ → History → Event → History
 opened limit h v = if needs_seal limit h v then behind_seal h else h
 
--- where the history is sealed for an event, if it is
+-- the place at which the history is sealed for an event, if it is
 abbrev pub sealed_at : ℕ → History → Event → Option ℕ
 sealed_at limit h v = if needs_seal limit h v then Some (place h) else None
 
--- an accepted event as it was played: where the history was sealed for it, that in which it was
--- written, and its entries
+-- an accepted event as it was played: the place at which the history was sealed for it, if it was;
+-- the history in which it was written; and its entries
 pub record Played : Type 0 where
   pub sealed : Option ℕ
   pub past : History
   pub entries : List Entry
 
--- an event's entries in the history in which they are written
+-- an accepted event as it was played, with its entries in the history in which they are written
 abbrev pub written : Option ℕ → History → Event → Played
 written at h v = record { sealed = at; past = h; entries = entered_by h (entry_for h v) }
 
--- the history after it
+-- the history after an event that was played
 abbrev pub behind_event : Played → History
 behind_event p = onto p.past p.entries
 
--- what an accepted event or a refused one gives, and what all later events give
+-- an event as it was played or its refusal, then the same of all later events
 abbrev pub sealing_by :
     Played → (History → List (Result Played Refusal)) → History → Option Refusal
     → List (Result Played Refusal)
 sealing_by p rest h (Some r) = Err r ∷ rest h
 sealing_by p rest h None = Ok p ∷ rest (behind_event p)
 
--- each event as it was played, or its refusal, with so many entries at most after each seal
+-- each event as it was played, or its refusal, with at most this many entries after each seal
 abbrev pub play_sealing : ℕ → History → List Event → List (Result Played Refusal)
 play_sealing limit h [] = []
 play_sealing limit h (v ∷ vs) =
@@ -70,12 +70,13 @@ last_of h [] = h
 last_of h (Err r ∷ ps) = last_of h ps
 last_of h (Ok p ∷ ps) = last_of (behind_event p) ps
 
--- the next place after each event and the entries held, or its refusal
+-- the next place after an event and the length, or its refusal
 abbrev pub measured : Result Played Refusal → Result (ℕ × ℕ) Refusal
 measured (Err r) = Err r
 measured (Ok p) = Ok (place (behind_event p), held (behind_event p))
 
--- the same of each event, with so many entries at most after each seal
+-- the next place after each event and the length, or its refusal, with at most this many entries
+-- after each seal
 abbrev pub lengths_sealing : ℕ → List Event → List (Result (ℕ × ℕ) Refusal)
 lengths_sealing limit events = map measured (play_sealing limit (Begin nothing) events)
 
@@ -84,13 +85,13 @@ abbrev pub entries_of : Result Played Refusal → Result (List Entry) Refusal
 entries_of (Err r) = Err r
 entries_of (Ok p) = Ok p.entries
 
--- which answers each accepted event gives, and to whom
+-- the answers that each accepted event gives, each with its client
 abbrev pub told_by : List (Result Played Refusal) → List (List (ℕ × Outcome))
 told_by [] = []
 told_by (Err r ∷ ps) = told_by ps
 told_by (Ok p ∷ ps) = map said (replies_from p.past p.entries) ∷ told_by ps
 
--- where the history was sealed for these events
+-- the places at which the history was sealed for these events
 abbrev pub seals_of : List (Result Played Refusal) → List ℕ
 seals_of [] = []
 seals_of (Err r ∷ ps) = seals_of ps

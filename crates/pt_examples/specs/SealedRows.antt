@@ -36,7 +36,7 @@ second =
 abbrev pub strangers : List Event
 strangers = event.Death 0 ∷ event.Death 11 ∷ []
 
--- with seven entries at most after each seal, the second lock comes after one
+-- with at most seven entries after each seal, the second lock comes after a seal
 abbrev pub IsSealedAtSeven : Type 0
 IsSealedAtSeven =
     lengths_sealing 7 (first ++ second ++ strangers)
@@ -55,27 +55,29 @@ IsTwiceSealed =
     × ((seal (behind_seal at_last)).at ≡ 11)
     × ((seal (behind_seal at_last)).outer ≡ 8)
 
--- the same limit, if a Yield must still be written: the second moment comes after a seal
+-- with the same limit, if a Yield may still have to be written, the second moment comes after a
+-- seal
 abbrev pub IsSealedBeforeYield : Type 0
 IsSealedBeforeYield =
     lengths_sealing 7 (first ++ moments ++ event.Death 0 ∷ [])
     ≡ Ok (1, 1) ∷ Ok (2, 2) ∷ Ok (4, 4) ∷ Ok (5, 5) ∷ Ok (6, 1) ∷ Ok (8, 3) ∷ []
 
--- with six entries at most the first lock comes after a seal
+-- with at most six entries the first lock comes after a seal
 abbrev pub IsSealedAtSix : Type 0
 IsSealedAtSix = lengths_sealing 6 first ≡ Ok (1, 1) ∷ Ok (2, 2) ∷ Ok (4, 2) ∷ []
 
--- with four a seal makes no room for it, and none comes; the second moment comes after one
+-- with at most four entries a seal makes no room for the lock, so no seal is made; the second
+-- moment comes after a seal
 abbrev pub IsSealedAtFour : Type 0
 IsSealedAtFour =
     lengths_sealing 4 (first ++ moments)
     ≡ Ok (1, 1) ∷ Ok (2, 2) ∷ Err Full ∷ Ok (3, 3) ∷ Ok (4, 1) ∷ []
 
--- with one nobody can join, and each moment but the first comes after a seal
+-- with at most one entry nobody can join, and each moment but the first comes after a seal
 abbrev pub IsSealedAtOne : Type 0
 IsSealedAtOne =
     lengths_sealing 1 (event.Join 10 ∷ moments) ≡ Err Full ∷ Ok (1, 1) ∷ Ok (2, 1) ∷ []
 
--- with none a seal makes no room for anything
+-- with no entries a seal makes no room for anything
 abbrev pub IsSealedAtNone : Type 0
 IsSealedAtNone = lengths_sealing 0 moments ≡ Err Full ∷ Err Full ∷ []

@@ -12,7 +12,7 @@ use Rattle.pt_types.specs.RwlockTable.{read_verdict}
 use Rattle.pt_types.specs.declared.views.RwlockView.{RwlockView}
 use Rattle.pt_types.specs.ObjectTable.{init_verdict}
 
--- a RECURSIVE mutex that client 0 has locked so often
+-- a RECURSIVE mutex on which client 0 has this many locks
 abbrev pub locked : ℕ → MutexView
 locked n =
     record {
@@ -23,30 +23,30 @@ locked n =
       count = n;
     }
 
--- a read-write lock that the caller has locked for reading so often
+-- a read-write lock on which the caller has this many read locks
 abbrev pub read : ℕ → RwlockView
 read n = record { writes = false; reads = n; is_written = false; is_read = true }
 
--- 255 locks of one owner  [XSH pthread_mutex_lock, the number is profile]
+-- an owner can have 255 locks, and no more  [XSH pthread_mutex_lock, the number is profile]
 abbrev pub HasMostLocks : Type 0
 HasMostLocks =
     (lock_verdict (locked 254) 0 Plain ≡ Reply Done)
     × (lock_verdict (locked 255) 0 Try ≡ Reply Eagain)
 
--- 255 read locks of one client  [XSH pthread_rwlock_rdlock, the number is profile]
+-- a client can have 255 read locks, and no more  [XSH pthread_rwlock_rdlock, the number is profile]
 abbrev pub HasMostReads : Type 0
 HasMostReads =
     (read_verdict (read 254) true Plain ≡ Stands)
     × (read_verdict (read 255) false Try ≡ Reply Eagain)
 
--- 4,096 objects; a name in use is answered before the limit
+-- 4,096 objects can exist, and no more; a name in use is answered before the limit
 abbrev pub HasMostObjects : Type 0
 HasMostObjects =
     (init_verdict Cond false 4095 ≡ Reply Done)
     × (init_verdict Cond false 4096 ≡ Reply Eagain)
     × (init_verdict Cond true 4096 ≡ Reply Ebusy)
 
--- 1,024 calls at a barrier; a bad count is answered before the name
+-- a barrier's count is from 1 to 1,024; a bad count is answered before a name in use
 abbrev pub HasMostAtBarrier : Type 0
 HasMostAtBarrier =
     (init_verdict (Barrier 1024) false 0 ≡ Reply Done)

@@ -1,6 +1,6 @@
-//! The worked rows, played by the definitions alone: what each event writes and answers, and
-//! which histories are legal. Each function's contract is one row, proved by computation.
-//! `docs/ROWS.md` has each row in words. There is no code here that runs.
+//! The worked rows, played by the definitions alone: the entries that each event writes, the
+//! answers that it gives, and which histories are legal. Each function's contract is one row,
+//! proved by computation. `docs/ROWS.md` has each row in words. No code of this crate runs.
 #![tactic(auto)]
 
 ghost use Rattle.pt_examples.specs.Row2.{IsPlayed2, IsLegal2};
@@ -67,7 +67,7 @@ pub fn row_7()
     ensures { IsPlayed7 }
 {}
 
-/// Row 8: readers after a writer of their priority wait, and a holder reads on.
+/// Row 8: readers that come after a writer of their priority wait, and a holder reads on.
 pub fn row_8()
     ensures { IsPlayed8 }
 {}
@@ -113,7 +113,7 @@ pub fn row_16()
     ensures { IsPlayed16 }
 {}
 
-/// Row 18: woken waits queue after those who came before the broadcast.
+/// Row 18: woken waits queue after those that came before the broadcast.
 pub fn row_18()
     ensures { IsPlayed18 }
 {}
@@ -143,7 +143,7 @@ pub fn row_34()
     ensures { IsPlayed34 }
 {}
 
-/// Row 36: two clocks, of which each has deadlines of its own.
+/// Row 36: two clocks, each with deadlines of its own.
 pub fn row_36()
     ensures { IsPlayed36 }
 {}
@@ -179,7 +179,7 @@ pub fn row_39()
     ensures told { IsTold39 }
 {}
 
-/// Row 40: when and why a wait was moved is known after a seal.
+/// Row 40: after a seal it is known when and why a wait was moved.
 pub fn row_40()
     ensures played { IsPlayed40 }
     ensures answered { IsAnswered40 }
@@ -190,8 +190,8 @@ pub fn row_41()
     ensures { IsPlayed41 }
 {}
 
-/// Rows 2 to 20 with 30 entries at most after each seal, and with as few as they need: they are
-/// the same.
+/// Rows 2 to 20 with at most 30 entries after each seal, and with as few as they need. The entries
+/// and answers are those of the rows without seals.
 pub fn rows_behind_seals()
     ensures row_2 { IsAlike2 }
     ensures row_3 { IsAlike3 }

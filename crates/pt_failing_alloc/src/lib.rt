@@ -1,7 +1,7 @@
-//! An allocator for tests, which refuses one growth, and a walk over all growths of a run.
+//! An allocator for tests that refuses one growth, and a walk over all growths of a run.
 //!
-//! Contracts see that it is an allocator, so every collection works over it, and what a walk
-//! answers. Which growth is refused only tests show, since a count that threads share has no
+//! Contracts see that it is an allocator, so that every collection works over it, and what a walk
+//! returns. Only tests show which growth is refused, since a count that threads share has no
 //! contract.
 #![tactic(auto)]
 
@@ -10,7 +10,7 @@ ghost use Rattle.std.specs.Prelude.{◌≡◌, ◌<◌, IsTrue, IfOk, IfSome};
 use std::alloc::{AllocError, Allocator, Global};
 use std::sync::atomic::{AtomicU64, Ordering};
 
-// The growths so far, and the number of the one to refuse, counted from 1.
+// The number of growths so far, and the number of the one to refuse, counted from 1.
 #[derive(Drop)]
 struct Turns {
     begun: AtomicU64,
@@ -31,8 +31,8 @@ impl Turns {
 
 /// An allocator that passes calls on to another one and refuses one growth.
 ///
-/// A growth is a call that asks for a block, a larger one or a smaller one. Collections take it
-/// by reference, as `Vec::new(&heap)`, and threads may share it.
+/// A growth is a call that asks for a block, for a larger one or for a smaller one. Collections
+/// take the allocator by reference, as in `Vec::new(&heap)`, and threads may share it.
 #[derive(Drop)]
 pub struct Refusing<B> {
     inner: B,
@@ -40,7 +40,8 @@ pub struct Refusing<B> {
 }
 
 impl<B> Refusing<B> {
-    /// Refuses the growth of this number, counted from 1, and refuses none at 0.
+    /// Creates an allocator that refuses the growth of this number, counted from 1, or none if it
+    /// is 0.
     pub fn new(inner: B, refused: u64) -> Refusing<B>
         ensures inner { result.inner ≡ inner }
         ensures refused { result.turns.refused ≡ refused }
@@ -54,7 +55,7 @@ impl<B> Refusing<B> {
         }
     }
 
-    /// Whether the growth that is to be refused has come.
+    /// Returns whether the growth to refuse has been asked for.
     pub fn has_refused(&self) -> bool
         ensures { IsTrue result → 0 < self.now.turns.refused }
     {
@@ -78,14 +79,14 @@ unsafe impl<B: Allocator> Allocator for Refusing<B> {
 }
 
 /// Runs `run` over an allocator that refuses its first growth, then over one that refuses its
-/// second, and so on, until a run comes to its end with no growth refused.
+/// second, and so on, until a run ends with no growth refused.
 ///
-/// `run` answers whether it met lack of memory. The answer is the number of growths refused, or
-/// None if `most` runs were too few, or the last run met lack of memory though none was refused.
+/// `run` returns whether it met lack of memory. The result is the number of growths refused. It is
+/// None if `most` runs were too few, or if the last run met lack of memory though none was refused.
 ///
 /// # Errors
 ///
-/// The first error of `run`.
+/// Returns the first error of `run`.
 pub fn refuse_each<E, F: FnMut(&Refusing<Global>) -> Result<bool, E>>(
     alloc: Global,
     most: u64,

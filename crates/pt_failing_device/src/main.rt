@@ -1,7 +1,8 @@
-//! The program `pt_failing_device`: a script whose reader fails, and then one whose writer does.
+//! The program `pt_failing_device`: plays a script whose reader fails, and then one whose writer
+//! fails.
 //!
-//! Both faults are reported on standard output, so that the run of this program compares them. It
-//! ends with the status that the program `ptserver` gives for either, if that is one status.
+//! Both faults are reported on standard output, so that the run of this program compares them. The
+//! program ends with the status that `ptserver` gives for either fault, if that is one status.
 #![tactic(auto)]
 
 use pt_core::Core;
@@ -11,7 +12,8 @@ use std::alloc::AllocError;
 use std::io;
 use std::process::ExitCode;
 
-// The exit status of a script, if the reader or the writer fails at this call; at none with 0.
+// Returns the exit status of a script whose reader or writer fails at this call; with 0 it never
+// fails.
 fn status(rt: &HostRuntime, read_fails_at: u64, write_fails_at: u64) -> Result<u8, AllocError> {
     let script = Vec::from_slice(rt.alloc(), b"A hello 10\n")?;
     let mut reader = Faulty::new(script, 4096, read_fails_at);

@@ -1,22 +1,22 @@
--- Fields: words parted by spaces.
+-- Fields: words separated by spaces.
 use Rattle.std.specs.Prelude.{ℕ, ◌==◌, ◌++◌, List, [], ◌∷◌, Option, None, Some, if◌then◌else◌}
 use Rattle.std.specs.Borrow.{Bor}
 
--- words, each after a space
+-- words, each preceded by a space
 abbrev pub behind_spaces : List (List ℕ) → List ℕ
 behind_spaces [] = []
 behind_spaces (word ∷ words) = 32 ∷ word ++ behind_spaces words
 
--- a word, and more words, parted by exactly one space each, with none at either end
+-- a word and more words, separated by exactly one space each, with none at either end
 abbrev pub spaced : List ℕ → List (List ℕ) → List ℕ
 spaced word words = word ++ behind_spaces words
 
--- a byte before the first of these fields
+-- the fields after a byte is put before the first of them
 abbrev pub push_first : ℕ → List (List ℕ) → List (List ℕ)
 push_first b [] = (b ∷ []) ∷ []
 push_first b (field ∷ fields) = (b ∷ field) ∷ fields
 
--- the parts of a text between its spaces; two spaces, or one at an end, have an empty part
+-- the parts of a text between its spaces; two spaces in a row, or one at an end, give an empty part
 abbrev pub fields : List ℕ → List (List ℕ)
 fields [] = [] ∷ []
 fields (b ∷ bytes) = if b == 32 then [] ∷ fields bytes else push_first b (fields bytes)

@@ -4,20 +4,20 @@ use Rattle.std.specs.Prelude.{length, nat_le, slice_index, if◌then◌else◌}
 use Rattle.std.specs.List.{list_all}
 use Rattle.std.specs.Str.Parse.{digits_value}
 
--- a number that a line can have: its decimal has at most 10 digits
+-- a line can have this number: its decimal has at most 10 digits
 abbrev pub IsNumber : ℕ → Type 0
 IsNumber n = n < 10 ^ 10
 
--- a digit
+-- whether a byte is a digit
 abbrev pub is_digit : ℕ → Bool
 is_digit b = nat_le 48 b && nat_le b 57
 
--- 1 to 10 digits without a leading zero, or `0`
+-- whether a field is a number: 1 to 10 digits without a leading zero, or `0`
 abbrev pub is_number : List ℕ → Bool
 is_number field =
     nat_le 1 (length field) && nat_le (length field) 10 && list_all is_digit field
     && (length field == 1 || not (slice_index field 0 == 48))
 
--- the number that a field is
+-- the number that a field spells
 abbrev pub number_of : List ℕ → Option ℕ
 number_of field = if is_number field then Some (digits_value 10 field) else None

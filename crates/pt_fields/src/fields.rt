@@ -5,10 +5,10 @@ ghost use Rattle.pt_fields.specs.Fields.{fields, fields_left};
 use std::marker::Model;
 use std::simd::prelude::*;
 
-// How many bytes are searched first for a space.
+// The number of bytes that are searched first for a space.
 const BLOCK: usize = 16;
 
-// The place of the first space of a block, whose bytes are tested at once.
+// Returns the place of the first space in a block. The bytes are tested together.
 #[inline(always)]
 fn space_in(block: &[u8; BLOCK]) -> Option<usize>
     ensures { IsFirstByte (is_byte 32) block.now result }
@@ -21,7 +21,7 @@ fn space_in(block: &[u8; BLOCK]) -> Option<usize>
     Some(mask.trailing_zeros() as usize)
 }
 
-// The place of the first space of a text that has none before this place.
+// Returns the place of the first space of a text that has none before `start`.
 fn space_from(text: &[u8], start: usize) -> Option<usize>
     requires within { start ≤ length text.now }
     requires none { Nowhere (Passes (is_byte 32) text.now) 0 start }
@@ -35,7 +35,7 @@ fn space_from(text: &[u8], start: usize) -> Option<usize>
     None
 }
 
-/// The place of the first space.
+/// Returns the place of the first space, if there is one.
 pub fn first_space(text: &[u8]) -> Option<usize>
     ensures { IsFirstByte (is_byte 32) text.now result }
 {
@@ -48,7 +48,7 @@ pub fn first_space(text: &[u8]) -> Option<usize>
     }
 }
 
-/// The fields of a line that are left, one after another.
+/// The remaining fields of a line, one after another.
 #[derive(Drop)]
 pub struct Fields<'a> {
     rest: Option<&'a [u8]>,
@@ -64,28 +64,28 @@ impl<'a> Model for Fields<'a> {
 }
 
 impl<'a> Fields<'a> {
-    /// The parts of a text between its spaces.
+    /// Returns the parts of a text between its spaces.
     pub fn new(text: &'a [u8]) -> Self
         ensures { result ≡ fields text.now }
     {
         Fields { rest: Some(text) }
     }
 
-    /// The parts of what is left of a text, if anything is.
+    /// Returns the parts of what is left of a text, if anything is.
     pub fn left(rest: Option<&'a [u8]>) -> Self
         ensures { result ≡ fields_left rest.entry }
     {
         Fields { rest }
     }
 
-    /// The text that is left: these fields with a space between each two.
+    /// Returns the text that is left: these fields, separated by single spaces.
     pub fn rest(self) -> Option<&'a [u8]>
         ensures { fields_left result ≡ self.entry }
     {
         self.rest
     }
 
-    /// The next field.
+    /// Returns the next field, if one is left.
     #[inline(always)]
     pub fn next(&mut self) -> Option<&'a [u8]>
         ensures { MatchOption result ((self.old ≡ []) × (self.new ≡ []))

@@ -1,4 +1,4 @@
-//! The fields of a text, which spaces part, and the numbers that fields are.
+//! The fields of a text, which are separated by spaces, and the numbers that fields spell.
 //!
 //! Contracts see what is left of a text as the list of its fields, each with its bytes.
 #![tactic(auto)]

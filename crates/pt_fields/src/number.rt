@@ -7,7 +7,7 @@ fn is_digit(byte: u8) -> bool
     matches!(byte, b'0'..=b'9')
 }
 
-/// The number that a field is: 1 to 10 digits without a leading zero, or `0`.
+/// Returns the number that a field spells: 1 to 10 digits without a leading zero, or `0`.
 #[inline(always)]
 pub fn read_number(field: &[u8]) -> Option<u64>
     ensures value { result ≡ number_of field.now }

@@ -2,12 +2,12 @@
 use Rattle.std.specs.Prelude.{ℕ, ◌≤◌, Bool, ◌||◌, ◌&&◌, IsTrue, List, length, nat_le}
 use Rattle.std.specs.List.{list_all}
 
--- a byte that a client's name may have: an ASCII letter or digit
+-- whether a client's name may contain a byte: an ASCII letter or digit
 abbrev pub is_client_byte : ℕ → Bool
 is_client_byte b =
     (nat_le 97 b && nat_le b 122) || (nat_le 65 b && nat_le b 90) || (nat_le 48 b && nat_le b 57)
 
--- a client's name: 1 to 8 such bytes
+-- a text is a client's name: 1 to 8 such bytes
 pub record IsClientName (text : List ℕ) : Type 0 where
   pub some : 1 ≤ length text
   pub fits : length text ≤ 8

@@ -1,4 +1,4 @@
--- Grammar: which text spells which line. Words are parted by exactly one space.
+-- Grammar: which text spells which line. Words are separated by exactly one space.
 use Rattle.std.specs.Prelude.{◌≡◌, ℕ, ◌≤◌, ◌<◌, ◌⊎◌, Bool, true, false, List, [], ◌∷◌, decimal}
 use Rattle.std.specs.Prelude.{codes}
 use Rattle.pt_types.specs.Limits.{most_priority, second}
@@ -29,7 +29,7 @@ IsKindWord Normal word = (word ≡ codes "normal") ⊎ (word ≡ codes "default"
 IsKindWord Errorcheck word = word ≡ codes "errorcheck"
 IsKindWord Recursive word = word ≡ codes "recursive"
 
--- the word for whether a mutex is robust  [XSH pthread_mutexattr_setrobust; profile]
+-- the word that says whether a mutex is robust  [XSH pthread_mutexattr_setrobust; profile]
 abbrev pub robust_word : Bool → List ℕ
 robust_word true = codes "robust"
 robust_word false = codes "stalled"
@@ -39,19 +39,20 @@ abbrev pub clock_name : Clock → List ℕ
 clock_name Real = codes "real"
 clock_name Mono = codes "mono"
 
--- a word, and the name of an object  [profile]
+-- the text is a word and the name of an object  [profile]
 pub record OnName (text word name : List ℕ) : Type 0 where
   pub named : IsName name
   pub spelled : text ≡ spaced word (name ∷ [])
 
--- a word, the name of an object, and the seconds and nanoseconds of a deadline  [profile]
+-- the text is a word, the name of an object, and the seconds and nanoseconds of a deadline
+-- [profile]
 pub record OnNameUntil (text word name : List ℕ) (d : Timespec) : Type 0 where
   pub named : IsName name
   pub sec : IsNumber d.sec
   pub nsec : IsNumber d.nsec
   pub spelled : text ≡ spaced word (name ∷ decimal d.sec ∷ decimal d.nsec ∷ [])
 
--- a word, the name of an object, the name of a clock, and a deadline  [profile]
+-- the text is a word, the name of an object, the name of a clock, and a deadline  [profile]
 pub record OnNameByClock (text word name : List ℕ) (clock : Clock) (d : Timespec) : Type 0 where
   pub named : IsName name
   pub sec : IsNumber d.sec
@@ -59,26 +60,26 @@ pub record OnNameByClock (text word name : List ℕ) (clock : Clock) (d : Timesp
   pub spelled :
       text ≡ spaced word (name ∷ clock_name clock ∷ decimal d.sec ∷ decimal d.nsec ∷ [])
 
--- `mutex-init` with a name, a kind, and `robust` or `stalled`  [profile]
+-- the text is `mutex-init` with a name, a kind, and `robust` or `stalled`  [profile]
 pub record OnNewMutex (text name : List ℕ) (kind : MutexKind) (robust : Bool) : Type 0 where
   pub named : IsName name
   pub word : List ℕ
   pub kind_is : IsKindWord kind word
   pub spelled : text ≡ spaced (codes "mutex-init") (name ∷ word ∷ robust_word robust ∷ [])
 
--- `barrier-init` with a name and a count  [profile]
+-- the text is `barrier-init` with a name and a count  [profile]
 pub record OnNewBarrier (text name : List ℕ) (count : ℕ) : Type 0 where
   pub named : IsName name
   pub counted : IsNumber count
   pub spelled : text ≡ spaced (codes "barrier-init") (name ∷ decimal count ∷ [])
 
--- `wait` with the names of a condition and a mutex  [profile]
+-- the text is `wait` with the names of a condition and a mutex  [profile]
 pub record OnWait (text cond mutex : List ℕ) : Type 0 where
   pub cond_named : IsName cond
   pub mutex_named : IsName mutex
   pub spelled : text ≡ spaced (codes "wait") (cond ∷ mutex ∷ [])
 
--- `timedwait` with these names and a deadline  [profile]
+-- the text is `timedwait` with the names of a condition and a mutex, and a deadline  [profile]
 pub record OnTimedwait (text cond mutex : List ℕ) (d : Timespec) : Type 0 where
   pub cond_named : IsName cond
   pub mutex_named : IsName mutex
@@ -87,7 +88,8 @@ pub record OnTimedwait (text cond mutex : List ℕ) (d : Timespec) : Type 0 wher
   pub spelled :
       text ≡ spaced (codes "timedwait") (cond ∷ mutex ∷ decimal d.sec ∷ decimal d.nsec ∷ [])
 
--- `clockwait` with these names, the name of a clock, and a deadline  [profile]
+-- the text is `clockwait` with the names of a condition, a mutex and a clock, and a deadline
+-- [profile]
 pub record OnClockwait (text cond mutex : List ℕ) (clock : Clock) (d : Timespec) : Type 0 where
   pub cond_named : IsName cond
   pub mutex_named : IsName mutex
@@ -98,7 +100,7 @@ pub record OnClockwait (text cond mutex : List ℕ) (clock : Clock) (d : Timespe
       ≡ spaced (codes "clockwait")
       (cond ∷ mutex ∷ clock_name clock ∷ decimal d.sec ∷ decimal d.nsec ∷ [])
 
--- the text of each call  [XSH, the call's page, for the arguments; profile]
+-- the text spells this call  [XSH, the call's page, for the arguments; profile]
 abbrev pub SpellsCall : List ℕ → Call → Type 0
 SpellsCall t (MutexInit name kind robust) = OnNewMutex t name kind robust
 SpellsCall t (Lock name) = OnName t (codes "lock") name
@@ -130,13 +132,13 @@ SpellsCall t (BarrierInit name count) = OnNewBarrier t name count
 SpellsCall t (Bwait name) = OnName t (codes "bwait") name
 SpellsCall t (BarrierDestroy name) = OnName t (codes "barrier-destroy") name
 
--- `hello` with a priority, from 1 to the highest  [profile]
+-- the text is `hello` with a priority, from 1 to the highest  [profile]
 pub record OnHello (text : List ℕ) (p : ℕ) : Type 0 where
   pub low : 1 ≤ p
   pub high : p ≤ most_priority
   pub spelled : text ≡ spaced (codes "hello") (decimal p ∷ [])
 
--- a word with seconds, and nanoseconds below 1,000,000,000  [profile]
+-- the text is a word with seconds, and nanoseconds below 1,000,000,000  [profile]
 pub record OnMoment (text word : List ℕ) (t : ℕ) : Type 0 where
   pub sec : ℕ
   pub nsec : ℕ
@@ -145,7 +147,7 @@ pub record OnMoment (text word : List ℕ) (t : ℕ) : Type 0 where
   pub time : t ≡ nanos sec nsec
   pub spelled : text ≡ spaced word (decimal sec ∷ decimal nsec ∷ [])
 
--- the text of each line  [profile]
+-- the text spells this line  [profile]
 abbrev pub Spells : List ℕ → CallLine → Type 0
 Spells text (Hello p) = OnHello text p
 Spells text (Ask call) = SpellsCall text call

@@ -1,11 +1,11 @@
--- Lines: the lines of a stream of bytes, and what a cutter still has to give of them.
+-- Lines: the lines of a stream of bytes, and which of them a cutter still has to give.
 use Rattle.std.specs.Prelude.{◌≡◌, ◌≢◌, ℕ, ◌+◌, ◌<◌, ◌≤◌, ◌==◌, ◌++◌, Bool, true, List, [], ◌∷◌}
 use Rattle.std.specs.Prelude.{length, take, drop, if◌then◌else◌, slice_index, map}
 use Rattle.pt_grammar.specs.declared.cut.Cut.{Cut}
 use Rattle.pt_grammar.specs.Cuts.{cut_of}
 
--- the lines of the bytes, if a line has begun with this text: a newline ends a line, and a
--- last line without one is a line unless it is empty  [profile]
+-- the lines of the bytes, after a line has begun with this text: a newline ends a line, and a last
+-- line without one is a line unless it is empty  [profile]
 abbrev pub lines_after : List ℕ → List ℕ → List Cut
 lines_after [] [] = []
 lines_after (x ∷ begun) [] = cut_of (x ∷ begun) ∷ []
@@ -22,28 +22,29 @@ abbrev pub lines_past_newline : List ℕ → List Cut
 lines_past_newline [] = []
 lines_past_newline (b ∷ bytes) = if b == 10 then lines bytes else lines_past_newline bytes
 
--- what a cutter holds: the bytes that it has not given, and whether they go on a line that was
+-- what a cutter holds: the bytes that it has not given, and whether they continue a line that was
 -- given as too long
 pub record Held : Type 0 where
   pub rest : List ℕ
   pub dropping : Bool
 
--- what is still to be given, if these bytes follow and then the end
+-- the lines that are still to be given, if these bytes follow and then the end
 abbrev pub to_come : Held → List ℕ → List Cut
 to_come held more =
     if held.dropping then lines_past_newline (held.rest ++ more) else lines (held.rest ++ more)
 
--- the bytes end no line
+-- the bytes have no newline
 abbrev pub NoNewline : List ℕ → Type 0
 NoNewline bytes = (i : ℕ) → i < length bytes → slice_index bytes i ≢ 10
 
--- no line is whole, nor too long already, and nothing is held of one that was given as too long
+-- no held line is whole or already too long, and nothing is held of a line that was given as too
+-- long
 pub record IsBegun (held : Held) : Type 0 where
   pub no_newline : NoNewline held.rest
   pub short : length held.rest ≤ 128
   pub dropped : held.dropping ≡ true → held.rest ≡ []
 
--- what is held after a line that ends at this place, and its newline
+-- what is held after a line that ends at this place, and its newline, are dropped
 abbrev pub past_line : Held → ℕ → Held
 past_line held end = record held { rest = drop (end + 1) held.rest }
 
@@ -54,7 +55,7 @@ pub record IsFront (held : Held) (end : ℕ) : Type 0 where
   pub given : (more : List ℕ)
       → to_come held more ≡ cut_of (take end held.rest) ∷ to_come (past_line held end) more
 
--- texts, each ended by a newline, and a rest
+-- the bytes of texts, each ended by a newline, and of a rest
 abbrev pub joined : List (List ℕ) → List ℕ → List ℕ
 joined [] rest = rest
 joined (text ∷ texts) rest = text ++ 10 ∷ joined texts rest
@@ -64,12 +65,12 @@ abbrev pub AllTexts : List (List ℕ) → Type 0
 AllTexts [] = Unit {0}
 AllTexts (text ∷ texts) = NoNewline text × AllTexts texts
 
--- what a last line without a newline is given as
+-- what a cutter gives of a last line without a newline
 abbrev pub last_of : List ℕ → List Cut
 last_of [] = []
 last_of (b ∷ rest) = cut_of (b ∷ rest) ∷ []
 
--- the lines of texts that newlines end, and of a rest, are these texts and the rest
+-- the lines of texts that are each ended by a newline, and of a rest, are these texts and the rest
 abbrev pub LinesOfTexts : Type 0
 LinesOfTexts =
     (texts : List (List ℕ)) (rest : List ℕ) → AllTexts texts → NoNewline rest

@@ -1,4 +1,4 @@
--- Reading: what a text is read as, if it is read.
+-- Reading: how a text is read, if it can be read.
 use Rattle.std.specs.Prelude.{◌≡◌, ℕ, List, [], ◌∷◌, Option, None, Result, Ok, Err, IfOk, IfErr}
 use Rattle.std.specs.Prelude.{length, nat_lt, if◌then◌else◌}
 use Rattle.std.specs.Option.{option_map, option_and_then, ok_or}
@@ -51,7 +51,7 @@ line_of (Timed verb) args =
 line_of (Clocked verb) args =
     option_map (λ a. line.Ask (call_by_clock verb a.0 a.1.0 a.1.1)) (name_clock_and_deadline args)
 
--- whether the line of a verb and the fields after it asks for this call
+-- the line of a verb and the fields after it asks for this call, or for none
 abbrev pub IsAsked : Verb → List (List ℕ) → Option Call → Type 0
 IsAsked Hello args call = call ≡ None
 IsAsked (Moment clock) args call = call ≡ None
@@ -66,28 +66,28 @@ line_of_fields (word ∷ args) = option_and_then (λ verb. line_of verb args) (v
 abbrev pub line_read : List ℕ → Option CallLine
 line_read text = line_of_fields (fields text)
 
--- what a line of a connection is read as, or why it is not read
+-- what a line of a connection is read as, or why it can't be read
 abbrev pub call_read : List ℕ → Result CallLine Refusal
 call_read text = if nat_lt 128 (length text) then Err Long else ok_or (line_read text) Syntax
 
--- how a text is read as a line of a connection: just what it spells, or else LONG past 128 bytes
+-- a text is read as this on a connection: exactly what it spells, or otherwise LONG past 128 bytes
 -- and SYNTAX up to them  [profile]
 pub record IsCallReadAs (text : List ℕ) (read : Result CallLine Refusal) : Type 0 where
   pub found : IfOk read (Spells text)
   pub exact : (asked : CallLine) → Spells text asked → read ≡ Ok asked
   pub err : IfErr read (λ why. why ≡ (if nat_lt 128 (length text) then Long else Syntax))
 
--- how what a cutter gives is read as a line of a connection; LONG if it was too long  [profile]
+-- what a cutter gives is read as this on a connection: LONG if it was too long  [profile]
 abbrev pub IsCallReadOf : Cut → Result CallLine Refusal → Type 0
 IsCallReadOf (cut.Line text) read = IsCallReadAs text.items read
 IsCallReadOf cut.Long read = read ≡ Err Long
 
--- what is read of what a cutter gives
+-- what a cut line is read as on a connection
 abbrev pub call_of : Cut → Result CallLine Refusal
 call_of (cut.Line text) = call_read text.items
 call_of cut.Long = Err Long
 
--- the next line to come is read as this one of a connection
+-- the next line to come is read as this line of a connection
 pub record IsNextCallLine (old : Held) (reading : Result CallLine Refusal)
     (new : Held) : Type 0 where
   pub cut : Cut

@@ -20,7 +20,8 @@ use Rattle.pt_grammar.specs.Grammar.{Spells}
 use Rattle.pt_grammar.specs.Lines.{Held, to_come}
 use Rattle.pt_grammar.specs.Reading.{call_read}
 
--- what a client says: a hello, a call or `die`; under `*` a moment, and nothing else  [profile]
+-- the text after a client spells this: a hello, a call or `die`; under `*` a moment, and nothing
+-- else  [profile]
 abbrev pub SpellsBody : Who → List ℕ → ScriptBody → Type 0
 SpellsBody (Named name) rest (Hello p) = IsClientName name × Spells rest (line.Hello p)
 SpellsBody (Named name) rest (Ask asked) = IsClientName name × Spells rest (line.Ask asked)
@@ -28,18 +29,18 @@ SpellsBody (Named name) rest Die = IsClientName name × (rest ≡ codes "die")
 SpellsBody Star rest (Tick clock t) = Spells rest (line.Tick clock t)
 SpellsBody who rest body = ⊥
 
--- the text of a line of a script: the client, one space, and what it says
+-- the text spells a line of a script: the client, one space, and what it says
 pub record SpellsScript (text : List ℕ) (who : Who) (body : ScriptBody) : Type 0 where
   pub rest : List ℕ
   pub says : SpellsBody who rest body
   pub spelled : text ≡ who_text who ++ 32 ∷ rest
 
--- a line that is too long: nobody's, and LONG  [profile]
+-- a line that is too long: it belongs to no client, and is LONG  [profile]
 abbrev pub long_line : ScriptLine
 long_line = record { who = Unknown; body = Err refusal.Long }
 
--- how a text is read as a line of a script: whose it is; just what it spells, or else LONG past
--- 128 bytes and SYNTAX up to them  [profile]
+-- a text is read as this line of a script: its client, and exactly what it spells, or otherwise
+-- LONG past 128 bytes and SYNTAX up to them  [profile]
 pub record IsReadAs (text : List ℕ) (read : ScriptLine) : Type 0 where
   pub who : read.who ≡ who_of text
   pub found : IfOk read.body (SpellsScript text read.who)
@@ -50,24 +51,24 @@ pub record IsReadAs (text : List ℕ) (read : ScriptLine) : Type 0 where
       IfErr read.body
       (λ why. why ≡ (if nat_lt 128 (length text) then refusal.Long else refusal.Syntax))
 
--- how what a cutter gives is read as a line of a script
+-- what a cutter gives is read as this line of a script
 abbrev pub IsReadOf : Cut → ScriptLine → Type 0
 IsReadOf (Line text) read = IsReadAs text.items read
 IsReadOf Long read = read ≡ long_line
 
--- what a client's line is, by what it would be on a connection
+-- what a script's line says, from what it would be on a connection
 abbrev pub body_of : Who → CallLine → Result ScriptBody Refusal
 body_of (Named name) (line.Hello p) = Ok (Hello p)
 body_of (Named name) (line.Ask asked) = Ok (Ask asked)
 body_of Star (line.Tick clock t) = Ok (Tick clock t)
 body_of who read = Err refusal.Syntax
 
--- what a line says, if it could be read
+-- what a line of a script says, if it can be read
 abbrev pub body_from : Who → Result CallLine Refusal → Result ScriptBody Refusal
 body_from who (Ok read) = body_of who read
 body_from who (Err why) = Err why
 
--- what is read after a client and a space
+-- what is read after a client and one space
 abbrev pub body_read : Who → List ℕ → Result ScriptBody Refusal
 body_read (Named name) rest =
     if bytes_eq rest (codes "die") then Ok Die
@@ -75,12 +76,12 @@ body_read (Named name) rest =
 body_read Star rest = body_from Star (call_read rest)
 body_read Unknown rest = Err refusal.Syntax
 
--- what a client says, if it is a call or nothing that can be read
+-- what a client's line says: this call, or nothing that can be read
 abbrev pub asked_or_refused : Option Call → Result ScriptBody Refusal
 asked_or_refused (Some asked) = Ok (Ask asked)
 asked_or_refused None = Err refusal.Syntax
 
--- what is read after a client, if a space follows
+-- what is read after a client, if a space follows it
 abbrev pub body_behind : Who → Option (List ℕ) → Result ScriptBody Refusal
 body_behind who None = Err refusal.Syntax
 body_behind who (Some rest) = body_read who rest
@@ -96,12 +97,12 @@ short_read text = record {
 abbrev pub script_read : List ℕ → ScriptLine
 script_read text = if nat_lt 128 (length text) then long_line else short_read text
 
--- what is read of what a cutter gives
+-- what a cut line is read as in a script
 abbrev pub script_of : Cut → ScriptLine
 script_of (Line text) = script_read text.items
 script_of Long = long_line
 
--- the next line to come is read as this one of a script
+-- the next line to come is read as this line of a script
 pub record IsNextScriptLine (old : Held) (line : ScriptLine) (new : Held) : Type 0 where
   pub cut : Cut
   pub read : line ≡ script_of cut

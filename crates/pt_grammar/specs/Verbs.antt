@@ -1,4 +1,4 @@
--- Verbs: the words of calls, by what follows them.
+-- Verbs: the words of calls, classified by what follows them.
 use Rattle.std.specs.Prelude.{ℕ, List, Option, codes, find}
 use Rattle.std.specs.Str.{bytes_eq}
 use Rattle.pt_types.specs.Times.{Timespec}
@@ -27,7 +27,7 @@ use Rattle.pt_grammar.specs.declared.verb.Verb.TheVariants.{Timed}
 use Rattle.pt_grammar.specs.declared.verb.Verb.TheVariants.{Clocked}
 use Rattle.pt_grammar.specs.declared.verb.TheConstants.{VERBS}
 
--- the word of a call that one name follows  [XSH, the call's page, without `pthread_`; profile]
+-- the word of a call that takes one name  [XSH, the call's page, without `pthread_`; profile]
 abbrev pub named_word : NamedVerb → List ℕ
 named_word Lock = codes "lock"
 named_word Trylock = codes "trylock"
@@ -48,24 +48,24 @@ named_word Broadcast = codes "broadcast"
 named_word Bwait = codes "bwait"
 named_word BarrierDestroy = codes "barrier-destroy"
 
--- the word of a call that a name and a deadline follow
+-- the word of a call that takes a name and a deadline
 abbrev pub timed_word : TimedVerb → List ℕ
 timed_word Timedlock = codes "timedlock"
 timed_word Timedrdlock = codes "timedrdlock"
 timed_word Timedwrlock = codes "timedwrlock"
 
--- the word of a call that a name, a clock and a deadline follow
+-- the word of a call that takes a name, a clock and a deadline
 abbrev pub clocked_word : ClockedVerb → List ℕ
 clocked_word Clocklock = codes "clocklock"
 clocked_word Clockrdlock = codes "clockrdlock"
 clocked_word Clockwrlock = codes "clockwrlock"
 
--- the word of a moment of a clock
+-- the word of a moment of this clock
 abbrev pub moment_word : Clock → List ℕ
 moment_word Real = codes "moment"
 moment_word Mono = codes "mono-moment"
 
--- the word that a line begins with
+-- the word that a line of a verb begins with
 abbrev pub word_of : Verb → List ℕ
 word_of Hello = codes "hello"
 word_of (Moment clock) = moment_word clock
@@ -82,13 +82,13 @@ word_of (Clocked verb) = clocked_word verb
 abbrev pub verb_of : List ℕ → Option Verb
 verb_of text = find (λ verb. bytes_eq (word_of verb) text) VERBS
 
--- the call of a word on one name with a deadline
+-- the call that a word makes on one name with a deadline
 abbrev pub call_until : TimedVerb → List ℕ → Timespec → Call
 call_until Timedlock name deadline = call.Timedlock name deadline
 call_until Timedrdlock name deadline = call.Timedrdlock name deadline
 call_until Timedwrlock name deadline = call.Timedwrlock name deadline
 
--- the call of a word on one name with a deadline of a clock
+-- the call that a word makes on one name with a deadline of a clock
 abbrev pub call_by_clock : ClockedVerb → List ℕ → Clock → Timespec → Call
 call_by_clock Clocklock name clock deadline = call.Clocklock name clock deadline
 call_by_clock Clockrdlock name clock deadline = call.Clockrdlock name clock deadline

@@ -10,7 +10,7 @@ use crate::verbs::is_same;
 use pt_fields::{Fields, read_number};
 use pt_types::{Clock, Deadline, Moment, MutexKind, Name, Priority};
 
-// A name.
+// Reads a name.
 #[inline(always)]
 fn read_name(field: &[u8]) -> Option<Name>
     ensures { result ≡ name_of field.now }
@@ -18,7 +18,7 @@ fn read_name(field: &[u8]) -> Option<Name>
     Name::new(field)
 }
 
-// The kind of a mutex.
+// Reads the kind of a mutex.
 fn read_kind(field: &[u8]) -> Option<MutexKind>
     ensures { result ≡ kind_of field.now }
 {
@@ -33,7 +33,7 @@ fn read_kind(field: &[u8]) -> Option<MutexKind>
     }
 }
 
-// Whether a mutex is robust.
+// Reads whether a mutex is robust.
 fn read_robust(field: &[u8]) -> Option<bool>
     ensures { result ≡ robust_of field.now }
 {
@@ -46,7 +46,7 @@ fn read_robust(field: &[u8]) -> Option<bool>
     }
 }
 
-// The clock that a field names.
+// Reads the clock that a field names.
 fn read_clock(field: &[u8]) -> Option<Clock>
     ensures { result ≡ clock_named field.now }
 {
@@ -59,7 +59,7 @@ fn read_clock(field: &[u8]) -> Option<Clock>
     }
 }
 
-// The only field that is left.
+// Returns the only field that is left.
 fn only_field<'a>(mut args: Fields<'a>) -> Option<&'a [u8]>
     ensures { option_copied result ≡ alone Some args.entry }
 {
@@ -70,7 +70,7 @@ fn only_field<'a>(mut args: Fields<'a>) -> Option<&'a [u8]>
     Some(field)
 }
 
-/// A name, and no more. No name has a space, so what is left is one field or no name.
+/// Reads a name and nothing more. No name has a space, so what is left is one field or no name.
 #[inline(always)]
 #[tactic(auto, using(crate::proofs::WholeLemmas::whole_name))]
 pub fn only_name(args: Fields) -> Option<Name>
@@ -79,7 +79,7 @@ pub fn only_name(args: Fields) -> Option<Name>
     read_name(args.rest()?)
 }
 
-/// A number, and no more. No number has a space either.
+/// Reads a number and nothing more. No number has a space either.
 #[tactic(auto, using(crate::proofs::WholeLemmas::whole_number))]
 #[inline(always)]
 pub fn only_number(args: Fields) -> Option<u64>
@@ -89,14 +89,14 @@ pub fn only_number(args: Fields) -> Option<u64>
     read_number(args.rest()?)
 }
 
-/// A priority, and no more.
+/// Reads a priority and nothing more.
 pub fn only_priority(args: Fields) -> Option<Priority>
     ensures { result ≡ option_and_then priority_of (alone number_of args.entry) }
 {
     Priority::new(only_number(args)?)
 }
 
-// Seconds and nanoseconds, and no more.
+// Reads seconds and nanoseconds and nothing more.
 #[inline(always)]
 fn only_time(mut args: Fields) -> Option<(u64, u64)>
     ensures value { result ≡ two_numbers args.entry }
@@ -107,7 +107,7 @@ fn only_time(mut args: Fields) -> Option<(u64, u64)>
     Some((sec, nsec))
 }
 
-/// A moment, and no more.
+/// Reads a moment and nothing more.
 #[inline(always)]
 pub fn only_moment(args: Fields) -> Option<Moment>
     ensures { result ≡ option_and_then moment_of (two_numbers args.entry) }
@@ -116,7 +116,7 @@ pub fn only_moment(args: Fields) -> Option<Moment>
     Moment::new(sec, nsec)
 }
 
-/// A deadline, and no more.
+/// Reads a deadline and nothing more.
 #[inline(always)]
 pub fn only_deadline(args: Fields) -> Option<Deadline>
     ensures { result ≡ one_deadline args.entry }
@@ -125,7 +125,7 @@ pub fn only_deadline(args: Fields) -> Option<Deadline>
     Deadline::new(sec, nsec)
 }
 
-/// A name and a deadline.
+/// Reads a name and a deadline.
 #[inline(always)]
 pub fn name_and_deadline(mut args: Fields) -> Option<(Name, Deadline)>
     ensures { result ≡ name_and_deadline args.entry }
@@ -135,7 +135,7 @@ pub fn name_and_deadline(mut args: Fields) -> Option<(Name, Deadline)>
     Some((name, deadline))
 }
 
-// A clock and a deadline.
+// Reads a clock and a deadline.
 fn clock_and_deadline(mut args: Fields) -> Option<(Clock, Deadline)>
     ensures { result ≡ clock_and_deadline args.entry }
 {
@@ -144,7 +144,7 @@ fn clock_and_deadline(mut args: Fields) -> Option<(Clock, Deadline)>
     Some((clock, deadline))
 }
 
-/// A name, a clock and a deadline.
+/// Reads a name, a clock and a deadline.
 pub fn name_clock_and_deadline(mut args: Fields) -> Option<(Name, (Clock, Deadline))>
     ensures { result ≡ name_clock_and_deadline args.entry }
 {
@@ -153,7 +153,7 @@ pub fn name_clock_and_deadline(mut args: Fields) -> Option<(Name, (Clock, Deadli
     Some((name, due))
 }
 
-/// Two names.
+/// Reads two names.
 #[inline(always)]
 pub fn two_names(mut args: Fields) -> Option<(Name, Name)>
     ensures { result ≡ first_then name_of (alone name_of) args.entry }
@@ -163,7 +163,7 @@ pub fn two_names(mut args: Fields) -> Option<(Name, Name)>
     Some((first, second))
 }
 
-/// Two names and a deadline.
+/// Reads two names and a deadline.
 pub fn two_names_and_deadline(mut args: Fields) -> Option<(Name, (Name, Deadline))>
     ensures { result ≡ first_then name_of name_and_deadline args.entry }
 {
@@ -172,7 +172,7 @@ pub fn two_names_and_deadline(mut args: Fields) -> Option<(Name, (Name, Deadline
     Some((first, rest))
 }
 
-/// Two names, a clock and a deadline.
+/// Reads two names, a clock and a deadline.
 pub fn two_names_clock_and_deadline(mut args: Fields) -> Option<(Name, (Name, (Clock, Deadline)))>
     ensures { result ≡ first_then name_of name_clock_and_deadline args.entry }
 {
@@ -181,7 +181,7 @@ pub fn two_names_clock_and_deadline(mut args: Fields) -> Option<(Name, (Name, (C
     Some((first, rest))
 }
 
-/// A name and a count.
+/// Reads a name and a count.
 pub fn name_and_count(mut args: Fields) -> Option<(Name, u64)>
     ensures { result ≡ first_then name_of (alone number_of) args.entry }
 {
@@ -190,7 +190,7 @@ pub fn name_and_count(mut args: Fields) -> Option<(Name, u64)>
     Some((name, count))
 }
 
-/// A kind, and whether the mutex is robust.
+/// Reads a kind, and whether the mutex is robust.
 pub fn kind_and_robust(mut args: Fields) -> Option<(MutexKind, bool)>
     ensures { result ≡ first_then kind_of (alone robust_of) args.entry }
 {
@@ -199,7 +199,7 @@ pub fn kind_and_robust(mut args: Fields) -> Option<(MutexKind, bool)>
     Some((kind, robust))
 }
 
-/// A name, a kind, and whether the mutex is robust.
+/// Reads a name, a kind, and whether the mutex is robust.
 pub fn name_and_kind(mut args: Fields) -> Option<(Name, (MutexKind, bool))>
     ensures { result ≡ first_then name_of (first_then kind_of (alone robust_of)) args.entry }
 {

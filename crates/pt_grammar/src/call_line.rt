@@ -23,7 +23,7 @@ pub enum CallLine {
     Tick(Clock, Moment),
 }
 
-// A hello.
+// Reads a hello.
 #[inline(never)]
 fn read_hello(args: Fields) -> Option<CallLine>
     ensures { result ≡ line_of word.Hello args.entry }
@@ -31,7 +31,7 @@ fn read_hello(args: Fields) -> Option<CallLine>
     Some(CallLine::Hello(only_priority(args)?))
 }
 
-// A reading of this clock.
+// Reads a reading of this clock.
 #[inline(never)]
 fn read_tick(clock: Clock, args: Fields) -> Option<CallLine>
     ensures { result ≡ line_of (word.Moment clock) args.entry }
@@ -39,7 +39,7 @@ fn read_tick(clock: Clock, args: Fields) -> Option<CallLine>
     Some(CallLine::Tick(clock, only_moment(args)?))
 }
 
-// A call with a kind, and whether the mutex is robust.
+// Reads a call with a kind, and whether the mutex is robust.
 #[inline(never)]
 fn read_mutex_init(args: Fields) -> Option<Call>
     ensures { option_map CallLine.Ask result ≡ line_of word.MutexInit args.entry }
@@ -48,7 +48,7 @@ fn read_mutex_init(args: Fields) -> Option<Call>
     Some(Call::MutexInit(name, kind, robust))
 }
 
-// A call with a count.
+// Reads a call with a count.
 #[inline(never)]
 fn read_barrier_init(args: Fields) -> Option<Call>
     ensures { option_map CallLine.Ask result ≡ line_of word.BarrierInit args.entry }
@@ -57,7 +57,7 @@ fn read_barrier_init(args: Fields) -> Option<Call>
     Some(Call::BarrierInit(name, count))
 }
 
-// A call on two names.
+// Reads a call on two names.
 #[inline(always)]
 fn read_wait(args: Fields) -> Option<Call>
     ensures { option_map CallLine.Ask result ≡ line_of word.Wait args.entry }
@@ -66,7 +66,7 @@ fn read_wait(args: Fields) -> Option<Call>
     Some(Call::Wait(cond, mutex))
 }
 
-// A call on two names with a deadline.
+// Reads a call on two names with a deadline.
 #[inline(never)]
 fn read_timedwait(args: Fields) -> Option<Call>
     ensures { option_map CallLine.Ask result ≡ line_of word.Timedwait args.entry }
@@ -75,7 +75,7 @@ fn read_timedwait(args: Fields) -> Option<Call>
     Some(Call::Timedwait(cond, mutex, deadline))
 }
 
-// A call on two names with a deadline of a clock.
+// Reads a call on two names with a deadline of a clock.
 #[inline(never)]
 fn read_clockwait(args: Fields) -> Option<Call>
     ensures { option_map CallLine.Ask result ≡ line_of word.Clockwait args.entry }
@@ -84,7 +84,7 @@ fn read_clockwait(args: Fields) -> Option<Call>
     Some(Call::Clockwait(cond, mutex, clock, deadline))
 }
 
-// A call with a deadline.
+// Reads a call with a deadline.
 #[inline(always)]
 fn read_timed(verb: TimedVerb, args: Fields) -> Option<Call>
     ensures { option_map CallLine.Ask result ≡ line_of (word.Timed verb) args.entry }
@@ -93,7 +93,7 @@ fn read_timed(verb: TimedVerb, args: Fields) -> Option<Call>
     Some(verb.on(name, deadline))
 }
 
-// A call with a deadline of a clock.
+// Reads a call with a deadline of a clock.
 #[inline(never)]
 fn read_clocked(verb: ClockedVerb, args: Fields) -> Option<Call>
     ensures { option_map CallLine.Ask result ≡ line_of (word.Clocked verb) args.entry }
@@ -102,7 +102,7 @@ fn read_clocked(verb: ClockedVerb, args: Fields) -> Option<Call>
     Some(verb.on(name, clock, deadline))
 }
 
-/// The call of a verb and the fields after it, if the verb is that of a call.
+/// Returns the call of a verb and the fields after it, if the verb is that of a call.
 #[inline(always)]
 pub(crate) fn read_asked(verb: Verb, args: Fields) -> Option<Call>
     ensures { IsAsked verb args.entry result }
@@ -120,8 +120,8 @@ pub(crate) fn read_asked(verb: Verb, args: Fields) -> Option<Call>
     }
 }
 
-/// The line of a verb and the fields after it. Lines that are seldom read have functions of their
-/// own, which are not inlined: the others have no room to clear for them.
+/// Returns the line of a verb and the fields after it. Rare lines are read by separate functions
+/// that are not inlined, so that other lines need not clear space for them.
 pub(crate) fn read_arguments(verb: Verb, args: Fields) -> Option<CallLine>
     ensures { result ≡ line_of verb args.entry }
 {
@@ -132,7 +132,7 @@ pub(crate) fn read_arguments(verb: Verb, args: Fields) -> Option<CallLine>
     }
 }
 
-// The line that a text spells, whatever its length.
+// Returns the line that a text spells, whatever the text's length.
 fn read_text(text: &[u8]) -> Option<CallLine>
     ensures { result ≡ line_read text.now }
 {
@@ -141,12 +141,12 @@ fn read_text(text: &[u8]) -> Option<CallLine>
     read_arguments(verb, fields)
 }
 
-/// Reads a line of a connection: LONG past 128 bytes, else SYNTAX if the text spells no line.
-/// It takes no memory.  [profile]
+/// Reads a line of a connection. Returns LONG past 128 bytes, otherwise SYNTAX if the text spells
+/// no line. It allocates nothing.  [profile]
 pub fn read_call(text: &[u8]) -> Result<CallLine, Refusal>
     ensures value { result ≡ call_read text.now }
 
-    // It is just the line that the text spells, and no such text is too long.
+    // The result is exactly the line that the text spells, and no text that spells one is too long.
     ensures found { IfOk result (Spells text.now) }
     ensures exact { (line : CallLine) → Spells text.now line → result ≡ Ok line }
 
@@ -163,7 +163,7 @@ pub fn read_call(text: &[u8]) -> Result<CallLine, Refusal>
 impl CallLine {
     ghost use Rattle.pt_grammar.specs.Reading.{call_of, IsCallReadOf};
 
-    /// Reads what a cutter gave. It takes no memory.
+    /// Reads what a cutter gave. It allocates nothing.
     pub fn of(cut: &Cut) -> Result<CallLine, Refusal>
         ensures value { result ≡ call_of cut.now }
         ensures read { IsCallReadOf cut.now result }

@@ -9,12 +9,12 @@ use std::hash::{Hash, Hasher};
 use std::marker::Model;
 use std::simd::prelude::*;
 
-// How many bytes a client's name has at most.
+// The most bytes in a client's name.
 const MOST: usize = 8;
 
 /// The name of a client in a script: 1 to 8 ASCII letters or digits.
 ///
-/// Contracts see it as its bytes. What fills its block up has no meaning.
+/// Contracts see it as its bytes. The padding of its block has no meaning.
 #[derive(Drop)]
 pub struct ClientName {
     block: [u8; MOST],
@@ -32,7 +32,7 @@ impl Model for ClientName {
     ghost invariant = { λ n. (n.len ≤ 8) × IsClientName (take n.len n.block) };
 }
 
-// Which bytes a client's name may have.
+// For each byte, whether a client's name may contain it.
 const MAY_STAND: [bool; 256] = [
     false, false, false, false, false, false, false, false, false, false, false, false, false,
     false, false, false, false, false, false, false, false, false, false, false, false, false,
@@ -72,14 +72,14 @@ fn may_all_stand(bytes: &[u8]) -> bool
     true
 }
 
-// Whether these bytes are a client's name.
+// Returns whether these bytes are a client's name.
 fn is_name(bytes: &[u8]) -> bool
     ensures { IsTrue result ↔ IsClientName bytes.now }
 {
     !bytes.is_empty() && bytes.len() <= 8 && may_all_stand(bytes)
 }
 
-// Few bytes, with what fills their block up. It isn't inlined, since few texts are so short.
+// Pads a few bytes to a block. It isn't inlined, since few texts are so short.
 #[cold]
 #[inline(never)]
 fn filled_up(bytes: &[u8]) -> [u8; MOST]
@@ -91,7 +91,7 @@ fn filled_up(bytes: &[u8]) -> [u8; MOST]
     block
 }
 
-// A block that begins with this many bytes of a text.
+// Returns a block that begins with the first `len` bytes of a text.
 #[inline(always)]
 #[tactic(auto, using(crate::proofs::StartLemmas::front_of))]
 fn block_of(text: &[u8], len: usize) -> [u8; MOST]
@@ -105,8 +105,8 @@ fn block_of(text: &[u8], len: usize) -> [u8; MOST]
     }
 }
 
-// The place of the first byte that a client's name can't have, of the first eight bytes of a text,
-// and eight if there is none. All are tested at once.
+// Returns the place of the first byte that a client's name can't contain, among the first eight
+// bytes of a text, or eight if there is none. All eight are tested together.
 #[inline(always)]
 fn block_len(text: &[u8]) -> usize
     requires { MOST ≤ length text.now }
@@ -124,7 +124,7 @@ fn block_len(text: &[u8]) -> usize
     mask.trailing_zeros() as usize
 }
 
-// The same of a text of fewer bytes, which few lines are.
+// Does what block_len does, for a text with fewer bytes. Few lines are so short.
 #[cold]
 #[inline(never)]
 fn short_len(text: &[u8]) -> usize
@@ -140,7 +140,8 @@ fn short_len(text: &[u8]) -> usize
     text.len()
 }
 
-// How many bytes are before the first that a client's name can't have, but at most eight.
+// Returns the number of bytes before the first that a client's name can't contain, but at most
+// eight.
 #[inline(always)]
 fn name_len(text: &[u8]) -> usize
     ensures within { result ≤ length text.now }
@@ -153,8 +154,8 @@ fn name_len(text: &[u8]) -> usize
     block_len(text)
 }
 
-/// The client at the start of a text and what is after it and a space, if a client's name and a
-/// space are there. The name is tested as the space is searched for.
+/// Returns the client at the start of a text, and what follows it and a space, if the text begins
+/// with a client's name and a space. The name is tested as the space is searched for.
 #[inline(always)]
 #[tactic(auto, using(crate::proofs::StartLemmas::named_by))]
 pub(crate) fn client_at_start(text: &[u8]) -> Option<(ClientName, &[u8])>
@@ -172,7 +173,7 @@ pub(crate) fn client_at_start(text: &[u8]) -> Option<(ClientName, &[u8])>
     Some((name, &text[len + 1..]))
 }
 
-// The name of these bytes, which are one.
+// Returns the name with these bytes, which are a valid name.
 #[tactic(auto, using(crate::proofs::StartLemmas::whole, crate::proofs::StartLemmas::whole_name))]
 fn name_of(bytes: &[u8]) -> ClientName
     requires { IsClientName bytes.now }
@@ -187,7 +188,7 @@ fn name_of(bytes: &[u8]) -> ClientName
 impl ClientName {
     ghost use Rattle.std.specs.Prelude.{IsSome, IfSome};
 
-    /// The name of these bytes; None if they are no name.
+    /// Returns the name with these bytes, or None if they are not a name.
     pub fn new(bytes: &[u8]) -> Option<ClientName>
         ensures valid { IsSome result ↔ IsClientName bytes.now }
         ensures value { IfSome result (λ name. name ≡ bytes.now) }
@@ -198,16 +199,17 @@ impl ClientName {
         Some(name_of(bytes))
     }
 
-    /// The bytes of the name.
+    /// Returns the bytes of the name.
     pub fn as_bytes(&self) -> &[u8]
         ensures bytes { result.now ≡ self.now }
         ensures name { IsClientName result.now }
     {
-        // There are no more than eight, as the compiler then knows: a copy of them needs no loop.
+        // The name has at most eight bytes. From the minimum the compiler knows this, so a copy of
+        // them needs no loop.
         &self.block[..MOST.min(self.len as usize)]
     }
 
-    /// The block that begins with the bytes of the name, and how many they are.
+    /// Returns the block that begins with the bytes of the name, and their number.
     #[inline(always)]
     pub fn filled(&self) -> ([u8; MOST], usize)
         ensures short { result.1 ≤ 8 }
@@ -216,7 +218,7 @@ impl ClientName {
         (self.block, MOST.min(self.len as usize))
     }
 
-    /// A second name of the same bytes. It takes no memory.
+    /// Returns a second name with the same bytes, without allocating.
     pub fn copied(&self) -> ClientName
         ensures { result ≡ self.now }
     {
@@ -241,7 +243,7 @@ impl Eq for ClientName {
     ghost laws = { nat_list_eq_equiv };
 }
 
-// The bytes are hashed at once, and not one after the other.
+// The bytes are hashed together, not one after another.
 impl Hash for ClientName {
     ghost use Rattle.std.specs.Prelude.{[], ◌∷◌};
     ghost use Rattle.std.proofs.Common.{rules};
@@ -255,14 +257,14 @@ impl Hash for ClientName {
     }
 }
 
-/// Whose a line of a script is.
+/// The client that a line of a script belongs to.
 #[derive(PartialEq, Eq, Drop)]
 pub enum Who {
-    /// A client's.
+    /// A client with a name.
     Named(ClientName),
-    /// The clocks', written `*`.
+    /// The clocks, written `*`.
     Star,
-    /// That of no client that can be read, written `?`.
+    /// No client that can be read, written `?`.
     Unknown,
 }
 
@@ -270,7 +272,7 @@ impl Who {
     ghost use Rattle.std.specs.Prelude.{◌≤◌, length};
     ghost use Rattle.pt_grammar.specs.Clients.{who_text, who_named};
 
-    /// Whose this name is: `*`, a client's name, or neither.
+    /// Returns what this name denotes: `*`, a client, or neither.
     pub fn named(name: &[u8]) -> Who
         ensures { result ≡ who_named name.now }
     {
@@ -283,7 +285,7 @@ impl Who {
         Who::Unknown
     }
 
-    /// The bytes that are printed for it.
+    /// Returns the bytes that are printed for it.
     pub fn as_bytes(&self) -> &[u8]
         ensures bytes { result.now ≡ who_text self.now }
         ensures short { length result.now ≤ 8 }
@@ -295,7 +297,7 @@ impl Who {
         }
     }
 
-    /// A block that begins with the bytes that are printed for it, and how many they are.
+    /// Returns a block that begins with the bytes that are printed for it, and their number.
     #[inline(always)]
     pub fn filled(&self) -> ([u8; MOST], usize)
         ensures short { result.1 ≤ 8 }
@@ -308,7 +310,7 @@ impl Who {
         }
     }
 
-    /// A copy of the client. It takes no memory.
+    /// Returns a copy, without allocating.
     pub fn copied(&self) -> Who
         ensures { result ≡ self.now }
     {

@@ -1,7 +1,7 @@
 use arrayvec::ArrayVec;
 use pt_types::MOST_IN_LINE;
 
-/// What is given of a line: its text without the newline, or that it has more than 128 bytes.
+/// What a cutter gives of a line: its text without the newline, or that it has more than 128 bytes.
 /// [profile]
 #[derive(PartialEq, Eq, Drop)]
 pub enum Cut {

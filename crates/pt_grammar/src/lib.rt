@@ -1,7 +1,7 @@
-//! Lines to calls: which text is which line of a connection, and of a script.
+//! The grammar of lines: which text is which line of a connection, and of a script.
 //!
-//! Contracts see a call as the text that spells it (two texts, as `default` means `normal`). A text
-//! that spells no line is SYNTAX, or LONG if it has more than 128 bytes.
+//! Contracts see a call as the text that spells it (two texts for a normal mutex, as `default`
+//! means `normal`). A text that spells no line is SYNTAX, or LONG if it has more than 128 bytes.
 #![tactic(auto)]
 
 mod arguments;

@@ -1,4 +1,4 @@
-//! Calls that are often made, and moments, by the bytes that a line begins with.
+//! Frequent calls, and moments, recognised by the bytes that a line begins with.
 
 ghost use Rattle.std.specs.Prelude.{◌≡◌, ◌≤◌, ◌++◌, [], ◌∷◌, IfSome, List, Option, Ok, Err, ℕ};
 ghost use Rattle.std.specs.Prelude.{length, take};
@@ -23,7 +23,7 @@ use crate::verb::{TimedVerb, Verb};
 use pt_fields::Fields;
 use pt_types::{Call, Deadline, Moment, MutexKind, NamedVerb};
 
-// Whether two blocks are the same, which are compared as numbers.
+// Returns whether two blocks are the same. They are compared as numbers.
 #[inline(always)]
 fn are_same(one: &[u8; 4], other: &[u8; 4]) -> bool
     ensures { OnTrue result (one.now ≡ other.now) }
@@ -31,7 +31,7 @@ fn are_same(one: &[u8; 4], other: &[u8; 4]) -> bool
     u32::from_le_bytes(*one) == u32::from_le_bytes(*other)
 }
 
-// Whether two texts begin with the same four bytes.
+// Returns whether two texts begin with the same four bytes.
 #[inline(always)]
 fn begin_alike(one: &[u8], other: &[u8]) -> bool
     ensures { OnTrue result (take 4 one.now ≡ take 4 other.now) }
@@ -42,7 +42,8 @@ fn begin_alike(one: &[u8], other: &[u8]) -> bool
     }
 }
 
-// What is after these bytes, of which there are at least four, if a text begins with them.
+// Returns what follows `start` in a text, if the text begins with `start`, which has at least four
+// bytes.
 #[inline(always)]
 fn after<'a>(text: &'a [u8], start: &[u8]) -> Option<&'a [u8]>
     requires { 4 ≤ length start.now }
@@ -59,7 +60,7 @@ fn after<'a>(text: &'a [u8], start: &[u8]) -> Option<&'a [u8]>
     Some(&text[start.len()..])
 }
 
-// This word and what is after it and a space, if a text begins with them.
+// Returns this word and what follows it and a space, if a text begins with these.
 #[inline(always)]
 fn said<'a>(text: &'a [u8], verb: NamedVerb, start: &[u8]) -> Option<(NamedVerb, &'a [u8])>
     requires is { start.now ≡ named_word verb ++ 32 ∷ [] }
@@ -70,7 +71,7 @@ fn said<'a>(text: &'a [u8], verb: NamedVerb, start: &[u8]) -> Option<(NamedVerb,
     Some((verb, rest))
 }
 
-// The same of the words that begin with `b`.
+// Does what said does, for the words that begin with `b`.
 fn said_by_b(text: &[u8]) -> Option<(NamedVerb, &[u8])>
     ensures { IfSome result (λ said. text.now ≡ named_word said.0 ++ 32 ∷ said.1.now) }
 {
@@ -83,7 +84,7 @@ fn said_by_b(text: &[u8]) -> Option<(NamedVerb, &[u8])>
     said(text, NamedVerb::BarrierDestroy, b"barrier-destroy ")
 }
 
-// The same of the words that begin with `c`.
+// Does what said does, for the words that begin with `c`.
 fn said_by_c(text: &[u8]) -> Option<(NamedVerb, &[u8])>
     ensures { IfSome result (λ said. text.now ≡ named_word said.0 ++ 32 ∷ said.1.now) }
 {
@@ -96,7 +97,7 @@ fn said_by_c(text: &[u8]) -> Option<(NamedVerb, &[u8])>
     said(text, NamedVerb::CondDestroy, b"cond-destroy ")
 }
 
-// The same of the words that begin with `r`.
+// Does what said does, for the words that begin with `r`.
 fn said_by_r(text: &[u8]) -> Option<(NamedVerb, &[u8])>
     ensures { IfSome result (λ said. text.now ≡ named_word said.0 ++ 32 ∷ said.1.now) }
 {
@@ -112,7 +113,7 @@ fn said_by_r(text: &[u8]) -> Option<(NamedVerb, &[u8])>
     said(text, NamedVerb::RwlockDestroy, b"rwlock-destroy ")
 }
 
-// The same of the words that begin with `t`.
+// Does what said does, for the words that begin with `t`.
 fn said_by_t(text: &[u8]) -> Option<(NamedVerb, &[u8])>
     ensures { IfSome result (λ said. text.now ≡ named_word said.0 ++ 32 ∷ said.1.now) }
 {
@@ -125,8 +126,8 @@ fn said_by_t(text: &[u8]) -> Option<(NamedVerb, &[u8])>
     said(text, NamedVerb::Trywrlock, b"trywrlock ")
 }
 
-// The word that a text begins with, and what is after it and a space. Few words have one first
-// letter, so few are compared.
+// Returns the word that a text begins with, and what follows it and a space. Few words share a
+// first letter, so few are compared.
 fn said_at_start(text: &[u8]) -> Option<(NamedVerb, &[u8])>
     ensures { IfSome result (λ said. text.now ≡ named_word said.0 ++ 32 ∷ said.1.now) }
 {
@@ -144,9 +145,9 @@ fn said_at_start(text: &[u8]) -> Option<(NamedVerb, &[u8])>
     }
 }
 
-/// The word of a call of one name and what is after it and a space, if a text begins with them. A
-/// client that says this calls the word on that, if it is a name. Most lines are such calls, and
-/// these are read without a search for spaces.
+/// Returns the word of a call of one name and what follows it and a space, if a text begins with
+/// these. If what follows is a name, a client that says this makes the call on it. Most lines are
+/// such calls, and they are read without a search for spaces.
 #[inline(always)]
 pub fn named_at_start(text: &[u8]) -> Option<(NamedVerb, &[u8])>
     ensures called { IfSome result (λ said. (client : List ℕ) → IsName said.1.now
@@ -159,8 +160,8 @@ pub fn named_at_start(text: &[u8]) -> Option<(NamedVerb, &[u8])>
     said_at_start(text)
 }
 
-/// What is after `wait` up to the next space, and what is after that, if a text begins with these.
-/// A client that says this waits at the first with the second, if both are names.
+/// Returns what follows `wait` up to the next space, and what follows that space, if a text has
+/// these parts. If both are names, a client that says this waits at the first with the second.
 #[inline(always)]
 pub fn wait_at_start(text: &[u8]) -> Option<(&[u8], &[u8])>
     ensures { IfSome result (λ said. (client : List ℕ) → IsName said.0.now → IsName said.1.now
@@ -174,8 +175,8 @@ pub fn wait_at_start(text: &[u8]) -> Option<(&[u8], &[u8])>
     Some((cond, mutex))
 }
 
-// The word of a call of one name and a deadline that a text begins with, and what is after it and
-// a space.
+// Returns the word of a call of one name and a deadline that a text begins with, and what follows
+// the word and a space.
 #[inline(always)]
 fn timed_word_at_start(text: &[u8]) -> Option<(TimedVerb, &[u8])>
     ensures { IfSome result (λ said. text.now ≡ timed_word said.0 ++ 32 ∷ said.1.now) }
@@ -190,9 +191,9 @@ fn timed_word_at_start(text: &[u8]) -> Option<(TimedVerb, &[u8])>
     Some((TimedVerb::Timedwrlock, rest))
 }
 
-/// The word of a call of one name and a deadline, what is after it up to the next space, and the
-/// deadline after that, if a text begins with the word and goes on so. A client that says this
-/// makes this call, if the second is a name.
+/// Returns the word of a call of one name and a deadline, what follows it up to the next space, and
+/// the deadline after that, if a text has these parts. If the second is a name, a client that says
+/// this makes this call.
 #[inline(always)]
 pub fn timed_at_start(text: &[u8]) -> Option<(TimedVerb, &[u8], Deadline)>
     ensures { IfSome result (λ said. (client : List ℕ) → IsName said.1.now
@@ -206,7 +207,8 @@ pub fn timed_at_start(text: &[u8]) -> Option<(TimedVerb, &[u8], Deadline)>
     Some((verb, name, deadline))
 }
 
-// The call that this verb makes of what is after its word and a space, if a text begins with them.
+// Returns the call that this verb makes with what follows its word and a space, if a text begins
+// with these.
 #[inline(always)]
 fn asked_by(text: &[u8], verb: Verb, start: &[u8]) -> Option<Option<Call>>
     requires is { start.now ≡ word_of verb ++ 32 ∷ [] }
@@ -222,8 +224,8 @@ fn asked_by(text: &[u8], verb: Verb, start: &[u8]) -> Option<Option<Call>>
     Some(read_asked(verb, Fields::new(args)))
 }
 
-/// The wait with a deadline, if a text begins with the word of one. A client's line that says this
-/// asks for it, or is refused as SYNTAX if there is none.
+/// Returns the wait with a deadline, if a text begins with the word of one. A client's line that
+/// says this asks for that wait, or is refused as SYNTAX if there is none.
 #[inline(always)]
 pub fn timedwait_at_start(text: &[u8]) -> Option<Option<Call>>
     ensures called { IfSome result (λ asked. IfSome asked (λ call. (client : List ℕ)
@@ -234,9 +236,8 @@ pub fn timedwait_at_start(text: &[u8]) -> Option<Option<Call>>
     asked_by(text, Verb::Timedwait, b"timedwait ")
 }
 
-/// What is after `mutex-init` up to the next space, and the kind and whether the mutex is robust
-/// after that, if a text begins with the word and goes on so. A client that says this makes this
-/// mutex, if the first is a name.
+/// Returns what follows `mutex-init` up to the next space, and the kind and robustness after that,
+/// if a text has these parts. If the first is a name, a client that says this makes this mutex.
 #[inline(always)]
 pub fn mutex_init_at_start(text: &[u8]) -> Option<(&[u8], MutexKind, bool)>
     ensures { IfSome result (λ said. (client : List ℕ) → IsName said.0.now
@@ -250,9 +251,8 @@ pub fn mutex_init_at_start(text: &[u8]) -> Option<(&[u8], MutexKind, bool)>
     Some((name, kind, robust))
 }
 
-/// What is after `barrier-init` up to the next space, and the count after that, if a text begins
-/// with the word and goes on so. A client that says this makes this barrier, if the first is a
-/// name.
+/// Returns what follows `barrier-init` up to the next space, and the count after that, if a text
+/// has these parts. If the first is a name, a client that says this makes this barrier.
 #[inline(always)]
 pub fn barrier_init_at_start(text: &[u8]) -> Option<(&[u8], u64)>
     ensures { IfSome result (λ said. (client : List ℕ) → IsName said.0.now
@@ -266,8 +266,8 @@ pub fn barrier_init_at_start(text: &[u8]) -> Option<(&[u8], u64)>
     Some((name, count))
 }
 
-/// The moment of the real clock, if a text begins with the word of one and a line of the clocks
-/// that says this gives it.
+/// Returns the moment of the real clock, if a text begins with the word of one and a line of the
+/// clocks with this text gives it.
 #[inline(always)]
 pub fn moment_at_start(text: &[u8]) -> Option<Moment>
     ensures { IfSome result (λ moment. body_read who.Star text.now

@@ -15,19 +15,20 @@ use pt_types::{Call, Clock, MOST_IN_LINE, Moment, Priority, Refusal};
 pub enum ScriptBody {
     Hello(Priority),
     Ask(Call),
-    /// The client's process ends.
+    /// The end of the client's process.
     Die,
     Tick(Clock, Moment),
 }
 
-/// A line of a script: whose it is, and what it says, or SYNTAX or LONG.  [profile]
+/// A line of a script: the client that it belongs to, and what it says, or SYNTAX or LONG.
+/// [profile]
 #[derive(PartialEq, Eq, Drop)]
 pub struct ScriptLine {
     pub who: Who,
     pub body: Result<ScriptBody, Refusal>,
 }
 
-// What is before the first space, and what is after it.
+// Returns what precedes the first space, and what follows it.
 fn split_at_space(text: &[u8]) -> (&[u8], Option<&[u8]>)
     ensures before { result.0.now ≡ before_space text.now }
     ensures behind { option_copied result.1 ≡ behind_space text.now }
@@ -38,7 +39,7 @@ fn split_at_space(text: &[u8]) -> (&[u8], Option<&[u8]>)
     }
 }
 
-// A connection's line as a line of a script, if this client may send it there.
+// Returns a connection's line as a line of a script, if this client may send it there.
 fn body_of(who: &Who, line: CallLine) -> Result<ScriptBody, Refusal>
     ensures { result ≡ body_of who.now line }
 {
@@ -50,8 +51,8 @@ fn body_of(who: &Who, line: CallLine) -> Result<ScriptBody, Refusal>
     }
 }
 
-/// What is said after a client and a space. It isn't inlined, so that what is said more often has
-/// no room to clear for it.
+/// Reads what is said after a client and a space. It isn't inlined, so that more frequent lines
+/// need not clear space for it.
 #[inline(never)]
 pub fn read_said(who: &Who, text: &[u8]) -> Result<ScriptBody, Refusal>
     ensures { result ≡ body_read who.now text.now }
@@ -65,7 +66,8 @@ pub fn read_said(who: &Who, text: &[u8]) -> Result<ScriptBody, Refusal>
     body_of(who, line)
 }
 
-/// Whose a line of a script is, and what comes after its client and a space, if a space does.
+/// Returns the client that a line of a script belongs to, and what follows it and a space, if there
+/// is a space.
 #[inline(always)]
 pub fn read_client(text: &[u8]) -> (Who, Option<&[u8]>)
     ensures who { result.0 ≡ who_named (before_space text.now) }
@@ -80,7 +82,8 @@ pub fn read_client(text: &[u8]) -> (Who, Option<&[u8]>)
     }
 }
 
-// The same, of any text. It isn't inlined, since few lines are no client's and no clock's.
+// Does what read_client does, for any text. It isn't inlined, since few lines belong to neither a
+// client nor the clocks.
 #[inline(never)]
 fn read_other_client(text: &[u8]) -> (Who, Option<&[u8]>)
     ensures who { result.0 ≡ who_named (before_space text.now) }
@@ -107,7 +110,7 @@ pub fn read_short(text: &[u8]) -> ScriptLine
     }
 }
 
-/// Reads a line of a script. It takes no memory.
+/// Reads a line of a script. It allocates nothing.
 pub fn read_script_line(text: &[u8]) -> ScriptLine
     ensures value { result ≡ script_read text.now }
     ensures read { IsReadAs text.now result }
@@ -121,7 +124,7 @@ pub fn read_script_line(text: &[u8]) -> ScriptLine
 impl ScriptLine {
     ghost use Rattle.pt_grammar.specs.Script.{IsReadOf, script_of, long_line};
 
-    /// A line that is too long: nobody's, and LONG.  [profile]
+    /// Returns a line that is too long: it belongs to no client, and is LONG.  [profile]
     pub fn long() -> ScriptLine
         ensures { result ≡ long_line }
     {
@@ -131,7 +134,7 @@ impl ScriptLine {
         }
     }
 
-    /// Reads what a cutter gave. It takes no memory.
+    /// Reads what a cutter gave. It allocates nothing.
     pub fn of(cut: &Cut) -> ScriptLine
         ensures value { result ≡ script_of cut.now }
         ensures read { IsReadOf cut.now result }

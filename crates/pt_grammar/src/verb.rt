@@ -7,7 +7,7 @@ ghost use Rattle.pt_grammar.specs.Verbs.{verb_of, call_until, call_by_clock};
 use crate::verbs::find_verb;
 use pt_types::{Call, Clock, Deadline, Name, NamedVerb};
 
-/// The word of a call that a name and a deadline follow.
+/// The word of a call that takes a name and a deadline.
 #[derive(Clone, Copy)]
 pub enum TimedVerb {
     Timedlock,
@@ -15,7 +15,7 @@ pub enum TimedVerb {
     Timedwrlock,
 }
 
-/// The word of a call that a name, a clock and a deadline follow.
+/// The word of a call that takes a name, a clock and a deadline.
 #[derive(Clone, Copy)]
 pub enum ClockedVerb {
     Clocklock,
@@ -23,7 +23,7 @@ pub enum ClockedVerb {
     Clockwrlock,
 }
 
-/// The first word of a line, by what follows it.
+/// The first word of a line, classified by what follows it.
 #[derive(Clone, Copy)]
 pub enum Verb {
     Hello,
@@ -74,7 +74,7 @@ const VERBS: [Verb; 32] = [
 ];
 
 impl TimedVerb {
-    /// The word.
+    /// Returns the word.
     pub fn word(self) -> &'static [u8]
         ensures { result.now ≡ timed_word self }
     {
@@ -85,7 +85,7 @@ impl TimedVerb {
         }
     }
 
-    /// The call on this name, with this deadline.
+    /// Returns the call on this name with this deadline.
     pub fn on(self, name: Name, deadline: Deadline) -> Call
         ensures { result ≡ call_until self name deadline }
     {
@@ -98,7 +98,7 @@ impl TimedVerb {
 }
 
 impl ClockedVerb {
-    /// The word.
+    /// Returns the word.
     pub fn word(self) -> &'static [u8]
         ensures { result.now ≡ clocked_word self }
     {
@@ -109,7 +109,7 @@ impl ClockedVerb {
         }
     }
 
-    /// The call on this name, with this deadline of this clock.
+    /// Returns the call on this name with this deadline of this clock.
     pub fn on(self, name: Name, clock: Clock, deadline: Deadline) -> Call
         ensures { result ≡ call_by_clock self name clock deadline }
     {
@@ -121,7 +121,7 @@ impl ClockedVerb {
     }
 }
 
-// The word of a call that one name follows.
+// Returns the word of a call that takes one name.
 fn word_of_named(verb: NamedVerb) -> &'static [u8]
     ensures { result.now ≡ named_word verb }
 {
@@ -147,7 +147,7 @@ fn word_of_named(verb: NamedVerb) -> &'static [u8]
     }
 }
 
-// The word of a moment of this clock.
+// Returns the word of a moment of this clock.
 fn word_of_moment(clock: Clock) -> &'static [u8]
     ensures { result.now ≡ moment_word clock }
 {
@@ -158,7 +158,7 @@ fn word_of_moment(clock: Clock) -> &'static [u8]
 }
 
 impl Verb {
-    /// The word.
+    /// Returns the word.
     pub fn word(self) -> &'static [u8]
         ensures { result.now ≡ word_of self }
     {
@@ -176,7 +176,7 @@ impl Verb {
         }
     }
 
-    /// The verb with this word.
+    /// Returns the verb with this word, if there is one.
     pub fn read(text: &[u8]) -> Option<Verb>
         ensures value { result ≡ verb_of text.now }
         ensures found { IfSome result (λ verb. text.now ≡ word_of verb) }

@@ -1,4 +1,4 @@
-//! The verbs, by the length of their word.
+//! The verbs, grouped by the length of their word.
 
 ghost use Rattle.std.specs.Prelude.{◌≡◌, ◌==◌, find, length};
 ghost use Rattle.std.specs.List.{filter};
@@ -55,7 +55,7 @@ const OF_14: [Verb; 1] = [Verb::Named(NamedVerb::RwlockDestroy)];
 
 const OF_15: [Verb; 1] = [Verb::Named(NamedVerb::BarrierDestroy)];
 
-// The verbs whose words have this length, in the order of the table.
+// Returns the verbs whose words have this length, in the order of the table.
 fn verbs_of_length(len: usize) -> &'static [Verb]
     ensures { result.now ≡ filter (λ verb. len == length (word_of verb)) VERBS }
 {
@@ -76,7 +76,8 @@ fn verbs_of_length(len: usize) -> &'static [Verb]
     }
 }
 
-/// Whether the bytes of two texts are the same. Most words differ in the first byte already.
+/// Returns whether the bytes of two texts are the same. Most words already differ in the first
+/// byte.
 #[inline(always)]
 pub fn is_same(word: &[u8], text: &[u8]) -> bool
     ensures { result ≡ bytes_eq word.now text.now }
@@ -92,7 +93,7 @@ pub fn is_same(word: &[u8], text: &[u8]) -> bool
     true
 }
 
-// The first of these verbs whose word this is.
+// Returns the first of these verbs that has this word.
 fn find_in(verbs: &[Verb], text: &[u8]) -> Option<Verb>
     ensures { result ≡ find (λ verb. bytes_eq (word_of verb) text.now) verbs.now }
 {
@@ -102,7 +103,7 @@ fn find_in(verbs: &[Verb], text: &[u8]) -> Option<Verb>
         .find(|verb| is_same(verb.word(), text))
 }
 
-/// The verb with this word.
+/// Returns the verb with this word, if there is one.
 pub fn find_verb(text: &[u8]) -> Option<Verb>
     ensures { result ≡ verb_of text.now }
 {

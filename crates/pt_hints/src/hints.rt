@@ -1,23 +1,23 @@
-//! For each value of a key's low bits, where a row with such a key was last.
+//! Hints: for each value of a key's low bits, the place in which a row with such a key was last.
 
 ghost use Rattle.std.specs.Prelude.{◌<◌, ◌^◌, IfSome};
 
 use std::alloc::{AllocError, Allocator};
 
-/// How many hints there are once there is a row.
+/// The least number of hints once there is a row.
 const FEWEST: usize = 256;
 
-/// How many hints there are at most.
+/// The greatest number of hints.
 const MOST: usize = 16384;
 
 /// For each value of a key's low bits, the place that was noted last with such a key.
 ///
-/// A hint may be wrong: whoever takes it compares the key of the row in that place.
+/// A hint may be wrong: its user compares the key of the row in that place.
 pub struct Hints<A: Allocator + Copy> {
     places: Vec<u32, A>,
 }
 
-// Not derived, so that those that drop hints prove nothing of their parts.
+// Not derived, so that code that drops hints need not prove anything about their parts.
 impl<A: Allocator + Copy> Drop for Hints<A> {
     fn drop(self) {
         let Hints { places: _ } = self;
@@ -25,20 +25,21 @@ impl<A: Allocator + Copy> Drop for Hints<A> {
 }
 
 impl<A: Allocator + Copy> Hints<A> {
-    /// No hint. It takes no memory.
+    /// Creates an empty set of hints, which allocates nothing.
     pub fn new(alloc: A) -> Self {
         Hints {
             places: Vec::new(alloc),
         }
     }
 
-    // The index of the hint for a key. The number of hints is a power of two.
+    // Returns the index of the hint for a key. The number of hints is a power of two.
     #[inline(always)]
     fn index_of(&self, key: u64) -> usize {
         key as usize & self.places.len().wrapping_sub(1)
     }
 
-    /// The place in which the row with a key is looked for first. None if there are no hints.
+    /// Returns the place in which the row with a key is looked for first, or None if there are no
+    /// hints.
     #[inline(always)]
     pub fn get(&self, key: u64) -> Option<usize>
         ensures { IfSome result (λ place. place < 2 ^ 32) }
@@ -56,13 +57,13 @@ impl<A: Allocator + Copy> Hints<A> {
         }
     }
 
-    // Whether there are more than twice as many hints as rows, or as many as there may be.
+    // Returns whether there are more than twice as many hints as rows, or as many as there may be.
     #[inline(always)]
     fn suffice(&self, rows: usize) -> bool {
         self.places.len() / 2 > rows || self.places.len() >= MOST
     }
 
-    // Makes twice as many hints as there are.
+    // Doubles the number of hints, or makes the first ones.
     fn grow(&mut self) -> Result<(), AllocError> {
         let count = self.places.len();
         let more = if count < FEWEST { FEWEST } else { count };
@@ -80,8 +81,8 @@ impl<A: Allocator + Copy> Hints<A> {
         }
     }
 
-    /// Makes more hints if there are too few for so many rows, and then notes each row again:
-    /// `row_at` gives the key and the place of the row at an index below `rows`, if one is there.
+    /// Makes more hints if there are too few for this many rows, and then notes each row again.
+    /// `row_at` returns the key and the place of the row at an index below `rows`, if one is there.
     #[inline]
     pub fn grow_for<F: Fn(usize) -> Option<(u64, usize)>>(
         &mut self,
@@ -98,7 +99,7 @@ impl<A: Allocator + Copy> Hints<A> {
         Ok(())
     }
 
-    /// The same hints in memory of their own.
+    /// Returns a copy of the hints, in separate memory.
     pub fn copied(&self, alloc: A) -> Result<Self, AllocError> {
         let mut places = Vec::with_capacity(alloc, self.places.len())?;
         places.extend_from_slice(&self.places)?;

@@ -1,7 +1,7 @@
-//! Hints of where rows lie, by a few bits of their keys.
+//! Hints at where rows lie, by a few bits of their keys.
 //!
-//! A hint may be wrong: whoever takes it compares the key of what lies there, and `are_same` does
-//! that for names. So contracts say of a hint only that it fits 32 bits.
+//! A hint may be wrong: its user compares the key of what lies there, and `are_same` does that for
+//! names. So contracts say about a hint only that it fits 32 bits.
 #![tactic(auto)]
 
 mod hints;

@@ -1,8 +1,8 @@
-//! Whether two short texts are the same, by numbers of four and of eight bytes.
+//! Comparison of two short texts, by numbers of four and of eight bytes.
 
 ghost use Rattle.std.specs.Prelude.{◌≡◌, ◌-◌, ◌≤◌, ◌*◌, length, true, take, drop};
 
-// Whether four bytes are the same, as one number.
+// Returns whether four bytes are the same, compared as one number.
 #[inline(always)]
 fn four_equal(one: &[u8; 4], other: &[u8; 4]) -> bool
     ensures { result ≡ true → one.now ≡ other.now }
@@ -10,7 +10,7 @@ fn four_equal(one: &[u8; 4], other: &[u8; 4]) -> bool
     u32::from_le_bytes(*one) == u32::from_le_bytes(*other)
 }
 
-// Whether eight bytes are the same, as one number.
+// Returns whether eight bytes are the same, compared as one number.
 #[inline(always)]
 fn eight_equal(one: &[u8; 8], other: &[u8; 8]) -> bool
     ensures { result ≡ true → one.now ≡ other.now }
@@ -18,7 +18,7 @@ fn eight_equal(one: &[u8; 8], other: &[u8; 8]) -> bool
     u64::from_le_bytes(*one) == u64::from_le_bytes(*other)
 }
 
-// Whether both texts have four first bytes, and the same.
+// Returns whether both texts have at least four bytes, and the same first four.
 #[inline(always)]
 fn first_four_equal(one: &[u8], other: &[u8]) -> bool
     ensures enough { result ≡ true → 4 ≤ length other.now }
@@ -30,7 +30,7 @@ fn first_four_equal(one: &[u8], other: &[u8]) -> bool
     }
 }
 
-// Whether both texts have four last bytes, and the same.
+// Returns whether both texts have at least four bytes, and the same last four.
 #[inline(always)]
 fn last_four_equal(one: &[u8], other: &[u8]) -> bool
     ensures { result ≡ true
@@ -42,7 +42,7 @@ fn last_four_equal(one: &[u8], other: &[u8]) -> bool
     }
 }
 
-// Whether both texts have eight first bytes, and the same.
+// Returns whether both texts have at least eight bytes, and the same first eight.
 #[inline(always)]
 fn first_eight_equal(one: &[u8], other: &[u8]) -> bool
     ensures enough { result ≡ true → 8 ≤ length other.now }
@@ -54,7 +54,7 @@ fn first_eight_equal(one: &[u8], other: &[u8]) -> bool
     }
 }
 
-// Whether both texts have eight last bytes, and the same.
+// Returns whether both texts have at least eight bytes, and the same last eight.
 #[inline(always)]
 fn last_eight_equal(one: &[u8], other: &[u8]) -> bool
     ensures { result ≡ true
@@ -66,8 +66,8 @@ fn last_eight_equal(one: &[u8], other: &[u8]) -> bool
     }
 }
 
-// Whether texts of one length, of 4 to 8 bytes, are the same. Texts of one length mostly differ at
-// their ends, so these are compared first.
+// Returns whether texts of one length, of 4 to 8 bytes, are the same. Texts of one length mostly
+// differ at their ends, so these are compared first.
 #[inline(always)]
 fn fours_equal(one: &[u8], other: &[u8]) -> bool
     requires same { length one.now ≡ length other.now }
@@ -77,7 +77,7 @@ fn fours_equal(one: &[u8], other: &[u8]) -> bool
     last_four_equal(one, other) && first_four_equal(one, other)
 }
 
-// Whether texts of one length, of 8 to 16 bytes, are the same.
+// Returns whether texts of one length, of 8 to 16 bytes, are the same.
 #[inline(always)]
 fn eights_equal(one: &[u8], other: &[u8]) -> bool
     requires same { length one.now ≡ length other.now }
@@ -87,7 +87,7 @@ fn eights_equal(one: &[u8], other: &[u8]) -> bool
     last_eight_equal(one, other) && first_eight_equal(one, other)
 }
 
-// Whether texts of one length, of 16 to 32 bytes, are the same.
+// Returns whether texts of one length, of 16 to 32 bytes, are the same.
 #[inline(always)]
 fn halves_equal(one: &[u8], other: &[u8]) -> bool
     requires same { length one.now ≡ length other.now }
@@ -99,8 +99,8 @@ fn halves_equal(one: &[u8], other: &[u8]) -> bool
     eights_equal(&one[from..], &other[from..]) && eights_equal(&one[..16], &other[..16])
 }
 
-// Whether texts of one length, of 9 to 32 bytes, are the same. It isn't inlined: with all that it
-// does a caller would grow too large to be inlined itself.
+// Returns whether texts of one length, of 9 to 32 bytes, are the same. It is not inlined, since its
+// code would make a caller too large to be inlined itself.
 #[inline(never)]
 fn are_long_equal(one: &[u8], other: &[u8]) -> bool
     requires same { length one.now ≡ length other.now }
@@ -113,7 +113,7 @@ fn are_long_equal(one: &[u8], other: &[u8]) -> bool
     }
 }
 
-// Whether texts of fewer than four bytes are the same.
+// Returns whether texts of fewer than four bytes are the same.
 #[inline(always)]
 fn few_equal(one: &[u8], other: &[u8]) -> bool
     ensures { result ≡ true → one.now ≡ other.now }
@@ -127,7 +127,7 @@ fn few_equal(one: &[u8], other: &[u8]) -> bool
     }
 }
 
-// Whether texts of one length, of at most 32 bytes, are the same.
+// Returns whether texts of one length, of at most 32 bytes, are the same.
 #[inline(always)]
 fn are_equal(one: &[u8], other: &[u8]) -> bool
     requires same { length one.now ≡ length other.now }
@@ -141,7 +141,7 @@ fn are_equal(one: &[u8], other: &[u8]) -> bool
     }
 }
 
-/// Whether two texts are the same, of which the second has at most 32 bytes.
+/// Returns whether two texts are the same. The second has at most 32 bytes.
 #[inline(always)]
 pub fn are_same(one: &[u8], other: &[u8]) -> bool
     requires { length other.now ≤ 32 }

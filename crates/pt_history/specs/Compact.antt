@@ -1,4 +1,4 @@
--- Compact: the entry that a stored one is.
+-- Compact: how entries are read back from their stored form.
 use Rattle.std.specs.Prelude.{ℕ, ◌+◌, ◌-◌, ◌<◌, ◌≤◌, ◌≡◌, List, length, take, drop, Option, Some}
 use Rattle.std.specs.Prelude.{None, slice_index_or}
 use Rattle.pt_types.specs.Names.{IsName}
@@ -50,7 +50,7 @@ use Rattle.pt_history.specs.declared.compact.Compact.TheVariants.{Join, Named, B
 use Rattle.pt_history.specs.declared.compact.Compact.TheVariants.{TimedWait, Death, Moment, Grant}
 use Rattle.pt_history.specs.declared.compact.Compact.TheVariants.{Trip, Yield, Expire, Whole}
 
--- the entry that must follow
+-- a forced entry as an entry of any kind
 abbrev pub forced_entry : ForcedEntry → Entry
 forced_entry (GrantForced j x) = GrantEntry j x
 forced_entry (TripForced b) = TripEntry b
@@ -62,15 +62,15 @@ abbrev pub spelled : Word → List ℕ → Call
 spelled (MutexInitWord kind robust) n = MutexInit n kind robust
 spelled (NamedWord verb) n = call_on verb n
 
--- the number from which the numbers of a history count that begins at a place
+-- the base from which numbers are counted in a history that begins at a place
 abbrev pub base_of : ℕ → ℕ
 base_of at = at - 2147483648
 
--- the text of a length that begins at an index
+-- the text of this length that begins at an index
 abbrev pub text_at : List ℕ → ℕ → ℕ → List ℕ
 text_at texts from count = take count (drop from texts)
 
--- the outcome of an answer
+-- the outcome of an answer, or none if the call waits
 abbrev pub answered : Answer → Option Outcome
 answered Waits = None
 answered Done = Some DoneOutcome
@@ -111,7 +111,7 @@ limit_at p l =
     slice_index_or p.limits l
     (record { deadline = record { sec = 0; nsec = 0 }; clock = None })
 
--- the entry that a stored one is, over a base
+-- the entry that is read back from a stored one, by a base and the parts
 abbrev pub decoded : ℕ → Parts → Compact → Entry
 decoded b p (Join k c) = JoinEntry (b + c) k
 decoded b p (Named w a n c i) = CallEntry (b + c) (spelled w (text_at p.texts i n)) (answered a)
@@ -136,27 +136,27 @@ decoded b p (Yield o) = YieldEntry (b + o)
 decoded b p (Expire j) = ExpireEntry (b + j)
 decoded b p (Whole i) = slice_index_or p.wholes i (TripEntry 0)
 
--- a name is there
+-- a name of this length begins at an index
 pub record IsText (texts : List ℕ) (from count : ℕ) : Type 0 where
   pub within : from + count ≤ length texts
   pub name : IsName (text_at texts from count)
 
--- two names are there, one after the other
+-- two names of these lengths begin at an index, one after the other
 pub record AreTexts (texts : List ℕ) (from first second : ℕ) : Type 0 where
   pub one : IsText texts from first
   pub other : IsText texts (from + first) second
 
--- a name and a limit are there
+-- a name of this length begins at an index, and there is a limit at another index
 pub record HasLimit (p : Parts) (from count l : ℕ) : Type 0 where
   pub text : IsText p.texts from count
   pub limit : l < length p.limits
 
--- two names and a limit are there
+-- two names of these lengths begin at an index, and there is a limit at another index
 pub record HaveLimit (p : Parts) (from first second l : ℕ) : Type 0 where
   pub texts : AreTexts p.texts from first second
   pub limit : l < length p.limits
 
--- what a stored entry refers to is there
+-- everything that a stored entry refers to is stored
 abbrev pub IsStored : Parts → Compact → Type 0
 IsStored p (Named w a n c i) = IsText p.texts i n
 IsStored p (Barrier a n c i k) = IsText p.texts i n
@@ -167,7 +167,7 @@ IsStored p (Moment k i) = i < length p.moments
 IsStored p (Whole i) = i < length p.wholes
 IsStored p _ = Unit {0}
 
--- a stored entry is this one, whatever else is stored
+-- the stored entry is read back as this one, whatever else is stored
 pub record ShowsAlone (b : ℕ) (c : Compact) (e : Entry) : Type 0 where
   pub same : (p : Parts) → decoded b p c ≡ e
   pub stored : (p : Parts) → IsStored p c

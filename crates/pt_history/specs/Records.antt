@@ -8,11 +8,11 @@ use Rattle.pt_history.specs.declared.compact.Compact.{Compact}
 use Rattle.pt_history.specs.declared.records.Records.{Records}
 use Rattle.pt_history.specs.Compact.{Parts, IsText, AreTexts, text_at, decoded, IsStored}
 
--- nothing
+-- parts without anything
 abbrev pub no_parts : Parts
 no_parts = record { texts = []; limits = []; moments = []; wholes = [] }
 
--- the lists that are stored
+-- the parts that are stored
 abbrev pub parts_of : {A : Type 0} → Records A → Parts
 parts_of r =
     record {
@@ -22,7 +22,7 @@ parts_of r =
       wholes = r.wholes.items;
     }
 
--- parts with more at their ends
+-- parts with more appended to them
 abbrev pub joined : Parts → Parts → Parts
 joined p q =
     record {
@@ -32,25 +32,27 @@ joined p q =
       wholes = p.wholes ++ q.wholes;
     }
 
--- parts that only grew
+-- the parts only grew, at their ends
 pub record HasGrown (old new : Parts) : Type 0 where
   pub more : Parts
   pub joined : new ≡ joined old more
 
--- whatever so many entries are, there is room for what they refer to: two names have 64 bytes
+-- there is room for what n more entries refer to, whatever they are: two names have 64 bytes at
+-- most
 pub record HasRoom {A : Type 0} (r : Records A) (n : ℕ) : Type 0 where
   pub texts : vec_len r.texts + 64 * n ≤ vec_capacity r.texts
   pub limits : vec_len r.limits + n ≤ vec_capacity r.limits
   pub moments : vec_len r.moments + n ≤ vec_capacity r.moments
   pub wholes : vec_len r.wholes + n ≤ vec_capacity r.wholes
 
--- the same parts, and no less room
+-- the parts are the same, and there is no less room
 pub record KeepsParts {A : Type 0} (old new : Records A) : Type 0 where
   pub same : parts_of new ≡ parts_of old
   pub room : (n : ℕ) → HasRoom old n → HasRoom new n
   pub few : vec_len new.wholes ≡ vec_len old.wholes
 
--- a stored entry is this one, and what it refers to was appended
+-- the stored entry is read back as this one, everything that it refers to is stored, and the parts
+-- only grew, by one entry's room at most
 pub record Shows {A : Type 0} (b : ℕ) (e : Entry) (old new : Records A) (c : Compact)
     : Type 0 where
   pub same : decoded b (parts_of new) c ≡ e
@@ -59,18 +61,18 @@ pub record Shows {A : Type 0} (b : ℕ) (e : Entry) (old new : Records A) (c : C
   pub room : (n : ℕ) → HasRoom old (suc n) → HasRoom new n
   pub few : vec_len new.wholes ≤ suc (vec_len old.wholes)
 
--- a name lies at an index
+-- this name lies at an index
 pub record LiesAt (texts name : List ℕ) (from : ℕ) : Type 0 where
   pub within : from + length name ≤ length texts
   pub same : text_at texts from (length name) ≡ name
 
--- two names lie there, one after the other, of these lengths
+-- these two names, of these lengths, lie at an index, one after the other
 pub record LieAt (texts one other : List ℕ) (first second from : ℕ) : Type 0 where
   pub both : AreTexts texts from first second
   pub same : text_at texts from first ≡ one
   pub next : text_at texts (from + first) second ≡ other
 
--- the texts only grew, and a name is there, of this length and from this index on
+-- the texts only grew, and the name lies at this index and has this length
 pub record HasText {A : Type 0} (old new : Vec ℕ A) (name : List ℕ)
     (count from : ℕ) : Type 0 where
   pub more : List ℕ
@@ -80,7 +82,8 @@ pub record HasText {A : Type 0} (old new : Vec ℕ A) (name : List ℕ)
   pub len : vec_len new ≤ vec_len old + 32
   pub capacity : vec_capacity old ≤ vec_capacity new
 
--- the texts only grew, and two names are there, of these lengths and from this index on
+-- the texts only grew, and the two names lie at this index, one after the other, and have these
+-- lengths
 pub record HasTexts {A : Type 0} (old new : Vec ℕ A) (one other : List ℕ)
     (first second from : ℕ) : Type 0 where
   pub more : List ℕ
@@ -91,7 +94,7 @@ pub record HasTexts {A : Type 0} (old new : Vec ℕ A) (one other : List ℕ)
   pub len : vec_len new ≤ vec_len old + 64
   pub capacity : vec_capacity old ≤ vec_capacity new
 
--- a stored entry is this one, if there is one; else nothing changed
+-- the stored entry, if there is one, is read back as this one; else nothing changed
 abbrev pub ShowsIfSome : {A : Type 0} → ℕ → Entry → Records A → Records A → Option Compact
     → Type 0
 ShowsIfSome b e old new None = new ≡ old

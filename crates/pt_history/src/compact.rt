@@ -11,14 +11,14 @@ use pt_types::operations::LockKind;
 use pt_types::{Call, Clock, Deadline, MutexKind, Name, NamedVerb, ObjectId, Outcome, Priority};
 use std::mem::size_of;
 
-/// A call word that one name follows, with its other words.
+/// A call word that one name follows, with the call's other words.
 #[derive(Clone, Copy)]
 pub(crate) enum Word {
     MutexInit(MutexKind, bool),
     Named(NamedVerb),
 }
 
-/// The answer that a call got at once, or that it waits.
+/// The answer that a call got at once, or the fact that it waits.
 #[derive(Clone, Copy)]
 pub(crate) enum Answer {
     Waits,
@@ -41,22 +41,24 @@ pub(crate) struct TimeLimit {
     pub(crate) clock: Option<Clock>,
 }
 
-/// An entry in 16 bytes. Its numbers count from the base of its history. Small fields come first,
-/// so that they share a word with the tag.
+/// An entry in 16 bytes. Its numbers are counted from the base of its history. Small fields come
+/// first, so that they share a word with the tag.
 #[derive(Clone, Copy)]
 pub(crate) enum Compact {
     /// The priority and the client.
     Join(Priority, u32),
-    /// The word, the answer, the length of the name, the client, and where the name begins.
+    /// The word, the answer, the length of the name, the client, and the index at which the name
+    /// begins.
     Named(Word, Answer, u8, u32, u32),
-    /// A `barrier-init`: as `Named` without the word, and the count last.
+    /// A `barrier-init`: the fields of `Named` without the word, and then the count.
     Barrier(Answer, u8, u32, u32, u32),
-    /// A timed call for a lock: as `Named`, with the lock for the word, and the index of its limit
-    /// last.
+    /// A timed call for a lock: the fields of `Named`, with the lock in place of the word, and then
+    /// the index of its limit.
     Timed(LockKind, Answer, u8, u32, u32, u32),
-    /// A wait: the answer, the lengths of both names, the client, and where the names begin.
+    /// A wait: the answer, the lengths of both names, the client, and the index at which the names
+    /// begin.
     Wait(Answer, u8, u8, u32, u32),
-    /// A wait with a deadline: as `Wait`, with the index of its limit last.
+    /// A wait with a deadline: the fields of `Wait`, and then the index of its limit.
     TimedWait(Answer, u8, u8, u32, u32, u32),
     /// The client.
     Death(u32),
@@ -76,7 +78,7 @@ pub(crate) enum Compact {
 
 const _: () = prove!(size_of::<Compact>() == 16);
 
-/// An entry that must follow another one.  [XSH, the call's page]
+/// A forced entry, which must follow the entries before it.  [XSH, the call's page]
 #[derive(Clone, Copy)]
 pub enum ForcedEntry {
     /// The place of the call, and its outcome.
@@ -89,7 +91,7 @@ pub enum ForcedEntry {
     Expire(u64),
 }
 
-/// The stored form of an answer; None is a call that waits.
+/// Returns the stored form of an answer. None is a call that waits.
 #[inline(always)]
 pub(crate) fn answer_of(outcome: Option<Outcome>) -> Answer
     ensures { answered result ≡ outcome }
@@ -109,7 +111,7 @@ pub(crate) fn answer_of(outcome: Option<Outcome>) -> Answer
     }
 }
 
-/// The outcome of an answer; None if the call waits.
+/// Returns the outcome of an answer, or None if the call waits.
 pub(crate) fn outcome_of(answer: Answer) -> Option<Outcome>
     ensures { result ≡ answered answer }
 {
@@ -128,14 +130,15 @@ pub(crate) fn outcome_of(answer: Answer) -> Option<Outcome>
     }
 }
 
-/// The base of a history that begins at a place: 2^31 before it, or 0.
+/// Returns the base of a history that begins at a place: 2^31 less than the place, but at least 0.
 pub(crate) fn base(at: u64) -> u64
     ensures { result ≡ base_of at }
 {
     at.saturating_sub(2_147_483_648)
 }
 
-/// A place counted from the base; None if it is before the base, or takes more than 32 bits.
+/// Returns a place counted from the base, or None if it is below the base or takes more than 32
+/// bits.
 pub fn near(base: u64, place: u64) -> Option<u32>
     ensures { IfSome result (λ n. base + n ≡ place) }
 {
@@ -145,7 +148,7 @@ pub fn near(base: u64, place: u64) -> Option<u32>
     Some((place - base) as u32)
 }
 
-/// The word and the name of such a call; None for another call.
+/// Returns the word and the name of a call that consists of these, or None for another call.
 pub(crate) fn named(call: &Call) -> Option<(Word, &Name)>
     ensures { IfSome result (λ p. spelled p.0 p.1.now ≡ call.now) }
 {
@@ -158,7 +161,7 @@ pub(crate) fn named(call: &Call) -> Option<(Word, &Name)>
     }
 }
 
-/// The call of a word and a name.
+/// Returns the call of a word and a name.
 pub(crate) fn call_of(word: Word, name: Name) -> Call
     ensures { result ≡ spelled word name }
 {
@@ -174,7 +177,7 @@ fn limit(deadline: Deadline, clock: Option<Clock>) -> TimeLimit
     TimeLimit { deadline, clock }
 }
 
-/// The lock, the name and the limit of a timed call for a lock; None for another call.
+/// Returns the lock, the name and the limit of a timed call for a lock, or None for another call.
 #[inline(always)]
 pub(crate) fn timed(call: &Call) -> Option<(LockKind, &Name, TimeLimit)>
     ensures { IfSome result (λ p. with_limit p.0 p.1.now p.2.deadline p.2.clock ≡ call.now) }
@@ -202,7 +205,7 @@ pub(crate) fn timed(call: &Call) -> Option<(LockKind, &Name, TimeLimit)>
     }
 }
 
-/// The call for a lock with a deadline.
+/// Returns the timed call for a lock with this name and this limit.
 pub(crate) fn timed_call(kind: LockKind, name: Name, limit: TimeLimit) -> Call
     ensures { result ≡ with_limit kind name limit.deadline limit.clock }
 {
@@ -217,7 +220,8 @@ pub(crate) fn timed_call(kind: LockKind, name: Name, limit: TimeLimit) -> Call
     }
 }
 
-/// The name and the count of a barrier that is made; None if the count takes more than 32 bits.
+/// Returns the name and the count of a call that makes a barrier. Returns None if the count takes
+/// more than 32 bits, and for another call.
 pub(crate) fn barrier(call: &Call) -> Option<(&Name, u32)>
     ensures { IfSome result (λ p. BarrierInit p.0.now p.1 ≡ call.now) }
 {
@@ -227,7 +231,7 @@ pub(crate) fn barrier(call: &Call) -> Option<(&Name, u32)>
     }
 }
 
-/// Both names and the limit of a timed wait; None for another call.
+/// Returns both names and the limit of a timed wait, or None for another call.
 pub(crate) fn timed_wait(call: &Call) -> Option<(&Name, &Name, TimeLimit)>
     ensures { IfSome result (λ p. wait_until p.0.now p.1.now p.2.deadline p.2.clock ≡ call.now) }
 {
@@ -240,7 +244,7 @@ pub(crate) fn timed_wait(call: &Call) -> Option<(&Name, &Name, TimeLimit)>
     }
 }
 
-/// The wait with a deadline.
+/// Returns the timed wait with these names and this limit.
 pub(crate) fn wait_call(cond: Name, mutex: Name, limit: TimeLimit) -> Call
     ensures { result ≡ wait_until cond mutex limit.deadline limit.clock }
 {
@@ -250,7 +254,7 @@ pub(crate) fn wait_call(cond: Name, mutex: Name, limit: TimeLimit) -> Call
     }
 }
 
-/// What an entry adds to the number of outer entries.
+/// Returns what an entry adds to the number of outer entries: 0 if it is forced, else 1.
 pub(crate) fn outer_in(entry: &Entry) -> u64
     ensures { result ≡ if is_forced entry.now then 0 else 1 }
 {
@@ -260,7 +264,7 @@ pub(crate) fn outer_in(entry: &Entry) -> u64
     }
 }
 
-/// The entry that must follow.
+/// Returns a forced entry as an entry of any kind.
 pub(crate) fn entry_of(forced: &ForcedEntry) -> Entry
     ensures { result ≡ forced_entry forced.now }
 {
@@ -272,7 +276,7 @@ pub(crate) fn entry_of(forced: &ForcedEntry) -> Entry
     }
 }
 
-/// The stored form of an entry that must follow; None if its number doesn't fit.
+/// Returns the stored form of a forced entry, or None if its number does not fit.
 #[inline(always)]
 pub(crate) fn stored_forced(base: u64, forced: &ForcedEntry) -> Option<Compact>
     ensures { IfSome result (λ c. ShowsAlone base c (forced_entry forced.now)) }
@@ -285,7 +289,8 @@ pub(crate) fn stored_forced(base: u64, forced: &ForcedEntry) -> Option<Compact>
     }
 }
 
-/// The stored form of an entry that needs nothing beside it.
+/// Returns the stored form of an entry that refers to nothing stored elsewhere. Returns None for
+/// other entries, or if a number does not fit.
 pub(crate) fn alone(base: u64, entry: &Entry) -> Option<Compact>
     ensures { IfSome result (λ c. ShowsAlone base c entry.now) }
 {

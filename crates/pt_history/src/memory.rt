@@ -1,11 +1,11 @@
-//! Memory of lists that are needed no more.
+//! The memory of lists that are no longer needed, and its use for other lists.
 
 ghost use Rattle.std.specs.Prelude.{◌≡◌, ◌≤◌, vec_len, vec_capacity};
 
 use std::alloc::Allocator;
 
-/// Moves a list into the memory of one that is needed no more, if that has as much, so that no
-/// memory is given back that would be asked for again.
+/// Moves a list into the memory of one that is no longer needed, if that one has as much. So no
+/// memory is freed that would soon be allocated again.
 pub fn take_memory<T, A: Allocator + Copy>(list: &mut Vec<T, A>, mut other: Vec<T, A>)
 where
     T: Drop,

@@ -1,4 +1,4 @@
-//! Calls, and entries that must follow, as they are appended in room that was made for them.
+//! Pushes of calls and of forced entries, in room that was made for them.
 
 use crate::compact::{ForcedEntry, stored_forced};
 use crate::stored::History;
@@ -12,8 +12,8 @@ impl<A: Allocator + Copy> History<A> {
     ghost use Rattle.pt_model.specs.declared.entry.Entry.TheVariants.{Grant as GrantEntry};
     ghost use Rattle.pt_history.specs.Compact.{forced_entry};
 
-    // Appends the entry of a call of one name, if its hint finds that name, and reports whether it
-    // does.
+    // Appends the entry of a call with one name, if a hint finds that name and the client's number
+    // fits, and reports whether it did.
     #[inline(always)]
     fn push_named_again(&mut self, client: ClientId, call: &Call, outcome: Option<Outcome>) -> bool
         requires { 0 < self.old.room }
@@ -31,8 +31,8 @@ impl<A: Allocator + Copy> History<A> {
         true
     }
 
-    // Appends the entry of the making of a mutex or of a barrier, if its hint finds that name, and
-    // reports whether it does.
+    // Appends the entry of a call that makes a mutex or a barrier, if a hint finds its name and its
+    // numbers fit, and reports whether it did.
     #[inline(always)]
     fn push_made_again(&mut self, client: ClientId, call: &Call, outcome: Option<Outcome>) -> bool
         requires { 0 < self.old.room }
@@ -50,7 +50,8 @@ impl<A: Allocator + Copy> History<A> {
         true
     }
 
-    // Appends the entry of a wait, if its hint finds both names, and reports whether it does.
+    // Appends the entry of a wait without a deadline, if a hint finds both names and the client's
+    // number fits, and reports whether it did.
     #[inline(always)]
     fn push_wait_again(&mut self, client: ClientId, call: &Call, outcome: Option<Outcome>) -> bool
         requires { 0 < self.old.room }
@@ -69,7 +70,7 @@ impl<A: Allocator + Copy> History<A> {
     }
 
     // Appends the entry of a call for a lock with a deadline, if its numbers fit, and reports
-    // whether it does.
+    // whether it did.
     #[inline(always)]
     fn push_timed(&mut self, client: ClientId, call: &Call, outcome: Option<Outcome>) -> bool
         requires { 0 < self.old.room }
@@ -89,7 +90,7 @@ impl<A: Allocator + Copy> History<A> {
         true
     }
 
-    // Appends the entry of any call. It is seldom needed, so it is not inlined.
+    // Appends the entry of any call. This is rare, so it is not inlined.
     #[cold]
     #[inline(never)]
     fn push_other_call(&mut self, client: ClientId, call: &Call, outcome: Option<Outcome>)
@@ -116,8 +117,8 @@ impl<A: Allocator + Copy> History<A> {
         }
     }
 
-    /// Appends the entry of a call, in room that was made for it. It takes no memory. A call that
-    /// gives one name and nothing else takes the fewest steps.
+    /// Appends the entry of a call, in room that was made for it. This allocates nothing. A call
+    /// that has one name and nothing else takes the fewest steps.
     #[inline(always)]
     pub fn push_named(&mut self, client: ClientId, call: &Call, outcome: Option<Outcome>)
         requires { 0 < self.old.room }
@@ -132,7 +133,7 @@ impl<A: Allocator + Copy> History<A> {
         }
     }
 
-    /// As `push_named`. A wait without a deadline takes the fewest steps.
+    /// Does what `push_named` does. A wait without a deadline takes the fewest steps.
     #[inline(always)]
     pub fn push_wait(&mut self, client: ClientId, call: &Call, outcome: Option<Outcome>)
         requires { 0 < self.old.room }
@@ -147,7 +148,7 @@ impl<A: Allocator + Copy> History<A> {
         }
     }
 
-    // As `push_named`. The making of a mutex or of a barrier takes the fewest steps.
+    // Does what `push_named` does. A call that makes a mutex or a barrier takes the fewest steps.
     #[inline(always)]
     fn push_made(&mut self, client: ClientId, call: &Call, outcome: Option<Outcome>)
         requires { 0 < self.old.room }
@@ -162,7 +163,7 @@ impl<A: Allocator + Copy> History<A> {
         }
     }
 
-    /// As `push_named`. Each call that comes often takes few steps, and it isn't inlined.
+    /// Does what `push_named` does. Each call that comes often takes few steps. It is not inlined.
     #[inline(never)]
     pub fn push_call(&mut self, client: ClientId, call: &Call, outcome: Option<Outcome>)
         requires { 0 < self.old.room }
@@ -179,7 +180,7 @@ impl<A: Allocator + Copy> History<A> {
         }
     }
 
-    /// Appends an entry that must follow, in room that was made for it. It takes no memory.
+    /// Appends a forced entry, in room that was made for it. This allocates nothing.
     #[inline(always)]
     pub fn push_forced(&mut self, forced: ForcedEntry)
         requires { 0 < self.old.room }
@@ -195,8 +196,8 @@ impl<A: Allocator + Copy> History<A> {
         self.memory -= 1;
     }
 
-    /// Appends a Grant, in room that was made for it. It takes no memory, and isn't inlined. One
-    /// whose number fits is stored here, since `push_forced` would have it in memory first.
+    /// Appends a Grant, in room that was made for it. This allocates nothing, and is not inlined. A
+    /// Grant whose number fits is stored here, since `push_forced` would write it to memory first.
     #[inline(never)]
     pub fn push_grant(&mut self, place: u64, outcome: Outcome)
         requires { 0 < self.old.room }

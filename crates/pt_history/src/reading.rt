@@ -1,4 +1,4 @@
-//! Entries as they are read again.
+//! Entries as they are read back from their stored form.
 
 ghost use Rattle.std.specs.Prelude.{◌≡◌, ◌+◌, ◌<◌, ◌≤◌, length};
 ghost use Rattle.pt_types.specs.Limits.{most_places};
@@ -17,7 +17,7 @@ use pt_types::operations::LockKind;
 use pt_types::{Call, ClientId, Name, ObjectId};
 use std::alloc::Allocator;
 
-// The entry of a call.
+// Returns the entry of a call.
 fn call_entry(base: u64, client: u32, call: Call, answer: Answer) -> Entry
     requires { base ≤ most_places }
     ensures { result ≡ CallEntry (base + client) call (answered answer) }
@@ -25,7 +25,7 @@ fn call_entry(base: u64, client: u32, call: Call, answer: Answer) -> Entry
     Entry::Call(ClientId(base + client as u64), call, outcome_of(answer))
 }
 
-/// A copy of an entry. It takes no memory.
+/// Returns a copy of an entry. This allocates nothing.
 pub(crate) fn copied(entry: &Entry) -> Entry
     ensures { result ≡ entry.now }
 {
@@ -41,7 +41,7 @@ pub(crate) fn copied(entry: &Entry) -> Entry
     }
 }
 
-// The client of an entry, if that is a call.
+// Returns the client of an entry, if the entry is a call.
 fn caller(entry: &Entry) -> Option<ClientId>
     ensures { result ≡ caller_of entry.now }
 {
@@ -52,7 +52,7 @@ fn caller(entry: &Entry) -> Option<ClientId>
 }
 
 impl<A: Allocator + Copy> Records<A> {
-    // The name of a length that begins at an index.
+    // Returns the name of this length that begins at an index.
     fn name(&self, from: usize, length: u8) -> Name
         requires { IsText self.now.texts.items from length }
         ensures { result ≡ text_at self.now.texts.items from length }
@@ -60,7 +60,7 @@ impl<A: Allocator + Copy> Records<A> {
         Name::new(&self.texts[from..from + length as usize]).unwrap()
     }
 
-    // A call for a lock with a deadline.
+    // Returns a call for a lock with a deadline.
     fn timed(&self, kind: LockKind, length: u8, from: u32, limit: u32) -> Call
         requires { HasLimit (parts_of self.now) from length limit }
         ensures { result ≡ with_limit kind (text_at self.now.texts.items from length)
@@ -74,7 +74,7 @@ impl<A: Allocator + Copy> Records<A> {
         )
     }
 
-    // A wait with a deadline.
+    // Returns a wait with a deadline.
     fn timed_wait(&self, first: u8, second: u8, from: u32, limit: u32) -> Call
         requires { HaveLimit (parts_of self.now) from first second limit }
         ensures { result ≡ wait_until (text_at self.now.texts.items from first)
@@ -87,7 +87,7 @@ impl<A: Allocator + Copy> Records<A> {
         wait_call(cond, mutex, self.limits[limit as usize])
     }
 
-    // A wait without a deadline.
+    // Returns a wait without a deadline.
     fn wait(&self, first: u8, second: u8, from: u32) -> Call
         requires { AreTexts self.now.texts.items from first second }
         ensures { result ≡ Wait (text_at self.now.texts.items from first)
@@ -97,7 +97,7 @@ impl<A: Allocator + Copy> Records<A> {
         Call::Wait(cond, self.name(from as usize + first as usize, second))
     }
 
-    /// The client of a stored entry, if that is a call. No name is copied for it.
+    /// Returns the client of a stored entry, if the entry is a call. It copies no name.
     pub(crate) fn caller(&self, base: u64, compact: Compact) -> Option<ClientId>
         requires base { base ≤ most_places }
         requires stored { IsStored (parts_of self.now) compact }
@@ -114,7 +114,7 @@ impl<A: Allocator + Copy> Records<A> {
         }
     }
 
-    /// The entry that a stored one is.
+    /// Returns a stored entry as it was pushed.
     pub(crate) fn entry(&self, base: u64, compact: Compact) -> Entry
         requires base { base ≤ most_places }
         requires stored { IsStored (parts_of self.now) compact }

@@ -1,5 +1,5 @@
-//! What stored entries refer to: the texts of names, the deadlines, the readings of clocks, and
-//! the few entries whose numbers don't fit 32 bits.
+//! What stored entries refer to: the texts of names, the deadlines, the readings of clocks, and the
+//! few entries whose numbers do not fit in 32 bits.
 
 ghost use Rattle.std.specs.Prelude.{ℕ, IfOk, IsOk, ◌≡◌, ◌≤◌, OnOk, vec_len};
 ghost use Rattle.pt_history.specs.Records.{no_parts, parts_of, HasRoom, KeepsParts};
@@ -11,7 +11,7 @@ use pt_model::Entry;
 use pt_types::Moment;
 use std::alloc::{AllocError, Allocator};
 
-/// How many bytes of names' texts stay at most when the entries are dropped.
+/// The greatest size in bytes of the texts of names that stay when the entries are dropped.
 const MOST_KEPT: usize = 262_144;
 
 /// The parts that stored entries refer to by index.
@@ -23,7 +23,7 @@ pub(crate) struct Records<A: Allocator + Copy> {
     pub(crate) wholes: Vec<Entry, A>,
 }
 
-// Not derived, so that those that drop records prove nothing of their parts.
+// Not derived, so that code that drops records need not prove anything about their parts.
 impl<A: Allocator + Copy> Drop for Records<A> {
     fn drop(self) {
         let Records {
@@ -37,7 +37,7 @@ impl<A: Allocator + Copy> Drop for Records<A> {
 }
 
 impl<A: Allocator + Copy> Records<A> {
-    /// No records. It takes no memory.
+    /// Creates empty records, which allocates nothing.
     pub(crate) fn new(alloc: A) -> Records<A>
         ensures parts { parts_of result ≡ no_parts }
         ensures room { HasRoom result 0 }
@@ -52,8 +52,8 @@ impl<A: Allocator + Copy> Records<A> {
         }
     }
 
-    /// Records with the texts of others and their hints, if those aren't too many; else no records.
-    /// A name with a text there need not be stored again.
+    /// Creates records with copies of the texts of others and their hints, if those texts are not
+    /// too many, else empty records. A name with a text there need not be stored again.
     pub(crate) fn with_texts_of(other: &Records<A>, alloc: A) -> Result<Records<A>, AllocError>
         ensures room { IfOk result (λ r. HasRoom r 0) }
         ensures few { IfOk result (λ r. vec_len r.wholes ≡ 0) }
@@ -66,7 +66,7 @@ impl<A: Allocator + Copy> Records<A> {
         Ok(records)
     }
 
-    /// Makes room for so many entries more, whatever they are.
+    /// Makes room for what `room` more entries refer to, whatever they are.
     pub(crate) fn reserve(&mut self, room: u64) -> Result<(), AllocError>
         requires { room ≤ 4294967295 }
         ensures ok { OnOk result (HasRoom self.new room) }
@@ -83,7 +83,7 @@ impl<A: Allocator + Copy> Records<A> {
         self.wholes.reserve(many)
     }
 
-    /// Forgets all that no entry refers to any more, but for the texts of names, if they aren't too
+    /// Removes all that no entry refers to any more, except the texts of names if they are not too
     /// many: a name with a text there need not be stored again. The memory stays.
     pub(crate) fn clear(&mut self)
         ensures room { (n : ℕ) → HasRoom self.old n → HasRoom self.new n }
@@ -97,7 +97,8 @@ impl<A: Allocator + Copy> Records<A> {
         self.wholes.clear();
     }
 
-    /// Moves the records into the memory of others that are needed no more, if those have as much.
+    /// Moves the records into the memory of others that are no longer needed, each part only if
+    /// that part of the others has as much.
     pub(crate) fn take_memory(&mut self, other: Records<A>)
         ensures { KeepsParts self.old self.new }
     {

@@ -10,13 +10,13 @@ use std::alloc::{AllocError, Allocator, Global};
 use std::marker::Model;
 
 /// What a history begins with, and the entries since in the order in which they came. Places go on
-/// from the Start's.
+/// from that of the Start.
 pub struct History<A: Allocator + Copy = Global> {
     start: Start<A>,
-    /// The number from which the numbers of the entries count.
+    /// The number from which the numbers of the entries are counted.
     pub(crate) base: u64,
     pub(crate) entries: Vec<Compact, A>,
-    /// For how many more entries there is memory, whatever they are.
+    /// The number of further entries for which there is memory, whatever they are.
     pub(crate) memory: u64,
     pub(crate) records: Records<A>,
     pub(crate) outer: u64,
@@ -24,14 +24,13 @@ pub struct History<A: Allocator + Copy = Global> {
     pub(crate) room: u64,
 }
 
-/// For how many more entries than there has to be room for memory is asked, so that it is asked for
-/// once in a while.
+/// The number of additional entries for which a growth allocates memory, so that growths are rare.
 const BATCH: u64 = 64;
 
-/// For how many entries memory is asked at most.
+/// The greatest number of entries for which memory is allocated at once.
 const MOST_AT_ONCE: u64 = 4_294_967_295;
 
-// Makes memory for so many entries more, whatever they are.
+// Allocates memory for `many` more entries, whatever they are.
 fn grow<A: Allocator + Copy>(
     entries: &mut Vec<Compact, A>,
     records: &mut Records<A>,
@@ -71,7 +70,7 @@ impl<A: Allocator + Copy> Model for History<A> {
         × (h.base ≡ base_of h.start.at) };
 }
 
-// Not derived, so that those that drop a history prove nothing of its parts.
+// Not derived, so that code that drops a history need not prove anything about its parts.
 impl<A: Allocator + Copy> Drop for History<A> {
     fn drop(self) {
         let History {
@@ -97,7 +96,7 @@ impl<A: Allocator + Copy> History<A> {
     ghost use Rattle.pt_history.specs.Stored.{Stored, begun, caller_in, past_of, pushed};
     ghost use Rattle.pt_model.specs.Histories.{outer};
 
-    // An empty history of at most so many entries, with these records.
+    // Creates an empty history of at most `limit` entries, with these records.
     fn begin(alloc: A, limit: u32, records: Records<A>) -> History<A>
         requires room { HasRoom records 0 }
         requires few { vec_len records.wholes ≡ 0 }
@@ -115,15 +114,15 @@ impl<A: Allocator + Copy> History<A> {
         }
     }
 
-    /// An empty history of at most so many entries. It takes no memory.
+    /// Creates an empty history of at most `limit` entries, which allocates nothing.
     pub fn with_limit(alloc: A, limit: u32) -> History<A>
         ensures { result ≡ begun limit }
     {
         History::begin(alloc, limit, Records::new(alloc))
     }
 
-    /// An empty history of at most as many entries, for those after a seal. It takes over the texts
-    /// of names, if they aren't too many. ENOMEM if that growth is refused.
+    /// Creates an empty history with the same limit, for the entries after a seal. It copies the
+    /// texts of names, if they are not too many. Returns ENOMEM if that growth is refused.
     pub fn successor(&self, alloc: A) -> Result<History<A>, Refusal>
         ensures ok { IfOk result (λ h. h ≡ begun self.now.limit) }
         ensures err { IfErr result (λ r. r ≡ Refusal.Enomem) }
@@ -134,8 +133,8 @@ impl<A: Allocator + Copy> History<A> {
         Ok(History::begin(alloc, self.limit, records))
     }
 
-    // Makes room for so many entries more, with memory for as many or more. ENOMEM if the growth is
-    // refused: then nothing changes.
+    // Makes room for `room` more entries, and memory for `memory` more, which are no fewer. Returns
+    // ENOMEM if the growth is refused; then nothing changes.
     #[cold]
     #[inline(never)]
     fn grow_for(&mut self, room: u64, memory: u64) -> Result<(), Refusal>
@@ -154,9 +153,9 @@ impl<A: Allocator + Copy> History<A> {
         Ok(())
     }
 
-    /// Makes room for so many entries more. FULL exactly if the history would pass its limit
-    /// with them; else ENOMEM if the growth is refused. A refusal changes nothing. Room that is
-    /// there already is never refused.
+    /// Makes room for `room` more entries. Returns FULL exactly if the history would exceed its
+    /// limit with them, else ENOMEM if the growth is refused. A refusal changes nothing. Room that
+    /// the history has already is never refused.
     #[inline(always)]
     pub fn reserve_for(&mut self, room: u64) -> Result<(), Refusal>
         ensures ok { OnOk result (self.new ≡ record self.old { room = room }) }
@@ -176,7 +175,7 @@ impl<A: Allocator + Copy> History<A> {
         Ok(())
     }
 
-    /// Appends an entry, in room that was made for it. It takes no memory.
+    /// Appends an entry, in room that was made for it. This allocates nothing.
     #[inline(always)]
     pub fn push(&mut self, entry: Entry)
         requires { 0 < self.old.room }
@@ -189,7 +188,7 @@ impl<A: Allocator + Copy> History<A> {
         self.push_borrowed(&entry);
     }
 
-    // Appends a borrowed entry, in room that was made for it. It takes no memory.
+    // Appends a borrowed entry, in room that was made for it. This allocates nothing.
     fn push_borrowed(&mut self, entry: &Entry)
         requires { 0 < self.old.room }
         ensures { self.new ≡ pushed entry.now self.old }
@@ -201,8 +200,8 @@ impl<A: Allocator + Copy> History<A> {
         self.memory -= 1;
     }
 
-    /// Forgets the entries and begins anew with this Start. The room stays, and so does the memory.
-    /// It takes no memory.
+    /// Drops the entries and begins anew with this Start. The room stays, and so does the memory.
+    /// This allocates nothing.
     pub fn seal(&mut self, start: Start<A>)
         requires places { start.at ≤ most_places }
         requires counted { start.outer ≤ start.at }
@@ -215,7 +214,8 @@ impl<A: Allocator + Copy> History<A> {
         self.records.clear();
     }
 
-    /// Moves the entries into the memory of a history that is needed no more, if that has as much.
+    /// Moves the entries into the memory of a history that is no longer needed, if that history has
+    /// as much.
     pub fn take_memory(&mut self, other: History<A>)
         ensures { self.new ≡ self.old }
     {
@@ -233,14 +233,14 @@ impl<A: Allocator + Copy> History<A> {
         self.records.take_memory(records);
     }
 
-    /// What the history begins with.
+    /// Returns the Start of the history.
     pub fn start(&self) -> &Start<A>
         ensures { rows_of result.now ≡ self.now.start }
     {
         &self.start
     }
 
-    /// The number of entries since the Start.
+    /// Returns the number of entries since the Start.
     pub fn held(&self) -> u64
         ensures held { result ≡ length self.now.entries }
         ensures within { result ≤ self.now.limit }
@@ -248,21 +248,21 @@ impl<A: Allocator + Copy> History<A> {
         self.entries.len() as u64
     }
 
-    /// The place of the next entry.
+    /// Returns the place of the next entry.
     pub fn len(&self) -> u64
         ensures { result ≡ self.now.start.at + length self.now.entries }
     {
         self.start.at + self.entries.len() as u64
     }
 
-    /// The number of outer entries: those since the Start, and those that it counts.
+    /// Returns the number of outer entries: those since the Start, and those that the Start counts.
     pub fn outer(&self) -> u64
         ensures { result ≡ outer (past_of self.now) }
     {
         self.outer
     }
 
-    /// The entry at a place, if there is one; places before the Start have none.
+    /// Returns the entry at a place, if there is one. Places before the Start have none.
     pub fn entry(&self, place: u64) -> Option<Entry>
         ensures before { place < self.now.start.at → result ≡ None }
         ensures since { self.now.start.at ≤ place
@@ -275,7 +275,7 @@ impl<A: Allocator + Copy> History<A> {
         Some(self.records.entry(self.base, compact))
     }
 
-    /// The client of the call at a place since the Start, if there is a call.
+    /// Returns the client of the call at a place since the Start, if there is a call.
     pub fn caller(&self, place: u64) -> Option<ClientId>
         requires { self.now.start.at ≤ place }
         ensures { result
@@ -285,14 +285,14 @@ impl<A: Allocator + Copy> History<A> {
         self.records.caller(self.base, compact)
     }
 
-    /// The greatest number of entries since the Start.
+    /// Returns the greatest number of entries that there may be since the Start.
     pub fn limit(&self) -> u32
         ensures { result ≡ self.now.limit }
     {
         self.limit
     }
 
-    /// How many more entries have room.
+    /// Returns the number of further entries for which there is room.
     pub fn room(&self) -> u64
         ensures room { result ≡ self.now.room }
         ensures within { length self.now.entries + self.now.room ≤ self.now.limit }

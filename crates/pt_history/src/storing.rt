@@ -1,4 +1,4 @@
-//! Entries as they are stored.
+//! Entries as they are turned into their stored form.
 
 ghost use Rattle.std.specs.Prelude.{◌≡◌, ◌+◌, ◌<◌, ◌≤◌, None, IfSome, vec_len};
 ghost use Rattle.pt_history.specs.Compact.{answered, decoded, forced_entry};
@@ -18,7 +18,7 @@ use pt_types::{Call, ClientId, Clock, Moment, NamedVerb, Outcome};
 use std::alloc::Allocator;
 
 impl<A: Allocator + Copy> Records<A> {
-    // A call of one name.
+    // Stores what a call with one name refers to, and returns its stored form, if its numbers fit.
     fn store_named(
         &mut self,
         base: u64,
@@ -35,7 +35,8 @@ impl<A: Allocator + Copy> Records<A> {
         Some(Compact::Named(word, answer, length, client, from))
     }
 
-    // The making of a barrier.
+    // Stores what a call that makes a barrier refers to, and returns its stored form, if its
+    // numbers fit.
     fn store_barrier(
         &mut self,
         base: u64,
@@ -52,7 +53,8 @@ impl<A: Allocator + Copy> Records<A> {
         Some(Compact::Barrier(answer, length, client, from, count))
     }
 
-    // A call for a lock with a deadline.
+    // Stores what a call for a lock with a deadline refers to, and returns its stored form, if its
+    // numbers fit.
     #[inline(always)]
     fn store_timed(
         &mut self,
@@ -74,7 +76,8 @@ impl<A: Allocator + Copy> Records<A> {
         Some(Compact::Timed(kind, answer, length, client, from, index))
     }
 
-    // A wait without a deadline.
+    // Stores what a wait without a deadline refers to, and returns its stored form, if its numbers
+    // fit.
     fn store_wait(&mut self, base: u64, client: u32, call: &Call, answer: Answer) -> Option<Compact>
         requires { HasRoom self.old 1 }
         ensures { ShowsIfSome base (CallEntry (base + client) call.now (answered answer))
@@ -87,7 +90,8 @@ impl<A: Allocator + Copy> Records<A> {
         Some(Compact::Wait(answer, first, second, client, from))
     }
 
-    // A wait with a deadline.
+    // Stores what a wait with a deadline refers to, and returns its stored form, if its numbers
+    // fit.
     fn store_timed_wait(
         &mut self,
         base: u64,
@@ -108,7 +112,7 @@ impl<A: Allocator + Copy> Records<A> {
         Some(Compact::TimedWait(answer, first, second, client, from, index))
     }
 
-    // A call.
+    // Stores what any call refers to, and returns its stored form, if its numbers fit.
     fn store_call(&mut self, base: u64, client: u32, call: &Call, answer: Answer) -> Option<Compact>
         requires { HasRoom self.old 1 }
         ensures { ShowsIfSome base (CallEntry (base + client) call.now (answered answer))
@@ -130,7 +134,8 @@ impl<A: Allocator + Copy> Records<A> {
         }
     }
 
-    // A call whose client's number fits.
+    // Stores what any call refers to, and returns its stored form, if its client's number and its
+    // own numbers fit.
     #[inline(always)]
     fn store_short_call(
         &mut self,
@@ -146,8 +151,8 @@ impl<A: Allocator + Copy> Records<A> {
         self.store_call(base, client, call, answer_of(outcome))
     }
 
-    /// Stores what the entry of a call for a lock with a deadline refers to, if its numbers fit,
-    /// and returns its stored form. It takes no memory.
+    /// Stores what the entry of a call for a lock with a deadline refers to, and returns its stored
+    /// form, if its numbers fit. This allocates nothing.
     #[inline(always)]
     pub(crate) fn store_short_timed(
         &mut self,
@@ -163,7 +168,8 @@ impl<A: Allocator + Copy> Records<A> {
         self.store_timed(base, client, call, answer_of(outcome))
     }
 
-    /// The stored form of a call of one name, if its hint finds that name.
+    /// Returns the stored form of a call with one name, if a hint finds that name and the client's
+    /// number fits.
     #[inline(always)]
     pub(crate) fn named_again(
         &self,
@@ -181,7 +187,7 @@ impl<A: Allocator + Copy> Records<A> {
         Some(Compact::Named(Word::Named(verb), answer_of(outcome), length, client, from))
     }
 
-    // As `named_again`, also of the making of a mutex.
+    // Does what `named_again` does, also for a call that makes a mutex.
     fn word_again(
         &self,
         base: u64,
@@ -198,7 +204,8 @@ impl<A: Allocator + Copy> Records<A> {
         Some(Compact::Named(word, answer_of(outcome), length, client, from))
     }
 
-    // The stored form of the making of a barrier, if its hint finds that name.
+    // Returns the stored form of a call that makes a barrier, if a hint finds its name and its
+    // numbers fit.
     fn barrier_again(
         &self,
         base: u64,
@@ -215,7 +222,8 @@ impl<A: Allocator + Copy> Records<A> {
         Some(Compact::Barrier(answer_of(outcome), length, client, from, count))
     }
 
-    /// The stored form of the making of a mutex or of a barrier, if its hint finds that name.
+    /// Returns the stored form of a call that makes a mutex or a barrier, if a hint finds its name
+    /// and its numbers fit.
     #[inline(always)]
     pub(crate) fn made_again(
         &self,
@@ -232,7 +240,8 @@ impl<A: Allocator + Copy> Records<A> {
         }
     }
 
-    /// The stored form of a wait without a deadline, if its hint finds both names.
+    /// Returns the stored form of a wait without a deadline, if a hint finds both names and the
+    /// client's number fits.
     #[inline(always)]
     pub(crate) fn wait_again(
         &self,
@@ -251,7 +260,7 @@ impl<A: Allocator + Copy> Records<A> {
         Some(Compact::Wait(answer_of(outcome), first, second, client, from))
     }
 
-    // A reading of a clock.
+    // Stores a reading of a clock, and returns the stored form of its entry, if its index fits.
     fn store_moment(&mut self, base: u64, clock: Clock, moment: Moment) -> Option<Compact>
         requires { HasRoom self.old 1 }
         ensures { ShowsIfSome base (MomentEntry clock moment) self.old self.new result }
@@ -261,7 +270,7 @@ impl<A: Allocator + Copy> Records<A> {
         Some(Compact::Moment(clock, index))
     }
 
-    // An entry whose numbers fit.
+    // Stores what an entry refers to, and returns its stored form, if its numbers fit.
     fn store_short(&mut self, base: u64, entry: &Entry) -> Option<Compact>
         requires { HasRoom self.old 1 }
         ensures { ShowsIfSome base entry.now self.old self.new result }
@@ -275,7 +284,7 @@ impl<A: Allocator + Copy> Records<A> {
         }
     }
 
-    // An entry as it is.
+    // Stores an entry whole, and returns its stored form.
     fn store_whole(&mut self, base: u64, entry: Entry) -> Compact
         requires room { HasRoom self.old 1 }
         requires few { vec_len self.old.wholes ≤ 4294967295 }
@@ -286,7 +295,8 @@ impl<A: Allocator + Copy> Records<A> {
         Compact::Whole(index)
     }
 
-    // A copy of an entry as it is. It is seldom needed, so it is not inlined.
+    // Stores a copy of an entry whole, and returns its stored form. This is rare, so it is not
+    // inlined.
     #[cold]
     #[inline(never)]
     fn store_copy(&mut self, base: u64, entry: &Entry) -> Compact
@@ -297,7 +307,8 @@ impl<A: Allocator + Copy> Records<A> {
         self.store_whole(base, copied(entry))
     }
 
-    // The entry of a call as it is. It is seldom needed, so it is not inlined.
+    // Stores the entry of a call whole, and returns its stored form. This is rare, so it is not
+    // inlined.
     #[cold]
     #[inline(never)]
     fn store_whole_call(
@@ -314,8 +325,8 @@ impl<A: Allocator + Copy> Records<A> {
         self.store_whole(base, Entry::Call(client, call.copied(), outcome))
     }
 
-    // An entry that must follow, as it is. It is seldom needed, so it is not inlined, and takes a
-    // copy, so that the entry may stay in registers where it isn't needed.
+    // Stores a forced entry whole, and returns its stored form. This is rare, so it is not inlined.
+    // It takes the entry by value, so that the entry may stay in registers if this is not called.
     #[cold]
     #[inline(never)]
     fn store_whole_forced(&mut self, base: u64, forced: ForcedEntry) -> Compact
@@ -326,7 +337,7 @@ impl<A: Allocator + Copy> Records<A> {
         self.store_whole(base, entry_of(&forced))
     }
 
-    // An entry that must follow and whose number fits.
+    // Returns the stored form of a forced entry, if its number fits.
     #[inline(always)]
     fn store_short_forced(&mut self, base: u64, forced: &ForcedEntry) -> Option<Compact>
         requires { HasRoom self.old 1 }
@@ -335,7 +346,7 @@ impl<A: Allocator + Copy> Records<A> {
         stored_forced(base, forced)
     }
 
-    /// Stores an entry that must follow, and returns its stored form. It takes no memory.
+    /// Stores a forced entry, and returns its stored form. This allocates nothing.
     #[inline(always)]
     pub(crate) fn store_forced(&mut self, base: u64, forced: &ForcedEntry) -> Compact
         requires room { HasRoom self.old 1 }
@@ -348,8 +359,8 @@ impl<A: Allocator + Copy> Records<A> {
         }
     }
 
-    /// Stores what an entry refers to, and returns its stored form. The entry is copied only if a
-    /// number of it doesn't fit. It takes no memory.
+    /// Stores what an entry refers to, and returns its stored form. The entry is copied only if one
+    /// of its numbers does not fit. This allocates nothing.
     pub(crate) fn store(&mut self, base: u64, entry: &Entry) -> Compact
         requires room { HasRoom self.old 1 }
         requires few { vec_len self.old.wholes ≤ 4294967295 }
@@ -362,7 +373,7 @@ impl<A: Allocator + Copy> Records<A> {
     }
 
     /// Stores what a call's entry refers to, and returns its stored form. The call is copied only
-    /// if a number of it doesn't fit. It takes no memory.
+    /// if one of its numbers does not fit. This allocates nothing.
     pub(crate) fn store_borrowed(
         &mut self,
         base: u64,

@@ -1,4 +1,4 @@
-//! The texts of names. One that is there already is not stored again, if its hint finds it.
+//! The texts of names. A name that is stored already is not stored again, if its hint finds it.
 
 ghost use Rattle.std.specs.Prelude.{◌≡◌, ◌+◌, ◌-◌, ◌≤◌, ◌*◌, ◌++◌, length, None, IfSome, true};
 ghost use Rattle.std.specs.Prelude.{take, drop};
@@ -10,7 +10,7 @@ use pt_hints::{Hints, are_same};
 use pt_types::Name;
 use std::alloc::Allocator;
 
-// An index of 32 bits; None if it takes more.
+// Returns an index in 32 bits, or None if it takes more.
 pub(crate) fn short(index: usize) -> Option<u32>
     ensures { IfSome result (λ i. i ≡ index) }
 {
@@ -30,7 +30,7 @@ fn append<A: Allocator + Copy>(texts: &mut Vec<u8, A>, name: &Name)
     texts.extend_from_slice(name.as_bytes()).unwrap();
 }
 
-// Whether a name lies at an index.
+// Returns whether a name lies at an index.
 #[inline(always)]
 pub(crate) fn lies_at(texts: &[u8], from: usize, name: &Name) -> bool
     requires { from ≤ 4294967327 }
@@ -43,19 +43,19 @@ pub(crate) fn lies_at(texts: &[u8], from: usize, name: &Name) -> bool
     }
 }
 
-// The key with which a name is looked for.
+// Returns the key by which a name is looked up.
 #[inline(always)]
 fn key_for(name: &Name) -> u64 {
     name.key()
 }
 
-// The index at which the name with a key is looked for.
+// Returns the index at which the name with a key is looked for, which is 0 without a hint.
 #[inline(always)]
 fn hint_of<A: Allocator + Copy>(hints: &Hints<A>, key: u64) -> u32 {
     hints.get(key).unwrap_or(0) as u32
 }
 
-// Where a name begins, if its hint finds it.
+// Returns the index at which a name begins, if its hint finds it.
 #[inline(always)]
 pub(crate) fn found<A: Allocator + Copy>(texts: &[u8], hints: &Hints<A>, name: &Name) -> Option<u32>
     ensures { IfSome result (λ i. LiesAt texts.now name.now i) }
@@ -67,8 +67,8 @@ pub(crate) fn found<A: Allocator + Copy>(texts: &[u8], hints: &Hints<A>, name: &
     Some(hint)
 }
 
-// The lengths of two names and where the first begins, if its hint finds it and the other is next
-// to it.
+// Returns the lengths of two names and the index at which the first begins, if its hint finds it
+// and the other name follows it directly.
 #[inline(always)]
 pub(crate) fn both_found<A: Allocator + Copy>(
     texts: &[u8],
@@ -86,8 +86,8 @@ pub(crate) fn both_found<A: Allocator + Copy>(
     Some((first as u8, other.as_bytes().len() as u8, from))
 }
 
-// Stores a name, and returns its length and where it begins. None if that takes more than 32
-// bits, and then nothing changes.
+// Stores a name, unless its hint finds it, and returns its length and the index at which it begins.
+// Returns None if that index takes more than 32 bits; then nothing changes.
 #[inline(always)]
 pub(crate) fn one_text<A: Allocator + Copy>(
     texts: &mut Vec<u8, A>,
@@ -111,8 +111,9 @@ pub(crate) fn one_text<A: Allocator + Copy>(
     Some((length as u8, from))
 }
 
-// Stores two names, one after the other, and returns their lengths and where the first begins. The
-// hint is the first name's.
+// Stores two names, one after the other, unless the first name's hint finds both. Returns their
+// lengths and the index at which the first begins, or None if that index takes more than 32 bits;
+// then nothing changes.
 #[inline(always)]
 pub(crate) fn two_texts<A: Allocator + Copy>(
     texts: &mut Vec<u8, A>,

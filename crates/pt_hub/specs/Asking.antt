@@ -1,4 +1,4 @@
--- Asking: a call, and its answer if it is there at once.
+-- Asking: a call, with its answer if that comes at once.
 use Rattle.std.specs.Prelude.{◌≡◌, List, Option, Some, None}
 use Rattle.pt_types.specs.declared.call.Call.{Call as Asked}
 use Rattle.pt_hub.specs.declared.pass.Receipt.{Receipt}
@@ -7,7 +7,7 @@ use Rattle.pt_hub.specs.declared.pass.Answer.{Answer}
 use Rattle.pt_hub.specs.Passes.{PassView}
 use Rattle.pt_hub.specs.Hubs.{HubView, Sends, Takes, answered, takeable}
 
--- the receipts, of which the last gets the answer that was taken
+-- the receipts, with the answer stored in the last one if an answer was taken
 abbrev pub asked_receipts : List Receipt → Option Answer → List Receipt
 asked_receipts rs None = rs
 asked_receipts rs (Some a) = answered rs a.outcome
@@ -20,7 +20,7 @@ pub record SendsAndTakes (old : HubView) (before : PassView) (call : Asked) (new
   pub sends : Sends old before call between pending s
   pub takes : Takes between pending new after a
 
--- a client's call was sent, and its answer was taken; or it was sent, and there is none to take
+-- a client's call was sent and its answer was taken, or it was sent and there is no answer to take
 abbrev pub AsksAs : HubView → PassView → Asked → HubView → PassView → Sent → Option Answer
     → Type 0
 AsksAs old before call new after s None =

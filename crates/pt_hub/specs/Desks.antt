@@ -40,35 +40,35 @@ account_of d c = lookup (nat_eq c) d.accounts
 abbrev pub got : Kept → ℕ → ℕ
 got k c = told_count k.start k.entries c
 
--- 1 if it is so, and else 0
+-- 1 if this is true, else 0
 abbrev pub one_if : Bool → ℕ
 one_if b = if b then 1 else 0
 
--- the answers that were owed when the history was sealed: one if an answer was awaited, and the
--- call wasn't open then, so that the Start has its answer
+-- the number of answers that a client was owed when the history was sealed: 1 if it awaited an
+-- answer and its call wasn't open then, so that the Start has the answer, else 0
 abbrev pub owed : Start → ℕ → Account → ℕ
 owed s c a = one_if (a.awaited && not (is_some (open_place (Begin s) c)))
 
--- the same; none if there is no account
+-- the number of answers that a client was owed when the history was sealed, 0 if it has no account
 abbrev pub owed_in : Start → ℕ → Option Account → ℕ
 owed_in s c None = 0
 owed_in s c (Some a) = owed s c a
 
--- whether it awaited an answer then; not if there is no account
+-- whether a client awaited an answer when the history was sealed, false if it has no account
 abbrev pub awaited_in : Option Account → Bool
 awaited_in None = false
 awaited_in (Some a) = a.awaited
 
--- how many answers an account took since then
+-- how many answers a client has taken since the history was sealed, 0 if it has no account
 abbrev pub taken_in : Option Account → ℕ
 taken_in None = 0
 taken_in (Some a) = a.taken
 
--- the account once a call is made, whose answer is awaited
+-- the account after a call is made, whose answer it awaits
 abbrev pub awaiting : Option Account → Option Account
 awaiting o = Some (record { awaited = awaited_in o; taken = taken_in o; awaits = true })
 
--- the account once one answer more is taken
+-- the account after one more answer is taken
 abbrev pub after_taking : Option Account → Option Account
 after_taking o =
     Some (record { awaited = awaited_in o; taken = taken_in o + 1; awaits = false })
@@ -77,11 +77,12 @@ after_taking o =
 abbrev pub fresh : Account
 fresh = record { awaited = false; taken = 0; awaits = false }
 
--- an account when the history is sealed: it awaited then what it awaits, and took nothing since
+-- an account after the history is sealed: it awaited an answer then exactly if it awaits one now,
+-- and it has taken none since
 abbrev pub renewed : Account → Account
 renewed a = record { awaited = a.awaits; taken = 0; awaits = a.awaits }
 
--- all accounts when the history is sealed
+-- all accounts after the history is sealed
 abbrev pub renewed_all : List (ℕ × Account) → List (ℕ × Account)
 renewed_all xs = map (λ e. (e.0, renewed e.1)) xs
 
@@ -89,7 +90,7 @@ renewed_all xs = map (λ e. (e.0, renewed e.1)) xs
 abbrev pub renewed_if : Bool → List (ℕ × Account) → List (ℕ × Account)
 renewed_if b xs = if b then renewed_all xs else xs
 
--- the accounts to which an accepted event's is added: renewed, if the event needs a seal
+-- the accounts to which that of an accepted event is added: renewed, if the event needs a seal
 abbrev pub opened_accounts : Desk → Event → List (ℕ × Account)
 opened_accounts d event =
     renewed_if (needs_seal (kept d).limit (past (kept d)) event) d.accounts
@@ -107,7 +108,7 @@ is_untaken_in k c (Some a) = nat_lt a.taken (owed k.start c a + got k c)
 abbrev pub is_untaken : Desk → ℕ → Bool
 is_untaken d c = is_untaken_in (kept d) c (account_of d c)
 
--- whether its last call is open, or its answer isn't taken
+-- whether a client's last call is open or its answer isn't taken
 abbrev pub is_blocked : Desk → ℕ → Bool
 is_blocked d c = is_some (open_place (past (kept d)) c) || is_untaken d c
 
@@ -115,20 +116,20 @@ is_blocked d c = is_some (open_place (past (kept d)) c) || is_untaken d c
 abbrev pub next_answer : Desk → ℕ → Option Told
 next_answer d c = if is_untaken d c then answer_of (past (kept d)) c else None
 
--- of the answers owed and got since, all were taken, or all but one
+-- a client has taken all answers that it was owed at the seal and has got since, or all but one
 abbrev pub IsTakenButOne : Desk → ℕ → Type 0
 IsTakenButOne d c =
     (owed_in (kept d).start c (account_of d c) + got (kept d) c ≡ taken_in (account_of d c))
     ⊎ (owed_in (kept d).start c (account_of d c) + got (kept d) c
     ≡ taken_in (account_of d c) + 1)
 
--- when the history is sealed, a client is owed what it hadn't taken
+-- if the history is sealed, a client is owed what it has not taken
 abbrev pub IsOwedTheRest : Desk → ℕ → Type 0
 IsOwedTheRest d c =
     owed_in (sealed (kept d)).start c (lookup (nat_eq c) (renewed_all d.accounts))
     ≡ owed_in (kept d).start c (account_of d c) + got (kept d) c - taken_in (account_of d c)
 
--- the account is that of a living client: of its answers it took all but one at most
+-- the account is that of a living client, which has taken all its answers but one at most
 pub record IsServed (k : Kept) (c : ℕ) (a : Account) : Type 0 where
   pub alive : is_alive (past k) c ≡ true
   pub whole : owed k.start c a + got k c + open_count (past k) c ≡ a.taken + one_if a.awaits
@@ -141,7 +142,7 @@ abbrev pub IsAccount : Kept → ℕ → Option Account → Type 0
 IsAccount k c None = is_alive (past k) c ≡ false
 IsAccount k c (Some a) = IsServed k c a
 
--- a legal history within its limits, and the accounts of its living clients
+-- this is a legal history within its limits, with the accounts of its living clients
 pub record IsDeskOf (k : Kept) (rows : List (ℕ × Account)) : Type 0 where
   pub starts : IsStart k.start
   pub legal : LegalBehind k.start k.entries (events_of k.entries)
@@ -155,21 +156,21 @@ pub record IsDeskOf (k : Kept) (rows : List (ℕ × Account)) : Type 0 where
 abbrev pub IsDesk : Desk → Type 0
 IsDesk d = IsDeskOf (kept d) d.accounts
 
--- the call of an event; none if it is no call
+-- the call of an event, or none if the event is not a call
 abbrev pub called : Event → Option Asked
 called (event.Call c call) = Some call
 called _ = None
 
--- why a call is refused, for another reason than lack of memory  [profile]
+-- the reason why a call is refused, other than lack of memory  [profile]
 abbrev pub call_refusal : Desk → ℕ → Asked → Option Refusal
 call_refusal d c call =
     if is_blocked d c then Some Blocked
     else refusal_with_seals (kept d).limit (past (kept d)) (event.Call c call)
 
--- the refusal that applies, or lack of memory if none does  [profile]
+-- the refusal is the one that applies, or ENOMEM if none does  [profile]
 abbrev pub IsRefusedAs : Option Refusal → Refusal → Type 0
 IsRefusedAs known r = MatchOption known (r ≡ Enomem) (λ x. r ≡ x)
 
--- a client's account is this one now, or it has none, and the others are as before
+-- a client's account is now this one, or it has none, and the others are unchanged
 abbrev pub Wrote : List (ℕ × Account) → List (ℕ × Account) → ℕ → Option Account → Type 0
 Wrote old new c o = (d : ℕ) → lookup (nat_eq d) new ≡ if c == d then o else lookup (nat_eq d) old

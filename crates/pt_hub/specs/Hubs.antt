@@ -26,8 +26,8 @@ use Rattle.pt_hub.specs.Desks.{after_taking, awaiting, fresh, next_answer, one_i
 use Rattle.pt_hub.specs.Desks.{opened_accounts, renewed_all}
 use Rattle.pt_hub.specs.Passes.{PassView, LeftView}
 
--- the history with the accounts; the open sessions with their marks; how many were opened; and
--- the book of the ledger
+-- the history with the accounts; the open sessions with their marks; the number of sessions that
+-- were opened; and the book of the ledger
 pub record HubView : Type 0 where
   pub desk : Desk
   pub marks : List (ℕ × Bool)
@@ -42,7 +42,7 @@ next_place d = place (past (kept d))
 abbrev pub outer_count : Desk → ℕ
 outer_count d = outer (past (kept d))
 
--- how many events were counted, how many parts of the ledger are left, and its book
+-- the number of events that were counted, the parts of the ledger that are left, and its book
 pub record TallyView : Type 0 where
   pub outer : ℕ
   pub parts : ℕ
@@ -97,25 +97,25 @@ pub record Sends (old : HubView) (before : PassView) (call : Asked) (new : HubVi
 abbrev pub last_receipt : List Receipt → Option Receipt
 last_receipt rs = slice_get rs (length rs - 1)
 
--- whether a receipt is of this place, and has no answer
+-- whether a receipt is of this place and has no answer
 abbrev pub is_pending_if : Option Receipt → ℕ → Bool
 is_pending_if None j = false
 is_pending_if (Some r) j = (r.place == j) && is_none r.answer
 
--- whether the last of these receipts is of this place, and has no answer
+-- whether the last of these receipts is of this place and has no answer
 abbrev pub is_pending : List Receipt → ℕ → Bool
 is_pending rs j = is_pending_if (last_receipt rs) j
 
--- the receipts, of which the last is this one now
+-- the receipts, with this one and its answer as the last
 abbrev pub with_last : List Receipt → Option Receipt → Outcome → List Receipt
 with_last rs None x = rs
 with_last rs (Some r) x = slice_set rs (length rs - 1) (record r { answer = Some x })
 
--- the last of these receipts gets its answer
+-- the receipts, with the answer stored in the last
 abbrev pub answered : List Receipt → Outcome → List Receipt
 answered rs x = with_last rs (last_receipt rs) x
 
--- an answer that a pass may take
+-- the answer, if a pass with these receipts may take it
 abbrev pub takeable_if : List Receipt → Option Told → Option Told
 takeable_if rs None = None
 takeable_if rs (Some t) = if is_pending rs t.place then Some t else None
@@ -143,7 +143,7 @@ pub record Ticks (old : HubView) (k : Clock) (t : ℕ) (new : HubView) : Type 0 
   pub marks : new.marks ≡ old.marks
   pub opened : new.opened ≡ old.opened
 
--- the history was sealed, and goes on with this place: each account is renewed
+-- the history was sealed and goes on with this place, and each account was renewed
 pub record Seals (old new : HubView) (at : ℕ) : Type 0 where
   pub sealed : IsSealed (kept old.desk) (kept new.desk) at
   pub accounts : new.desk.accounts ≡ renewed_all old.desk.accounts
@@ -158,7 +158,7 @@ pub record Dies (old : HubView) (c : ℕ) (new : HubView) : Type 0 where
   pub marks : new.marks ≡ old.marks
   pub opened : new.opened ≡ old.opened
 
--- whether the input of a session has ended; it has if the session isn't open
+-- whether the input of a session with this mark has ended, true if the session isn't open
 abbrev pub ended_in : Option Bool → Bool
 ended_in None = true
 ended_in (Some b) = b
@@ -167,16 +167,16 @@ ended_in (Some b) = b
 abbrev pub has_ended : HubView → ℕ → Bool
 has_ended v s = ended_in (lookup (nat_eq s) v.marks)
 
--- a session's mark is this one now, or it isn't open, and the others are as before
+-- a session's mark is now this one, or the session isn't open, and the other marks are unchanged
 abbrev pub Marked : List (ℕ × Bool) → List (ℕ × Bool) → ℕ → Option Bool → Type 0
 Marked old new s o = (t : ℕ) → lookup (nat_eq t) new ≡ if s == t then o else lookup (nat_eq t) old
 
--- the mark of an ended input; none if the session isn't open
+-- the mark of a session whose input has ended, or none if the session isn't open
 abbrev pub set_in : Option Bool → Option Bool
 set_in None = None
 set_in (Some b) = Some true
 
--- a session's mark is set, if it is open
+-- a session's mark is set, if the session is open
 abbrev pub IsEndedIf : List (ℕ × Bool) → List (ℕ × Bool) → ℕ → Type 0
 IsEndedIf old new s = Marked old new s (set_in (lookup (nat_eq s) old))
 
@@ -194,7 +194,8 @@ pub record Opens (old new : HubView) (s : ℕ) : Type 0 where
   pub opened : new.opened ≡ old.opened + 1
   pub booked : new.booked ≡ old.booked
 
--- no session opens: as many were opened as may be, or else memory lacks  [profile]
+-- no session opens, with this refusal: as many were opened as may be, or else memory is lacking
+-- [profile]
 abbrev pub IsNotOpened : HubView → Refusal → Type 0
 IsNotOpened v r = ((r ≡ Limit) × (v.opened ≡ 2 ^ 32)) ⊎ ((r ≡ Enomem) × (v.opened ≢ 2 ^ 32))
 
@@ -203,7 +204,7 @@ pub record EndsInput (old new : HubView) (s : ℕ) : Type 0 where
   pub mark : IsEndedIf old.marks new.marks s
   pub rest : ChangesMarksAlone old new
 
--- a session isn't open any more
+-- a session was closed
 pub record Closes (old new : HubView) (s : ℕ) : Type 0 where
   pub mark : Marked old.marks new.marks s None
   pub rest : ChangesMarksAlone old new

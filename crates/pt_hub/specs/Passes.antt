@@ -9,7 +9,8 @@ pub record PassView : Type 0 where
   pub priority : ℕ
   pub receipts : List Receipt
 
--- a pass whose session has left, with its client's Death, and how many Deaths that added, 0 or 1
+-- what a client leaves: its pass, the place of its Death, and the number of Deaths that this added,
+-- 0 or 1
 pub record LeftView : Type 0 where
   pub client : ℕ
   pub priority : ℕ
@@ -21,18 +22,19 @@ pub record LeftView : Type 0 where
 pub record ClockView : Type 0 where
   pub moments : List Tick
 
--- how many outer entries a pass added: its Join, and its Calls
+-- the number of outer entries that a pass added: its Join and its Calls
 abbrev pub events_of_pass : PassView → ℕ
 events_of_pass p = 1 + length p.receipts
 
--- how many outer entries a pass added that has left: with its Death
+-- the number of outer entries of a client that has left: its Join, its Calls and its Death, if it
+-- added one
 abbrev pub events_of_left : LeftView → ℕ
 events_of_left l = 1 + l.deaths + length l.receipts
 
--- how many a clock added
+-- the number of outer entries that a clock added
 abbrev pub events_of_clock : ClockView → ℕ
 events_of_clock c = length c.moments
 
--- how many all of them added
+-- the number of outer entries that these clients and clocks added
 abbrev pub events_found : List LeftView → List ClockView → ℕ
 events_found ls cs = sum_by events_of_left ls + sum_by events_of_clock cs

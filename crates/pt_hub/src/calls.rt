@@ -15,7 +15,7 @@ use std::alloc::Allocator;
 use std::sync::ledger::Ledger;
 
 impl<C: LegalHistory, L: Ledger, A: Allocator + Copy> Hub<C, L, A> {
-    // Sends a client's call, and returns the outcome that it has by then too.
+    // Sends a client's call. Also returns the outcome that the call has at once, if it has one.
     fn send(
         &mut self,
         pass: &mut Pass<L, A>,
@@ -50,8 +50,8 @@ impl<C: LegalHistory, L: Ledger, A: Allocator + Copy> Hub<C, L, A> {
         }
     }
 
-    /// A client makes a call, which is in its receipts from then on. The history is sealed first if
-    /// the call needs the room.  [profile]
+    /// Makes a call for a client, and adds it to the client's receipts. The history is sealed first
+    /// if the call needs the room.  [profile]
     pub fn call(&mut self, pass: &mut Pass<L, A>, call: Call) -> Result<Sent, Refusal>
         ensures ok { IfOk result (λ sent. Sends self.old pass.old call self.new pass.new sent) }
         ensures err { IfErr result (IsRefusedAs
@@ -64,8 +64,8 @@ impl<C: LegalHistory, L: Ledger, A: Allocator + Copy> Hub<C, L, A> {
         }
     }
 
-    /// A client makes a call, which is in its receipts from then on, and takes its answer if that
-    /// is there at once: `call` and then `take`, with no other event between them.
+    /// Makes a call for a client, adds it to the client's receipts, and takes its answer if that
+    /// comes at once: `call` and then `take`, with no other event between them.
     pub fn ask(
         &mut self,
         pass: &mut Pass<L, A>,
@@ -94,8 +94,8 @@ impl<C: LegalHistory, L: Ledger, A: Allocator + Copy> Hub<C, L, A> {
         }
     }
 
-    /// The client's answer that isn't taken, if its last receipt waits for it. The receipt has it
-    /// from then on.
+    /// Takes the answer to the client's last call, if it has come and was not taken yet, and stores
+    /// it in the call's receipt.
     pub fn take(&mut self, pass: &mut Pass<L, A>) -> Option<Answer>
         ensures some { IfSome result (λ answer. Takes self.old pass.old self.new pass.new answer) }
         ensures none { IfNone result (takeable self.old pass.old ≡ None) }

@@ -33,7 +33,7 @@ use pt_types::{Call, ClientId, Clock, Deadline, Moment, Outcome, Priority, Refus
 use std::alloc::Allocator;
 use std::marker::Model;
 
-// The event of an entry, if the client joins, makes a call or dies by it.
+// Returns the event of an entry if the client joins, makes a call or dies by it.
 fn own_event(entry: &Entry, client: ClientId) -> Option<Event>
     ensures { result ≡ own_event client entry.now }
 {
@@ -45,7 +45,7 @@ fn own_event(entry: &Entry, client: ClientId) -> Option<Event>
     }
 }
 
-// The call of an event that is one.
+// Returns the call of an event that is a call.
 fn call_of(event: Event) -> Call
     requires { IsSome (called event) }
     ensures { called event ≡ Some result }
@@ -75,7 +75,7 @@ impl<C: LegalHistory, A: Allocator + Copy> Model for Desk<C, A> {
 }
 
 impl<C: LegalHistory, A: Allocator + Copy> Desk<C, A> {
-    /// A core that is empty, so without accounts.
+    /// Creates a desk over an empty core, so without accounts.
     pub fn new(core: C, alloc: A) -> Desk<C, A>
         requires { shown (C.seen core)
             ≡ record { start = nothing; entries = []; limit = most_entries } }
@@ -87,7 +87,7 @@ impl<C: LegalHistory, A: Allocator + Copy> Desk<C, A> {
         }
     }
 
-    /// A client joins, and gets an account.
+    /// Joins a client, and opens its account.
     pub fn join(&mut self, priority: Priority) -> Result<Applied, Refusal>
         ensures ok { IfOk result (λ applied.
             IsApplied (kept self.old) (event.Join priority) (kept self.new) applied) }
@@ -119,7 +119,7 @@ impl<C: LegalHistory, A: Allocator + Copy> Desk<C, A> {
         }
     }
 
-    /// Whether a client's last call is open, or its answer isn't taken.
+    /// Returns true if a client's last call is open or its answer isn't taken.
     pub fn is_blocked(&self, c: ClientId) -> bool
         ensures { result ≡ is_blocked self.now c }
     {
@@ -129,7 +129,7 @@ impl<C: LegalHistory, A: Allocator + Copy> Desk<C, A> {
         }
     }
 
-    /// Why a client's call would be refused, for another reason than lack of memory.
+    /// Returns why a client's call would be refused for a reason other than lack of memory.
     pub fn call_refusal(&self, c: ClientId, call: &Call) -> Option<Refusal>
         ensures { result ≡ call_refusal self.now c call.now }
     {
@@ -139,7 +139,7 @@ impl<C: LegalHistory, A: Allocator + Copy> Desk<C, A> {
         self.core.would_refuse(&Event::Call(c, call.copied()))
     }
 
-    /// A client makes a call, and awaits its answer. The call is given back.
+    /// Makes a call for a client, which then awaits its answer. The call is given back.
     pub fn call(&mut self, c: ClientId, call: Call) -> Result<(Applied, Call), Refusal>
         ensures ok { IfOk result (λ r.
             IsApplied (kept self.old) (event.Call c call) (kept self.new) r.0) }
@@ -166,7 +166,7 @@ impl<C: LegalHistory, A: Allocator + Copy> Desk<C, A> {
         }
     }
 
-    /// The answer that a client hasn't taken.
+    /// Returns the answer that a client hasn't taken, if there is one.
     pub fn next_answer(&self, c: ClientId) -> Option<Reply>
         ensures { option_map told_of result ≡ next_answer self.now c }
     {
@@ -177,7 +177,7 @@ impl<C: LegalHistory, A: Allocator + Copy> Desk<C, A> {
         }
     }
 
-    /// The answer at this index of those that the entries from a place on give.
+    /// Returns the answer at this index of those that the entries from a place on give.
     pub fn answer_since(&self, place: u64, index: usize) -> Option<Reply>
         ensures { option_map told_of result ≡ slice_get
             (answers_behind (kept self.now).start place (kept self.now).entries) index }
@@ -185,7 +185,7 @@ impl<C: LegalHistory, A: Allocator + Copy> Desk<C, A> {
         self.core.answer_since(place, index)
     }
 
-    /// A client takes the answer that it hasn't taken.
+    /// Takes the answer that a client hasn't taken.
     pub fn take(&mut self, c: ClientId)
         requires { IsSome (next_answer self.old c) }
         ensures kept { self.new.core ≡ self.old.core }
@@ -195,8 +195,8 @@ impl<C: LegalHistory, A: Allocator + Copy> Desk<C, A> {
         self.accounts.note_take(c.0);
     }
 
-    /// A living client dies, for which the history is never sealed. An answer that it hasn't taken
-    /// is dropped. `None` if it doesn't live.
+    /// Lets a living client die. An answer that it hasn't taken is dropped, and the history is
+    /// never sealed for the Death. Returns `None` if the client isn't alive.
     pub fn die(&mut self, c: ClientId) -> Option<Applied>
         ensures some { IfSome result (λ applied.
             IsWritten (kept self.old) (event.Death c) (kept self.new) applied) }
@@ -214,7 +214,7 @@ impl<C: LegalHistory, A: Allocator + Copy> Desk<C, A> {
         }
     }
 
-    /// A reading of a clock is handed in, which isn't refused. ENOMEM if a growth is refused.
+    /// Hands in a reading of a clock that isn't refused. Returns ENOMEM if a growth is refused.
     pub fn moment(&mut self, clock: Clock, moment: Moment) -> Result<Applied, Refusal>
         requires { refusal_with_seals (kept self.old).limit (past (kept self.old))
             (event.Moment clock moment) ≡ None }
@@ -234,8 +234,8 @@ impl<C: LegalHistory, A: Allocator + Copy> Desk<C, A> {
         }
     }
 
-    /// The history is sealed, and goes on with the place that is returned. FULL if that is above
-    /// 2^62, else ENOMEM if a growth is refused.
+    /// Seals the history, and returns the place with which it goes on. Returns FULL if that is
+    /// above 2^62, else ENOMEM if a growth is refused.
     pub fn seal(&mut self) -> Result<u64, Refusal>
         ensures ok { IfOk result (λ at. IsSealed (kept self.old) (kept self.new) at) }
         ensures accounts { OnOk result (self.new.accounts ≡ renewed_all self.old.accounts) }
@@ -251,7 +251,7 @@ impl<C: LegalHistory, A: Allocator + Copy> Desk<C, A> {
         }
     }
 
-    /// Why an event would be refused, for another reason than lack of memory and though a seal
+    /// Returns why an event would be refused for a reason other than lack of memory, even if a seal
     /// makes room.
     pub fn would_refuse(&self, event: &Event) -> Option<Refusal>
         ensures { result ≡ refusal_with_seals (kept self.now).limit (past (kept self.now))
@@ -260,7 +260,8 @@ impl<C: LegalHistory, A: Allocator + Copy> Desk<C, A> {
         self.core.would_refuse(event)
     }
 
-    /// The least deadline by this clock of the open calls that are not moved, as it was written.
+    /// Returns the least deadline by this clock of the open calls that are not moved, as it was
+    /// written.
     pub fn least_deadline(&self, clock: Clock) -> Option<Deadline>
         ensures { option_map deadline_nanos result
             ≡ least_deadline_in (past (kept self.now)) clock }
@@ -268,8 +269,8 @@ impl<C: LegalHistory, A: Allocator + Copy> Desk<C, A> {
         self.core.least_deadline(clock)
     }
 
-    /// Of a living client's answers all were taken, or all but one; if the history is sealed, the
-    /// client is owed that one.
+    /// Proves that a living client has taken all its answers or all but one, and that the client is
+    /// owed that one if the history is sealed.
     pub fn law_taken(&self)
         ensures taken { (c : ℕ) → is_alive (past (kept self.now)) c ≡ true
             → IsTakenButOne self.now c }
@@ -279,7 +280,7 @@ impl<C: LegalHistory, A: Allocator + Copy> Desk<C, A> {
         let _ = &self.core;
     }
 
-    /// The place of the next entry.
+    /// Returns the place of the next entry.
     pub fn len(&self) -> u64
         ensures value { result ≡ place_of (past (kept self.now)) }
         ensures starts { IsStart (kept self.now).start }
@@ -291,7 +292,7 @@ impl<C: LegalHistory, A: Allocator + Copy> Desk<C, A> {
         self.core.len()
     }
 
-    /// The entry at a place, if the history has it.
+    /// Returns the entry at a place, if the history has it.
     pub fn entry(&self, place: u64) -> Option<Entry>
         ensures before { place < (kept self.now).start.at → result ≡ None }
         ensures since { (kept self.now).start.at ≤ place
@@ -300,21 +301,21 @@ impl<C: LegalHistory, A: Allocator + Copy> Desk<C, A> {
         self.core.entry(place)
     }
 
-    /// The place of the first entry since the history was sealed.
+    /// Returns the place of the first entry since the history was sealed.
     pub fn first(&self) -> u64
         ensures { result ≡ (kept self.now).start.at }
     {
         self.core.first()
     }
 
-    /// The answer to the call at a place, if it has one.
+    /// Returns the answer to the call at a place, if it has one.
     pub fn outcome(&self, place: u64) -> Option<Outcome>
         ensures { result ≡ outcome (past (kept self.now)) place }
     {
         self.core.outcome(place)
     }
 
-    /// The event of the entry at a place, if the client joins, makes a call or dies by it.
+    /// Returns the event of the entry at a place if the client joins, makes a call or dies by it.
     pub fn own_event(&self, c: ClientId, place: u64) -> Option<Event>
         requires { (kept self.now).start.at ≤ place }
         ensures { result ≡ own_at (kept self.now).start (kept self.now).entries c place }

@@ -1,4 +1,4 @@
-//! The value that the lock keeps.
+//! The value that the lock guards.
 
 ghost use Rattle.std.specs.Prelude.{◌≡◌, ◌+◌, ◌<◌, ◌≤◌, ◌^◌, ◌↔◌, ◌≢◌, ◌⊎◌, ◌∷◌, ◌++◌, ℕ, [], Some};
 ghost use Rattle.std.specs.Prelude.{None, false, true, length, option_map};
@@ -40,10 +40,10 @@ use std::collections::HashMap;
 use std::marker::Model;
 use std::sync::ledger::{Blank, Ledger};
 
-/// How many sessions there may be in all.  [profile]
+/// The greatest number of sessions in all.  [profile]
 const MOST_SESSIONS: u64 = 1 << 32;
 
-/// What the lock keeps: the core, what each client took of its answers, and the open sessions.
+/// What the lock guards: the core, the answers that each client has taken, and the open sessions.
 pub struct Hub<C: LegalHistory, L: Ledger, A: Allocator + Copy = Global> {
     pub(crate) desk: Desk<C, A>,
     marks: Marks<A>,
@@ -74,7 +74,7 @@ impl<C: LegalHistory, L: Ledger, A: Allocator + Copy> Model for Hub<C, L, A> {
         }) h.tally };
 }
 
-// Not derived, so that the crates that use a hub prove nothing of its parts as they drop one.
+// Not derived, so that the crates that use a hub prove nothing of its parts when they drop one.
 impl<C: LegalHistory, L: Ledger, A: Allocator + Copy> Drop for Hub<C, L, A> {
     fn drop(self) {
         let Hub {
@@ -88,7 +88,7 @@ impl<C: LegalHistory, L: Ledger, A: Allocator + Copy> Drop for Hub<C, L, A> {
 }
 
 impl<C: LegalHistory, L: Ledger, A: Allocator + Copy> Hub<C, L, A> {
-    /// A hub over an empty core, with a ledger of its own, and a clock.
+    /// Creates a hub over an empty core, with its own ledger, and a clock.
     pub fn new(core: C, alloc: A, blank: Blank) -> (Hub<C, L, A>, ClockPass<L, A>)
         requires empty { shown (C.seen core)
             ≡ record { start = nothing; entries = []; limit = most_entries } }
@@ -116,7 +116,8 @@ impl<C: LegalHistory, L: Ledger, A: Allocator + Copy> Hub<C, L, A> {
         (hub, clock)
     }
 
-    /// A client joins. The history is sealed first if the join needs the room.  [profile]
+    /// Joins a client, and returns its pass. The history is sealed first if the join needs the
+    /// room.  [profile]
     pub fn join(&mut self, priority: Priority) -> Result<Pass<L, A>, Refusal>
         ensures ok { IfOk result (λ pass. Joins self.old priority self.new pass) }
         ensures err { IfErr result (IsRefusedAs (refusal_with_seals (kept self.old.desk).limit
@@ -139,7 +140,7 @@ impl<C: LegalHistory, L: Ledger, A: Allocator + Copy> Hub<C, L, A> {
         }
     }
 
-    /// A client dies.
+    /// Lets a client die, and returns what it leaves.
     pub fn die(&mut self, pass: Pass<L, A>) -> Left<L, A>
         ensures alive { is_alive (past (kept self.old.desk)) pass.client ≡ true
             → Dies self.old pass.client self.new }
@@ -177,8 +178,8 @@ impl<C: LegalHistory, L: Ledger, A: Allocator + Copy> Hub<C, L, A> {
         }
     }
 
-    /// A reading of a clock is handed in. The history is sealed first if the reading needs the
-    /// room.  [profile]
+    /// Hands in a reading of a clock. The history is sealed first if the reading needs the room.
+    /// [profile]
     pub fn moment(
         &mut self,
         pass: &mut ClockPass<L, A>,
@@ -209,8 +210,8 @@ impl<C: LegalHistory, L: Ledger, A: Allocator + Copy> Hub<C, L, A> {
         }
     }
 
-    /// The history is sealed: its entries are dropped, and it goes on with the place that comes
-    /// next, which is returned. FULL if that place is above 2^62, else ENOMEM if a growth is
+    /// Seals the history: its entries are dropped, and it goes on with the place that comes next,
+    /// which is returned. Returns FULL if that place is above 2^62, else ENOMEM if a growth is
     /// refused.  [profile]
     pub fn seal(&mut self) -> Result<u64, Refusal>
         ensures ok { IfOk result (λ at. Seals self.old self.new at) }
@@ -220,7 +221,8 @@ impl<C: LegalHistory, L: Ledger, A: Allocator + Copy> Hub<C, L, A> {
         self.desk.seal()
     }
 
-    /// The least deadline by this clock of the open calls that are not moved, as it was written.
+    /// Returns the least deadline by this clock of the open calls that are not moved, as it was
+    /// written.
     pub fn least_deadline(&self, clock: Clock) -> Option<Deadline>
         ensures { option_map deadline_nanos result
             ≡ least_deadline_in (past (kept self.now.desk)) clock }
@@ -228,8 +230,8 @@ impl<C: LegalHistory, L: Ledger, A: Allocator + Copy> Hub<C, L, A> {
         self.desk.least_deadline(clock)
     }
 
-    /// A session opens, with a clock. LIMIT after 2^32 sessions; else ENOMEM if a growth is
-    /// refused.  [profile]
+    /// Opens a session with a clock. Returns LIMIT if 2^32 sessions were opened before, else ENOMEM
+    /// if a growth is refused.  [profile]
     pub fn open_session(&mut self) -> Result<(SessionId, ClockPass<L, A>), Refusal>
         ensures ok { IfOk result (λ r. Opens self.old self.new r.0.0) }
         ensures clock { IfOk result (λ r. r.1.moments ≡ []) }
@@ -255,36 +257,37 @@ impl<C: LegalHistory, L: Ledger, A: Allocator + Copy> Hub<C, L, A> {
         Ok((SessionId(session), clock))
     }
 
-    /// The input of a session has ended, if it is open.
+    /// Notes that the input of a session has ended, if the session is open.
     pub fn end_input(&mut self, session: SessionId)
         ensures { EndsInput self.old self.new session.0 }
     {
         marks::end(&mut self.marks, session.0);
     }
 
-    /// Whether the input of a session has ended, or the session isn't open.
+    /// Returns true if the input of a session has ended or the session isn't open.
     pub fn input_ended(&self, session: SessionId) -> bool
         ensures { result ≡ has_ended self.now session.0 }
     {
         marks::has_ended(&self.marks, session.0)
     }
 
-    /// A session isn't open any more.
+    /// Closes a session.
     pub fn close_session(&mut self, session: SessionId)
         ensures { Closes self.old self.new session.0 }
     {
         marks::close(&mut self.marks, session.0);
     }
 
-    /// The place of the next entry.
+    /// Returns the place of the next entry.
     pub fn len(&self) -> u64
         ensures { result ≡ next_place self.now.desk }
     {
         self.desk.len()
     }
 
-    /// The answer at this index of those that the entries from a place on give, in the order of the
-    /// entries; of one Trip in order of the calls' places.  [profile]
+    /// Returns the answer at this index of those that the entries from a place on give. They are in
+    /// the order of the entries, and those of one Trip in the order of the calls' places.
+    /// [profile]
     pub fn answer_since(&self, place: u64, index: usize) -> Option<Reply>
         ensures { option_map told_of result ≡ slice_get
             (answers_behind (kept self.now.desk).start place (kept self.now.desk).entries) index }
@@ -292,12 +295,12 @@ impl<C: LegalHistory, L: Ledger, A: Allocator + Copy> Hub<C, L, A> {
         self.desk.answer_since(place, index)
     }
 
-    /// The allocator that the hub was made with.
+    /// Returns the allocator that the hub was made with.
     pub fn allocator(&self) -> A {
         self.alloc
     }
 
-    /// What holds whenever the lock is free.
+    /// Proves `Fits`, which holds of the hub whenever the lock is free.
     pub fn law_fits(&self)
         ensures { Fits self.now }
     {
@@ -305,7 +308,7 @@ impl<C: LegalHistory, L: Ledger, A: Allocator + Copy> Hub<C, L, A> {
         self.desk.law_taken();
     }
 
-    /// Why the hub doesn't close on these.
+    /// Returns why the hub doesn't close on these, if it doesn't.
     fn close_fault(&self, lefts: &[Left<L, A>], clocks: &[ClockPass<L, A>]) -> Option<CloseFault>
         ensures fault { IfSome result (IsCloseFault self.now.desk lefts.now clocks.now) }
         ensures none { IfNone result (
@@ -323,8 +326,9 @@ impl<C: LegalHistory, L: Ledger, A: Allocator + Copy> Hub<C, L, A> {
         }
     }
 
-    /// Ends the hub, if each event of its history is one of those handed in, and what clients left
-    /// is what the history has of them.
+    /// Closes the hub, if each event of its history is one of those handed in, and what clients
+    /// left is what the history has of them. Otherwise returns the reason, with the hub and all
+    /// that was handed in.
     pub fn close(
         self,
         lefts: Vec<Left<L, A>, A>,

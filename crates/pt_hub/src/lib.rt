@@ -1,5 +1,5 @@
-//! The state that the lock guards: the core, what each client took of its answers, and a ledger of
-//! events.
+//! The state that the lock guards: the core, the answers that each client has taken, and a ledger
+//! of events.
 //!
 //! Contracts see a hub as its history, the accounts of its living clients, and the sessions that
 //! are open. No method waits.

@@ -1,4 +1,4 @@
-//! What a client, a dead client and a clock hold of the ledger, and what they did.
+//! The shares of the ledger that a client, a dead client and a clock hold, and what they did.
 
 use pt_types::{Call, ClientId, Clock, Moment, Outcome, Priority};
 use std::alloc::{Allocator, Global};
@@ -83,7 +83,7 @@ impl<L: Ledger, A: Allocator + Copy> Model for Left<L, A> {
         × (p.share.amount ≡ 1 + p.deaths + vec_len p.receipts) };
 }
 
-// Not derived, so that those that drop what clients leave prove nothing of its parts.
+// Not derived, so that code that drops what clients leave proves nothing of its parts.
 impl<L: Ledger, A: Allocator + Copy> Drop for Left<L, A> {
     fn drop(self) {
         let Left {
@@ -114,7 +114,7 @@ impl<L: Ledger, A: Allocator + Copy> Model for ClockPass<L, A> {
     ghost invariant = { λ p. (p.share.parts ≡ 1) × (p.share.amount ≡ vec_len p.moments) };
 }
 
-// Not derived, so that those that drop this right prove nothing of its parts.
+// Not derived, so that code that drops this right proves nothing of its parts.
 impl<L: Ledger, A: Allocator + Copy> Drop for ClockPass<L, A> {
     fn drop(self) {
         let ClockPass {
@@ -127,21 +127,21 @@ impl<L: Ledger, A: Allocator + Copy> Drop for ClockPass<L, A> {
 impl<L: Ledger, A: Allocator + Copy> Pass<L, A> {
     ghost use Rattle.std.specs.Prelude.{◌≡◌};
 
-    /// The client's number.
+    /// Returns the client's number.
     pub fn client(&self) -> ClientId
         ensures { result ≡ self.now.client }
     {
         self.client
     }
 
-    /// The client's priority.
+    /// Returns the client's priority.
     pub fn priority(&self) -> Priority
         ensures { result ≡ self.now.priority }
     {
         self.priority
     }
 
-    /// The client's receipts, in order.
+    /// Returns the client's receipts, in order.
     pub fn receipts(&self) -> &[Receipt]
         ensures { result.now ≡ self.now.receipts }
     {
@@ -152,28 +152,28 @@ impl<L: Ledger, A: Allocator + Copy> Pass<L, A> {
 impl<L: Ledger, A: Allocator + Copy> Left<L, A> {
     ghost use Rattle.std.specs.Prelude.{◌≡◌};
 
-    /// The client's number.
+    /// Returns the client's number.
     pub fn client(&self) -> ClientId
         ensures { result ≡ self.now.client }
     {
         self.client
     }
 
-    /// The client's priority.
+    /// Returns the client's priority.
     pub fn priority(&self) -> Priority
         ensures { result ≡ self.now.priority }
     {
         self.priority
     }
 
-    /// The client's receipts, in order.
+    /// Returns the client's receipts, in order.
     pub fn receipts(&self) -> &[Receipt]
         ensures { result.now ≡ self.now.receipts }
     {
         self.receipts.as_slice()
     }
 
-    /// The place of its Death.
+    /// Returns the place of the client's Death.
     pub fn died_at(&self) -> u64
         ensures { result ≡ self.now.died_at }
     {
@@ -184,7 +184,7 @@ impl<L: Ledger, A: Allocator + Copy> Left<L, A> {
 impl<L: Ledger, A: Allocator + Copy> ClockPass<L, A> {
     ghost use Rattle.std.specs.Prelude.{◌≡◌};
 
-    /// The moments that were submitted, in order.
+    /// Returns the moments that were submitted, in order.
     pub fn moments(&self) -> &[Tick]
         ensures { result.now ≡ self.now.moments }
     {

@@ -1,4 +1,5 @@
--- Devices: what went through one, how often it was asked and failed, and whether it ended.
+-- Devices: what went through a device, how often it was read, rejected bytes and failed, and
+-- whether it ended.
 use Rattle.std.specs.Prelude.{ℕ, ◌-◌, ◌==◌, ◌≤◌, Bool, true, false, ◌&&◌, List, map, length, take}
 use Rattle.std.specs.Prelude.{drop, nat_lt, Result, Ok, Err}
 use Prim.{Unit}
@@ -6,7 +7,7 @@ use Rattle.std.proofs.Common.{lit≤}
 use Rattle.std.proofs.lemmas.List.{take-append-drop}
 use mathlib.Core.List.{IsPrefix}
 
--- the failures of a device that fails at most once
+-- the number of failures of a device that fails at most once
 abbrev pub count_of : Bool → ℕ
 count_of true = 1
 count_of false = 0
@@ -19,7 +20,7 @@ count_of_once false = lit≤ tt
 abbrev pub bytes_of : List (ℕ × Unit {0}) → List ℕ
 bytes_of ps = map (λ p. p.0) ps
 
--- all of these bytes but the last n
+-- all of these bytes except the last n
 abbrev pub all_but : ℕ → List ℕ → List ℕ
 all_but n bytes = take (length bytes - n) bytes
 
@@ -27,24 +28,24 @@ pub all_but_begins : (n : ℕ) (bytes : List ℕ) → IsPrefix (all_but n bytes)
 all_but_begins n bytes =
     (drop (length bytes - n) bytes, take-append-drop (length bytes - n) bytes)
 
--- whether no byte of a buffer moved, though it has some: a read that is at the end, or a write that
--- is rejected  [XSH read, write]
+-- whether no byte of a buffer moved, although it has some: a read is at the end, or a write is
+-- rejected  [XSH read, write]
 abbrev pub moves_none : ℕ → List ℕ → Bool
 moves_none n buf = (n == 0) && nat_lt 0 (length buf)
 
--- whether an answer to a read reports the end; an error does not  [XSH read]
+-- whether a read's answer reports the end; an error does not  [XSH read]
 abbrev pub tells_end : {E : Type 0} → Result ℕ E → List ℕ → Bool
 tells_end (Ok n) buf = moves_none n buf
 tells_end (Err e) buf = false
 
--- how many rejections an answer to a write adds; an error is none  [XSH write]
+-- the number of rejections that a write's answer adds; an error adds none  [XSH write]
 abbrev pub rejections_in : {E : Type 0} → Result ℕ E → List ℕ → ℕ
 rejections_in (Ok n) buf = count_of (moves_none n buf)
 rejections_in (Err e) buf = 0
 
--- a device of std, and the bytes that it gave or took so far; how many of them its latest read
--- gave, or it took since its latest flush; how many reads and rejections there were; and whether it
--- failed or reported its end
+-- a device of std and the bytes that it gave or took so far; the number of them that its latest
+-- read gave, or that it took since its latest flush; the number of reads and of rejections; and
+-- whether it failed or reported its end
 pub record Tally (D : Type 0) : Type 0 where
   pub device : D
   pub bytes : List ℕ
@@ -55,8 +56,8 @@ pub record Tally (D : Type 0) : Type 0 where
   pub has_ended : Bool
 
 -- a device in memory: the bytes that it gave, those that reads will give, and those that it took;
--- how many its latest read gave, how many it took since its latest flush, and how many reads there
--- were; how many bytes a call moves at most, which call from here on fails (0 for none), and
+-- the number that its latest read gave, the number that it took since its latest flush, and the
+-- number of reads; the most bytes that a call moves, which call from now on fails (0 for none), and
 -- whether it failed or reported its end
 pub record Memory : Type 0 where
   pub given : List ℕ

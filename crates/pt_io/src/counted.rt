@@ -11,15 +11,15 @@ use std::io;
 use std::io::{ErrorKind, Read, Write};
 use std::marker::Model;
 
-/// How often a read, a write or a flush that a signal interrupts is tried again before it counts as
-/// a failure, the first try not counted.  [XSH read, EINTR; the number is profile]
+/// The number of times that a read, a write or a flush is retried if a signal interrupts it, before
+/// it counts as a failure. The first try does not count.  [XSH read, EINTR; the number is profile]
 pub const TRIES_AGAIN: u32 = 16;
 
-/// A reader of std as a `Source`, or a writer as a `Sink`.
+/// A reader of std as a `Source`, or a writer of std as a `Sink`.
 ///
-/// Contracts see it as its device, the bytes that went through, how many of them went since its
-/// latest read or flush, how many reads and rejections there were, and whether it failed or
-/// reported its end. All but the last two are noted for proofs alone and take no memory.
+/// Contracts see its device, the bytes that went through, how many of them its latest read gave or
+/// it took since its latest flush, the number of reads and of rejections, and whether it failed or
+/// reported its end. The bytes and the numbers are noted for proofs alone and take no memory.
 #[derive(Drop)]
 pub struct Counted<D> {
     device: D,
@@ -49,7 +49,8 @@ impl<D> Model for Counted<D> {
 }
 
 impl<D> Counted<D> {
-    /// A device that has moved no byte yet, and has neither failed nor reported its end.
+    /// Creates a source or sink over a device. It has moved no byte yet, and has neither failed nor
+    /// reported its end.
     pub fn new(device: D) -> Counted<D>
         ensures { result ≡ record {
           device = device;
@@ -72,28 +73,28 @@ impl<D> Counted<D> {
         }
     }
 
-    /// The device whose bytes are counted.
+    /// Returns the device whose bytes are counted.
     pub fn device(&self) -> &D
         ensures { result.now ≡ self.now.device }
     {
         &self.device
     }
 
-    /// Gives the device back, and forgets what went through.
+    /// Returns the device, and forgets what went through.
     pub fn into_inner(self) -> D
         ensures { result ≡ self.device }
     {
         self.device
     }
 
-    /// Whether a read, a write or a flush has failed.
+    /// Returns whether a read, a write or a flush has failed.
     pub fn has_failed(&self) -> bool
         ensures { result ≡ self.now.has_failed }
     {
         self.has_failed
     }
 
-    /// Whether a read has reported the end.
+    /// Returns whether a read has reported the end.
     pub fn has_ended(&self) -> bool
         ensures { result ≡ self.now.has_ended }
     {
@@ -120,7 +121,7 @@ fn note_rejection(rejections: &mut Log<(), ()>, n: usize, buf: &[u8])
     }
 }
 
-/// A read that is tried again if it is interrupted: nothing has moved then.
+/// Reads, and retries if the read is interrupted. Nothing has moved in that case.
 fn read_again<R: Read>(device: &mut R, buf: &mut [u8]) -> io::Result<usize>
     ensures bound { ReadsAtMost result buf.new }
     ensures device { ReadConsumes (R.remaining device.old) (R.remaining device.new) result buf.new }
@@ -134,7 +135,7 @@ fn read_again<R: Read>(device: &mut R, buf: &mut [u8]) -> io::Result<usize>
     device.read(buf)
 }
 
-/// A write that is tried again if it is interrupted: nothing has moved then.
+/// Writes, and retries if the write is interrupted. Nothing has moved in that case.
 fn write_again<W: Write>(device: &mut W, buf: &[u8]) -> io::Result<usize>
     ensures bound { WritesAtMost result buf.now }
     ensures device { WriteAppends (W.contents device.old) (W.contents device.new) result buf.now }
@@ -148,7 +149,7 @@ fn write_again<W: Write>(device: &mut W, buf: &[u8]) -> io::Result<usize>
     device.write(buf)
 }
 
-/// A flush that is tried again if it is interrupted.
+/// Flushes, and retries if the flush is interrupted.
 fn flush_again<W: Write>(device: &mut W) -> io::Result<()>
     ensures { Keeps (W.contents device.old) (W.contents device.new) }
 {
@@ -172,7 +173,7 @@ impl<R: Read> Source for Counted<R> {
 
     ghost ended = { λ s. s.has_ended };
 
-    /// An interrupted read is tried again up to `TRIES_AGAIN` times.
+    /// Reads. An interrupted read is retried up to `TRIES_AGAIN` times.
     fn read(&mut self, buf: &mut [u8]) -> io::Result<usize>
         requires { count_of self.old.has_failed ≡ 0 }
         ensures bound { ReadsAtMost result buf.new }
@@ -214,7 +215,7 @@ impl<W: Write> Sink for Counted<W> {
 
     ghost failures = { λ s. count_of s.has_failed };
 
-    /// An interrupted write is tried again up to `TRIES_AGAIN` times.
+    /// Writes. An interrupted write is retried up to `TRIES_AGAIN` times.
     fn write(&mut self, buf: &[u8]) -> io::Result<usize>
         requires { count_of self.old.has_failed ≡ 0 }
         ensures bound { WritesAtMost result buf.now }
@@ -242,7 +243,7 @@ impl<W: Write> Sink for Counted<W> {
         wrote
     }
 
-    /// An interrupted flush is tried again up to `TRIES_AGAIN` times.
+    /// Flushes. An interrupted flush is retried up to `TRIES_AGAIN` times.
     fn flush(&mut self) -> io::Result<()>
         requires { count_of self.old.has_failed ≡ 0 }
         ensures bytes { self.new.bytes ≡ self.old.bytes }

@@ -15,11 +15,12 @@ use std::io;
 use std::io::ErrorKind;
 use std::marker::Model;
 
-/// A device in memory that moves few bytes at a time and fails at a set call, for tests.
+/// A device in memory for tests, which moves few bytes at a time and fails at a chosen call.
 ///
-/// Reads give the bytes that it was made with, and after them those that were written. Contracts
-/// see the bytes given, left and taken, how many of them moved since its latest read or flush, how
-/// many reads there were, how many bytes move at most, and which call from here on fails.
+/// Reads give the bytes that it was made with, and then those that were written. Contracts see the
+/// bytes given, left and taken, how many its latest read gave, how many it took since its latest
+/// flush, the number of reads, how many bytes a call moves at most, which later call fails, and
+/// whether it failed or reported its end.
 #[derive(Drop)]
 pub struct Faulty<A: Allocator + Copy = Global> {
     bytes: Vec<u8, A>,
@@ -58,8 +59,9 @@ impl<A: Allocator + Copy> Model for Faulty<A> {
 }
 
 impl<A: Allocator + Copy> Faulty<A> {
-    /// A device that will give these bytes, and moves up to `step` bytes per call. Its call number
-    /// `fails_at` fails, reads, writes and flushes counted together from 1; with 0 none does.
+    /// Creates a device that gives these bytes and moves up to `step` bytes per call. Call number
+    /// `fails_at` fails, counting reads, writes and flushes together from 1. None fails in this way
+    /// if `fails_at` is 0.
     pub fn new(bytes: Vec<u8, A>, step: usize, fails_at: u64) -> Faulty<A>
         requires { 0 < step }
         ensures { result ≡ record {
@@ -90,21 +92,21 @@ impl<A: Allocator + Copy> Faulty<A> {
         }
     }
 
-    /// All the bytes that were written.
+    /// Returns all the bytes that were written.
     pub fn written(&self) -> &[u8]
         ensures { result.now ≡ self.now.taken }
     {
         &self.bytes[self.first..]
     }
 
-    /// The bytes that reads have not given yet.
+    /// Returns the bytes that reads have not given yet.
     pub fn left(&self) -> &[u8]
         ensures { result.now ≡ self.now.left }
     {
         &self.bytes[self.given..]
     }
 
-    /// Whether a call has failed.
+    /// Returns whether a call has failed.
     pub fn has_failed(&self) -> bool
         ensures { result ≡ self.now.has_failed }
     {
@@ -112,7 +114,7 @@ impl<A: Allocator + Copy> Faulty<A> {
     }
 }
 
-/// Counts a call, and returns whether it is the one that fails.
+/// Counts a call down, and returns whether it is the one that fails.
 fn is_due(until_fault: &mut u64) -> bool
     ensures now { result ≡ (until_fault.old == 1) }
     ensures fewer { until_fault.new ≡ until_fault.old - 1 }
@@ -122,7 +124,7 @@ fn is_due(until_fault: &mut u64) -> bool
     is_due
 }
 
-/// Copies the front of what is left.
+/// Copies bytes from the front of what is left, and returns how many.
 fn copy_front(left: &[u8], step: usize, buf: &mut [u8]) -> usize
     ensures value { result ≡ min (min (length buf.new) step) (length left.now) }
     ensures there { result ≤ length left.now }
@@ -134,7 +136,7 @@ fn copy_front(left: &[u8], step: usize, buf: &mut [u8]) -> usize
     n
 }
 
-/// Copies bytes from place `at` on.
+/// Copies bytes from place `at` on, and returns how many.
 #[tactic(auto, using(crate::proofs::Pieces::given_more, crate::proofs::Pieces::left_more))]
 fn give(bytes: &[u8], at: usize, step: usize, buf: &mut [u8]) -> usize
     requires { at ≤ length bytes.now }
@@ -171,7 +173,7 @@ impl<A: Allocator + Copy> Source for Faulty<A> {
         ensures calls { self.new.reads ≡ self.old.reads + 1 }
         ensures end { self.new.has_ended ≡ (self.old.has_ended || tells_end result buf.new) }
 
-        // Which answer comes, and what is left.
+        // The answer, and what is left.
         ensures fault { IsErr result ↔ (self.old.until_fault ≡ 1) }
         ensures kind { IfErr result (λ e. error_kind e ≡ Other) }
         ensures moves { IfOk result
@@ -180,7 +182,7 @@ impl<A: Allocator + Copy> Source for Faulty<A> {
             (λ n. self.old.left ≡ take n buf.new ++ self.new.left)
             (λ _. self.new.left ≡ self.old.left) }
 
-        // The rest stays, and the fault comes nearer.
+        // All else is unchanged, and the fault is one call closer.
         ensures still { (self.new.taken ≡ self.old.taken) × (self.new.step ≡ self.old.step) }
         ensures fewer { self.new.until_fault ≡ self.old.until_fault - 1 }
     {
@@ -211,7 +213,7 @@ impl<A: Allocator + Copy> Sink for Faulty<A> {
 
     ghost failures = { λ s. count_of s.has_failed };
 
-    /// A refused growth is a failure too.
+    /// Takes bytes from the front of `buf`. A refused growth counts as a failure too.
     fn write(&mut self, buf: &[u8]) -> io::Result<usize>
         requires { count_of self.old.has_failed ≡ 0 }
         ensures bound { WritesAtMost result buf.now }
@@ -225,7 +227,7 @@ impl<A: Allocator + Copy> Sink for Faulty<A> {
             (λ _. count_of self.new.has_failed ≡ 1) }
         ensures none { rejections_in result buf.now ≡ 0 }
 
-        // Which answer comes, and what is left for reads.
+        // The answer, and what is left for reads.
         ensures fault { self.old.until_fault ≡ 1 → IsErr result }
         ensures kind { IfErr result
             (λ e. error_kind e ≡ (if self.old.until_fault == 1 then Other else OutOfMemory)) }
@@ -234,7 +236,7 @@ impl<A: Allocator + Copy> Sink for Faulty<A> {
             (λ n. self.new.left ≡ self.old.left ++ take n buf.now)
             (λ _. self.new.left ≡ self.old.left) }
 
-        // The rest stays, and the fault comes nearer.
+        // All else is unchanged, and the fault is one call closer.
         ensures still { (self.new.given ≡ self.old.given) × (self.new.step ≡ self.old.step) }
         ensures end { self.new.has_ended ≡ self.old.has_ended }
         ensures fewer { self.new.until_fault ≡ self.old.until_fault - 1 }
@@ -261,11 +263,11 @@ impl<A: Allocator + Copy> Sink for Faulty<A> {
             (λ _. count_of self.new.has_failed ≡ 0)
             (λ _. count_of self.new.has_failed ≡ 1) }
 
-        // Which answer comes.
+        // The answer.
         ensures fault { IsErr result ↔ (self.old.until_fault ≡ 1) }
         ensures kind { IfErr result (λ e. error_kind e ≡ Other) }
 
-        // The rest stays, and the fault comes nearer.
+        // All else is unchanged, and the fault is one call closer.
         ensures still { (self.new.given ≡ self.old.given) × (self.new.left ≡ self.old.left)
             × (self.new.step ≡ self.old.step) }
         ensures end { self.new.has_ended ≡ self.old.has_ended }

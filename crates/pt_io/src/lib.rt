@@ -1,13 +1,14 @@
-//! Devices: readers and writers whose bytes and failures contracts can speak of.
+//! Devices: readers and writers whose bytes and failures contracts can describe.
 //!
 //! Contracts see the bytes that a `Source` gave and a `Sink` took so far, which of them came before
-//! the latest read or flush, how many reads there were, how many writes took none of the bytes they
-//! were given, and a count of failures, 0 or 1. `Counted` makes either from any reader or writer of
-//! std; if the bytes of that device are known, as those of one in memory, exactly these went
-//! through. `Faulty` is a device in memory for tests, and its contract gives each answer in full.
+//! the latest read or flush, the number of reads, the number of writes that took none of the bytes
+//! they were given, and a count of failures, 0 or 1. `Counted` makes either from any reader or
+//! writer of std. If the bytes of that device are known, as those of one in memory are, exactly
+//! these went through. `Faulty` is a device in memory for tests, and its contract gives each answer
+//! in full.
 //!
-//! Only tests show that the error of a `Counted` is its device's, that a write which takes nothing
-//! is, that a flush reaches the device, and how often an interrupted call is tried again. No
+//! Only tests show that an error of a `Counted`, or a write that takes nothing, comes from its
+//! device, that a flush reaches the device, and how often an interrupted call is retried. No
 //! contract says what a device of the system did with its bytes.
 #![tactic(auto)]
 

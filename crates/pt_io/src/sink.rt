@@ -5,9 +5,9 @@ ghost use mathlib.Core.List.{IsPrefix};
 
 use std::io;
 
-/// Where bytes go.  [XSH write]
+/// A destination of bytes.  [XSH write]
 ///
-/// It fails at most once, since after that nobody may ask it again.
+/// It fails at most once, since it may not be called again after a failure.
 pub trait Sink {
     // The bytes that it took so far.
     ghost taken: { Self → List ℕ };
@@ -15,15 +15,16 @@ pub trait Sink {
     // The bytes that it took before its latest flush.
     ghost flushed: { Self → List ℕ };
 
-    // How many of its writes took no byte, although there were some to take.
+    // The number of writes that took no byte, although the buffer had some.
     ghost rejections: { Self → ℕ };
 
-    // How many of its writes and flushes failed: 0 or 1.
+    // The number of writes and flushes that failed: 0 or 1.
     ghost failures: { Self → ℕ };
 
     /// Takes bytes from the front of `buf`, and returns how many.  [XSH write]
     ///
-    /// An error takes no byte, and is the last answer. If `buf` has bytes, 0 is a rejection.
+    /// If it returns an error, no byte was taken, and it may not be called again. If `buf` has
+    /// bytes, 0 is a rejection.
     fn write(&mut self, buf: &[u8]) -> io::Result<usize>
         requires { failures self.old ≡ 0 }
         ensures bound { WritesAtMost result buf.now }
@@ -38,7 +39,7 @@ pub trait Sink {
 
     /// Passes on all bytes that were taken and are still in a buffer.
     ///
-    /// An error is the last answer.
+    /// If it returns an error, it may not be called again.
     fn flush(&mut self) -> io::Result<()>
         requires { failures self.old ≡ 0 }
         ensures bytes { taken self.new ≡ taken self.old }

@@ -5,9 +5,9 @@ ghost use mathlib.Core.List.{IsPrefix};
 
 use std::io;
 
-/// Where bytes come from.  [XSH read]
+/// A source of bytes.  [XSH read]
 ///
-/// It fails at most once, since after that nobody may ask it again.
+/// It fails at most once, since it may not be called again after a failure.
 pub trait Source {
     // The bytes that it gave so far.
     ghost given: { Self → List ℕ };
@@ -15,10 +15,10 @@ pub trait Source {
     // The bytes that it gave before its latest read.
     ghost earlier: { Self → List ℕ };
 
-    // How many reads there were, a failed one included.
+    // The number of reads, including a failed one.
     ghost reads: { Self → ℕ };
 
-    // How many of its reads failed: 0 or 1.
+    // The number of reads that failed: 0 or 1.
     ghost failures: { Self → ℕ };
 
     // Whether it has reported its end.
@@ -27,7 +27,7 @@ pub trait Source {
     /// Reads up to `buf.len()` bytes to the front of `buf`, and returns how many. If `buf` has
     /// room, 0 reports the end.  [XSH read]
     ///
-    /// An error gives no byte, and is the last answer.
+    /// If it returns an error, no byte was given, and it may not be called again.
     fn read(&mut self, buf: &mut [u8]) -> io::Result<usize>
         requires { failures self.old ≡ 0 }
         ensures bound { ReadsAtMost result buf.new }
@@ -46,8 +46,8 @@ pub trait Source {
     ghost earlier_given: { (s : Self) → IsPrefix (earlier s) (given s) };
 }
 
-/// Whether none of a buffer's bytes moved, although it has some: a read reports the end this way,
-/// and a write that it accepts nothing.  [XSH read, write]
+/// Returns whether none of a buffer's bytes moved, although it has some. This is how a read reports
+/// the end, and how a write reports that it accepts nothing.  [XSH read, write]
 pub(crate) fn moves_none(n: usize, buf: &[u8]) -> bool
     ensures { result ≡ moves_none n buf.now }
 {

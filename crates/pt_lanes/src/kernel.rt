@@ -1,4 +1,4 @@
-//! The calls over blocks of eight counts, with a plain loop for what is not a whole block.
+//! The tests over blocks of eight counts, with a plain loop for what is not a whole block.
 
 ghost use Rattle.std.specs.Prelude.{◌≡◌, ◌↔◌, IsTrue};
 ghost use Rattle.std.specs.List.{list_any};
@@ -7,7 +7,7 @@ ghost use Rattle.pt_lanes.specs.Counts.{is_set, AnyFrom, AllZero, IsHighest};
 use crate::plain;
 use std::simd::prelude::*;
 
-/// Whether a count of the block isn't zero.
+/// Returns whether some count of the block is not zero.
 fn block_has_any(block: &[u32; 8]) -> bool
     ensures { result ≡ list_any is_set block.now }
 {
@@ -15,7 +15,7 @@ fn block_has_any(block: &[u32; 8]) -> bool
     u32x8::from_array(*block).simd_ne(zero).to_bitmask() != 0
 }
 
-/// Whether a count isn't zero: whole blocks first, then the rest.
+/// Returns whether some count is not zero. Whole blocks are tested first, then the rest.
 fn has_any(counts: &[u32]) -> bool
     ensures { result ≡ list_any is_set counts.now }
 {
@@ -28,7 +28,7 @@ fn has_any(counts: &[u32]) -> bool
     plain::has_any(rest)
 }
 
-/// Whether a count at index `p` or above isn't zero.
+/// Returns whether some count at index `p` or above is not zero.
 pub fn any_from(counts: &[u32], p: usize) -> bool
     ensures { IsTrue result ↔ AnyFrom counts.now p }
 {
@@ -41,7 +41,7 @@ pub fn any_from(counts: &[u32], p: usize) -> bool
     plain::has_any(front) || has_any(back)
 }
 
-/// The greatest index whose count isn't zero; None if each is zero.
+/// Returns the greatest index whose count is not zero, or None if all are zero.
 pub fn highest(counts: &[u32]) -> Option<usize>
     ensures { IsHighest counts.now result }
 {
@@ -59,7 +59,7 @@ pub fn highest(counts: &[u32]) -> Option<usize>
     None
 }
 
-/// Whether each count is zero.
+/// Returns whether all counts are zero.
 pub fn all_zero(counts: &[u32]) -> bool
     ensures { IsTrue result ↔ AllZero counts.now }
 {

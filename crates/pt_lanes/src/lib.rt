@@ -1,8 +1,7 @@
-//! Tests over slices of counts, some lanes at a time.
+//! Tests over slices of counts, several lanes at a time.
 //!
-//! Contracts see a slice as its list of counts, and say of each call what its definition says, for
-//! every slice and every index.
-//! Only tests show how fast they are.
+//! Contracts see a slice as its list of counts, and fix each result by its definition, for every
+//! slice and every index. Only tests show how fast the calls are.
 #![tactic(auto)]
 
 mod kernel;

@@ -1,28 +1,27 @@
--- Cores: what is seen of a core.
+-- Cores: what contracts see of a core.
 use Rattle.std.specs.Prelude.{ℕ, List}
 use Rattle.pt_model.specs.declared.entry.Entry.{Entry}
 use Rattle.pt_model.specs.Starts.{Start}
 use Rattle.pt_model.specs.StartRows.{StartRows, reads_of}
 use Rattle.pt_model.specs.Histories.{History, behind}
 
--- what is seen of a core: the rows with which the history begins, the entries since in order, and
--- how many of them there may be at most
+-- what contracts see of a core: the rows with which the history begins, the entries since then in
+-- order, and the limit on their number
 pub record Seen : Type 0 where
   pub start : StartRows
   pub entries : List Entry
   pub limit : ℕ
 
--- what the history begins with, the entries since in order, and how many of them there may be at
--- most
+-- what the history begins with, the entries since then in order, and the limit on their number
 pub record Kept : Type 0 where
   pub start : Start
   pub entries : List Entry
   pub limit : ℕ
 
--- the history
+-- the history of a core
 abbrev pub past : Kept → History
 past k = behind k.start k.entries
 
--- a core as it is seen, with what is read off its rows
+-- a core as contracts see it, with the Start that is read off its rows
 abbrev pub shown : Seen → Kept
 shown s = record { start = reads_of s.start; entries = s.entries; limit = s.limit }

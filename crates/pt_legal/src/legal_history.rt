@@ -19,16 +19,16 @@ use crate::applied::{Applied, Reply};
 use pt_model::{Entry, Event};
 use pt_types::{ClientId, Clock, Deadline, Outcome, Refusal};
 
-/// The clients and objects of one server, as the history that is the one legal list for its events.
+/// The clients and objects of one server, as a history that is the one legal list for its events.
 pub trait LegalHistory: Drop {
-    /// What the history begins with, the entries since in order, and how many of them there may be
-    /// at most.
+    /// What the history begins with, the entries since then in order, and the limit on their
+    /// number.
     ghost seen: { Self → Seen };
 
-    /// One event, and all that must follow it. If the event needs more room than the limit leaves,
-    /// and less than the limit, the history is sealed first: then the place with which it goes on
-    /// is returned too. A refused event changes nothing: the first refusal that applies is
-    /// returned, and ENOMEM only if none does.  [profile]
+    /// Applies one event, and all that must follow it. If the event needs more room than the limit
+    /// leaves, but no more than the limit itself, the history is sealed first. The place with which
+    /// it goes on is then returned too. A refused event changes nothing. The first refusal that
+    /// applies is returned, and ENOMEM only if none does.  [profile]
     fn apply(&mut self, event: &Event) -> Result<Applied, Refusal>
         ensures ok { IfOk result (λ applied. IsApplied (shown (seen self.old)) event.now
             (shown (seen self.new)) applied) }
@@ -42,28 +42,29 @@ pub trait LegalHistory: Drop {
         ensures unsealed { (c : ℕ) → event.now ≡ Event.Death c
             → IfOk result (λ applied. applied.sealed ≡ None) };
 
-    /// Drops the entries: the history goes on from its seal, which is all that counts of them, with
-    /// the place that comes next, which is returned. FULL if that place is above 2^62, else ENOMEM
-    /// if a growth is refused: then nothing changes.  [profile]
+    /// Seals the history: drops its entries, and goes on from a Start with all that counts of them.
+    /// Returns the place of the next entry. Returns FULL if that place is above 2^62, else ENOMEM
+    /// if a growth is refused; then nothing changes.  [profile]
     fn seal(&mut self) -> Result<u64, Refusal>
         ensures ok { IfOk result (λ at.
             IsSealed (shown (seen self.old)) (shown (seen self.new)) at) }
         ensures err { IfErr result (λ refusal. refusal ≡ seal_refusal (shown (seen self.old))) }
         ensures unchanged { OnErr result (seen self.new ≡ seen self.old) };
 
-    /// Why an event would be refused, if it would be for another reason than lack of memory and
-    /// though a seal makes room.  [profile]
+    /// Returns why an event would be refused for a reason other than lack of memory, even if a seal
+    /// makes room.  [profile]
     fn would_refuse(&self, event: &Event) -> Option<Refusal>
         ensures { result ≡ refusal_with_seals (seen self.now).limit
             (past (shown (seen self.now))) event.now };
 
-    /// The answer at this index of those that the entries from a place on give, in the order of the
-    /// entries; of one Trip in order of the calls' places.  [profile]
+    /// Returns the answer at this index among those that the entries from a place on give, in the
+    /// order of the entries. The answers of one Trip are in the order of the calls' places.
+    /// [profile]
     fn answer_since(&self, place: u64, index: usize) -> Option<Reply>
         ensures { option_map told_of result ≡ slice_get
             (answers_behind (shown (seen self.now)).start place (seen self.now).entries) index };
 
-    /// How many answers the entries before a place give.
+    /// Returns the number of answers that the entries before a place give.
     fn answers_before(&self, place: u64) -> usize
         ensures rest { drop result
             (replies_behind (shown (seen self.now)).start (seen self.now).entries)
@@ -71,28 +72,29 @@ pub trait LegalHistory: Drop {
         ensures within { result ≤ length
             (replies_behind (shown (seen self.now)).start (seen self.now).entries) };
 
-    /// The answer at this index of all since the Start, in the order of the entries; of one Trip in
-    /// order of the calls' places.
+    /// Returns the answer at this index among all answers since the Start, in the order of the
+    /// entries. The answers of one Trip are in the order of the calls' places.
     fn answer(&self, index: usize) -> Option<Reply>
         ensures value { option_map told_of result ≡ slice_get
             (replies_behind (shown (seen self.now)).start (seen self.now).entries) index }
         ensures few { length
             (replies_behind (shown (seen self.now)).start (seen self.now).entries) < 2 ^ 64 };
 
-    /// The answer to a living client's latest call, if it has one.
+    /// Returns the answer to a living client's latest call, if it has one.
     fn answer_of(&self, c: ClientId) -> Option<Reply>
         ensures { option_map told_of result ≡ answer_in (past (shown (seen self.now))) c };
 
-    /// The answer to the call at a place, if it has one.  [XSH, the call's page]
+    /// Returns the answer to the call at a place, if it has one.  [XSH, the call's page]
     fn outcome(&self, place: u64) -> Option<Outcome>
         ensures { result ≡ outcome_in (past (shown (seen self.now))) place };
 
-    /// The least deadline by this clock of the open calls that are not moved, as it was written.
+    /// Returns the least deadline by this clock among the open calls that were not moved, as the
+    /// call gave it.
     fn least_deadline(&self, clock: Clock) -> Option<Deadline>
         ensures { option_map deadline_nanos result
             ≡ least_deadline_in (past (shown (seen self.now))) clock };
 
-    /// The place of the next entry.
+    /// Returns the place of the next entry.
     fn len(&self) -> u64
         ensures value { result ≡ place_of (past (shown (seen self.now))) }
         ensures starts { IsStart (shown (seen self.now)).start }
@@ -101,11 +103,11 @@ pub trait LegalHistory: Drop {
         ensures within { length (seen self.now).entries ≤ (seen self.now).limit }
         ensures limit { (seen self.now).limit ≤ most_entries };
 
-    /// The place of the first entry since the history was sealed.
+    /// Returns the place of the first entry since the history was last sealed.
     fn first(&self) -> u64
         ensures { result ≡ (shown (seen self.now)).start.at };
 
-    /// The entry at a place, if there is one; places before the Start have none.
+    /// Returns the entry at a place, if there is one. Places before the Start have none.
     fn entry(&self, place: u64) -> Option<Entry>
         ensures before { place < (shown (seen self.now)).start.at → result ≡ None }
         ensures since { (shown (seen self.now)).start.at ≤ place → result ≡ slice_get

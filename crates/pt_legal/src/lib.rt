@@ -1,8 +1,8 @@
-//! What a server or a script asks of a core: a trait, with what an event makes of a history that is
-//! the one legal list for its events.
+//! What a server or a script needs of a core: a trait, and the definitions of what an event does to
+//! a history that is the one legal list for its events.
 //!
-//! The crates of the server and of scripts are generic over it, so that they are proved without the
-//! core.
+//! The crates of the server and of scripts are generic over the trait, so that they are proved
+//! without the core.
 #![tactic(auto)]
 
 mod applied;

@@ -6,12 +6,12 @@ use Rattle.pt_lines.specs.declared.reply.Word.{Word}
 use Rattle.pt_lines.specs.declared.reply.Word.TheVariants.{Outcome, Refusal}
 use Rattle.pt_grammar.specs.Clients.{who_text}
 
--- the word of an answer
+-- the word that an answer prints
 abbrev pub answer_word : Word → List ℕ
 answer_word (Outcome outcome) = outcome_word outcome
 answer_word (Refusal refusal) = refusal_word refusal
 
--- what is before the number of the line: in a script the client and a space
+-- what precedes the line's number: in a script the client and a space, otherwise nothing
 abbrev pub sender : Option Who → List ℕ
 sender None = []
 sender (Some who) = who_text who ++ 32 ∷ []

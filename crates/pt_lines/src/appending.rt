@@ -1,4 +1,4 @@
-//! Bytes and numbers that are appended where there is room for them.
+//! Bytes and numbers that are appended to a buffer with room for them.
 
 ghost use Rattle.std.specs.Prelude.{◌≡◌, ◌≤◌, ◌<◌, ◌+◌, ◌++◌, length, vec_len, vec_capacity};
 ghost use Rattle.std.specs.Prelude.{decimal, ◌/◌, ◌%◌, ◌∷◌, [], take};
@@ -14,7 +14,7 @@ const PAIRS: [u8; 200] = *b"\
     6061626364656667686970717273747576777879\
     8081828384858687888990919293949596979899";
 
-/// Appends a block, for which there is room.
+/// Appends a block. The buffer has room for it.
 #[inline(always)]
 pub fn append_block<A: Allocator + Copy, const N: usize>(out: &mut Vec<u8, A>, block: [u8; N])
     requires { vec_len out.old + N ≤ vec_capacity out.old }
@@ -27,8 +27,8 @@ pub fn append_block<A: Allocator + Copy, const N: usize>(out: &mut Vec<u8, A>, b
     }
 }
 
-/// Appends so many bytes of a block, where there is room for all of it: all is copied at once, and
-/// what is too much is dropped.
+/// Appends the first `len` bytes of a block. The buffer has room for the whole block: all of it is
+/// copied at once, and the excess is dropped.
 #[inline(always)]
 pub fn append_filled<A: Allocator + Copy, const N: usize>(
     out: &mut Vec<u8, A>,
@@ -46,7 +46,7 @@ pub fn append_filled<A: Allocator + Copy, const N: usize>(
     out.truncate(end);
 }
 
-// Appends two digits, for which there is room.
+// Appends two digits. The buffer has room for them.
 #[inline(always)]
 fn append_pair<A: Allocator + Copy>(out: &mut Vec<u8, A>, n: u64)
     requires below { n < 100 }
@@ -60,7 +60,7 @@ fn append_pair<A: Allocator + Copy>(out: &mut Vec<u8, A>, n: u64)
     out.push_reserved(PAIRS[place + 1]);
 }
 
-// Appends a number of one digit or two, for which there is room.
+// Appends a number of one or two digits. The buffer has room for it.
 #[inline(always)]
 fn append_below_100<A: Allocator + Copy>(out: &mut Vec<u8, A>, n: u64)
     requires below { n < 100 }
@@ -76,7 +76,7 @@ fn append_below_100<A: Allocator + Copy>(out: &mut Vec<u8, A>, n: u64)
     }
 }
 
-// Appends a number of at most four digits, for which there is room.
+// Appends a number of at most four digits. The buffer has room for it.
 #[inline(always)]
 fn append_below_10000<A: Allocator + Copy>(out: &mut Vec<u8, A>, n: u64)
     requires below { n < 10000 }
@@ -94,7 +94,7 @@ fn append_below_10000<A: Allocator + Copy>(out: &mut Vec<u8, A>, n: u64)
     }
 }
 
-// Appends a number of five digits or six, for which there is room.
+// Appends a number of five or six digits. The buffer has room for it.
 #[inline(always)]
 fn append_below_1000000<A: Allocator + Copy>(out: &mut Vec<u8, A>, n: u64)
     requires above { 10000 ≤ n }
@@ -111,7 +111,7 @@ fn append_below_1000000<A: Allocator + Copy>(out: &mut Vec<u8, A>, n: u64)
     append_pair(out, n - 100 * hundreds);
 }
 
-/// Appends a number of at most six digits, for which there is room.
+/// Appends a number of at most six digits. The buffer has room for it.
 #[inline(always)]
 pub fn append_number<A: Allocator + Copy>(out: &mut Vec<u8, A>, n: u64)
     requires below { n < 1000000 }
@@ -127,8 +127,8 @@ pub fn append_number<A: Allocator + Copy>(out: &mut Vec<u8, A>, n: u64)
     }
 }
 
-/// Takes the bytes, and leaves none. Bytes that are in a variable of their own are appended to in
-/// fewer steps: no store of a byte can change where they are.
+/// Takes the bytes and leaves none. Appending to bytes in a variable of their own takes fewer
+/// steps, since no store of a byte can change where they are.
 #[inline(always)]
 pub fn taken<A: Allocator + Copy>(out: &mut Vec<u8, A>) -> Vec<u8, A>
     ensures { result ≡ out.old }
@@ -137,7 +137,7 @@ pub fn taken<A: Allocator + Copy>(out: &mut Vec<u8, A>) -> Vec<u8, A>
     mem::replace(out, Vec::new(alloc))
 }
 
-/// Puts bytes where none are left, for which nothing is allocated.
+/// Puts bytes back into a buffer that has none and owns no allocation.
 #[inline(always)]
 pub fn put_back<A: Allocator + Copy>(out: &mut Vec<u8, A>, text: Vec<u8, A>)
     ensures { out.new ≡ text }

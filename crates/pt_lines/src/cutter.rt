@@ -17,16 +17,16 @@ use std::alloc::{Allocator, Global};
 use std::marker::Model;
 use std::simd::prelude::*;
 
-// How many bytes are searched first for a newline.
+// The number of bytes that are searched first for a newline.
 const SHORT_LINE: usize = 32;
 
-// How many are searched then.
+// The number of bytes that are searched next.
 const LONG_LINE: usize = 64;
 
 /// Cuts a stream of bytes into lines, in whatever pieces the bytes come.
 ///
-/// Contracts see it as the bytes that it holds, and whether they go on a line that was given as
-/// too long. Once `next_line` has answered None it holds at most 128 bytes, and none of a line
+/// Contracts see it as the bytes that it holds, and whether these continue a line that was given as
+/// too long. Once `next_line` has returned None, it holds at most 128 bytes, and none of a line
 /// that was too long.
 pub struct Cutter<A: Allocator + Copy = Global> {
     held: BytesMut<A>,
@@ -41,7 +41,7 @@ impl<A: Allocator + Copy> Model for Cutter<A> {
     ghost view = { λ c. record { rest = c.held.items; dropping = c.dropping } };
 }
 
-// Not derived, so that those that drop a cutter prove nothing of its parts.
+// Not derived, so that code that drops a cutter proves nothing of its parts.
 impl<A: Allocator + Copy> Drop for Cutter<A> {
     fn drop(self) {
         let Cutter {
@@ -51,7 +51,7 @@ impl<A: Allocator + Copy> Drop for Cutter<A> {
     }
 }
 
-// A line of at most 128 bytes.
+// Returns a line of at most 128 bytes.
 fn line_of(text: &[u8]) -> ArrayVec<u8, MOST_IN_LINE>
     requires { length text.now ≤ 128 }
     ensures { result.items ≡ text.now }
@@ -59,7 +59,8 @@ fn line_of(text: &[u8]) -> ArrayVec<u8, MOST_IN_LINE>
     ArrayVec::try_from(text).unwrap()
 }
 
-// Drops the bytes up to and with the first newline, or all if there is none.
+// Drops the bytes up to and including the first newline, or all if there is none. Returns whether
+// there was one.
 fn drop_line<A: Allocator + Copy>(held: &mut BytesMut<A>) -> bool
     ensures found { OnTrue result ((more : List ℕ) →
         lines_past_newline (held.old.items ++ more) ≡ lines (held.new.items ++ more)) }
@@ -80,7 +81,7 @@ fn drop_line<A: Allocator + Copy>(held: &mut BytesMut<A>) -> bool
     }
 }
 
-// Takes the first line, if it is whole or too long already.
+// Takes the first line, if it is whole or already too long.
 fn take_line<A: Allocator + Copy>(held: &mut BytesMut<A>) -> Option<Cut>
     ensures some { IfSome result (λ cut. (more : List ℕ) → lines (held.old.items ++ more)
         ≡ cut ∷ (if is_long cut then lines_past_newline (held.new.items ++ more)
@@ -105,7 +106,7 @@ fn take_line<A: Allocator + Copy>(held: &mut BytesMut<A>) -> Option<Cut>
     }
 }
 
-// The place of the first newline of a block, whose bytes are tested at once.
+// Returns the place of the first newline in a block. The bytes are tested together.
 #[inline(always)]
 fn newline_in(block: &[u8; SHORT_LINE]) -> Option<usize>
     ensures { IsFirstByte (is_byte 10) block.now result }
@@ -118,7 +119,7 @@ fn newline_in(block: &[u8; SHORT_LINE]) -> Option<usize>
     Some(mask.trailing_zeros() as usize)
 }
 
-// The same of a longer block.
+// Does what newline_in does, for a longer block.
 fn newline_in_long(block: &[u8; LONG_LINE]) -> Option<usize>
     ensures { IsFirstByte (is_byte 10) block.now result }
 {
@@ -135,7 +136,7 @@ impl<A: Allocator + Copy> Cutter<A> {
     ghost use Rattle.pt_grammar.specs.Reading.{IsNextCallLine};
     ghost use Rattle.pt_grammar.specs.Script.{IsNextScriptLine, short_read};
 
-    /// A cutter that was fed nothing. It takes no memory.
+    /// Creates a cutter that was fed nothing, which allocates nothing.
     pub fn new(alloc: A) -> Self
         ensures { result ≡ record { rest = []; dropping = false } }
     {
@@ -145,7 +146,8 @@ impl<A: Allocator + Copy> Cutter<A> {
         }
     }
 
-    /// Takes the next piece. ENOMEM if a growth was refused: nothing of the piece is taken.
+    /// Takes the next piece. Returns ENOMEM if a growth was refused. Nothing of the piece is taken
+    /// then.
     pub fn feed(&mut self, piece: &[u8]) -> Result<(), Refusal>
         ensures ok { OnOk result
             (self.new ≡ record self.old { rest = self.old.rest ++ piece.now }) }
@@ -157,7 +159,8 @@ impl<A: Allocator + Copy> Cutter<A> {
             .map_err(|_| Refusal::Enomem)
     }
 
-    /// The next line, as soon as its newline or its 129th byte has come. It takes no memory.
+    /// Returns the next line, as soon as its newline or its 129th byte has come. It allocates
+    /// nothing.
     pub fn next_line(&mut self) -> Option<Cut>
         ensures given { (more : List ℕ) →
             to_come self.old more ≡ option_to_list result ++ to_come self.new more }
@@ -177,7 +180,7 @@ impl<A: Allocator + Copy> Cutter<A> {
         Some(cut)
     }
 
-    // The place of the newline of the first line, if it is among the first so many bytes.
+    // Returns the place of the first line's newline, if it is among the first `most` bytes.
     fn newline_within(&self, most: usize) -> Option<usize>
         requires short { most ≤ 129 }
         requires whole { self.now.dropping ≡ false }
@@ -188,7 +191,8 @@ impl<A: Allocator + Copy> Cutter<A> {
         memchr(b'\n', &text[..count])
     }
 
-    // The same of the first bytes, as many as most lines have at most.
+    // Returns the place of the first line's newline, if it is among the first 32 bytes. Most lines
+    // have at most this many.
     fn newline_near(&self) -> Option<usize>
         requires { self.now.dropping ≡ false }
         ensures { IfSome result (IsFront self.now) }
@@ -199,7 +203,8 @@ impl<A: Allocator + Copy> Cutter<A> {
         }
     }
 
-    // The same of twice as many bytes.
+    // Returns the place of the first line's newline, if it is among the first 64 bytes and all of
+    // these have come.
     fn newline_far(&self) -> Option<usize>
         requires { self.now.dropping ≡ false }
         ensures { IfSome result (IsFront self.now) }
@@ -208,8 +213,8 @@ impl<A: Allocator + Copy> Cutter<A> {
         newline_in_long(block)
     }
 
-    // The same of all bytes that a line and its newline may have. It isn't inlined: most lines are
-    // short.
+    // Returns the place of the first line's newline, if it is among all bytes that a line and its
+    // newline may have. It isn't inlined, since most lines are short.
     #[inline(never)]
     fn newline_later(&self) -> Option<usize>
         requires { self.now.dropping ≡ false }
@@ -221,8 +226,8 @@ impl<A: Allocator + Copy> Cutter<A> {
         }
     }
 
-    // The place of the newline of the first line, if that is whole and not too long. Few bytes are
-    // searched in fewer steps, and most lines are short.
+    // Returns the place of the first line's newline, if the line is whole and not too long. Few
+    // bytes are searched first, since most lines are short and fewer steps are then needed.
     #[inline(always)]
     fn front(&self) -> Option<usize>
         ensures { IfSome result (IsFront self.now) }
@@ -236,7 +241,7 @@ impl<A: Allocator + Copy> Cutter<A> {
         }
     }
 
-    /// The text of the next line, if that is whole and not too long. It is not copied.
+    /// Returns the text of the next line, if the line is whole and not too long. It is not copied.
     pub fn front_text(&self) -> Option<&[u8]>
         ensures line { IfSome result (λ text. IsNextScriptLine self.now (short_read text.now)
             (past_line self.now (length text.now))) }
@@ -246,7 +251,7 @@ impl<A: Allocator + Copy> Cutter<A> {
         Some(&self.held.as_slice()[..end])
     }
 
-    /// Drops the next line, whose text has this length.
+    /// Drops the next line. Its text has length `len`.
     pub fn drop_front(&mut self, len: usize)
         requires { IsFront self.old len }
         ensures line { self.new ≡ past_line self.old len }
@@ -255,8 +260,8 @@ impl<A: Allocator + Copy> Cutter<A> {
         self.held.advance(len + 1);
     }
 
-    /// What is read of the next line as one of a script, as soon as `next_line` would return it.
-    /// A whole line is not copied. It takes no memory.
+    /// Reads the next line as one of a script, as soon as `next_line` would return it. A whole line
+    /// is not copied, and nothing is allocated.
     pub fn next_script_line(&mut self) -> Option<ScriptLine>
         ensures some { IfSome result (λ line. IsNextScriptLine self.old line self.new) }
         ensures none { IfNone result (IsBegun self.new) }
@@ -274,8 +279,8 @@ impl<A: Allocator + Copy> Cutter<A> {
         Some(line)
     }
 
-    /// What is read of the next line as one of a connection, as soon as `next_line` would return
-    /// it. A whole line is not copied. It takes no memory.
+    /// Reads the next line as one of a connection, as soon as `next_line` would return it. A whole
+    /// line is not copied, and nothing is allocated.
     pub fn next_call_line(&mut self) -> Option<Result<CallLine, Refusal>>
         ensures some { IfSome result (λ reading. IsNextCallLine self.old reading self.new) }
         ensures none { IfNone result (IsBegun self.new) }
@@ -293,8 +298,8 @@ impl<A: Allocator + Copy> Cutter<A> {
         Some(reading)
     }
 
-    /// The last line, which no newline ended; None if nothing is left of the input, or a line
-    /// that was given as too long. It takes no memory.
+    /// Returns the last line, if no newline ended it. Returns None if nothing is left of the input,
+    /// or only a line that was given as too long. It allocates nothing.
     pub fn finish(self) -> Option<Cut>
         requires { IsBegun self }
         ensures { to_come self [] ≡ option_to_list result }
@@ -306,14 +311,14 @@ impl<A: Allocator + Copy> Cutter<A> {
     }
 }
 
-/// The lines of texts without a newline, each ended by one, and of a rest without a newline are
-/// these texts and, unless it is empty, the rest; one of more than 128 bytes is too long.
+/// Texts without a newline, each ended by one, and a rest without a newline have as their lines
+/// these texts and, unless it is empty, the rest. A line of more than 128 bytes is too long.
 pub fn lines_of_texts()
     ensures { LinesOfTexts }
 {}
 
-/// All lines of a stream that comes in these pieces, and then ends. ENOMEM if a growth was
-/// refused.
+/// Returns all lines of a stream that comes in these pieces and then ends. Returns ENOMEM if a
+/// growth was refused.
 pub fn cut_all<A: Allocator + Copy>(alloc: A, pieces: &[&[u8]]) -> Result<Vec<Cut, A>, Refusal>
     ensures ok { IfOk result
         (λ cuts. cuts.items ≡ lines (flat_map (λ piece. piece.now) pieces.now)) }

@@ -1,10 +1,10 @@
-//! Bytes to lines, and answers to bytes. What lines say is read by `pt_grammar`, which is exported
-//! here too.
+//! Lines are cut from bytes, and answers are written as bytes. `pt_grammar`, which is exported here
+//! too, reads what lines say.
 //!
 //! Contracts see a cutter as the bytes that it has not given yet, and a line as the bytes between
 //! two newlines. Once it has no line to give, a cutter holds at most 128 bytes, and none of a line
-//! that was too long. Only tests show that its buffer stays small too, and that a call succeeds if
-//! memory is left.
+//! that was too long. Two things are shown only by tests: that its buffer stays small too, and that
+//! a call succeeds if memory is left.
 #![tactic(auto)]
 
 mod appending;

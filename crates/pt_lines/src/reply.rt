@@ -10,16 +10,16 @@ use pt_grammar::{ClientName, Who};
 use pt_types::{Outcome, Refusal};
 use std::alloc::Allocator;
 
-// The least number that has more than six digits, as few have.
+// The least number with more than six digits. Few lines have such a number.
 const FEW_DIGITS_END: u64 = 1_000_000;
 
-// How many bytes an answer has at most whose number has few digits.
+// The most bytes that an answer has if its number has few digits.
 const MOST_OF_FEW: usize = 32;
 
-// How many bytes a word and a newline have at most.
+// The most bytes that a word and a newline have.
 const MOST_OF_WORD: usize = 16;
 
-/// What a line is answered: the outcome of an accepted call, or why it is not accepted.
+/// The answer to a line: the outcome of an accepted call, or why the line is not accepted.
 #[derive(Clone, Copy)]
 pub enum Word {
     Outcome(Outcome),
@@ -29,7 +29,7 @@ pub enum Word {
 impl Word {
     ghost use Rattle.pt_lines.specs.Replies.{answer_word};
 
-    /// The word that is printed for it, of at most 15 bytes.  [profile]
+    /// Returns the word that is printed for it, which has at most 15 bytes.  [profile]
     pub fn text(self) -> &'static str
         ensures value { result.now ≡ answer_word self }
         ensures short { length result.now ≤ 15 }
@@ -41,7 +41,7 @@ impl Word {
     }
 }
 
-// How many bytes are before the number of the line.
+// Returns the number of bytes that precede the line's number.
 fn sender_len(who: Option<&Who>) -> usize
     ensures len { result ≡ length (sender (option_copied who.entry)) }
     ensures short { result ≤ 9 }
@@ -52,8 +52,8 @@ fn sender_len(who: Option<&Who>) -> usize
     }
 }
 
-// Appends a few bytes, for which there is room. One after the other they cost less than a call that
-// copies them.
+// Appends a few bytes. The buffer has room for them. To append them one by one costs less than a
+// call that copies them.
 fn append<A: Allocator + Copy>(out: &mut Vec<u8, A>, bytes: &[u8])
     requires { vec_len out.old + length bytes.now ≤ vec_capacity out.old }
     ensures items { out.new.items ≡ out.old.items ++ bytes.now }
@@ -65,7 +65,7 @@ fn append<A: Allocator + Copy>(out: &mut Vec<u8, A>, bytes: &[u8])
     }
 }
 
-// Appends what is before the number of the line, for which there is room.
+// Appends the part of an answer that precedes the line's number. The buffer has room for it.
 fn append_sender<A: Allocator + Copy>(out: &mut Vec<u8, A>, who: Option<&Who>)
     requires { vec_len out.old + length (sender (option_copied who)) ≤ vec_capacity out.old }
     ensures items { out.new.items ≡ out.old.items ++ sender (option_copied who.entry) }
@@ -78,8 +78,8 @@ fn append_sender<A: Allocator + Copy>(out: &mut Vec<u8, A>, who: Option<&Who>)
     }
 }
 
-// Appends what is before the number of the line, where there is room for what fills a client up
-// too.
+// Appends the part of an answer that precedes the line's number. The buffer also has room for the
+// padding of a client.
 #[inline(always)]
 fn append_who<A: Allocator + Copy>(out: &mut Vec<u8, A>, who: Option<&Who>)
     requires { vec_len out.old + 9 ≤ vec_capacity out.old }
@@ -94,7 +94,7 @@ fn append_who<A: Allocator + Copy>(out: &mut Vec<u8, A>, who: Option<&Who>)
     }
 }
 
-// The word of an outcome and a newline, with what fills them up, and how many bytes they have.
+// Returns an outcome's word and a newline, padded to a full block, and the number of their bytes.
 fn filled_outcome(outcome: Outcome) -> (&'static [u8; MOST_OF_WORD], usize)
     ensures short { result.1 ≤ 16 }
     ensures value { take result.1 result.0.now ≡ outcome_word outcome ++ 10 ∷ [] }
@@ -113,7 +113,7 @@ fn filled_outcome(outcome: Outcome) -> (&'static [u8; MOST_OF_WORD], usize)
     }
 }
 
-// The same of a refusal.
+// Does what filled_outcome does, for a refusal.
 fn filled_refusal(refusal: Refusal) -> (&'static [u8; MOST_OF_WORD], usize)
     ensures short { result.1 ≤ 16 }
     ensures value { take result.1 result.0.now ≡ refusal_word refusal ++ 10 ∷ [] }
@@ -130,7 +130,7 @@ fn filled_refusal(refusal: Refusal) -> (&'static [u8; MOST_OF_WORD], usize)
     }
 }
 
-// The same of any word.
+// Does what filled_outcome does, for any word.
 fn filled(word: Word) -> (&'static [u8; MOST_OF_WORD], usize)
     ensures short { result.1 ≤ 16 }
     ensures value { take result.1 result.0.now ≡ answer_word word ++ 10 ∷ [] }
@@ -141,7 +141,7 @@ fn filled(word: Word) -> (&'static [u8; MOST_OF_WORD], usize)
     }
 }
 
-// Appends a word and a newline, where there is room for what fills them up too.
+// Appends a word and a newline. The buffer also has room for their padding.
 #[inline(always)]
 fn append_word<A: Allocator + Copy>(out: &mut Vec<u8, A>, word: Word)
     requires { vec_len out.old + 16 ≤ vec_capacity out.old }
@@ -151,8 +151,8 @@ fn append_word<A: Allocator + Copy>(out: &mut Vec<u8, A>, word: Word)
     append_filled(out, *text, len);
 }
 
-// Makes room for an answer, and appends it. It isn't inlined: most answers have room, and their
-// numbers few digits.
+// Makes room for an answer, and appends it. It isn't inlined, since most answers have room already
+// and numbers of few digits.
 #[inline(never)]
 fn write_any<A: Allocator + Copy>(
     out: &mut Vec<u8, A>,
@@ -182,7 +182,8 @@ fn write_any<A: Allocator + Copy>(
     Ok(())
 }
 
-// Appends the answer `0` to a client's line, for which there is room. Most answers are such.
+// Appends the answer `0` to a client's line. The buffer has room for it. Most answers are of this
+// kind.
 #[inline(always)]
 #[tactic(auto, using(crate::proofs::DigitLemmas::few_digits))]
 fn append_done<A: Allocator + Copy>(out: &mut Vec<u8, A>, name: &ClientName, n: u64)
@@ -200,7 +201,7 @@ fn append_done<A: Allocator + Copy>(out: &mut Vec<u8, A>, name: &ClientName, n: 
     put_back(out, text);
 }
 
-// Appends an answer, for which there is room.
+// Appends an answer whose number has few digits. The buffer has room for it.
 #[inline(always)]
 #[tactic(auto, using(crate::proofs::DigitLemmas::few_digits))]
 fn append_other<A: Allocator + Copy>(out: &mut Vec<u8, A>, who: Option<&Who>, n: u64, word: Word)
@@ -216,7 +217,7 @@ fn append_other<A: Allocator + Copy>(out: &mut Vec<u8, A>, who: Option<&Who>, n:
     put_back(out, text);
 }
 
-// Appends an answer. It isn't inlined: most answers are the `0` of an accepted call.
+// Appends an answer. It isn't inlined, since most answers are the `0` of an accepted call.
 #[inline(never)]
 fn write_other<A: Allocator + Copy>(
     out: &mut Vec<u8, A>,
@@ -238,9 +239,9 @@ fn write_other<A: Allocator + Copy>(
     Ok(())
 }
 
-/// Appends the answer to the client's line of this number, `who` if it is in a script.
-/// ENOMEM if a growth was refused: nothing is appended. A line for which there is room is never
-/// refused.  [profile]
+/// Appends the answer to the client's line of this number. `who` is the client, if the line is in a
+/// script. Returns ENOMEM if a growth was refused. Nothing is appended then. A line for which there
+/// is room is never refused.  [profile]
 #[inline(always)]
 pub fn write_reply<A: Allocator + Copy>(
     out: &mut Vec<u8, A>,

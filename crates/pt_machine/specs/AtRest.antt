@@ -1,4 +1,4 @@
--- AtRest: calls after whose entry nothing must follow.
+-- AtRest: calls after which nothing must follow.
 use Rattle.std.specs.Prelude.{ℕ, ◌≡◌, ◌==◌, Bool, true, false, not, List, Some, None}
 use Rattle.pt_types.specs.declared.call.Call.{Call as Asked}
 use Rattle.pt_types.specs.declared.call.How.TheVariants.{Plain}
@@ -22,7 +22,7 @@ use Rattle.pt_machine.specs.GrantedAtOnce.{IsFree}
 abbrev pub NoneWaits : History → ℕ → Type 0
 NoneWaits h o = (w : WaitingCall) → In w (open_calls h) → (at_object h w == o) ≡ true → ⊥
 
--- a call without a deadline, for a lock that is free and for which none waits
+-- a call without a deadline, for a lock that is free and for which no call waits
 -- [XSH pthread_mutex_lock, pthread_rwlock_rdlock, pthread_rwlock_wrlock]
 pub record IsUnopposed (h : History) (c : ℕ) (call : Asked) : Type 0 where
   pub name : List ℕ
@@ -34,8 +34,8 @@ pub record IsUnopposed (h : History) (c : ℕ) (call : Asked) : Type 0 where
   pub free : IsFree h kind object
   pub alone : NoneWaits h object
 
--- whether nothing must follow a call by what it does: it gives nothing back; or it is for a mutex
--- or a write lock, with no deadline, and is not granted as it comes
+-- whether it is known from its operation that nothing must follow a call: it gives nothing back; or
+-- it is for a mutex or a write lock, with no deadline, and is not granted as it comes
 -- [XSH pthread_mutex_lock, pthread_rwlock_wrlock]
 abbrev pub rests_by : Operation → (at_once : Bool) → Bool
 rests_by (Acquires n MutexLock Plain) at_once = not at_once
@@ -45,7 +45,7 @@ rests_by (Ends n class) at_once = true
 rests_by (Restores n) at_once = true
 rests_by _ at_once = false
 
--- the same of an event
+-- whether it is known from the operation of its call that nothing must follow an event
 abbrev pub rests_after : Event → (at_once : Bool) → Bool
 rests_after (event.Call c call) at_once = rests_by (operation call) at_once
 rests_after _ at_once = false

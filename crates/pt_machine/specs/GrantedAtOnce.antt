@@ -38,14 +38,15 @@ use Rattle.pt_state.specs.Adds.{Adds, IsReadyFor, past}
 use Rattle.pt_machine.specs.Reserved.{gives_owner}
 use Rattle.pt_machine.specs.Timed.{asked, good_of}
 
--- nobody's lock keeps a call for this lock from it  [XSH pthread_mutex_lock, pthread_rwlock_rdlock]
+-- nobody holds a lock that keeps a call of this kind from an object
+-- [XSH pthread_mutex_lock, pthread_rwlock_rdlock]
 abbrev pub IsFree : History → LockKind → ℕ → Type 0
 IsFree h MutexLock o = (is_lost (consistency h o) || is_none (owner h o)) ≡ true
 IsFree h ReadLock o = writer h o ≡ None
 IsFree h WriteLock o = (writer h o ≡ None) × (is_some (reader h o) ≡ false)
 
--- nobody's lock keeps a call for a read-write lock from it, by its row
--- [XSH pthread_rwlock_rdlock, pthread_rwlock_wrlock]
+-- nobody holds a lock that keeps a call of this kind from a read-write lock, as the lock's row has
+-- it  [XSH pthread_rwlock_rdlock, pthread_rwlock_wrlock]
 abbrev pub IsFreeLock : LockKind → RwlockState → Type 0
 IsFreeLock MutexLock x = ⊥
 IsFreeLock ReadLock x = x.writer ≡ None
@@ -82,14 +83,14 @@ AnswersOne s c j x =
     ≡ record { client = c; place = j; outcome = x } ∷ []
 
 module _ {A : Type 0} where
-  -- once the entry was added, there is room for the one that must follow
+  -- after the entry was added, there is room for the one that must follow
   abbrev pub IsReadyAfter : State A → Entry → Type 0
   IsReadyAfter old e =
       (mid : State A) → Adds old e mid → (f : Entry) → forced (past mid) ≡ Some f
       → IsReadyFor mid f
 
-  -- a call's entry was added, and its Grant with this outcome, and this many entries are no longer
-  -- reserved then
+  -- a call's entry and its Grant with this outcome were added, and this many entries are no longer
+  -- reserved after them
   pub record AddsGranted (old : State A) (c : ℕ) (call : Asked) (used : ℕ) (x : Outcome)
       (new : State A) : Type 0 where
     pub mid : State A
@@ -102,7 +103,7 @@ module _ {A : Type 0} where
         used + one_if (gives_owner (past mid) its.call (mutex_of its.call.role its.call.object))
         ≡ reserved_for (past mid) its.call
 
-  -- an entry was added, and the one that must follow it
+  -- an entry was added, and then the one that must follow it
   pub record AddsBoth (old : State A) (e : Entry) (new : State A) : Type 0 where
     pub mid : State A
     pub first : Adds old e mid

@@ -1,4 +1,4 @@
--- Memory: which outer entries need memory as they are pushed, in room that was made for them.
+-- Memory: which outer entries need memory when they are pushed, in room that was made for them.
 use Rattle.std.specs.Prelude.{Bool, true, false, ◌||◌, Some, None, is_some}
 use Rattle.pt_types.specs.Operations.{Operation, operation}
 use Rattle.pt_model.specs.declared.entry.Entry.{Entry}
@@ -6,11 +6,12 @@ use Rattle.pt_model.specs.declared.entry.Entry.TheVariants.{Join, Call}
 use Rattle.pt_state.specs.Outer.{makes_object, asks_to_read}
 use Rattle.pt_machine.specs.Timed.{asked, good_of}
 
--- a call that is left waiting: its row in a read-write lock, or its deadline
+-- whether a waiting call needs memory: for its row in a read-write lock, or for its deadline
 abbrev pub needs_memory_to_wait : Operation → Bool
 needs_memory_to_wait o = asks_to_read o || is_some (good_of (asked o))
 
--- an outer entry: the row of a client or of an object, or what a waiting call needs
+-- whether an outer entry needs memory: for the row of a client or of an object, or for what a
+-- waiting call needs
 abbrev pub needs_memory : Entry → Bool
 needs_memory (Join c p) = true
 needs_memory (Call c call None) = needs_memory_to_wait (operation call)

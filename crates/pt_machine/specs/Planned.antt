@@ -40,24 +40,25 @@ HasRequest h (event.Join p) r = Unit {0}
 HasRequest h (event.Death c) r = Unit {0}
 HasRequest h (event.Moment k t) r = Unit {0}
 
--- if an event is said to be granted as it comes, it is a call that is
+-- the flag is true only if the event is a call that is granted as it comes
 abbrev pub IsAtOnce : History → Event → Bool → Type 0
 IsAtOnce h (event.Call c call) b = OnTrue b (IsGrantedAtOnce h c call)
 IsAtOnce h (event.Join p) b = b ≡ false
 IsAtOnce h (event.Death c) b = b ≡ false
 IsAtOnce h (event.Moment k t) b = b ≡ false
 
--- an event that is a call without a deadline, for a lock that is free and for which none waits, is
--- said to be granted as it comes
+-- the flag is true if the event is a call without a deadline, for a lock that is free and for which
+-- no call waits
 abbrev pub KnowsUnopposed : History → Event → Bool → Type 0
 KnowsUnopposed h (event.Call c call) b = IsUnopposed h c call → b ≡ true
 KnowsUnopposed h (event.Join p) b = Unit {0}
 KnowsUnopposed h (event.Death c) b = Unit {0}
 KnowsUnopposed h (event.Moment k t) b = Unit {0}
 
--- the objects that the event's call names, the answer that it gets at once, how many entries are
--- reserved after its entry, the one object that the entry touches, and whether it is a call that is
--- granted as it comes, as it is if its lock is free and none waits for it  [profile]
+-- the plan has the objects that the event's call names, the answer that it gets at once, how many
+-- entries are reserved after its entry, the one object that the entry touches, and whether it is a
+-- call that is granted as it comes, as it is if it has no deadline, its lock is free and no call
+-- waits for it  [profile]
 pub record IsPlanned (h : History) (v : Event) (p : Plan) : Type 0 where
   pub asks : HasRequest h v p.request
   pub enters : entry_with h v p.answer ≡ entry_for h v

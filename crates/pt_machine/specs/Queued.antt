@@ -15,12 +15,12 @@ use Rattle.pt_model.specs.WaitingCall.{is_arrival, is_write}
 use Rattle.pt_model.specs.Answers.{open_calls}
 use Rattle.pt_model.specs.Moves.{moved, arrival_by, at_object}
 
--- the priority with which a call of this role waits: at a barrier, where all go on at once, each
--- has the highest, so that they wait in order of their arrival  [XSH pthread_barrier_wait]
+-- the priority with which a call of this role waits; at a barrier, where all calls go on at once,
+-- each has the highest, so that they wait in order of their arrival  [XSH pthread_barrier_wait]
 abbrev pub standing : Role → ℕ → ℕ
 standing role priority = if is_arrival role then most_priority else priority
 
--- a call as it waits, if it was moved so  [XSH 2.8.4]
+-- a call as it waits, after this move if it was moved  [XSH 2.8.4]
 abbrev pub waiter_by : Option Move → WaitingCall → Waiter
 waiter_by move w =
     record {
@@ -35,19 +35,19 @@ waiter_by move w =
 abbrev pub waiter : History → WaitingCall → Waiter
 waiter h w = waiter_by (moved h w.place) w
 
--- an arrival as it waits, by its client and its place  [XSH pthread_barrier_wait]
+-- an arrival as it waits, given its client and its place  [XSH pthread_barrier_wait]
 abbrev pub arriving : ℕ → ℕ → Waiter
 arriving c j = record { client = c; place = j; prio = most_priority; writer = false; moved = j }
 
--- the queues have the open calls, each where it waits, and no others; there is room for each
--- living client's call, and a queue for each object  [XSH 2.8.4]
+-- the queues have the open calls, each at the object where it waits, and no others; there is room
+-- for each living client's call, and a queue for each object  [XSH 2.8.4]
 pub record IsQueued (h : History) (v : QueuesView) : Type 0 where
   pub members : Members (at_object h) (waiter h) (open_calls h) v.queue
   pub admits : (c : ℕ) → v.admitted c ≡ is_alive h c
   pub makes : (o : ℕ) → v.made o ≡ is_some (kind_of h o)
 
--- a client's open call may take its place: it is in no queue, its queue is there, and its arrival
--- is the greatest of its priority and kind  [XSH 2.8.4]
+-- a client's open call may take its place: it is in no queue, there is room for it, its object has
+-- a queue, and its arrival is the greatest of its priority and kind  [XSH 2.8.4]
 pub record CanStand (h : History) (c : ℕ) (v : QueuesView) : Type 0 where
   pub call : WaitingCall
   pub «open» : In call (open_calls h)

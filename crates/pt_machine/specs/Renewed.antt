@@ -1,4 +1,4 @@
--- Renewed: one entry more behind a seal, with room that was made for it.
+-- Renewed: one more entry after a seal, in room that was made for it.
 use Rattle.std.specs.Prelude.{ℕ}
 use Rattle.pt_model.specs.declared.entry.Entry.{Entry}
 use Rattle.pt_state.specs.declared.state.State.{State}

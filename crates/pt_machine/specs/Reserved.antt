@@ -1,4 +1,4 @@
--- Reserved: how many entries are reserved, as the number is stored.
+-- Reserved: the stored number of reserved entries.
 use Rattle.std.specs.Prelude.{ℕ, ◌≡◌, Bool, false, ◌&&◌, Option, Some, None, is_none}
 use Rattle.pt_types.specs.MutexTable.{is_acquired}
 use Rattle.pt_model.specs.Histories.{History}
@@ -8,12 +8,12 @@ use Rattle.pt_model.specs.Mutexes.{owner}
 use Rattle.pt_model.specs.Grants.{grant_outcome}
 use Rattle.pt_model.specs.Room.{need}
 
--- as many entries are reserved as the number that is stored  [profile]
+-- the stored number of reserved entries is the need  [profile]
 pub record IsReserved (h : History) (reserved : ℕ) : Type 0 where
   pub needs : reserved ≡ need h
 
--- whether the Grant of a call gives an owner to the robust mutex that it is for: one is reserved
--- for its Yield then  [profile]
+-- whether the Grant of a call gives an owner to the robust mutex that it is for, for whose Yield an
+-- entry is then reserved  [profile]
 abbrev pub gives_owner : History → WaitingCall → Option ℕ → Bool
 gives_owner h w None = false
 gives_owner h w (Some m) =

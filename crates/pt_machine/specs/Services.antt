@@ -8,8 +8,8 @@ use Rattle.pt_model.specs.Answers.{open_calls}
 use Rattle.pt_machine.specs.declared.candidates.Service.{Service}
 use Rattle.pt_machine.specs.declared.candidates.Service.TheVariants.{Trip, Call}
 
--- an arrival is served by the Trip of its barrier, any other call as the open one of its client
--- [XSH pthread_barrier_wait]
+-- an arrival is served by the Trip of its barrier, and any other call as the open call of its
+-- client  [XSH pthread_barrier_wait]
 abbrev pub Serves : Service → WaitingCall → Type 0
 Serves (Trip b) w = (is_arrival w.role ≡ true) × (w.object ≡ b)
 Serves (Call c) w = (is_arrival w.role ≡ false) × (w.client ≡ c)

@@ -22,7 +22,7 @@ use Rattle.pt_model.specs.Queries.{deadline_if}
 use Rattle.pt_records.specs.declared.clients.Open.{Open}
 use Rattle.pt_state.specs.Serving.{move_of}
 
--- the deadline that an operation has, as it was written  [XSH pthread_mutex_timedlock]
+-- the deadline of an operation, if it has one, as the call gave it  [XSH pthread_mutex_timedlock]
 abbrev pub asked : Operation → Option Timespec
 asked (Acquires n lock_kind how) = deadline_of how
 asked (Awaits n m deadline) = deadline
@@ -33,26 +33,26 @@ abbrev pub timed_by : History → Entry → Option Timespec → ℕ → Option T
 timed_by h (Call c call reply) before j = if place h == j then asked (operation call) else before
 timed_by h _ before j = before
 
--- a deadline as it may have been written  [XBD time.h, struct timespec]
+-- a deadline of this many nanoseconds, as a call may have given it  [XBD time.h, struct timespec]
 abbrev pub written : ℕ → Timespec
 written n = record { sec = n / second; nsec = n % second }
 
--- the deadline of the call at place j, as it was written; of an open call of the Start, as it may
--- have been
+-- the deadline of the call at place j, as the call gave it; for an open call of the Start, as it
+-- may have been given
 abbrev pub timed : History → ℕ → Option Timespec
 timed (Begin s) j = option_map written (deadline_if (at_place j (calls_below s.call s.at)))
 timed (h ▷ e) j = timed_by h e (timed h j) j
 
--- whether a deadline can pass for an open call: it isn't moved, and its deadline is a time
+-- whether the deadline of an open call can pass: the call was not moved, and its deadline is a time
 -- [XSH pthread_mutex_timedlock, EINVAL]
 abbrev pub is_set : History → WaitingCall → Bool
 is_set h w = not (is_moved h w) && not (has_bad_deadline (timed h w.place))
 
--- a call's deadline as it is set: its clock, and its nanoseconds  [XSH pthread_mutex_clocklock]
+-- a call's deadline as it is set: its clock and its nanoseconds  [XSH pthread_mutex_clocklock]
 abbrev pub setting : WaitingCall → Option (Clock × ℕ)
 setting w = option_map (λ n. (w.clock, n)) w.deadline
 
--- the setting of the deadline of a call, if one was found
+-- the deadline of a call as it is set, if a call was found
 abbrev pub setting_if : Option WaitingCall → Option (Clock × ℕ)
 setting_if None = None
 setting_if (Some w) = setting w
@@ -61,17 +61,16 @@ setting_if (Some w) = setting w
 abbrev pub set_at : History → ℕ → Option (Clock × ℕ)
 set_at h p = setting_if (at_place p (filter (is_set h) (open_calls h)))
 
--- the deadlines that are set are those of open calls  [XSH pthread_mutex_timedlock]
+-- the deadlines that are set are those of the open calls  [XSH pthread_mutex_timedlock]
 abbrev pub AreTimed : History → List (ℕ × (Clock × ℕ)) → Type 0
 AreTimed h timers = (p : ℕ) → deadline_at timers p ≡ set_at h p
 
--- what is set at the place of a call, if anything is, is its own deadline
--- [XSH pthread_mutex_timedlock]
+-- if a deadline is set at the place of a call, it is the call's own  [XSH pthread_mutex_timedlock]
 abbrev pub HasOwnDeadline : List (ℕ × (Clock × ℕ)) → WaitingCall → Type 0
 HasOwnDeadline timers w =
     (d : Clock × ℕ) → deadline_at timers w.place ≡ Some d → setting w ≡ Some d
 
--- the place of the open call whose deadline passed first, or none if none has
+-- the place of the open call with the least deadline that has passed, or none if none has passed
 -- [XSH pthread_mutex_timedlock; the order is profile]
 abbrev pub IsFirstLate : History → Option ℕ → Type 0
 IsFirstLate h found =
@@ -81,7 +80,7 @@ IsFirstLate h found =
     × (least expires_before (filter (is_overdue h) (open_calls h)) ≡ Some w)
     × (at_place p (open_calls h) ≡ Some w))
 
--- a deadline that is a time, or none  [XSH pthread_mutex_timedlock, EINVAL]
+-- the deadline if it is a time, or none  [XSH pthread_mutex_timedlock, EINVAL]
 abbrev pub good_of : Option Timespec → Option Timespec
 good_of d = if has_bad_deadline d then None else d
 

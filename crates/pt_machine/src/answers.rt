@@ -1,4 +1,4 @@
-//! Answers and entries, as the tables have them.
+//! The answers and the entries that the tables have.
 
 ghost use Rattle.std.specs.Prelude.{None, ◌+◌, ◌-◌, ◌^◌, ◌<◌, ◌≡◌, ◌≤◌, drop, length, map};
 ghost use Rattle.std.specs.Prelude.{option_map, slice_get};
@@ -19,28 +19,28 @@ use pt_waitq::WaitList;
 use std::alloc::Allocator;
 
 impl<Q: WaitList, A: Allocator + Copy> Body<Q, A> {
-    /// The place of the next entry.
+    /// Returns the place of the next entry.
     pub fn len(&self) -> u64
         ensures { result ≡ self.now.stored.start.at + length self.now.stored.entries }
     {
         self.state.stored.len()
     }
 
-    /// The number of outer entries, those before the history was sealed included.
+    /// Returns the number of outer entries, including those before the history was sealed.
     pub fn outer(&self) -> u64
         ensures { result ≡ outer (past self.now) }
     {
         self.state.stored.outer()
     }
 
-    /// The place of the first entry since the history was sealed.
+    /// Returns the place of the first entry since the history was last sealed.
     pub fn first(&self) -> u64
         ensures { result ≡ self.now.stored.start.at }
     {
         self.state.stored.start().at
     }
 
-    /// The entry at a place, if there is one; places before the Start have none.
+    /// Returns the entry at a place, if there is one. Places before the Start have none.
     pub fn entry(&self, place: u64) -> Option<Entry>
         ensures before { place < self.now.stored.start.at → result ≡ None }
         ensures since { self.now.stored.start.at ≤ place
@@ -49,7 +49,7 @@ impl<Q: WaitList, A: Allocator + Copy> Body<Q, A> {
         self.state.stored.entry(place)
     }
 
-    /// The answer to the call at a place.  [XSH, the call's page]
+    /// Returns the answer to the call at a place, if it has one.  [XSH, the call's page]
     pub fn outcome(&self, place: u64) -> Option<Outcome>
         requires { AreTables self.now }
         ensures { result ≡ said (past self.now) place }
@@ -57,8 +57,8 @@ impl<Q: WaitList, A: Allocator + Copy> Body<Q, A> {
         self.state.outcome(place)
     }
 
-    /// The answer to the call at a place, which is likely the latest call of this client.
-    /// [XSH, the call's page]
+    /// Returns the answer to the call at a place, if it has one. It is likely the latest call of
+    /// this client.  [XSH, the call's page]
     #[inline(always)]
     pub fn outcome_of(&self, c: ClientId, place: u64) -> Option<Outcome>
         requires { AreTables self.now }
@@ -67,7 +67,8 @@ impl<Q: WaitList, A: Allocator + Copy> Body<Q, A> {
         self.state.outcome_of(c, place)
     }
 
-    /// The answer to a living client's latest call, with the place of the call.
+    /// Returns the answer to a living client's latest call, with the place of the call, if it has
+    /// one.
     pub fn answer_of(&self, c: ClientId) -> Option<(u64, Outcome)>
         requires { AreTables self.now }
         ensures { told_to c result ≡ answer_in (past self.now) c }
@@ -75,7 +76,7 @@ impl<Q: WaitList, A: Allocator + Copy> Body<Q, A> {
         self.state.answer_of(c)
     }
 
-    /// The answers that the entries from a place on gave, in order.
+    /// Returns the answers that the entries from a place on gave, in order.
     #[inline(always)]
     pub fn answers_since(&self, place: u64) -> LoggedAnswers<'_>
         requires { AreTables self.now }
@@ -85,7 +86,8 @@ impl<Q: WaitList, A: Allocator + Copy> Body<Q, A> {
         self.state.answers_since(place)
     }
 
-    /// How many answers the entries before a place gave. It is looked for from the end.
+    /// Returns the number of answers that the entries before a place gave. The search starts at the
+    /// end of the log.
     #[inline(always)]
     pub fn answers_before(&self, place: u64) -> usize
         requires { AreTables self.now }
@@ -98,7 +100,7 @@ impl<Q: WaitList, A: Allocator + Copy> Body<Q, A> {
         self.state.answers_before(place)
     }
 
-    /// The answer at an index of all since the Start, in order.
+    /// Returns the answer at an index among all answers since the Start, in order.
     #[inline(always)]
     pub fn answer_at(&self, index: usize) -> Option<Answered>
         requires { AreTables self.now }
@@ -110,7 +112,7 @@ impl<Q: WaitList, A: Allocator + Copy> Body<Q, A> {
         self.state.answer_at(index)
     }
 
-    /// The answer at an index of those that the entries from a place on gave, in order.
+    /// Returns the answer at an index among those that the entries from a place on gave, in order.
     pub fn answer_since(&self, place: u64, index: usize) -> Option<Answered>
         requires { AreTables self.now }
         ensures { option_map (λ a. (logged a).1) result ≡ slice_get (answers_in

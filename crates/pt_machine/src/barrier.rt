@@ -1,4 +1,4 @@
-//! Barriers: who has arrived, and trips.
+//! Barriers: arrivals and trips.
 
 ghost use Rattle.std.specs.Prelude.{None, Some, ◌≡◌, false, length, option_map, true};
 ghost use Rattle.pt_model.specs.Searches.{In};
@@ -31,7 +31,8 @@ use pt_types::{Call, ClientId, Name, ObjectId};
 use pt_waitq::WaitList;
 use std::alloc::Allocator;
 
-// A full barrier lets its calls go on, and they leave its queue.  [XSH pthread_barrier_wait]
+// Pushes the Trip of a full barrier. Its calls go on, and leave its queue.
+// [XSH pthread_barrier_wait]
 pub(crate) fn push_tripped<Q: WaitList, A: Allocator + Copy>(
     state: &mut State<A>,
     queues: &mut Q,
@@ -47,8 +48,8 @@ pub(crate) fn push_tripped<Q: WaitList, A: Allocator + Copy>(
     state.push_trip(found.call.object, queues);
 }
 
-// Pushes an arrival that waits, and puts it into its barrier's queue. It waits there without regard
-// to its client's priority, so its client's row is not looked at again.  [XSH pthread_barrier_wait]
+// Pushes an arrival that waits, and puts it into its barrier's queue. The client's priority does
+// not matter there, so the client's row is not looked at again.  [XSH pthread_barrier_wait]
 #[inline(always)]
 fn arrive<Q: WaitList, A: Allocator + Copy>(
     state: &mut State<A>,
@@ -72,7 +73,7 @@ fn arrive<Q: WaitList, A: Allocator + Copy>(
 }
 
 impl<Q: WaitList, A: Allocator + Copy> Body<Q, A> {
-    // An arrival at a barrier, which waits.  [XSH pthread_barrier_wait]
+    // Pushes an arrival that waits at its barrier.  [XSH pthread_barrier_wait]
     #[inline(always)]
     fn push_arrival(&mut self, c: ClientId, call: &Call, n: &Name, plan: &Plan)
         requires ready { IsReadyFor self.old (entry.Call c call.now None) }
@@ -87,8 +88,8 @@ impl<Q: WaitList, A: Allocator + Copy> Body<Q, A> {
         self.need = plan.need;
     }
 
-    /// An arrival at a barrier, which waits, and the Trip of the barrier if it is full then.
-    /// Returns whether it isn't: then nothing must follow.  [XSH pthread_barrier_wait]
+    /// Pushes an arrival that waits at its barrier, and the Trip of the barrier if it is full after
+    /// that. Returns true if it is not full; then nothing must follow.  [XSH pthread_barrier_wait]
     #[inline(always)]
     pub fn push_arrived(&mut self, c: ClientId, call: &Call, n: &Name, plan: &Plan) -> bool
         requires ready { IsReadyFor self.old (entry.Call c call.now None) }
@@ -110,7 +111,8 @@ impl<Q: WaitList, A: Allocator + Copy> Body<Q, A> {
         }
     }
 
-    /// A full barrier lets its calls go on, and they leave its queue.  [XSH pthread_barrier_wait]
+    /// Pushes the Trip of a full barrier. Its calls go on, and leave its queue.
+    /// [XSH pthread_barrier_wait]
     #[inline(never)]
     pub(crate) fn push_full(&mut self, b: ObjectId)
         requires read { AreTables self.old }
@@ -126,7 +128,7 @@ impl<Q: WaitList, A: Allocator + Copy> Body<Q, A> {
         self.need -= 3 * gone as u64;
     }
 
-    /// How many calls wait at the barrier.  [XSH pthread_barrier_wait]
+    /// Returns how many calls wait at the barrier.  [XSH pthread_barrier_wait]
     #[inline(always)]
     pub(crate) fn arrivals(&self, b: ObjectId) -> usize
         requires read { AreTables self.now }

@@ -1,4 +1,4 @@
-//! The tables with their queues and deadlines, and the two ways by which an entry comes in.
+//! The tables with their queues and deadlines, and the two ways to push an entry.
 
 ghost use Rattle.pt_state.specs.Adds.{Adds, IsReadyFor, Stays, past};
 ghost use Rattle.std.specs.Prelude.{IfErr, IsOk, OnErr, OnOk, ◌+◌, ◌<◌, ◌≡◌, false, length};
@@ -23,11 +23,11 @@ use pt_waitq::WaitList;
 use std::alloc::{Allocator, Global};
 use std::marker::Model;
 
-/// The tables, with the queues of the calls that wait and the deadlines that are set.
+/// The tables, with the queues of the waiting calls and the deadlines that are set.
 ///
-/// `touched` is the one object at which a call may be served now, if one may, and `entering` the
-/// client whose call came last. `need` is how many entries are reserved for what must follow.
-/// Contracts see the tables.
+/// `touched` is the one object at which a call may be served now, if there is one. `entering` is
+/// the client whose call came last, until the next event. `need` is the number of entries that are
+/// reserved for what must follow. Contracts see only the tables.
 #[derive(Drop)]
 pub struct Body<Q: WaitList, A: Allocator + Copy = Global> {
     pub(crate) state: State<A>,
@@ -57,8 +57,8 @@ impl<Q: WaitList, A: Allocator + Copy> Model for Body<Q, A> {
 }
 
 impl<Q: WaitList, A: Allocator + Copy> Body<Q, A> {
-    /// No entry, of at most so many. The queues have no client, and none is made. It takes no
-    /// memory.
+    /// Creates a body without entries, of which there may be at most `limit`. No client is admitted
+    /// to the queues, and none of them is made. Allocates nothing.
     pub fn new(queues: Q, alloc: A, limit: u32) -> Body<Q, A>
         requires { Q.seen queues ≡ seen_in no_waits }
         ensures stored { result.stored ≡ begun limit }
@@ -75,8 +75,8 @@ impl<Q: WaitList, A: Allocator + Copy> Body<Q, A> {
         }
     }
 
-    /// The entry of an event, with its plan. ENOMEM if a growth is refused: then nothing is
-    /// pushed. An entry that needs no memory, as a Death and a Moment, is never refused.
+    /// Pushes the entry of an event by its plan. ENOMEM if a growth is refused; then nothing is
+    /// pushed. An entry that needs no memory, such as a Death or a Moment, is never refused.
     #[inline(always)]
     pub fn push_outer(&mut self, event: &Event, plan: &Plan) -> Result<(), Refusal>
         requires ready { IsReadyFor self.old (entry_for (past self.old) event.now) }
@@ -103,7 +103,7 @@ impl<Q: WaitList, A: Allocator + Copy> Body<Q, A> {
         Ok(())
     }
 
-    /// What must follow is pushed.
+    /// Pushes a forced entry.
     /// [XSH pthread_mutex_unlock, pthread_mutex_lock EOWNERDEAD, pthread_mutex_timedlock]
     pub fn push_forced(&mut self, forced: &Forced)
         requires ready { IsReadyFor self.old (entry_of (past self.old) forced.now) }
@@ -117,7 +117,7 @@ impl<Q: WaitList, A: Allocator + Copy> Body<Q, A> {
         self.need -= used;
     }
 
-    /// The place of a client's open call.
+    /// Returns the place of a client's open call, if it has one.
     pub fn open_place(&self, c: ClientId) -> Option<u64>
         requires { AreTables self.now }
         ensures { result ≡ open_place_in (past self.now) c }

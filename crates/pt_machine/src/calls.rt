@@ -1,4 +1,4 @@
-//! Calls: the verdict of each, and the push of its entry, answered or waiting.
+//! Calls: their verdicts, and the push of their entries, answered or waiting.
 
 ghost use Rattle.pt_state.specs.Requests.{IsRequest};
 ghost use Rattle.pt_types.specs.Shown.{shown_operation};
@@ -25,8 +25,8 @@ use pt_types::{Call, ClientId, How, Name, ObjectId, Outcome, Refusal, Verdict};
 use pt_waitq::WaitList;
 use std::alloc::Allocator;
 
-// Pushes a call that waits, and puts it into its queue. ENOMEM if there is no memory for its row in
-// a read-write lock; no other call needs memory.  [XSH, the call's page]
+// Pushes a call that waits, and puts it into its queue. ENOMEM if there is no memory for the
+// client's row in a read-write lock. No other call needs memory.  [XSH, the call's page]
 #[inline(always)]
 fn leave<Q: WaitList, A: Allocator + Copy>(
     state: &mut State<A>,
@@ -53,7 +53,7 @@ fn leave<Q: WaitList, A: Allocator + Copy>(
     }
 }
 
-/// As `leave`, for any call.
+/// Does what `leave` does, for any call. It is not inlined.
 #[inline(never)]
 pub(crate) fn leave_any<Q: WaitList, A: Allocator + Copy>(
     state: &mut State<A>,
@@ -74,7 +74,7 @@ pub(crate) fn leave_any<Q: WaitList, A: Allocator + Copy>(
     leave(state, queues, c, call, request)
 }
 
-/// The object that a call's name means; 0 if it means none.
+/// Returns the object that a call's name means, or 0 if it means none.
 #[inline(always)]
 pub(crate) fn object_named(request: &Request) -> ObjectId
     ensures { result ≡ unwrap_or request.now.object 0 }
@@ -85,8 +85,8 @@ pub(crate) fn object_named(request: &Request) -> ObjectId
     }
 }
 
-// A wait with no deadline. It waits at its condition with its client's priority, which the push
-// returns, so its client's row is looked at once.
+// Pushes a wait with no deadline, and puts it into its queue. It waits at its condition with its
+// client's priority, which the push returns, so the client's row is looked at only once.
 #[inline(always)]
 fn enter_wait<Q: WaitList, A: Allocator + Copy>(
     state: &mut State<A>,
@@ -110,7 +110,7 @@ fn enter_wait<Q: WaitList, A: Allocator + Copy>(
     queues.insert(q, entering(c, place, prio));
 }
 
-// As `leave`, for a wait with no deadline.
+// Does what `leave` does, for a wait with no deadline.
 #[inline(never)]
 fn leave_wait<Q: WaitList, A: Allocator + Copy>(
     state: &mut State<A>,
@@ -137,9 +137,9 @@ fn leave_wait<Q: WaitList, A: Allocator + Copy>(
     }
 }
 
-/// Pushes a call that waits, and puts it into its queue, in a function of its own for each call
-/// that comes often. ENOMEM if there is no memory for its row in a read-write lock; no other call
-/// needs memory.  [XSH, the call's page]
+/// Pushes a call that waits, and puts it into its queue. Each call that comes often has its own
+/// function for that. ENOMEM if there is no memory for the client's row in a read-write lock. No
+/// other call needs memory.  [XSH, the call's page]
 #[inline(always)]
 pub(crate) fn push_left<Q: WaitList, A: Allocator + Copy>(
     state: &mut State<A>,
@@ -191,14 +191,15 @@ fn push_changed<Q: WaitList, A: Allocator + Copy>(
         Operation::Rwunlocks(n) => state.push_rwunlock(c, call, n, object),
         Operation::Signals(n) => push_signal(state, queues, c, call, n, object),
         Operation::Broadcasts(n) => push_broadcast(state, queues, c, call, n, object),
-        // These always wait, or make one.
+        // None of these comes here: waits and arrivals are never answered 0 at once, and the others
+        // make an object.
         Operation::Awaits(..) | Operation::Arrives(_) | Operation::Makes(..) => {
             state.finish_seldom(c, call, Outcome::Done)
         }
     }
 }
 
-/// As `push_done`, for any call. It isn't inlined.  [XSH, the call's page]
+/// Does what `push_done` does, for any call. It is not inlined.  [XSH, the call's page]
 #[inline(never)]
 pub(crate) fn push_any_done<Q: WaitList, A: Allocator + Copy>(
     state: &mut State<A>,
@@ -302,7 +303,8 @@ pub(crate) fn push_answered<Q: WaitList, A: Allocator + Copy>(
 }
 
 impl<Q: WaitList, A: Allocator + Copy> Body<Q, A> {
-    /// The answer that a client's call gets at once, or that it waits.  [XSH, the call's page]
+    /// Returns the answer that a client's call gets at once, or that it waits.
+    /// [XSH, the call's page]
     #[inline(always)]
     pub fn verdict(&self, c: ClientId, operation: &Operation<'_>, request: &Request) -> Verdict
         requires read { AreTables self.now }
@@ -319,7 +321,8 @@ impl<Q: WaitList, A: Allocator + Copy> Body<Q, A> {
             Operation::Acquires(n, LockKind::ReadLock, How::Plain) => {
                 self.plain_read_verdict(c, n, object)
             }
-            // A copy is lent to what isn't inlined, so that the operation may stay in registers.
+            // Functions that are not inlined borrow a copy, so that the operation itself can stay
+            // in registers.
             Operation::Acquires(n, LockKind::ReadLock, how) => {
                 let how = *how;
                 self.read_verdict(c, n, &how, object)

@@ -1,4 +1,4 @@
-//! Which call is served at an object, found by one look at the object.
+//! Which call is served at an object, found by looking at that object alone.
 
 ghost use Rattle.std.specs.Prelude.{None, Some, ◌&&◌, ◌==◌, ◌≡◌, ◌≤◌, false, is_some, length};
 ghost use Rattle.std.specs.Prelude.{option_map, true};
@@ -39,14 +39,14 @@ use pt_types::{ClientId, MutexKind, ObjectId};
 use pt_waitq::WaitList;
 use std::alloc::Allocator;
 
-// Whether a mutex is RECURSIVE.
+// Returns whether a mutex is RECURSIVE.
 fn is_recursive(mutex: &MutexObj) -> bool
     ensures { result ≡ is_recursive mutex.now.seen.kind }
 {
     mutex.kind() == MutexKind::Recursive
 }
 
-// Whether a call is a wait that has come back to this mutex.
+// Returns whether a call is a moved wait that waits at this mutex.
 // [XSH pthread_cond_wait, pthread_mutex_lock RECURSIVE]
 fn comes_back(m: ObjectId, open: &Open) -> bool
     ensures { result
@@ -56,7 +56,7 @@ fn comes_back(m: ObjectId, open: &Open) -> bool
     at_object(open) == m && is_wait(open.call.role) && is_moved(open)
 }
 
-// Whether a call at the lock is for a read lock, and its client holds one there already.
+// Returns whether a call waits at the lock for a read lock, and its client already holds one there.
 // [XSH pthread_rwlock_rdlock]
 fn reads_more<A: Allocator + Copy>(r: ObjectId, lock: &Holders<A>, open: &Open) -> bool
     ensures { result
@@ -75,7 +75,7 @@ pub(crate) enum Service {
     Call(ClientId),
 }
 
-// A call that is served as its client's, if one was found.
+// Returns the service of a client's open call, if a client was found.
 #[inline(always)]
 fn call_served(found: Option<ClientId>) -> Option<Service>
     ensures { result ≡ option_map service.Call found }
@@ -84,7 +84,8 @@ fn call_served(found: Option<ClientId>) -> Option<Service>
 }
 
 impl<Q: WaitList, A: Allocator + Copy> Body<Q, A> {
-    // The client of the first call that waits at an object that is no barrier.  [XSH 2.8.4]
+    // Returns the client of the first call that waits at an object that is no barrier, if one
+    // waits.  [XSH 2.8.4]
     #[inline(always)]
     fn first_at(&self, o: ObjectId) -> Option<ClientId>
         requires read { AreTables self.now }
@@ -97,9 +98,9 @@ impl<Q: WaitList, A: Allocator + Copy> Body<Q, A> {
         }
     }
 
-    // The client of the call that is served at a mutex: the first, if nobody owns it or it is lost,
-    // and otherwise a wait of its owner that has come back, if a relock counts there.
-    // [XSH pthread_mutex_unlock, pthread_cond_wait]
+    // Returns the client of the call that is served at a mutex, if there is one. If nobody owns the
+    // mutex, or it is lost, that is the first call. Otherwise it is a moved wait of the owner, if
+    // the mutex is RECURSIVE.  [XSH pthread_mutex_unlock, pthread_cond_wait]
     #[inline(always)]
     fn mutex_candidate(&self, m: ObjectId, mutex: &MutexObj) -> Option<ClientId>
         requires read { AreTables self.now }
@@ -120,8 +121,8 @@ impl<Q: WaitList, A: Allocator + Copy> Body<Q, A> {
         }
     }
 
-    // The client whose call came last, if that waits at the lock to read and the client reads there
-    // already.  [XSH pthread_rwlock_rdlock]
+    // Returns the client whose call came last, if that call waits at the lock to read and the
+    // client already reads there.  [XSH pthread_rwlock_rdlock]
     fn reader_again(&self, r: ObjectId, lock: &Holders<A>) -> Option<ClientId>
         requires read { AreTables self.now }
         requires stored { object_value self.now.objects r ≡ Some (row.Rwlock lock.now) }
@@ -137,9 +138,10 @@ impl<Q: WaitList, A: Allocator + Copy> Body<Q, A> {
         }
     }
 
-    // The client of the call that is served at a read-write lock: none if it is written; the first,
-    // unless that is a writer and others read; then the call that came last, if its client reads
-    // already.  [XSH pthread_rwlock_unlock, pthread_rwlock_rdlock]
+    // Returns the client of the call that is served at a read-write lock, if there is one. While a
+    // writer holds the lock, none is served. Otherwise it is the first call, unless that is a
+    // writer and others read. Then it is the call that came last, if its client already reads
+    // there.  [XSH pthread_rwlock_unlock, pthread_rwlock_rdlock]
     fn rwlock_candidate(&self, r: ObjectId, lock: &Holders<A>) -> Option<ClientId>
         requires read { AreTables self.now }
         requires stored { object_value self.now.objects r ≡ Some (row.Rwlock lock.now) }
@@ -156,7 +158,7 @@ impl<Q: WaitList, A: Allocator + Copy> Body<Q, A> {
         }
     }
 
-    // Whether as many calls as are needed wait at a barrier.  [XSH pthread_barrier_wait]
+    // Returns whether as many calls wait at a barrier as it needs.  [XSH pthread_barrier_wait]
     #[inline(always)]
     fn is_full(&self, b: ObjectId, barrier: &BarrierObj) -> bool
         requires read { AreTables self.now }
@@ -168,7 +170,7 @@ impl<Q: WaitList, A: Allocator + Copy> Body<Q, A> {
         self.arrivals(b) == barrier.count() as usize
     }
 
-    // The Trip of a barrier, if it is full.  [XSH pthread_barrier_wait]
+    // Returns the Trip of a barrier, if it is full.  [XSH pthread_barrier_wait]
     #[inline(always)]
     fn barrier_service(&self, b: ObjectId, barrier: &BarrierObj) -> Option<Service>
         requires read { AreTables self.now }
@@ -179,7 +181,7 @@ impl<Q: WaitList, A: Allocator + Copy> Body<Q, A> {
         if full { Some(Service::Trip(b)) } else { None }
     }
 
-    /// What is served at an object.  [XSH, the object's pages]
+    /// Returns what is served at an object, if anything is.  [XSH, the object's pages]
     #[inline(always)]
     pub(crate) fn service_at(&self, o: ObjectId) -> Option<Service>
         requires { AreTables self.now }
@@ -193,7 +195,7 @@ impl<Q: WaitList, A: Allocator + Copy> Body<Q, A> {
         }
     }
 
-    // As `service_at`. It isn't inlined.
+    // Does what `service_at` does. It is not inlined.
     #[cold]
     #[inline(never)]
     fn service_apart(&self, o: ObjectId) -> Option<Service>
@@ -203,7 +205,7 @@ impl<Q: WaitList, A: Allocator + Copy> Body<Q, A> {
         self.service_at(o)
     }
 
-    /// As `service_at`, for an object that is a barrier.  [XSH pthread_barrier_wait]
+    /// Does what `service_at` does, for an object that is a barrier.  [XSH pthread_barrier_wait]
     #[inline(always)]
     pub(crate) fn arrival_service(&self, b: ObjectId) -> Option<Service>
         requires { AreTables self.now }

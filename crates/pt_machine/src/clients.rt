@@ -1,4 +1,4 @@
-//! Clients: what a join and a death do to the queues, and whose call came at a place.
+//! Clients: what a join and a death do to the queues, and which client made the call at a place.
 
 ghost use Rattle.std.specs.Prelude.{IfErr, OnErr, OnOk, ◌≡◌, ◌≤◌};
 ghost use Rattle.pt_model.specs.Histories.{place};
@@ -13,8 +13,8 @@ use pt_types::{ClientId, Priority, Refusal};
 use pt_waitq::WaitList;
 use std::alloc::Allocator;
 
-/// A client joins: it has its row, and room for one waiting call. ENOMEM if the growth of one
-/// of them is refused.
+/// Pushes the Join of a client, which gets its row and room for one waiting call. ENOMEM if the
+/// growth of either is refused.
 pub(crate) fn push_join<Q: WaitList, A: Allocator + Copy>(
     state: &mut State<A>,
     queues: &mut Q,
@@ -41,7 +41,7 @@ pub(crate) fn push_join<Q: WaitList, A: Allocator + Copy>(
     }
 }
 
-/// A client's process ends: its row, its open call, and the room for one are gone.
+/// Pushes the Death of a client, and removes its row, its open call, and the room for one.
 pub(crate) fn push_death<Q: WaitList, A: Allocator + Copy>(
     state: &mut State<A>,
     queues: &mut Q,
@@ -58,7 +58,7 @@ pub(crate) fn push_death<Q: WaitList, A: Allocator + Copy>(
 }
 
 impl<Q: WaitList, A: Allocator + Copy> Body<Q, A> {
-    // The client of the call at a place, if its entry is stored there.
+    // Returns the client of the call at a place, if a call's entry is stored there.
     fn caller_since(&self, place: u64) -> Option<ClientId>
         requires { self.now.stored.start.at ≤ place }
         ensures { result ≡ caller (past self.now) place }
@@ -66,7 +66,8 @@ impl<Q: WaitList, A: Allocator + Copy> Body<Q, A> {
         self.state.stored.caller(place)
     }
 
-    /// The client of the call at a place; of an open call of the Start, by the Start's rows.
+    /// Returns the client of the call at a place, if there is one. The client of an open call of
+    /// the Start is found in the Start's rows.
     pub(crate) fn caller_at(&self, place: u64) -> Option<ClientId>
         ensures { result ≡ caller (past self.now) place }
     {

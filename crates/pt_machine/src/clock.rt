@@ -1,4 +1,4 @@
-//! The push of any entry with its deadline: set as a call waits, dropped as it ends.
+//! Pushing any entry with its deadline, which is set when a call waits and dropped when it ends.
 
 ghost use Rattle.pt_state.specs.Requests.{IsRequest};
 ghost use Rattle.pt_model.specs.declared.entry.Entry.TheVariants as entry_is;
@@ -48,7 +48,8 @@ fn push_moment<Q: WaitList, A: Allocator + Copy>(
     state.push_moment(clock, moment);
 }
 
-// The deadline of a call, as it was written.  [XSH pthread_mutex_timedlock]
+// Returns the deadline of a call, if it has one, as the call gave it.
+// [XSH pthread_mutex_timedlock]
 #[inline(always)]
 fn deadline_in(call: &Call) -> Option<Deadline>
     ensures { result ≡ asked (operation call.now) }
@@ -66,7 +67,8 @@ fn deadline_in(call: &Call) -> Option<Deadline>
     }
 }
 
-// The deadline of a call, if it is a time.  [XSH pthread_mutex_timedlock, EINVAL]
+// Returns the deadline of a call, if it has one that is a time.
+// [XSH pthread_mutex_timedlock, EINVAL]
 #[inline(always)]
 fn good_deadline(call: &Call) -> Option<Deadline>
     ensures { result ≡ good_of (asked (operation call.now)) }
@@ -77,7 +79,7 @@ fn good_deadline(call: &Call) -> Option<Deadline>
     }
 }
 
-// Whether an open call was moved by the entry at this place.  [XSH pthread_cond_broadcast]
+// Returns whether an open call was moved by the entry at this place.  [XSH pthread_cond_broadcast]
 fn was_moved(open: &Open, place: u64) -> bool
     ensures { result ≡ was_moved_at place «open».now }
 {
@@ -87,7 +89,7 @@ fn was_moved(open: &Open, place: u64) -> bool
     }
 }
 
-// Whether no deadline is set, by either clock.
+// Returns whether no deadline is set, by either clock.
 fn has_none<A: Allocator + Copy>(timers: &Timers<A>) -> bool
     ensures { result ≡ true → (p : ℕ) → deadline_at timers.now p ≡ None }
 {
@@ -134,7 +136,7 @@ fn drop_moved<A: Allocator + Copy>(timers: &mut Timers<A>, state: &State<A>, pla
     }
 }
 
-// Sets the deadline of a call that waits, and pushes the call. ENOMEM if a growth is refused: then
+// Sets the deadline of a call that waits, and pushes the call. ENOMEM if a growth is refused; then
 // no deadline is set.  [XSH pthread_mutex_timedlock]
 #[inline(never)]
 fn push_timed<Q: WaitList, A: Allocator + Copy>(
@@ -200,7 +202,7 @@ fn push_left<Q: WaitList, A: Allocator + Copy>(
     }
 }
 
-// Whether a call can move waits.  [XSH pthread_cond_broadcast]
+// Returns whether a call can move waits.  [XSH pthread_cond_broadcast]
 #[inline(always)]
 fn can_move_waits(call: &Call) -> bool
     ensures { result ≡ can_move_waits_in (operation call.now) }
@@ -232,7 +234,7 @@ fn push_answered<Q: WaitList, A: Allocator + Copy>(
     ensures timed { AreTimed (past state.new) timers.new }
 {
     let place = state.stored.len();
-    // Asked before the push, while the compiler knows which word it is.
+    // This is tested before the push, while the compiler still knows which word the call is.
     let moves = can_move_waits(call);
     calls::push_answered(state, queues, c, call, answer, request)?;
     if moves {
@@ -291,7 +293,7 @@ fn push_call<Q: WaitList, A: Allocator + Copy>(
 }
 
 /// Pushes the entry of an event, given the request of its call and the answer that it gets at once.
-/// ENOMEM if a growth is refused: then nothing is pushed. An entry that needs no memory is never
+/// ENOMEM if a growth is refused; then nothing is pushed. An entry that needs no memory is never
 /// refused.  [profile]
 #[inline(always)]
 pub(crate) fn push_outer<Q: WaitList, A: Allocator + Copy>(
@@ -318,7 +320,7 @@ pub(crate) fn push_outer<Q: WaitList, A: Allocator + Copy>(
     match event {
         Event::Join(priority) => clients::push_join(state, queues, *priority),
         Event::Call(c, call) => {
-            // A copy is lent, so that the plan may stay in registers.
+            // A copy is borrowed, so that the plan itself can stay in registers.
             let request = *request;
             push_call(state, queues, timers, *c, call, answer, &request)
         }
@@ -333,7 +335,7 @@ pub(crate) fn push_outer<Q: WaitList, A: Allocator + Copy>(
     }
 }
 
-/// A call that is no arrival gets what it is for, and its deadline is dropped.
+/// Pushes the Grant of a call, which is no arrival, and drops its deadline.
 /// [XSH pthread_mutex_unlock, pthread_rwlock_unlock]
 #[inline(always)]
 pub(crate) fn push_granted<Q: WaitList, A: Allocator + Copy>(
@@ -355,7 +357,7 @@ pub(crate) fn push_granted<Q: WaitList, A: Allocator + Copy>(
     drop_deadline(timers, &found.call);
 }
 
-/// Pushes what must follow, and drops the deadline of the call that it serves or ends.
+/// Pushes a forced entry, and drops the deadline of the call that it serves, ends or moves.
 /// [XSH pthread_mutex_unlock, pthread_mutex_lock EOWNERDEAD, pthread_mutex_timedlock]
 pub(crate) fn push_forced<Q: WaitList, A: Allocator + Copy>(
     state: &mut State<A>,

@@ -80,7 +80,8 @@ pub(crate) fn push_signal<Q: WaitList, A: Allocator + Copy>(
     }
 }
 
-// A waiter, as it waits once the entry at this place has moved it.  [XSH pthread_cond_broadcast]
+// Returns a waiter as it waits after the entry at this place has moved it.
+// [XSH pthread_cond_broadcast]
 #[inline(always)]
 fn moved_at(place: u64, waiter: &Waiter) -> Waiter
     ensures { result ≡ record waiter.now { moved = place } }
@@ -94,7 +95,7 @@ fn moved_at(place: u64, waiter: &Waiter) -> Waiter
     }
 }
 
-/// Pushes a `broadcast`: all waits at its condition are woken, and wait at their mutex.
+/// Pushes a `broadcast`, which wakes all waits at its condition. They then wait at their mutex.
 /// [XSH pthread_cond_broadcast]
 pub(crate) fn push_broadcast<Q: WaitList, A: Allocator + Copy>(
     state: &mut State<A>,
@@ -139,7 +140,8 @@ pub(crate) fn push_late_wait<Q: WaitList, A: Allocator + Copy>(
     take_place(queues, state, late);
 }
 
-// The wait that a signal at this condition wakes.  [XSH pthread_cond_signal]
+// Returns the wait that a signal at this condition wakes, if there is one.
+// [XSH pthread_cond_signal]
 #[inline(always)]
 fn first_waiting<'s, Q: WaitList, A: Allocator + Copy>(
     queues: &Q,
@@ -161,7 +163,7 @@ fn first_waiting<'s, Q: WaitList, A: Allocator + Copy>(
     }
 }
 
-// The mutex with which calls wait at the condition, if some do.  [XSH pthread_cond_wait]
+// Returns the mutex with which calls wait at the condition, if some do.  [XSH pthread_cond_wait]
 #[inline(always)]
 fn bound_at<Q: WaitList, A: Allocator + Copy>(
     queues: &Q,
@@ -179,7 +181,8 @@ fn bound_at<Q: WaitList, A: Allocator + Copy>(
     }
 }
 
-// The mutex with which calls wait at the condition; 0 if none do.  [XSH pthread_cond_wait]
+// Returns the mutex with which calls wait at the condition, or 0 if none do.
+// [XSH pthread_cond_wait]
 #[inline(always)]
 fn mutex_of_waits<Q: WaitList, A: Allocator + Copy>(
     queues: &Q,
@@ -198,7 +201,8 @@ fn mutex_of_waits<Q: WaitList, A: Allocator + Copy>(
 }
 
 impl<Q: WaitList, A: Allocator + Copy> Body<Q, A> {
-    /// The mutex with which calls wait at the condition, if some do.  [XSH pthread_cond_wait]
+    /// Returns the mutex with which calls wait at the condition, if some do.
+    /// [XSH pthread_cond_wait]
     #[inline(never)]
     pub(crate) fn bound(&self, q: ObjectId) -> Option<ObjectId>
         requires read { AreTables self.now }
@@ -208,7 +212,7 @@ impl<Q: WaitList, A: Allocator + Copy> Body<Q, A> {
         bound_at(&self.queues, &self.state, q)
     }
 
-    // The condition, bound to the mutex with which calls wait there, if some do.
+    // Returns the condition, bound to the mutex with which calls wait there, if some do.
     // [XSH pthread_cond_wait]
     fn condition(&self, q: ObjectId) -> CondObj
         requires read { AreTables self.now }
@@ -222,7 +226,7 @@ impl<Q: WaitList, A: Allocator + Copy> Body<Q, A> {
         found
     }
 
-    /// How many waits are at the condition and aren't moved.  [XSH pthread_cond_wait]
+    /// Returns how many waits at the condition have not been moved.  [XSH pthread_cond_wait]
     pub(crate) fn waiting(&self, q: ObjectId) -> u64
         requires read { AreTables self.now }
         requires cond { kind_of (past self.now) q ≡ Some kind.Cond }
@@ -233,7 +237,8 @@ impl<Q: WaitList, A: Allocator + Copy> Body<Q, A> {
         self.queues.len(q) as u64
     }
 
-    /// The verdict of a client's wait at a condition with a mutex.  [XSH pthread_cond_timedwait]
+    /// Returns the verdict of a client's wait at a condition with a mutex.
+    /// [XSH pthread_cond_timedwait]
     pub(crate) fn awaits_verdict(
         &self,
         c: ClientId,

@@ -1,4 +1,4 @@
-//! Forced entries: which comes next, and how it comes in.
+//! Forced entries: which one comes next, and how it is pushed.
 
 ghost use Rattle.std.specs.Prelude.{IsSome, None, Some, ◌-◌, ◌&&◌, ◌≡◌, false, filter};
 ghost use Rattle.std.specs.Prelude.{if◌then◌else◌};
@@ -39,8 +39,8 @@ use pt_types::{ClientId, ObjectId};
 use pt_waitq::WaitList;
 use std::alloc::Allocator;
 
-// The entries that are no longer reserved as a call gets its mutex: one less if a robust mutex gets
-// an owner, for its Yield.
+// Returns how many entries are no longer reserved after a call got its mutex. If a robust mutex got
+// an owner, that is one fewer, since an entry is reserved for its Yield.
 #[inline(always)]
 fn used_by_gain(open: &Open, had: Had) -> u64
     ensures { let reserved = counted reserved_open (Some «open».now) in
@@ -53,7 +53,7 @@ fn used_by_gain(open: &Open, had: Had) -> u64
     }
 }
 
-// A call gets what it is for, and leaves its queue.
+// Pushes the Grant of a call, which leaves its queue.
 // [XSH pthread_mutex_unlock, pthread_rwlock_unlock]
 #[inline(always)]
 pub(crate) fn push_granted<Q: WaitList, A: Allocator + Copy>(
@@ -72,7 +72,8 @@ pub(crate) fn push_granted<Q: WaitList, A: Allocator + Copy>(
     queues.remove(found.call.client);
 }
 
-// A call is served.  [XSH pthread_barrier_wait, pthread_mutex_unlock, pthread_rwlock_unlock]
+// Pushes the entry that serves a call: the Trip of its barrier, or its Grant.
+// [XSH pthread_barrier_wait, pthread_mutex_unlock, pthread_rwlock_unlock]
 #[inline(always)]
 pub(crate) fn push_served<Q: WaitList, A: Allocator + Copy>(
     state: &mut State<A>,
@@ -92,7 +93,8 @@ pub(crate) fn push_served<Q: WaitList, A: Allocator + Copy>(
     }
 }
 
-// The deadline of a call for a lock has passed: it ends.  [XSH pthread_mutex_timedlock]
+// Pushes the Expire of a call for a lock. The call ends, and leaves its queue.
+// [XSH pthread_mutex_timedlock]
 fn push_late_lock<Q: WaitList, A: Allocator + Copy>(
     state: &mut State<A>,
     queues: &mut Q,
@@ -109,7 +111,7 @@ fn push_late_lock<Q: WaitList, A: Allocator + Copy>(
     queues.remove(found.call.client);
 }
 
-// A deadline has passed.  [XSH pthread_cond_timedwait, pthread_mutex_timedlock]
+// Pushes the Expire of a call.  [XSH pthread_cond_timedwait, pthread_mutex_timedlock]
 pub(crate) fn push_expire<Q: WaitList, A: Allocator + Copy>(
     state: &mut State<A>,
     queues: &mut Q,
@@ -128,7 +130,7 @@ pub(crate) fn push_expire<Q: WaitList, A: Allocator + Copy>(
     }
 }
 
-/// What must follow is pushed.
+/// Pushes a forced entry.
 /// [XSH pthread_mutex_unlock, pthread_mutex_lock EOWNERDEAD, pthread_mutex_timedlock]
 pub(crate) fn push_forced<Q: WaitList, A: Allocator + Copy>(
     state: &mut State<A>,
@@ -149,7 +151,8 @@ pub(crate) fn push_forced<Q: WaitList, A: Allocator + Copy>(
 }
 
 impl<Q: WaitList, A: Allocator + Copy> Body<Q, A> {
-    // What is served first.  [XSH pthread_mutex_unlock, the lowest first is profile]
+    // Returns what is served first, if anything is.
+    // [XSH pthread_mutex_unlock, the lowest first is profile]
     #[inline(always)]
     fn first_service(&self) -> Option<Service>
         requires { AreTables self.now }
@@ -159,8 +162,8 @@ impl<Q: WaitList, A: Allocator + Copy> Body<Q, A> {
         self.service_at(self.touched?)
     }
 
-    // A call gets its mutex, or is answered that it is lost. What is touched stays so.
-    // [XSH pthread_mutex_unlock]
+    // Pushes the Grant of a call, which gets its mutex or learns that it is lost. The touched
+    // object stays the same.  [XSH pthread_mutex_unlock]
     #[inline(always)]
     fn push_gained(&mut self, found: &Open, m: ObjectId)
         requires read { AreTables self.old }
@@ -175,7 +178,7 @@ impl<Q: WaitList, A: Allocator + Copy> Body<Q, A> {
         self.need -= used_by_gain(found, had);
     }
 
-    // A call that is no arrival gets what it waits for. What is touched stays so.
+    // Pushes the Grant of a call that is no arrival. The touched object stays the same.
     // [XSH pthread_rwlock_unlock]
     #[inline(always)]
     fn push_passed(&mut self, found: &Open)
@@ -190,7 +193,7 @@ impl<Q: WaitList, A: Allocator + Copy> Body<Q, A> {
         self.need -= used;
     }
 
-    // The open call of a client is served, which must be and is no arrival.
+    // Pushes the Grant of a client's open call, which must be served and is no arrival.
     // [XSH pthread_mutex_unlock, pthread_rwlock_unlock]
     #[inline(never)]
     fn push_service(&mut self, c: ClientId)
@@ -216,8 +219,8 @@ impl<Q: WaitList, A: Allocator + Copy> Body<Q, A> {
         }
     }
 
-    // The call that is served first gets what it waits for, and at a barrier all others that wait
-    // there.  [XSH pthread_barrier_wait]
+    // Pushes the entry that serves the first call and, at a barrier, all others that wait there.
+    // [XSH pthread_barrier_wait]
     #[inline(always)]
     pub(crate) fn push_first(&mut self, service: Service)
         requires read { AreTables self.old }
@@ -232,8 +235,8 @@ impl<Q: WaitList, A: Allocator + Copy> Body<Q, A> {
         }
     }
 
-    // A robust mutex is taken from its dead owner, and is touched then.
-    // [XSH pthread_mutex_lock, EOWNERDEAD]
+    // Pushes the Yield of a robust mutex whose owner is dead. The mutex is the touched object after
+    // that.  [XSH pthread_mutex_lock, EOWNERDEAD]
     #[inline(always)]
     fn push_yield(&mut self, m: ObjectId)
         requires ready { IsReadyFor self.old (entry.Yield m) }
@@ -244,7 +247,7 @@ impl<Q: WaitList, A: Allocator + Copy> Body<Q, A> {
         self.need -= 1;
     }
 
-    // The deadline of the call at a place has passed. The client is looked at first.
+    // Pushes the Expire of the call at a place. This client's open call is looked at first.
     // [XSH pthread_cond_timedwait, pthread_mutex_timedlock]
     #[inline(never)]
     fn push_overdue(&mut self, place: u64, c: ClientId)
@@ -257,8 +260,8 @@ impl<Q: WaitList, A: Allocator + Copy> Body<Q, A> {
         self.push_forced(&Forced::Expire(late));
     }
 
-    /// Pushes what must follow next, and returns whether anything must: service, then yields, then
-    /// deadlines.
+    /// Pushes the entry that must follow next, and returns whether one must. Grants and Trips come
+    /// first, then Yields, then Expires.
     /// [XSH pthread_mutex_unlock, pthread_mutex_lock EOWNERDEAD, pthread_mutex_timedlock]
     #[inline(always)]
     pub fn push_next(&mut self) -> bool

@@ -1,4 +1,4 @@
-//! Calls for a lock that is free: each is pushed with its Grant, and stands in no queue.
+//! Calls for a free lock. Each is pushed together with its Grant, and enters no queue.
 
 ghost use Rattle.std.specs.Prelude.{IfErr, IfOk, IsOk, None, OnErr, OnOk, Some, ◌&&◌, false, ◌≡◌};
 ghost use Rattle.std.specs.Prelude.{◌<◌, ◌≤◌, if◌then◌else◌, option_map, true, unwrap_or};
@@ -44,7 +44,7 @@ use pt_types::{Call, ClientId, How, ObjectId, Outcome, Priority, Refusal};
 use pt_waitq::WaitList;
 use std::alloc::Allocator;
 
-// Whether nobody's lock keeps a call for a read-write lock from it.
+// Returns whether nobody holds a lock that keeps a call of this kind from a read-write lock.
 // [XSH pthread_rwlock_rdlock, pthread_rwlock_wrlock]
 #[inline(always)]
 fn is_free_lock<A: Allocator + Copy>(kind: LockKind, lock: &Holders<A>) -> bool
@@ -58,7 +58,7 @@ fn is_free_lock<A: Allocator + Copy>(kind: LockKind, lock: &Holders<A>) -> bool
     }
 }
 
-// Whether a call for a lock has no deadline that is a time.  [XSH pthread_mutex_timedlock]
+// Returns whether a call for a lock has no deadline that is a time.  [XSH pthread_mutex_timedlock]
 #[inline(always)]
 fn is_untimed(how: &How) -> bool
     ensures untimed { OnTrue result (good_of (deadline_of how.now) ≡ None) }
@@ -70,7 +70,7 @@ fn is_untimed(how: &How) -> bool
     }
 }
 
-// Whether nobody's lock keeps a call for this lock from it.
+// Returns whether nobody holds a lock that keeps a call of this kind from an object.
 // [XSH pthread_mutex_lock, pthread_rwlock_rdlock, pthread_rwlock_wrlock]
 #[inline(always)]
 fn is_free<A: Allocator + Copy>(state: &State<A>, kind: LockKind, o: ObjectId) -> bool
@@ -87,16 +87,17 @@ fn is_free<A: Allocator + Copy>(state: &State<A>, kind: LockKind, o: ObjectId) -
     }
 }
 
-// What came of a call that was granted as it came.
+// The result of a call that was granted as it came.
 #[derive(Clone, Copy)]
 struct Granted {
-    // How many entries are no longer reserved.
+    // The number of entries that are no longer reserved.
     used: u64,
     outcome: Outcome,
 }
 
-// How many entries are no longer reserved once a call got its mutex: one is, for a Yield, if the
-// mutex is robust and had no owner.  [XSH pthread_mutex_lock, EOWNERDEAD]
+// Returns how many entries are no longer reserved after the Grant of a call for a mutex. One stays
+// reserved for a Yield if the mutex is robust and was acquired.
+// [XSH pthread_mutex_lock, EOWNERDEAD]
 #[inline(always)]
 fn used_by_had(had: Had) -> u64
     ensures { result ≡ if had.robust && is_acquired_it had.outcome then 2 else 3 }
@@ -108,7 +109,8 @@ fn used_by_had(had: Had) -> u64
     }
 }
 
-// Pushes a call for a mutex that is granted as it comes, with its Grant.  [XSH pthread_mutex_lock]
+// Pushes a call for a mutex that is granted as it comes, together with its Grant.
+// [XSH pthread_mutex_lock]
 #[inline(always)]
 fn push_had<A: Allocator + Copy>(
     state: &mut State<A>,
@@ -130,7 +132,7 @@ fn push_had<A: Allocator + Copy>(
     }
 }
 
-// Whether a call is for a read lock.  [XSH pthread_rwlock_rdlock]
+// Returns whether a call is for a read lock.  [XSH pthread_rwlock_rdlock]
 #[inline(always)]
 fn asks_to_read(call: &Call) -> bool
     ensures { result ≡ asks_to_read_of (operation call.now) }
@@ -141,8 +143,8 @@ fn asks_to_read(call: &Call) -> bool
     )
 }
 
-// Pushes a call for a read-write lock that is granted as it comes, with its Grant. ENOMEM if there
-// is no memory for its row in the lock: then nothing is pushed.
+// Pushes a call for a read-write lock that is granted as it comes, together with its Grant. ENOMEM
+// if there is no memory for the client's row in the lock; then nothing is pushed.
 // [XSH pthread_rwlock_rdlock, pthread_rwlock_wrlock]
 #[inline(never)]
 fn push_lock_had<A: Allocator + Copy>(
@@ -169,7 +171,7 @@ fn push_lock_had<A: Allocator + Copy>(
     Ok(())
 }
 
-// Whether a call is for a mutex.  [XSH pthread_mutex_lock]
+// Returns whether a call is for a mutex.  [XSH pthread_mutex_lock]
 #[inline(always)]
 fn asks_for_mutex(call: &Call) -> bool
     ensures { result ≡ asks_for_mutex_of (operation call.now) }
@@ -180,8 +182,8 @@ fn asks_for_mutex(call: &Call) -> bool
     )
 }
 
-// Pushes a call that is granted as it comes, with its Grant. A mutex needs no row of the client, so
-// its call is never left waiting.
+// Pushes a call that is granted as it comes, together with its Grant. A mutex needs no row for the
+// client, so a call for it is never refused.
 #[inline(always)]
 fn push_both<A: Allocator + Copy>(
     state: &mut State<A>,
@@ -211,8 +213,8 @@ fn push_both<A: Allocator + Copy>(
 }
 
 impl<Q: WaitList, A: Allocator + Copy> Body<Q, A> {
-    // Whether a client that lives has a higher priority than this. It is seldom asked, so it is not
-    // inlined.
+    // Returns whether a client lives and has a higher priority than this. It is not inlined, since
+    // it is seldom called.
     #[cold]
     #[inline(never)]
     fn is_above(&self, c: ClientId, prio: Priority) -> bool
@@ -226,8 +228,8 @@ impl<Q: WaitList, A: Allocator + Copy> Body<Q, A> {
         }
     }
 
-    // Whether a call of the client would go before all that wait at the object, by its priority.
-    // [XSH 2.8.4]
+    // Returns whether a call of the client would go before all calls that wait at the object, by
+    // its priority.  [XSH 2.8.4]
     #[inline(always)]
     fn is_ahead(&self, c: ClientId, o: ObjectId) -> bool
         requires { AreTables self.now }
@@ -241,8 +243,8 @@ impl<Q: WaitList, A: Allocator + Copy> Body<Q, A> {
         }
     }
 
-    // Whether a call is one for a lock that is granted as it comes: the lock is free, those that
-    // wait for it have a lower priority, and the call has no deadline that could pass.
+    // Returns whether a call is one for a lock that is granted as it comes: the lock is free, the
+    // calls that wait for it have a lower priority, and the call has no deadline that could pass.
     // [XSH pthread_mutex_lock, pthread_rwlock_rdlock, pthread_rwlock_wrlock]
     #[inline(always)]
     fn is_granted_at_once(
@@ -275,7 +277,7 @@ impl<Q: WaitList, A: Allocator + Copy> Body<Q, A> {
         }
     }
 
-    /// Whether an event is a call for a lock that is granted as it comes.
+    /// Returns whether an event is a call for a lock that is granted as it comes.
     #[inline(always)]
     pub(crate) fn is_at_once(
         &self,
@@ -301,10 +303,10 @@ impl<Q: WaitList, A: Allocator + Copy> Body<Q, A> {
         }
     }
 
-    /// The entry of a call that is granted as it comes, and its Grant. The outcome is returned.
+    /// Pushes the entry of a call that is granted as it comes, and its Grant. Returns the outcome.
     /// Nothing must follow then, since the call has passed those that may still wait for the lock.
-    /// ENOMEM if there is no memory for its row in a read-write lock: then nothing is pushed.
-    /// [XSH pthread_mutex_lock, pthread_rwlock_rdlock, pthread_rwlock_wrlock]
+    /// ENOMEM if there is no memory for the client's row in a read-write lock; then nothing is
+    /// pushed.  [XSH pthread_mutex_lock, pthread_rwlock_rdlock, pthread_rwlock_wrlock]
     #[inline(always)]
     pub fn push_granted_at_once(
         &mut self,

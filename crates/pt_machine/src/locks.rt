@@ -1,4 +1,4 @@
-//! Calls for locks that have to wait and have no deadline.
+//! Lock calls that must wait and have no deadline.
 
 ghost use Rattle.pt_state.specs.Requests.{IsRequest};
 ghost use Rattle.std.specs.Prelude.{IfErr, IsOk, None, OnErr, OnOk, Some, ◌≡◌, false, true};
@@ -19,7 +19,7 @@ use pt_types::{Call, ClientId, How, Name, Priority, Refusal};
 use pt_waitq::WaitList;
 use std::alloc::Allocator;
 
-// A living client's priority, by its row.  [XSH 2.8.4]
+// Returns a living client's priority, as its row has it.  [XSH 2.8.4]
 #[inline(always)]
 fn priority_in_row<A: Allocator + Copy>(state: &State<A>, c: ClientId) -> Priority
     requires read { AreTables state.now }
@@ -30,8 +30,8 @@ fn priority_in_row<A: Allocator + Copy>(state: &State<A>, c: ClientId) -> Priori
 }
 
 // Pushes a call for a lock, and puts it into its queue. It waits there with its client's priority,
-// which is read before the call is pushed, so its client's row is not looked at again. ENOMEM if
-// there is no memory for its row in a read-write lock.
+// which is read before the push, so the client's row is not looked at again. ENOMEM if there is no
+// memory for the client's row in a read-write lock.
 // [XSH pthread_mutex_lock, pthread_rwlock_rdlock, pthread_rwlock_wrlock]
 #[inline(always)]
 fn enter_lock<Q: WaitList, A: Allocator + Copy>(
@@ -65,7 +65,7 @@ fn enter_lock<Q: WaitList, A: Allocator + Copy>(
     }
 }
 
-/// As `leave_any`, for a `lock`.  [XSH pthread_mutex_lock]
+/// Does what `leave_any` does, for a `lock`.  [XSH pthread_mutex_lock]
 #[inline(never)]
 pub(crate) fn leave_mutex_lock<Q: WaitList, A: Allocator + Copy>(
     state: &mut State<A>,
@@ -89,7 +89,7 @@ pub(crate) fn leave_mutex_lock<Q: WaitList, A: Allocator + Copy>(
     }
 }
 
-/// As `leave_any`, for a `rdlock`.  [XSH pthread_rwlock_rdlock]
+/// Does what `leave_any` does, for an `rdlock`.  [XSH pthread_rwlock_rdlock]
 #[inline(never)]
 pub(crate) fn leave_read_lock<Q: WaitList, A: Allocator + Copy>(
     state: &mut State<A>,
@@ -113,7 +113,7 @@ pub(crate) fn leave_read_lock<Q: WaitList, A: Allocator + Copy>(
     }
 }
 
-/// As `leave_any`, for a `wrlock`.  [XSH pthread_rwlock_wrlock]
+/// Does what `leave_any` does, for a `wrlock`.  [XSH pthread_rwlock_wrlock]
 #[inline(never)]
 pub(crate) fn leave_write_lock<Q: WaitList, A: Allocator + Copy>(
     state: &mut State<A>,

@@ -22,8 +22,8 @@ use pt_types::{Call, ClientId, Name, ObjectId, ObjectKind, Outcome, Refusal, Ver
 use pt_waitq::WaitList;
 use std::alloc::Allocator;
 
-// An object is made, with its queue. ENOMEM if there is no memory for one of them.
-// [XSH pthread_mutex_init]
+// Pushes a call that makes an object, and makes the object's queue. ENOMEM if there is no memory
+// for the object or its queue.  [XSH pthread_mutex_init]
 #[inline(always)]
 pub(crate) fn push_made<Q: WaitList, A: Allocator + Copy>(
     state: &mut State<A>,
@@ -54,7 +54,8 @@ pub(crate) fn push_made<Q: WaitList, A: Allocator + Copy>(
     }
 }
 
-// An object is ended, and its queue with it.  [XSH pthread_mutex_destroy]
+// Pushes a call that destroys an object, and discards the object's queue.
+// [XSH pthread_mutex_destroy]
 #[inline(always)]
 pub(crate) fn push_ended<Q: WaitList, A: Allocator + Copy>(
     state: &mut State<A>,
@@ -77,7 +78,7 @@ pub(crate) fn push_ended<Q: WaitList, A: Allocator + Copy>(
     state.push_ended(c, call, n, class, Some(o));
 }
 
-/// As `push_any_done`, for a call that makes an object.  [XSH pthread_mutex_init]
+/// Does what `push_any_done` does, for a call that makes an object.  [XSH pthread_mutex_init]
 #[inline(never)]
 pub(crate) fn push_new_object<Q: WaitList, A: Allocator + Copy>(
     state: &mut State<A>,
@@ -101,7 +102,7 @@ pub(crate) fn push_new_object<Q: WaitList, A: Allocator + Copy>(
     }
 }
 
-/// As `push_any_done`, for a call that ends an object.  [XSH pthread_mutex_destroy]
+/// Does what `push_any_done` does, for a call that destroys an object.  [XSH pthread_mutex_destroy]
 #[inline(never)]
 pub(crate) fn push_ended_object<Q: WaitList, A: Allocator + Copy>(
     state: &mut State<A>,
@@ -129,7 +130,8 @@ pub(crate) fn push_ended_object<Q: WaitList, A: Allocator + Copy>(
 }
 
 impl<Q: WaitList, A: Allocator + Copy> Body<Q, A> {
-    /// A call that ends this object.  [XSH pthread_mutex_destroy, EBUSY is profile]
+    /// Returns the verdict of a call that destroys this object.
+    /// [XSH pthread_mutex_destroy, EBUSY is profile]
     fn end_verdict(&self, class: ObjectClass, o: ObjectId) -> Verdict
         requires read { AreTables self.now }
         requires class { option_map class_of (kind_of (past self.now) o)
@@ -147,7 +149,7 @@ impl<Q: WaitList, A: Allocator + Copy> Body<Q, A> {
         }
     }
 
-    /// A call that ends an object.  [XSH pthread_mutex_destroy]
+    /// Returns the verdict of a call that destroys an object.  [XSH pthread_mutex_destroy]
     pub(crate) fn ends_verdict(
         &self,
         n: &Name,

@@ -23,7 +23,7 @@ use pt_waitq::WaitList;
 use std::alloc::Allocator;
 
 impl<Q: WaitList, A: Allocator + Copy> Body<Q, A> {
-    // The client's open call, if it came at this place.
+    // Returns the client's open call, if it came at this place.
     fn open_if_at(&self, c: ClientId, place: u64) -> Option<&Open>
         requires { AreTables self.now }
         ensures { option_copied result
@@ -35,7 +35,8 @@ impl<Q: WaitList, A: Allocator + Copy> Body<Q, A> {
         }
     }
 
-    // The open call that came at a place, if there is one, by its entry.
+    // Returns the open call that came at a place, if there is one. Its client is found by
+    // `caller_at`.
     #[cold]
     #[inline(never)]
     fn open_stored_at(&self, place: u64) -> Option<&Open>
@@ -47,8 +48,8 @@ impl<Q: WaitList, A: Allocator + Copy> Body<Q, A> {
         self.open_if_at(self.caller_at(place)?, place)
     }
 
-    /// The open call that came at a place, if there is one. The client is looked at first: to read
-    /// the entry of an old call takes longer.
+    /// Returns the open call that came at a place, if there is one. This client's open call is
+    /// looked at first, since it takes longer to read the entry of an old call.
     #[inline(always)]
     pub(crate) fn open_at(&self, place: u64, c: ClientId) -> Option<&Open>
         requires { AreTables self.now }
@@ -62,8 +63,8 @@ impl<Q: WaitList, A: Allocator + Copy> Body<Q, A> {
         }
     }
 
-    /// The place of the open call with the least deadline that has passed, with the client that was
-    /// set with it, if no call is to be served.
+    /// Returns the place of the open call with the least deadline that has passed, and the client
+    /// that was set with it, if there is one. Must be called only when no call is to be served.
     /// [XSH pthread_mutex_timedlock, the order is profile]
     pub(crate) fn first_due(&self) -> Option<(u64, ClientId)>
         requires read { AreTables self.now }
@@ -75,8 +76,8 @@ impl<Q: WaitList, A: Allocator + Copy> Body<Q, A> {
         self.timers.least_due(clocks.real, clocks.mono)
     }
 
-    /// The least deadline by this clock of the open calls that are not moved, as it was written.
-    /// [profile]
+    /// Returns the least deadline by this clock among the open calls that were not moved, as the
+    /// call gave it.  [profile]
     pub fn least_deadline(&self, clock: Clock) -> Option<Deadline>
         requires read { AreTables self.now }
         requires quiet { forced (past self.now) ≡ None }

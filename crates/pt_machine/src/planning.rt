@@ -1,4 +1,4 @@
-//! Plans: the request, the answer, the reserved entries and the touched object, before an entry is
+//! Plans: an event's request, answer, reserved entries and touched object, before its entry is
 //! pushed.
 
 ghost use Rattle.pt_state.specs.Requests.{IsRequest};
@@ -34,19 +34,20 @@ use std::alloc::Allocator;
 /// What is known of an event's entry before it is pushed.  [profile]
 #[derive(Clone, Copy)]
 pub struct Plan {
-    /// The objects that the names of the event's call mean; none if it is no call.
+    /// The objects that the names of the event's call mean, or none if the event is no call.
     pub request: Request,
-    /// The answer that the call gets at once; None if it waits, or the event is no call.
+    /// The answer that the call gets at once. None if the call waits, or the event is no call.
     pub answer: Option<Outcome>,
-    /// How many entries are reserved after the event's entry.
+    /// The number of entries that are reserved after the event's entry.
     pub need: u64,
     /// The one object at which the entry may let a call go on, if there is one.
     pub touched: Option<ObjectId>,
-    /// Whether it is a call for a lock that is granted as it comes.
+    /// Whether the event is a call for a lock that is granted as it comes.
     pub at_once: bool,
 }
 
-// How many entries an entry adds to those reserved, how many it releases, and what it touches.
+// What an entry changes: how many entries it adds to those reserved, how many of them it releases,
+// and what it touches.
 #[derive(Clone, Copy)]
 struct Change {
     added: u64,
@@ -54,7 +55,7 @@ struct Change {
     touched: Option<ObjectId>,
 }
 
-// What an event's call does, if it is a call.  [XSH, the call's page]
+// Returns what an event's call does, if the event is a call.  [XSH, the call's page]
 #[inline(always)]
 fn operation_in(event: &Event) -> Option<Operation<'_>>
     ensures { HasOperation event.now result }
@@ -65,7 +66,7 @@ fn operation_in(event: &Event) -> Option<Operation<'_>>
     }
 }
 
-// What an event asks for that is no call.
+// The request of an event that is no call.
 const NO_REQUEST: Request = Request {
     object: None,
     mutex: None,
@@ -78,7 +79,8 @@ const NO_CHANGE: Change = Change {
 };
 
 impl<Q: WaitList, A: Allocator + Copy> Body<Q, A> {
-    // How many Yields are reserved no longer: 1 if this is the last lock on a robust mutex.
+    // Returns how many Yields are no longer reserved: 1 if this is the last lock on a robust mutex,
+    // else 0.
     #[inline(always)]
     fn last_lock(&self, c: ClientId, m: ObjectId) -> u64
         requires { AreTables self.now }
@@ -90,7 +92,8 @@ impl<Q: WaitList, A: Allocator + Copy> Body<Q, A> {
         }
     }
 
-    // What a wait changes: its client gives one lock on the mutex back.  [XSH pthread_cond_wait]
+    // Returns what a wait changes. Its client gives back one lock on the mutex.
+    // [XSH pthread_cond_wait]
     #[inline(always)]
     fn change_by_wait(
         &self,
@@ -119,7 +122,7 @@ impl<Q: WaitList, A: Allocator + Copy> Body<Q, A> {
         }
     }
 
-    // What a call changes if it has to wait.
+    // Returns what a call changes if it has to wait.
     // [XSH pthread_mutex_lock, pthread_cond_wait, pthread_barrier_wait]
     #[inline(always)]
     fn change_if_waiting(
@@ -157,7 +160,7 @@ impl<Q: WaitList, A: Allocator + Copy> Body<Q, A> {
         }
     }
 
-    // What an `unlock` changes if it is answered 0.  [XSH pthread_mutex_unlock]
+    // Returns what an `unlock` changes if it is answered 0.  [XSH pthread_mutex_unlock]
     #[inline(always)]
     fn change_by_unlock(&self, c: ClientId, object: Option<ObjectId>) -> Change
         requires { AreTables self.now }
@@ -175,7 +178,7 @@ impl<Q: WaitList, A: Allocator + Copy> Body<Q, A> {
         }
     }
 
-    // What a `signal` changes: the wait that it wakes, if any, needs one entry less.
+    // Returns what a `signal` changes. The wait that it wakes, if any, needs one entry fewer.
     // [XSH pthread_cond_signal]
     fn change_by_signal(&self, n: &Name, object: Option<ObjectId>) -> Change
         requires read { AreTables self.now }
@@ -196,7 +199,7 @@ impl<Q: WaitList, A: Allocator + Copy> Body<Q, A> {
         }
     }
 
-    // What a `broadcast` changes: each wait that it wakes needs one entry less.
+    // Returns what a `broadcast` changes. Each wait that it wakes needs one entry fewer.
     // [XSH pthread_cond_broadcast]
     fn change_by_broadcast(&self, n: &Name, object: Option<ObjectId>) -> Change
         requires read { AreTables self.now }
@@ -217,7 +220,7 @@ impl<Q: WaitList, A: Allocator + Copy> Body<Q, A> {
         }
     }
 
-    // What a call changes if it is answered 0.
+    // Returns what a call changes if it is answered 0.
     // [XSH pthread_mutex_unlock, pthread_rwlock_unlock, pthread_cond_signal]
     #[inline(always)]
     fn change_if_done(&self, c: ClientId, operation: &Operation<'_>, request: &Request) -> Change
@@ -243,7 +246,7 @@ impl<Q: WaitList, A: Allocator + Copy> Body<Q, A> {
         }
     }
 
-    // What a call changes, with the answer that it has at once.
+    // Returns what a call changes, given the answer that it has at once.
     #[inline(always)]
     fn change_by_call(
         &self,
@@ -270,7 +273,8 @@ impl<Q: WaitList, A: Allocator + Copy> Body<Q, A> {
         }
     }
 
-    // What a client's Death changes: what its open call and its own Death needed is released.
+    // Returns what a client's Death changes. The entries that its open call and its own Death
+    // needed are released.
     fn change_by_death(&self, c: ClientId) -> Change
         requires { AreTables self.now }
         ensures adds { result.added ≡ 0 }
@@ -284,7 +288,7 @@ impl<Q: WaitList, A: Allocator + Copy> Body<Q, A> {
         }
     }
 
-    // What an event's entry changes, with the answer that its call has at once.
+    // Returns what an event's entry changes, given the answer that its call has at once.
     #[inline(always)]
     fn change_by(
         &self,
@@ -319,7 +323,7 @@ impl<Q: WaitList, A: Allocator + Copy> Body<Q, A> {
         }
     }
 
-    // The answer that an event's call gets at once, if it is a call and gets one.
+    // Returns the answer that an event's call gets at once, if the event is a call and gets one.
     // [XSH, the call's page]
     #[inline(always)]
     fn answer_at_once(
@@ -342,7 +346,7 @@ impl<Q: WaitList, A: Allocator + Copy> Body<Q, A> {
         }
     }
 
-    // The objects that the names of an event's call mean, if it is a call.
+    // Returns the objects that the names of an event's call mean, if the event is a call.
     #[inline(always)]
     fn request(&self, event: &Event, operation: &Option<Operation<'_>>) -> Request
         requires read { AreTables self.now }
@@ -355,7 +359,7 @@ impl<Q: WaitList, A: Allocator + Copy> Body<Q, A> {
         }
     }
 
-    /// What is known of an event's entry before it is pushed.  [profile]
+    /// Returns what is known of an event's entry before it is pushed.  [profile]
     #[inline(always)]
     pub fn plan(&self, event: &Event) -> Plan
         requires read { AreTables self.now }
@@ -376,7 +380,7 @@ impl<Q: WaitList, A: Allocator + Copy> Body<Q, A> {
         }
     }
 
-    /// As `plan`, for events that come so seldom. It isn't inlined.  [profile]
+    /// Does what `plan` does, for events that come seldom. It is not inlined.  [profile]
     #[cold]
     #[inline(never)]
     pub fn plan_seldom(&self, event: &Event) -> Plan

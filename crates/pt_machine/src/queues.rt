@@ -1,4 +1,4 @@
-//! The queues of waiting calls: who takes a place, and who leaves it.
+//! The queues of waiting calls: what decides a call's turn, and how it takes its place.
 
 ghost use Rattle.std.specs.Prelude.{ℕ, ◌==◌, ◌≡◌, if◌then◌else◌};
 ghost use Rattle.pt_machine.specs.Queued.{CanStand, arriving as arriving_in};
@@ -23,8 +23,8 @@ use pt_types::{ClientId, MOST_PRIORITY, ObjectId, Priority};
 use pt_waitq::{WaitList, Waiter};
 use std::alloc::Allocator;
 
-// The priority with which a call waits: at a barrier each has the highest, so that they wait in
-// order of their arrival.  [XSH pthread_barrier_wait]
+// Returns the priority with which a call waits. At a barrier every call has the highest, so that
+// calls wait in order of their arrival.  [XSH pthread_barrier_wait]
 #[inline(always)]
 fn standing(role: Role, prio: Priority) -> Priority
     ensures { result ≡ standing_in role prio }
@@ -36,7 +36,7 @@ fn standing(role: Role, prio: Priority) -> Priority
     }
 }
 
-/// A client's arrival as it waits, by its place.  [XSH pthread_barrier_wait]
+/// Returns a client's arrival as it waits, given its place.  [XSH pthread_barrier_wait]
 #[inline(always)]
 pub(crate) fn arriving(client: ClientId, place: u64) -> Waiter
     ensures { result ≡ arriving_in client place }
@@ -50,7 +50,8 @@ pub(crate) fn arriving(client: ClientId, place: u64) -> Waiter
     }
 }
 
-/// A call for no write lock as it waits where it came, by its client and its place.  [XSH 2.8.4]
+/// Returns a call as it waits, given its client and its place, if it asks for no write lock and was
+/// not moved.  [XSH 2.8.4]
 #[inline(always)]
 pub(crate) fn entering(client: ClientId, place: u64, prio: Priority) -> Waiter
     ensures { result ≡ record (arriving_in client place) { prio = prio } }
@@ -64,7 +65,7 @@ pub(crate) fn entering(client: ClientId, place: u64, prio: Priority) -> Waiter
     }
 }
 
-/// A call for a lock as it waits, by its client and its place.  [XSH 2.8.4]
+/// Returns a call for a lock as it waits, given its client and its place.  [XSH 2.8.4]
 #[inline(always)]
 pub(crate) fn asking(client: ClientId, place: u64, prio: Priority, lock_kind: LockKind) -> Waiter
     ensures { result
@@ -82,7 +83,7 @@ pub(crate) fn asking(client: ClientId, place: u64, prio: Priority, lock_kind: Lo
     }
 }
 
-// An open call as it waits, with its client's priority.  [XSH 2.8.4]
+// Returns an open call as it waits, with its client's priority.  [XSH 2.8.4]
 fn waiter_of(open: &Open, prio: Priority) -> Waiter
     ensures { result
         ≡ record (waiter_by «open».now.moved «open».now.call) {
@@ -101,7 +102,7 @@ fn waiter_of(open: &Open, prio: Priority) -> Waiter
     }
 }
 
-/// The client's open call takes its place in the queue of the object at which an open call waits.
+/// Puts the client's open call into the queue of the object at which it waits.
 /// [XSH 2.8.4, pthread_rwlock_unlock]
 #[inline(always)]
 pub(crate) fn take_place<Q: WaitList, A: Allocator + Copy>(
@@ -128,7 +129,7 @@ pub(crate) fn take_place<Q: WaitList, A: Allocator + Copy>(
 }
 
 impl<Q: WaitList, A: Allocator + Copy> Body<Q, A> {
-    /// Whether a call waits at the object.  [XSH pthread_mutex_destroy]
+    /// Returns whether a call waits at the object.  [XSH pthread_mutex_destroy]
     #[inline(always)]
     pub(crate) fn is_awaited(&self, o: ObjectId) -> bool
         requires { AreTables self.now }

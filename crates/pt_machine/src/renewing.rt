@@ -1,4 +1,4 @@
-//! A body that is sealed to make room for an entry.
+//! Sealing a body to make room for an entry.
 
 ghost use Rattle.std.specs.Prelude.{IfErr, IfOk, None, OnErr, OnOk, false, length, map, nat_le};
 ghost use Rattle.std.specs.Prelude.{nat_lt, ◌&&◌, ◌+◌, ◌<◌, ◌≡◌, ◌≤◌};
@@ -24,7 +24,7 @@ use pt_types::{ClientId, ObjectId, Refusal};
 use pt_waitq::WaitList;
 use std::alloc::{Allocator, Global};
 
-// What a seal puts aside, and what was touched then.
+// What a seal puts aside, and what was touched before it.
 #[derive(Drop)]
 struct Before<A: Allocator + Copy = Global> {
     unsealed: Unsealed<A>,
@@ -33,8 +33,8 @@ struct Before<A: Allocator + Copy = Global> {
 }
 
 impl<Q: WaitList, A: Allocator + Copy> Body<Q, A> {
-    /// Whether an entry, with the `need` entries that are reserved after it, passes the limit as
-    /// the history is, and not after a seal.
+    /// Returns whether an entry, with the `need` entries that are reserved after it, would pass the
+    /// limit as the history is, but not after a seal.
     #[inline(always)]
     pub fn needs_seal(&self, need: u64) -> bool
         requires { need ≤ 8195 }
@@ -51,9 +51,9 @@ impl<Q: WaitList, A: Allocator + Copy> Body<Q, A> {
         limit < held + room && room <= limit
     }
 
-    // Puts the entries and the answers aside, if nothing must follow: the history goes on from its
-    // seal, with room for so many entries and answers. ENOMEM if a growth is refused: then nothing
-    // changes.
+    // Seals a history after which nothing must follow. Puts its entries and answers aside, and
+    // makes room for `room` entries and as many answers. ENOMEM if a growth is refused; then
+    // nothing changes.
     fn seal_with_room(&mut self, room: u64) -> Result<Before<A>, Refusal>
         requires read { AreTables self.old }
         requires settled { forced (past self.old) ≡ None }
@@ -79,7 +79,7 @@ impl<Q: WaitList, A: Allocator + Copy> Body<Q, A> {
         })
     }
 
-    // Goes back to what was put aside, if no entry came since.
+    // Undoes a seal after which no entry came: goes back to what was put aside.
     fn unseal(&mut self, before: Before<A>)
         requires read { AreTables self.old }
         requires begins { past self.old ≡ Begin (seal (past_of before.unsealed.stored)) }
@@ -98,9 +98,9 @@ impl<Q: WaitList, A: Allocator + Copy> Body<Q, A> {
         self.entering = before.entering;
     }
 
-    /// Seals the history with room for so many entries, and pushes the entry of an event. What was
-    /// put aside is returned, for its memory. ENOMEM if a growth is refused: then nothing is sealed
-    /// or pushed.
+    /// Seals the history with room for `room` entries, and pushes the entry of an event. Returns
+    /// what was put aside, for its memory. ENOMEM if a growth is refused; then nothing is sealed or
+    /// pushed.
     pub fn push_outer_sealed(&mut self, event: &Event, room: u64) -> Result<Unsealed<A>, Refusal>
         requires read { AreTables self.old }
         requires settled { forced (past self.old) ≡ None }
@@ -126,7 +126,7 @@ impl<Q: WaitList, A: Allocator + Copy> Body<Q, A> {
         }
     }
 
-    /// Moves entries and answers into the memory of those that a seal put aside.
+    /// Moves the entries and the answers into the memory of those that a seal put aside.
     pub fn take_memory(&mut self, unsealed: Unsealed<A>)
         requires { AreTables self.old }
         ensures { StaysOrGrows self.old self.new }

@@ -1,4 +1,4 @@
-//! Calls after whose entry nothing must follow.
+//! Calls after which nothing must follow.
 
 ghost use Rattle.std.specs.Prelude.{◌≡◌};
 ghost use Rattle.pt_types.specs.Operations.{operation};
@@ -8,8 +8,8 @@ use crate::planning::Plan;
 use pt_model::Event;
 use pt_types::Call;
 
-// Whether nothing must follow a call, given whether it is granted as it comes.
-// [XSH pthread_mutex_lock, pthread_rwlock_wrlock]
+// Returns whether it is known that nothing must follow a call, given whether it is granted as it
+// comes.  [XSH pthread_mutex_lock, pthread_rwlock_wrlock]
 #[inline(always)]
 fn rests_by(call: &Call, at_once: bool) -> bool
     ensures { result ≡ rests_by_it (operation call.now) at_once }
@@ -25,7 +25,7 @@ fn rests_by(call: &Call, at_once: bool) -> bool
     }
 }
 
-/// Whether it is known by its plan that nothing must follow an event's entry.
+/// Returns whether it is known from its plan that nothing must follow an event's entry.
 /// [XSH pthread_mutex_lock, pthread_rwlock_wrlock]
 #[inline(always)]
 pub fn rests_after(event: &Event, plan: &Plan) -> bool

@@ -29,7 +29,8 @@ use pt_types::views::is_acquired;
 use pt_waitq::WaitList;
 use std::alloc::Allocator;
 
-// Whether the Grant of a call gives an owner to a robust mutex: one is reserved for its Yield.
+// Returns whether the Grant of a call gives an owner to a robust mutex, for whose Yield an entry is
+// then reserved.
 #[inline(always)]
 fn gives_owner<A: Allocator + Copy>(state: &State<A>, open: &Open) -> bool
     requires read { AreTables state.now }
@@ -43,7 +44,7 @@ fn gives_owner<A: Allocator + Copy>(state: &State<A>, open: &Open) -> bool
     }
 }
 
-/// The entries that are no longer reserved as a call is granted.
+/// Returns how many entries are no longer reserved after a call is granted.
 #[inline(always)]
 pub(crate) fn used_by_grant<A: Allocator + Copy>(state: &State<A>, open: &Open) -> u64
     requires read { AreTables state.now }
@@ -60,7 +61,7 @@ pub(crate) fn used_by_grant<A: Allocator + Copy>(state: &State<A>, open: &Open) 
 }
 
 impl<Q: WaitList, A: Allocator + Copy> Body<Q, A> {
-    /// How many more entries have room.
+    /// Returns for how many more entries there is room.
     pub fn room(&self) -> u64
         ensures room { result ≡ self.now.stored.room }
         ensures within { length self.now.stored.entries + self.now.stored.room
@@ -69,7 +70,7 @@ impl<Q: WaitList, A: Allocator + Copy> Body<Q, A> {
         self.state.stored.room()
     }
 
-    /// How many more entries may be stored.
+    /// Returns how many more entries the limit allows.
     #[inline(always)]
     pub fn left(&self) -> u64
         ensures { length self.now.stored.entries + result ≡ self.now.stored.limit }
@@ -77,7 +78,7 @@ impl<Q: WaitList, A: Allocator + Copy> Body<Q, A> {
         self.state.stored.limit() as u64 - self.state.stored.held()
     }
 
-    /// Whether there is room for so many entries more, and memory for as many answers.
+    /// Returns whether there is room for `many` more entries, and memory for as many answers.
     #[inline(always)]
     pub fn has_room(&self, many: u64) -> bool
         ensures { (result ≡ true) ↔ ((many ≤ self.now.stored.room)
@@ -86,9 +87,9 @@ impl<Q: WaitList, A: Allocator + Copy> Body<Q, A> {
         many <= self.state.stored.room() && many <= self.state.answers.spare() as u64
     }
 
-    /// Makes room for so many entries more. FULL exactly if the history would pass its limit
-    /// with them; else ENOMEM if the growth is refused. A refusal changes nothing. Room that is
-    /// there already is never refused.
+    /// Makes room for `room` more entries. FULL exactly if the history would pass its limit with
+    /// them, else ENOMEM if the growth is refused. A refusal changes nothing. Room that is there
+    /// already is never refused.
     #[inline(always)]
     pub fn reserve_for(&mut self, room: u64) -> Result<(), Refusal>
         ensures ok { OnOk result (self.new
@@ -102,7 +103,7 @@ impl<Q: WaitList, A: Allocator + Copy> Body<Q, A> {
         self.state.stored.reserve_for(room)
     }
 
-    /// Makes room for so many answers more. ENOMEM if the growth is refused; room that is there
+    /// Makes room for `many` more answers. ENOMEM if the growth is refused. Room that is there
     /// already is never refused.
     #[inline(always)]
     pub fn reserve_answers(&mut self, many: u64) -> Result<(), Refusal>
@@ -121,12 +122,13 @@ impl<Q: WaitList, A: Allocator + Copy> Body<Q, A> {
         }
     }
 
-    /// The allocator of the tables.
+    /// Returns the allocator of the tables.
     pub fn alloc(&self) -> A {
         self.state.alloc
     }
 
-    /// Why an event is refused for its sender, or at 1,024 living clients; or none.
+    /// Returns why an event is refused: because of its sender, or because 1,024 clients live
+    /// already. Returns None if neither applies.
     #[inline(always)]
     pub fn refusal(&self, event: &Event) -> Option<Refusal>
         requires { AreTables self.now }
@@ -135,7 +137,8 @@ impl<Q: WaitList, A: Allocator + Copy> Body<Q, A> {
         self.state.refusal(event)
     }
 
-    // The entries that are no longer reserved as a full barrier trips, or a call is granted.
+    // Returns how many entries are no longer reserved after a full barrier trips, or a call is
+    // granted.
     #[inline(always)]
     pub(crate) fn used_by_service(&self, open: &Open) -> u64
         requires read { AreTables self.now }
@@ -151,7 +154,8 @@ impl<Q: WaitList, A: Allocator + Copy> Body<Q, A> {
         }
     }
 
-    // The entries that are no longer reserved as a deadline moves a wait, or ends another call.
+    // Returns how many entries are no longer reserved after a deadline moves a wait, or ends
+    // another call.
     fn used_by_expiry(&self, late: &Open) -> u64
         requires read { AreTables self.now }
         requires step { Step (past self.now) (entry_is.Expire late.now.call.place) }
@@ -162,7 +166,7 @@ impl<Q: WaitList, A: Allocator + Copy> Body<Q, A> {
         if is_wait(late.call.role) { 1 } else { 3 }
     }
 
-    // The entries that are no longer reserved from an entry on that must follow.
+    // Returns how many entries are no longer reserved after a forced entry.
     pub(crate) fn used_by_forced(&self, forced: &Forced) -> u64
         requires read { AreTables self.now }
         requires step { Step (past self.now) (entry_of (past self.now) forced.now) }
@@ -177,8 +181,8 @@ impl<Q: WaitList, A: Allocator + Copy> Body<Q, A> {
         }
     }
 
-    /// Whether the history, with an event's entry and all that must follow it, is longer than it
-    /// may be.
+    /// Returns whether the history, with an event's entry and the need after it, would pass its
+    /// limit.
     fn is_over(&self, event: &Event) -> bool
         requires read { AreTables self.now }
         requires step { Step (past self.now) (entry_for (past self.now) event.now) }
@@ -189,7 +193,8 @@ impl<Q: WaitList, A: Allocator + Copy> Body<Q, A> {
         (self.state.stored.limit() as u64) < held + 1 + self.plan_seldom(event).need
     }
 
-    /// The first refusal that applies, or none, if no entry is forced.
+    /// Returns the first refusal that applies without a seal, if there is one. Lack of memory is
+    /// not considered. Must be called only when nothing must follow.
     pub fn refusal_within(&self, event: &Event) -> Option<Refusal>
         requires read { AreTables self.now }
         requires quiet { forced (past self.now) ≡ None }

@@ -1,4 +1,4 @@
-//! Read-write locks: the verdict of a call that reads.
+//! Read-write locks: the verdict of a call for a read lock.
 
 ghost use Rattle.pt_model.specs.Objects.{find};
 ghost use Rattle.pt_types.specs.declared.operations.ObjectClass.TheVariants.{Rwlock as RwlockClass};
@@ -20,8 +20,8 @@ use pt_waitq::WaitList;
 use std::alloc::Allocator;
 
 impl<Q: WaitList, A: Allocator + Copy> Body<Q, A> {
-    /// Whether a writer of the client's priority or a higher one waits at the lock; one that
-    /// doesn't live has priority 0.  [XSH pthread_rwlock_rdlock]
+    /// Returns whether a writer of the client's priority or a higher one waits at the lock. A
+    /// client that does not live has priority 0.  [XSH pthread_rwlock_rdlock]
     pub(crate) fn is_blocked(&self, r: ObjectId, c: ClientId) -> bool
         requires { AreTables self.now }
         ensures { result
@@ -33,8 +33,8 @@ impl<Q: WaitList, A: Allocator + Copy> Body<Q, A> {
         }
     }
 
-    // Whether such a writer keeps a call to read from the lock. It isn't looked for where that is
-    // the same: a call that waits as long as it must is never answered at once for it.
+    // Returns whether such a writer keeps a call from its read lock. A plain call is never answered
+    // at once because of that, so for it no writer is looked for, and the result is false.
     #[inline(always)]
     fn is_held_back(&self, r: ObjectId, c: ClientId, how: &How) -> bool
         requires { AreTables self.now }
@@ -48,7 +48,7 @@ impl<Q: WaitList, A: Allocator + Copy> Body<Q, A> {
         }
     }
 
-    // A client's call to read.  [XSH pthread_rwlock_rdlock]
+    // Returns the verdict of a client's call for a read lock.  [XSH pthread_rwlock_rdlock]
     #[inline(always)]
     fn verdict_to_read(&self, c: ClientId, n: &Name, how: &How, object: Option<ObjectId>) -> Verdict
         requires read { AreTables self.now }
@@ -64,7 +64,8 @@ impl<Q: WaitList, A: Allocator + Copy> Body<Q, A> {
         }
     }
 
-    /// A client's call to read. It isn't inlined.  [XSH pthread_rwlock_rdlock]
+    /// Returns the verdict of a client's call for a read lock. It is not inlined.
+    /// [XSH pthread_rwlock_rdlock]
     #[inline(never)]
     pub(crate) fn read_verdict(
         &self,
@@ -80,7 +81,8 @@ impl<Q: WaitList, A: Allocator + Copy> Body<Q, A> {
         self.verdict_to_read(c, n, how, object)
     }
 
-    /// As `read_verdict`, for a call that waits as long as it must.  [XSH pthread_rwlock_rdlock]
+    /// Does what `read_verdict` does, for a plain call, which waits as long as it must.
+    /// [XSH pthread_rwlock_rdlock]
     #[inline(never)]
     pub(crate) fn plain_read_verdict(
         &self,

@@ -1,4 +1,4 @@
-//! A body whose entries are dropped.
+//! Seals, which drop the entries of a body.
 
 ghost use Rattle.std.specs.Prelude.{IfErr, None, OnErr, OnOk, ◌≡◌, ◌≤◌};
 ghost use Rattle.pt_types.specs.Limits.{most_places};
@@ -15,8 +15,9 @@ use pt_waitq::WaitList;
 use std::alloc::Allocator;
 
 impl<Q: WaitList, A: Allocator + Copy> Body<Q, A> {
-    /// Drops the entries and the answers, if nothing must follow: the history goes on from its
-    /// seal, with the place that comes next. ENOMEM if a growth is refused: then nothing changes.
+    /// Seals a history after which nothing must follow: drops its entries and answers, and goes on
+    /// from a Start with all that counts of them, with the place that comes next. ENOMEM if a
+    /// growth is refused; then nothing changes.
     pub fn seal(&mut self) -> Result<(), Refusal>
         requires read { AreTables self.old }
         requires settled { forced (past self.old) ≡ None }

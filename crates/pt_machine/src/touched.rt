@@ -23,7 +23,7 @@ use pt_types::{ClientId, ObjectId};
 use pt_waitq::WaitList;
 use std::alloc::Allocator;
 
-/// The client whose call an event is, if it is a call.
+/// Returns the client whose call an event is, if it is a call.
 pub(crate) fn caller_of(event: &Event) -> Option<ClientId>
     ensures { (h : History) → (before : Option ℕ)
         → result ≡ entering_by (entry_for h event.now) before }
@@ -34,7 +34,7 @@ pub(crate) fn caller_of(event: &Event) -> Option<ClientId>
     }
 }
 
-// The object that an open call is for in the end: a wait's is its mutex.
+// Returns the object that an open call is for in the end. For a wait, that is its mutex.
 // [XSH pthread_cond_wait]
 fn goal_of(open: &Open) -> ObjectId
     ensures { result ≡ goal (called «open».now).role «open».now.call.object }
@@ -46,7 +46,7 @@ fn goal_of(open: &Open) -> ObjectId
 }
 
 impl<Q: WaitList, A: Allocator + Copy> Body<Q, A> {
-    /// The object at which the client's open call waits, if it has one.
+    /// Returns the object at which the client's open call waits, if it has one.
     pub(crate) fn object_of(&self, c: ClientId) -> Option<ObjectId>
         requires { AreTables self.now }
         ensures { let h = past self.now in result ≡ object_if h (open_call_of h c) }
@@ -57,8 +57,8 @@ impl<Q: WaitList, A: Allocator + Copy> Body<Q, A> {
         }
     }
 
-    // What is touched after a call is served: what was before, or nothing if a barrier's calls go
-    // on.  [XSH pthread_barrier_wait]
+    // Returns what is touched after a call is served: what was touched before, or nothing after a
+    // Trip.  [XSH pthread_barrier_wait]
     fn touched_by_service(&self, found: &Open) -> Option<ObjectId>
         requires { AreTables self.now }
         ensures { let h = past self.now in
@@ -71,8 +71,9 @@ impl<Q: WaitList, A: Allocator + Copy> Body<Q, A> {
         }
     }
 
-    /// What is touched after a forced entry: what was before it, unless a barrier's calls go on, a
-    /// mutex is taken from its dead owner or a deadline ends a call.
+    /// Returns what is touched after a forced entry: after a Grant what was touched before, after a
+    /// Trip nothing, after a Yield the mutex, and after an Expire the object that the call is for
+    /// in the end.
     /// [XSH pthread_barrier_wait, pthread_mutex_lock EOWNERDEAD, pthread_mutex_timedlock]
     pub(crate) fn touched_by_forced(&self, forced: &Forced) -> Option<ObjectId>
         requires read { AreTables self.now }

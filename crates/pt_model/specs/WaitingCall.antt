@@ -31,7 +31,7 @@ role_needed WriteLock = ForWrite
 abbrev pub meant : History → List ℕ → ObjectClass → ℕ
 meant h n class = unwrap_or (find h n class) 0
 
--- a client's call that is entered now
+-- a client's waiting call that is entered at the next place
 abbrev pub entered : History → ℕ → ℕ → Role → Clock → Option Timespec → WaitingCall
 entered h c object role clock deadline =
     record {
@@ -44,7 +44,8 @@ entered h c object role clock deadline =
       deadline = option_map deadline_nanos deadline;
     }
 
--- what a client's operation leaves waiting  [XSH pthread_mutex_lock, pthread_cond_wait]
+-- the call that a client's operation leaves waiting, if it leaves one
+-- [XSH pthread_mutex_lock, pthread_cond_wait]
 abbrev pub stood_by_operation : History → ℕ → Clock → Operation → List WaitingCall
 stood_by_operation h c k (Acquires n lock_kind how) =
     entered h c (meant h n (class_needed lock_kind)) (role_needed lock_kind) k
@@ -54,12 +55,12 @@ stood_by_operation h c k (Awaits n m deadline) =
 stood_by_operation h c k (Arrives n) = entered h c (meant h n BarrierClass) ForBarrier k None ∷ []
 stood_by_operation h c k _ = []
 
--- what an entry leaves waiting
+-- the call that an entry leaves waiting, if it leaves one
 abbrev pub stood_by : History → Entry → List WaitingCall
 stood_by h (Call c call None) = stood_by_operation h c (clock_of call) (operation call)
 stood_by h _ = []
 
--- a call, if there is one, at this place
+-- the list of a call, if there is one, with this place
 abbrev pub waiting_there : ℕ → Option WaitingCall → List WaitingCall
 waiting_there n None = []
 waiting_there n (Some w) = record w { place = n } ∷ []
@@ -94,13 +95,14 @@ abbrev pub is_write : Role → Bool
 is_write ForWrite = true
 is_write _ = false
 
--- the mutex that a call is for, in the end  [XSH pthread_mutex_lock, pthread_cond_wait]
+-- the mutex for which a call waits in the end: the object of a call for a mutex, or the mutex of a
+-- wait  [XSH pthread_mutex_lock, pthread_cond_wait]
 abbrev pub mutex_of : Role → ℕ → Option ℕ
 mutex_of ForMutex object = Some object
 mutex_of (ForCond m) object = Some m
 mutex_of _ object = None
 
--- whether the call at a place is a wait  [XSH pthread_cond_wait]
+-- whether there is a call and it is a wait  [XSH pthread_cond_wait]
 abbrev pub is_wait_if : Option WaitingCall → Bool
 is_wait_if None = false
 is_wait_if (Some w) = is_wait w.role

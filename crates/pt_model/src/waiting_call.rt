@@ -1,4 +1,4 @@
-//! Waiting calls: what each is for, when it was moved, and which goes before another.
+//! Waiting calls: what each waits for, when it was moved, and which goes before another.
 
 ghost use Rattle.std.specs.Prelude.{◌≡◌};
 ghost use Rattle.pt_model.specs.WaitingCall.{role_needed as role_meant};
@@ -14,7 +14,8 @@ use pt_types::key_order::Key;
 use pt_types::operations::LockKind;
 use pt_types::{ClientId, Clock, ObjectId};
 
-/// What a waiting call is for; a wait also has its mutex.  [XSH, the call's page]
+/// The role of a waiting call: what it waits for. A wait also has its mutex.
+/// [XSH, the call's page]
 #[derive(Clone, Copy)]
 pub enum Role {
     ForMutex,
@@ -24,7 +25,7 @@ pub enum Role {
     ForCond(ObjectId),
 }
 
-/// A call that came without a reply, with what held as it came.
+/// A call that was accepted without an answer, with what held when it came.
 #[derive(Clone, Copy)]
 pub struct WaitingCall {
     /// The place of its entry.
@@ -32,24 +33,24 @@ pub struct WaitingCall {
     pub client: ClientId,
     /// The priority with which the client joined.
     pub priority: u64,
-    /// The object that it names; of a wait, its condition variable.
+    /// The object that the call names. For a wait, this is its condition variable.
     pub object: ObjectId,
     pub role: Role,
     /// The clock of its deadline.
     pub clock: Clock,
-    /// All nanoseconds of its deadline.
+    /// Its deadline in nanoseconds, seconds included.
     pub deadline: Option<u64>,
 }
 
-/// When a wait was moved to its mutex, and why.  [XSH pthread_cond_broadcast]
+/// The move of a wait to its mutex: when it came, and why.  [XSH pthread_cond_broadcast]
 #[derive(Clone, Copy)]
 pub struct Move {
-    /// The place of the entry that moved it.
+    /// The place of the entry that moved the wait.
     pub at: u64,
     pub cause: Cause,
 }
 
-/// The role of a call for a lock.
+/// Returns the role of a call for a lock of this kind.
 pub fn role_needed(lock_kind: LockKind) -> Role
     ensures { result ≡ role_meant lock_kind }
 {
@@ -60,28 +61,29 @@ pub fn role_needed(lock_kind: LockKind) -> Role
     }
 }
 
-/// Whether a call is for a barrier.  [XSH pthread_barrier_wait]
+/// Returns whether the role is that of a call for a barrier.  [XSH pthread_barrier_wait]
 pub fn is_arrival(role: Role) -> bool
     ensures { result ≡ is_arrival_role role }
 {
     matches!(role, Role::ForBarrier)
 }
 
-/// Whether the role is that of a wait.  [XSH pthread_cond_wait]
+/// Returns whether the role is that of a wait.  [XSH pthread_cond_wait]
 pub fn is_wait(role: Role) -> bool
     ensures { result ≡ is_wait_role role }
 {
     matches!(role, Role::ForCond(_))
 }
 
-/// Whether the role is that of a call for a write lock.  [XSH pthread_rwlock_wrlock]
+/// Returns whether the role is that of a call for a write lock.  [XSH pthread_rwlock_wrlock]
 pub fn is_write(role: Role) -> bool
     ensures { result ≡ is_write_role role }
 {
     matches!(role, Role::ForWrite)
 }
 
-/// The mutex that a call is for, in the end.  [XSH pthread_mutex_lock, pthread_cond_wait]
+/// Returns the mutex for which a call waits in the end: the object of a call for a mutex, or the
+/// mutex of a wait.  [XSH pthread_mutex_lock, pthread_cond_wait]
 pub fn mutex_of(w: &WaitingCall) -> Option<ObjectId>
     ensures { result ≡ mutex_meant w.now.role w.now.object }
 {
@@ -92,7 +94,7 @@ pub fn mutex_of(w: &WaitingCall) -> Option<ObjectId>
     }
 }
 
-/// The mutex of a wait.  [XSH pthread_cond_wait]
+/// Returns the mutex of a wait.  [XSH pthread_cond_wait]
 pub fn mutex_awaited(role: Role) -> Option<ObjectId>
     ensures { result ≡ mutex_awaited_by role }
 {
@@ -102,7 +104,7 @@ pub fn mutex_awaited(role: Role) -> Option<ObjectId>
     }
 }
 
-/// Whether a wait was moved by its deadline.  [XSH pthread_cond_timedwait]
+/// Returns whether a wait was moved by its deadline.  [XSH pthread_cond_timedwait]
 pub fn is_expired(moved: Option<Move>) -> bool
     ensures { result ≡ is_expired_by moved }
 {
@@ -112,7 +114,7 @@ pub fn is_expired(moved: Option<Move>) -> bool
     }
 }
 
-/// By what a call goes before another, if this is its move.  [XSH 2.8.4]
+/// Returns the key by which a call goes before another, if this is its move.  [XSH 2.8.4]
 pub fn key_with(w: &WaitingCall, moved: Option<Move>) -> Key
     ensures { result ≡ key_by (λ j. moved) w.now }
 {

@@ -10,8 +10,8 @@ use std::marker::Model;
 // Inconsistent     NotRecoverable      Inconsistent      Consistent
 // NotRecoverable   -                   -                 -
 
-/// A mutex: what it was made as, its consistency, its owner, and the waits that are bound to it.
-/// [XSH 2.9.3]
+/// A mutex: its kind, whether it is robust, its consistency, its owner with the number of locks
+/// that it has, and the number of waits that are bound to the mutex.  [XSH 2.9.3]
 ///
 /// A wait is bound to its mutex while it waits at its condition.
 #[derive(Drop)]
@@ -51,7 +51,7 @@ impl MutexObj {
     ghost use Rattle.pt_mutex.specs.MutexState.{made, can_acquire, acquired, released, yielded};
     ghost use Rattle.pt_mutex.specs.MutexState.{restored, freed, is_busy};
 
-    /// A mutex that nobody holds and that is consistent.  [XSH pthread_mutex_init]
+    /// Creates a consistent mutex that nobody holds.  [XSH pthread_mutex_init]
     pub fn new(kind: MutexKind, robust: bool) -> MutexObj
         ensures { result ≡ made kind robust }
     {
@@ -65,21 +65,21 @@ impl MutexObj {
         }
     }
 
-    /// What becomes of the client's `lock`.  [XSH pthread_mutex_lock]
+    /// Returns the verdict of the client's `lock`.  [XSH pthread_mutex_lock]
     pub fn verdict_lock(&self, caller: ClientId) -> Verdict
         ensures { result ≡ lock_verdict self.now.seen caller How.Plain }
     {
         self.verdict(caller, &How::Plain)
     }
 
-    /// What becomes of the client's `trylock`.  [XSH pthread_mutex_trylock]
+    /// Returns the verdict of the client's `trylock`.  [XSH pthread_mutex_trylock]
     pub fn verdict_try(&self, caller: ClientId) -> Verdict
         ensures { result ≡ lock_verdict self.now.seen caller How.Try }
     {
         self.verdict(caller, &How::Try)
     }
 
-    /// What becomes of the client's `timedlock`. Whether the deadline is due is not asked here.
+    /// Returns the verdict of the client's `timedlock`. Doesn't check whether the deadline is due.
     /// [XSH pthread_mutex_timedlock]
     pub fn verdict_timed(&self, caller: ClientId, deadline: Deadline) -> Verdict
         ensures { result ≡ lock_verdict self.now.seen caller (How.Timed deadline) }
@@ -105,8 +105,9 @@ impl MutexObj {
         }
     }
 
-    /// What becomes of the client's `unlock`. EPERM is for every kind; that is profile if
-    /// the standard leaves it open.  [XSH pthread_mutex_unlock]
+    /// Returns the verdict of the client's `unlock`. A client that isn't the owner gets EPERM for
+    /// every kind of mutex; that is profile if the standard leaves it open.
+    /// [XSH pthread_mutex_unlock]
     pub fn verdict_unlock(&self, caller: ClientId) -> Verdict
         ensures { result ≡ unlock_verdict self.now.seen caller }
     {
@@ -117,7 +118,8 @@ impl MutexObj {
         }
     }
 
-    /// What becomes of the client's `consistent`. EPERM is profile.  [XSH pthread_mutex_consistent]
+    /// Returns the verdict of the client's `consistent`. EPERM is profile.
+    /// [XSH pthread_mutex_consistent]
     pub fn verdict_consistent(&self, caller: ClientId) -> Verdict
         ensures { result ≡ consistent_verdict self.now.seen caller }
     {
@@ -130,11 +132,11 @@ impl MutexObj {
         Verdict::Reply(Outcome::Done)
     }
 
-    /// What becomes of a `mutex-destroy`: EBUSY while a living client owns the mutex, a call waits
-    /// at it, or a wait is bound to it. What a dead client owns may be destroyed. That EBUSY is
-    /// the answer is profile.  [XSH pthread_mutex_destroy]
+    /// Returns the verdict of a `mutex-destroy`: EBUSY while a living client owns the mutex, a call
+    /// waits at it, or a wait is bound to it. A mutex that a dead client owns may be destroyed. The
+    /// answer EBUSY is profile.  [XSH pthread_mutex_destroy]
     ///
-    /// `owner_lives` says of the owner, if there is one, whether it lives, and `awaited` whether a
+    /// `owner_lives` is whether the owner lives, if the mutex has one, and `awaited` is whether a
     /// call waits at the mutex.
     pub fn verdict_destroy(&self, owner_lives: bool, awaited: bool) -> Verdict
         ensures { result ≡ destroy_verdict (is_busy self.now owner_lives awaited) }
@@ -145,9 +147,9 @@ impl MutexObj {
         Verdict::Reply(Outcome::Done)
     }
 
-    /// The client has the lock once more: by a grant, by a relock, or when its wait comes back.
-    /// Nobody had it, or the client owns a RECURSIVE mutex and has fewer than 255 locks.
-    /// [XSH pthread_mutex_lock, pthread_cond_wait]
+    /// Gives the client one more lock: by a grant, by a relock, or when its wait comes back. The
+    /// mutex must have no owner, or be a RECURSIVE one that the client owns with fewer than 255
+    /// locks.  [XSH pthread_mutex_lock, pthread_cond_wait]
     pub fn acquire(&mut self, client: ClientId)
         requires { IsTrue (can_acquire self.old.seen client) }
         ensures { self.new ≡ record self.old { seen = acquired self.old.seen client } }
@@ -156,8 +158,9 @@ impl MutexObj {
         self.count += 1;
     }
 
-    /// The owner gives one lock back. With the last one nobody owns the mutex, and an inconsistent
-    /// one is lost for good.  [XSH pthread_mutex_unlock, pthread_mutex_consistent]
+    /// Takes back one lock of the owner. With the last one nobody owns the mutex, and an
+    /// inconsistent mutex becomes not recoverable.
+    /// [XSH pthread_mutex_unlock, pthread_mutex_consistent]
     pub fn release(&mut self, client: ClientId)
         requires { IsTrue (owns self.old.seen client) }
         ensures { self.new ≡ record self.old { seen = released self.old.seen } }
@@ -181,7 +184,7 @@ impl MutexObj {
         self.count = 0;
     }
 
-    /// What the mutex guards is in order again. A lost mutex stays lost.
+    /// Makes an inconsistent mutex consistent. A mutex that is not recoverable stays so.
     /// [XSH pthread_mutex_consistent]
     pub fn mark_consistent(&mut self)
         ensures { self.new ≡ record self.old { seen = restored self.old.seen } }
@@ -191,8 +194,8 @@ impl MutexObj {
         }
     }
 
-    /// The mutex is taken from its dead owner. A lost mutex stays lost.
-    /// [XSH pthread_mutex_lock, EOWNERDEAD]
+    /// Takes the mutex from its dead owner and makes it inconsistent. A mutex that is not
+    /// recoverable stays so.  [XSH pthread_mutex_lock, EOWNERDEAD]
     pub fn yield_dead(&mut self)
         ensures { self.new ≡ record self.old { seen = yielded self.old.seen } }
     {
@@ -202,7 +205,7 @@ impl MutexObj {
         }
     }
 
-    /// A wait of the owner begins to wait at its condition.  [XSH pthread_cond_wait]
+    /// Binds a wait of the owner, which begins to wait at its condition.  [XSH pthread_cond_wait]
     pub fn bind(&mut self)
         requires owned { IsSome self.old.seen.owner }
         requires room { self.old.bound_waits < u32.MAX }
@@ -211,7 +214,7 @@ impl MutexObj {
         self.bound_waits += 1;
     }
 
-    /// A bound wait is moved here, or is gone.  [XSH pthread_cond_wait]
+    /// Unbinds a wait, which is moved to the mutex or is gone.  [XSH pthread_cond_wait]
     pub fn unbind(&mut self)
         requires { 0 < self.old.bound_waits }
         ensures { self.new ≡ record self.old { bound_waits = self.old.bound_waits - 1 } }
@@ -219,42 +222,46 @@ impl MutexObj {
         self.bound_waits -= 1;
     }
 
-    /// What a relock by the owner does.  [XSH pthread_mutexattr_settype]
+    /// Returns the kind of the mutex: what a relock by the owner does.
+    /// [XSH pthread_mutexattr_settype]
     pub fn kind(&self) -> MutexKind
         ensures { result ≡ self.now.seen.kind }
     {
         self.kind
     }
 
-    /// Whether its next owner learns that the last one died.  [XSH pthread_mutexattr_setrobust]
+    /// Returns whether the next owner learns that the last one died.
+    /// [XSH pthread_mutexattr_setrobust]
     pub fn is_robust(&self) -> bool
         ensures { result ≡ self.now.seen.robust }
     {
         self.robust
     }
 
-    /// Whether what it guards is in order.  [XSH pthread_mutex_consistent]
+    /// Returns the consistency of the mutex: whether what it guards is in order.
+    /// [XSH pthread_mutex_consistent]
     pub fn consistency(&self) -> Consistency
         ensures { result ≡ self.now.seen.consistency }
     {
         self.consistency
     }
 
-    /// The client that holds it, dead or alive.  [XSH pthread_mutex_lock]
+    /// Returns the client that owns the mutex, dead or alive.  [XSH pthread_mutex_lock]
     pub fn owner(&self) -> Option<ClientId>
         ensures { result ≡ self.now.seen.owner }
     {
         self.owner
     }
 
-    /// Whether the client is the owner.  [XSH pthread_mutex_lock]
+    /// Returns whether the client is the owner.  [XSH pthread_mutex_lock]
     pub fn is_owned_by(&self, client: ClientId) -> bool
         ensures { result ≡ owns self.now.seen client }
     {
         self.owner == Some(client)
     }
 
-    /// How often its owner holds it; 0 exactly if nobody does.  [XSH pthread_mutex_lock]
+    /// Returns how many locks the owner has, which is 0 exactly if nobody owns the mutex.
+    /// [XSH pthread_mutex_lock]
     pub fn count(&self) -> u8
         ensures value { result ≡ self.now.seen.count }
         ensures none { IsNone self.now.seen.owner ↔ (result ≡ 0) }
@@ -262,7 +269,8 @@ impl MutexObj {
         self.count
     }
 
-    /// The waits that released it and still wait at a condition.  [XSH pthread_cond_wait]
+    /// Returns the number of waits that released the mutex and still wait at a condition.
+    /// [XSH pthread_cond_wait]
     pub fn bound_waits(&self) -> u32
         ensures { result ≡ self.now.bound_waits }
     {

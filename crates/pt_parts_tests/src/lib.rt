@@ -1,6 +1,7 @@
 //! Tests of the words, of the parts, of the tables and of the stored history.
 //!
-//! There are only tests here, a file for each crate that is tested. They see what is public of it.
+//! This crate has only tests, in one file for each crate that is tested. They use public items
+//! alone.
 #![tactic(auto)]
 
 #[cfg(test)]

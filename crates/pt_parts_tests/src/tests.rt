@@ -14,7 +14,7 @@ mod waitq;
 
 use pt_types::Priority;
 
-// A priority by its level.
+// Returns the priority of this level.
 fn priority(level: u64) -> Priority
     requires least { 1 ≤ level }
     requires most { level ≤ 99 }

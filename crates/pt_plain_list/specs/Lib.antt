@@ -1,2 +1,2 @@
--- Earlier: the first of some waiters, as one more is looked at
+-- Earlier: the first of some waiters after one more is looked at
 pub mod Earlier

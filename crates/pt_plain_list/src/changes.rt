@@ -1,4 +1,4 @@
-//! What is put into the lists of waiters and taken out of them. Nothing here takes memory.
+//! Additions to the lists of waiters and removals from them. Nothing here allocates.
 
 ghost use Rattle.std.specs.Prelude.{◌≡◌, ◌≤◌, ◌+◌, ◌==◌, ◌++◌, ◌∷◌, [], ℕ, ◌&&◌, ◌||◌, true, not};
 ghost use Rattle.std.specs.Prelude.{filter, false, vec_len, vec_capacity};
@@ -9,7 +9,7 @@ use pt_types::{ClientId, ObjectId};
 use pt_waitq::Waiter;
 use std::alloc::Allocator;
 
-/// Takes a client away.
+/// Removes a client.
 fn forget_client<A: Allocator>(clients: &mut Vec<ClientId, A>, client: ClientId)
     ensures kept { clients.new.items ≡ filter (λ d. not (d == client)) clients.old.items }
     ensures bound { vec_len clients.new ≤ vec_len clients.old }
@@ -24,7 +24,7 @@ fn forget_client<A: Allocator>(clients: &mut Vec<ClientId, A>, client: ClientId)
     }
 }
 
-/// Takes a client's entries away.
+/// Removes a client's entries.
 fn forget_waiter<A: Allocator>(entries: &mut Vec<(ObjectId, Waiter), A>, client: ClientId)
     ensures kept { entries.new.items ≡ filter (λ e. not (e.1.client == client)) entries.old.items }
     ensures bound { vec_len entries.new ≤ vec_len entries.old }
@@ -39,7 +39,7 @@ fn forget_waiter<A: Allocator>(entries: &mut Vec<(ObjectId, Waiter), A>, client:
     }
 }
 
-/// Takes a queue's number away.
+/// Removes a queue's number.
 fn forget_object<A: Allocator>(objects: &mut Vec<ObjectId, A>, object: ObjectId)
     ensures { objects.new.items ≡ filter (λ o. not (o == object)) objects.old.items }
 {
@@ -52,7 +52,7 @@ fn forget_object<A: Allocator>(objects: &mut Vec<ObjectId, A>, object: ObjectId)
     }
 }
 
-/// Takes a queue's number away, and no other.
+/// Removes a queue's number, and no other.
 pub(crate) fn unmake<A: Allocator>(objects: &mut Vec<ObjectId, A>, object: ObjectId)
     ensures { (q : ℕ)
         → is_listed q objects.new.items
@@ -77,7 +77,7 @@ pub(crate) fn leave<A: Allocator>(
     forget_client(idle, client);
 }
 
-/// Puts a waiter in, whose client gives up its place among those that wait nowhere.
+/// Adds a waiter, and removes its client from those that wait nowhere.
 pub(crate) fn put_in<A: Allocator>(
     idle: &mut Vec<ClientId, A>,
     waiting: &mut Vec<(ObjectId, Waiter), A>,
@@ -99,7 +99,7 @@ pub(crate) fn put_in<A: Allocator>(
     waiting.push_reserved((object, waiter));
 }
 
-/// Takes a client's waiter out, if it has one.
+/// Removes a client's waiter, if it has one, and adds the client to those that wait nowhere.
 pub(crate) fn take_out<A: Allocator>(
     idle: &mut Vec<ClientId, A>,
     waiting: &mut Vec<(ObjectId, Waiter), A>,

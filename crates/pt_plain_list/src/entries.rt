@@ -11,8 +11,8 @@ ghost use Rattle.pt_plain_list.specs.Earlier.{earlier_of};
 use pt_types::{ClientId, ObjectId, Priority};
 use pt_waitq::Waiter;
 
-/// Whether one goes before the other: by higher priority, then as a writer before a reader, then by
-/// its arrival.  [XSH pthread_rwlock_unlock, 2.8.4]
+/// Returns whether one waiter goes before the other: by higher priority, then as a writer before a
+/// reader, then by lesser arrival.  [XSH pthread_rwlock_unlock, 2.8.4]
 fn comes_before(waiter: &Waiter, other: &Waiter) -> bool
     ensures { result ≡ comes_before waiter.now other.now }
 {
@@ -28,7 +28,7 @@ fn comes_before(waiter: &Waiter, other: &Waiter) -> bool
     waiter.place < other.place
 }
 
-/// The first of the two.
+/// Returns the first of the two waiters, or `waiter` if there is no other.
 fn earlier(best: Option<Waiter>, waiter: Waiter) -> Waiter
     ensures { result ≡ earlier_of best waiter }
 {
@@ -38,7 +38,7 @@ fn earlier(best: Option<Waiter>, waiter: Waiter) -> Waiter
     }
 }
 
-/// The first of a queue, after one more entry.
+/// Returns the first waiter of a queue after one more entry.
 fn first_with(best: Option<Waiter>, entry: &(ObjectId, Waiter), object: ObjectId) -> Option<Waiter>
     ensures { result
         ≡ (if entry.now.0 == object then Some (earlier_of best entry.now.1) else best) }
@@ -50,7 +50,7 @@ fn first_with(best: Option<Waiter>, entry: &(ObjectId, Waiter), object: ObjectId
     }
 }
 
-/// The first of a queue.
+/// Returns the first waiter of a queue, if any.
 pub(crate) fn first_of(entries: &[(ObjectId, Waiter)], object: ObjectId) -> Option<Waiter>
     ensures { result ≡ head_of (queue_of object entries.now) }
 {
@@ -61,7 +61,7 @@ pub(crate) fn first_of(entries: &[(ObjectId, Waiter)], object: ObjectId) -> Opti
     best
 }
 
-/// The first writer of a queue, after one more entry.
+/// Returns the first writer of a queue after one more entry.
 fn first_writer_with(
     best: Option<Waiter>,
     entry: &(ObjectId, Waiter),
@@ -79,7 +79,7 @@ fn first_writer_with(
     }
 }
 
-/// The first writer of a queue.
+/// Returns the first writer of a queue, if any.
 pub(crate) fn first_writer_of(entries: &[(ObjectId, Waiter)], object: ObjectId) -> Option<Waiter>
     ensures { result ≡ first_writer_of (queue_of object entries.now) }
 {
@@ -90,7 +90,7 @@ pub(crate) fn first_writer_of(entries: &[(ObjectId, Waiter)], object: ObjectId) 
     best
 }
 
-/// Whether a writer of this priority or a higher one waits in a queue.
+/// Returns whether a writer of this priority or a higher one waits in a queue.
 pub(crate) fn blocks_reader(
     entries: &[(ObjectId, Waiter)],
     object: ObjectId,
@@ -107,7 +107,7 @@ pub(crate) fn blocks_reader(
     false
 }
 
-/// How many wait in a queue, after one more entry.
+/// Returns the number of waiters in a queue after one more entry.
 fn count_with(count: usize, entry: &(ObjectId, Waiter), object: ObjectId) -> usize
     requires { count + 1 < 2 ^ 64 }
     ensures { result ≡ (if entry.now.0 == object then count + 1 else count) }
@@ -115,7 +115,7 @@ fn count_with(count: usize, entry: &(ObjectId, Waiter), object: ObjectId) -> usi
     if entry.0 == object { count + 1 } else { count }
 }
 
-/// How many wait in a queue.
+/// Returns the number of waiters in a queue.
 pub(crate) fn count_of(entries: &[(ObjectId, Waiter)], object: ObjectId) -> usize
     ensures { result ≡ length (queue_of object entries.now) }
 {
@@ -126,7 +126,7 @@ pub(crate) fn count_of(entries: &[(ObjectId, Waiter)], object: ObjectId) -> usiz
     count
 }
 
-/// The first entry of a client.
+/// Returns the first entry of a client, if any.
 fn entry_of(entries: &[(ObjectId, Waiter)], client: ClientId) -> Option<(ObjectId, Waiter)>
     ensures found { IfSome result (λ e. In e entries.now × (e.1.client ≡ client)) }
     ensures unlisted { IfNone result (has_waiter client entries.now ≡ false) }
@@ -140,7 +140,7 @@ fn entry_of(entries: &[(ObjectId, Waiter)], client: ClientId) -> Option<(ObjectI
     None
 }
 
-/// The waiter of a client that has one entry at most, and its queue.
+/// Returns the waiter of a client that has at most one entry, with its queue.
 pub(crate) fn waiter_of(
     entries: &[(ObjectId, Waiter)],
     client: ClientId,
@@ -153,7 +153,7 @@ pub(crate) fn waiter_of(
     entry_of(entries, client)
 }
 
-/// Whether a client has an entry.
+/// Returns whether a client has an entry.
 pub(crate) fn has_entry(entries: &[(ObjectId, Waiter)], client: ClientId) -> bool
     ensures { result ≡ has_waiter client entries.now }
 {

@@ -1,7 +1,7 @@
-//! A `WaitList` for tests, as plain as it can be: all waiters are in one list.
+//! A `WaitList` for tests, as plain as possible: all waiters are in one list.
 //!
-//! Contracts see the queues alone, as those of the trait do.
-//! Only tests show that room which is asked for is found.
+//! Contracts see only the queues, as those of the trait do. Only tests show that room is found when
+//! it is asked for.
 #![tactic(auto)]
 
 mod changes;

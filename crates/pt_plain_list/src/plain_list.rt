@@ -7,9 +7,9 @@ use pt_waitq::{WaitList, Waiter};
 use std::alloc::{Allocator, Global};
 use std::marker::Model;
 
-/// All queues in one list of waiters, in the order in which they were put in.
+/// All queues, as one list of waiters in the order in which they were put in.
 ///
-/// Contracts see its clients that wait nowhere, its queues' numbers, and its waiters.
+/// Contracts see the clients that wait nowhere, the queues' numbers, and the waiters.
 pub struct PlainList<A: Allocator + Copy = Global> {
     idle: Vec<ClientId, A>,
     objects: Vec<ObjectId, A>,
@@ -24,13 +24,13 @@ impl<A: Allocator + Copy> Model for PlainList<A> {
 
     ghost view = { λ p. waits_of p.idle.items p.objects.items p.waiting.items };
 
-    // Each client has room to wait and to be idle, whichever it is.
+    // Each client has room both to wait and to be idle, whichever of them it does.
     ghost invariant = { λ p. AllStand p.objects.items p.waiting.items
         × (vec_len p.idle + vec_len p.waiting ≤ vec_capacity p.idle)
         × (vec_len p.idle + vec_len p.waiting ≤ vec_capacity p.waiting) };
 }
 
-// Not derived, so that those that drop a list prove nothing of its parts.
+// Not derived, so that code that drops a list need not prove anything about its parts.
 impl<A: Allocator + Copy> Drop for PlainList<A> {
     fn drop(self) {
         let PlainList {
@@ -42,7 +42,7 @@ impl<A: Allocator + Copy> Drop for PlainList<A> {
 }
 
 impl<A: Allocator + Copy> PlainList<A> {
-    /// No client and no queue. It takes no memory.
+    /// Creates a list with no client and no queue, which allocates nothing.
     pub fn new(alloc: A) -> Self
         ensures { result ≡ no_waits }
     {

@@ -1,4 +1,4 @@
--- Found: tests of what was found, if anything was.
+-- Found: tests and readings of a result that may be absent.
 use Rattle.std.specs.Prelude.{ℕ, ◌==◌, Bool, ◌&&◌, Option, Some, None, if◌then◌else◌}
 use Rattle.pt_model.specs.Histories.{History}
 use Rattle.pt_model.specs.Clients.{is_alive}
@@ -6,15 +6,15 @@ use Rattle.pt_model.specs.declared.waiting_call.WaitingCall.{WaitingCall}
 use Rattle.pt_model.specs.declared.waiting_call.Move.{Move}
 use Rattle.pt_model.specs.WaitingCall.{is_arrival}
 
--- the place of a call, if it is the client's; else the place that was found
+-- the call's place if the call is the client's, or else the place already found
 abbrev pub place_or : Option WaitingCall → ℕ → Option ℕ → Option ℕ
 place_or None c found = found
 place_or (Some w) c found = if w.client == c then Some w.place else found
 
--- whether it is a living client's call for the barrier  [XSH pthread_barrier_wait]
+-- whether the call is a living client's arrival at the barrier  [XSH pthread_barrier_wait]
 abbrev pub is_alive_at : History → ℕ → WaitingCall → Bool
 is_alive_at h b w = (is_arrival w.role && (w.object == b)) && is_alive h w.client
 
--- the moves if none was moved
+-- the moves when no wait was moved
 abbrev pub unmoved : ℕ → Option Move
 unmoved j = None

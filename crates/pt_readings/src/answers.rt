@@ -14,7 +14,7 @@ use pt_model::Entry;
 use pt_model::waiting_call::{WaitingCall, is_arrival};
 use pt_types::{ClientId, ObjectId, Outcome};
 
-/// Whether a waiting call is open: it has no answer, and its client lives.
+/// Returns true if a waiting call is open: it has no answer, and its client lives.
 #[cycle(answers)]
 pub fn is_open(entries: &[Entry], w: &WaitingCall) -> bool
     ensures { result ≡ is_open_by (history entries.now) (said (history entries.now)) w.now }
@@ -22,7 +22,8 @@ pub fn is_open(entries: &[Entry], w: &WaitingCall) -> bool
     is_alive(entries, w.client) && outcome(entries, w.place).is_none()
 }
 
-/// Whether the call at a place is open and waits at this barrier.  [XSH pthread_barrier_wait]
+/// Returns true if the call at a place is open and waits at this barrier.
+/// [XSH pthread_barrier_wait]
 #[cycle(answers)]
 #[tactic(auto, using(crate::proofs::Opens::passes_open))]
 pub fn is_open_at_barrier(entries: &[Entry], b: ObjectId, i: u64) -> bool
@@ -36,7 +37,7 @@ pub fn is_open_at_barrier(entries: &[Entry], b: ObjectId, i: u64) -> bool
     }
 }
 
-/// Whether the call at a place is open, waits at this barrier, and came after place j.
+/// Returns true if the call at a place is open, waits at this barrier, and came after place `j`.
 #[cycle(answers)]
 #[tactic(auto, using(pt_model::proofs::Ascending::passes_place))]
 pub fn is_later_at_barrier(entries: &[Entry], b: ObjectId, j: u64, i: u64) -> bool
@@ -47,7 +48,7 @@ pub fn is_later_at_barrier(entries: &[Entry], b: ObjectId, j: u64, i: u64) -> bo
     j < i && is_open_at_barrier(entries, b, i)
 }
 
-/// Whether an open call that came after place j waits at the barrier.
+/// Returns true if an open call that came after place `j` waits at the barrier.
 #[cycle(answers)]
 pub fn has_later(entries: &[Entry], b: ObjectId, j: u64) -> bool
     ensures { result ≡ list_any (λ w. nat_lt j w.place) (waiting b (opens (history entries.now))) }
@@ -60,7 +61,7 @@ pub fn has_later(entries: &[Entry], b: ObjectId, j: u64) -> bool
     false
 }
 
-/// Whether the call at a place waits at the barrier, if it has no answer.
+/// Returns true if the call at a place waits at the barrier, provided that it has no answer yet.
 pub fn is_living_at_barrier(entries: &[Entry], b: ObjectId, j: u64) -> bool
     ensures { result
         ≡ passes (is_alive_at (history entries.now) b)
@@ -72,7 +73,8 @@ pub fn is_living_at_barrier(entries: &[Entry], b: ObjectId, j: u64) -> bool
     }
 }
 
-/// What a Trip after these entries says to the call at a place.  [XSH pthread_barrier_wait]
+/// Returns the answer that a Trip after these entries gives to the call at a place.
+/// [XSH pthread_barrier_wait]
 #[cycle(answers)]
 #[tactic(auto, using(crate::proofs::Opens::trip_said))]
 pub fn answer_in_trip(
@@ -94,7 +96,8 @@ pub fn answer_in_trip(
     }
 }
 
-/// What an entry after these says to the call at a place.  [XSH, the call's page]
+/// Returns the answer that an entry after these gives to the call at a place.
+/// [XSH, the call's page]
 #[cycle(answers)]
 #[tactic(auto, using(crate::proofs::Past::place_all))]
 pub fn answer_by(
@@ -115,7 +118,7 @@ pub fn answer_by(
     }
 }
 
-/// The answer to the call at a place.  [XSH, the call's page]
+/// Returns the answer to the call at a place.  [XSH, the call's page]
 #[cycle(answers)]
 #[tactic(auto, using(crate::proofs::Past::history_more))]
 pub fn outcome(entries: &[Entry], j: u64) -> Option<Outcome>
@@ -128,7 +131,7 @@ pub fn outcome(entries: &[Entry], j: u64) -> Option<Outcome>
     found
 }
 
-/// The call at a place, if it is open.
+/// Returns the call at a place, if it is open.
 #[tactic(auto, using(crate::proofs::Opens::at_place_open))]
 pub fn open_at(entries: &[Entry], i: u64) -> Option<WaitingCall>
     ensures { result ≡ at_place i (opens (history entries.now)) }
@@ -139,7 +142,7 @@ pub fn open_at(entries: &[Entry], i: u64) -> Option<WaitingCall>
     }
 }
 
-/// The place of a client's open call.
+/// Returns the place of a client's open call.
 pub fn open_place(entries: &[Entry], c: ClientId) -> Option<u64>
     ensures { result ≡ open_place_in (history entries.now) c }
 {
@@ -152,7 +155,7 @@ pub fn open_place(entries: &[Entry], c: ClientId) -> Option<u64>
     found
 }
 
-/// The place of a call, if it is the client's, before a place that was found.
+/// Returns the call's place if the call is the client's, or else the place already found.
 pub fn place_if(w: Option<WaitingCall>, c: ClientId, found: Option<u64>) -> Option<u64>
     ensures { result ≡ place_or w c found }
 {

@@ -9,7 +9,7 @@ ghost use Rattle.pt_model.specs.Clients.{is_due as is_due_at};
 use pt_model::Entry;
 use pt_types::{ClientId, Clock, Priority};
 
-/// What an entry does to a client.
+/// Returns a client's priority after an entry; `None` once the client has died.
 pub fn client_by(entry: &Entry, before: Option<Priority>, c: ClientId) -> Option<Priority>
     ensures { result ≡ client_after entry.now before c }
 {
@@ -20,7 +20,7 @@ pub fn client_by(entry: &Entry, before: Option<Priority>, c: ClientId) -> Option
     }
 }
 
-/// The priority with which a client joined, while it lives.  [XSH 2.8.4]
+/// Returns the priority with which a client joined, while it lives.  [XSH 2.8.4]
 #[tactic(auto, using(crate::proofs::Past::history_more))]
 pub fn client(entries: &[Entry], c: ClientId) -> Option<Priority>
     ensures { result ≡ client_in (history entries.now) c }
@@ -32,14 +32,14 @@ pub fn client(entries: &[Entry], c: ClientId) -> Option<Priority>
     found
 }
 
-/// Whether a client lives.
+/// Returns true if a client lives.
 pub fn is_alive(entries: &[Entry], c: ClientId) -> bool
     ensures { result ≡ is_alive_in (history entries.now) c }
 {
     client(entries, c).is_some()
 }
 
-/// What an entry does to the number of living clients.
+/// Returns the number of living clients after an entry.
 pub fn living_by(entry: &Entry, before: u64) -> u64
     requires { before < 2 ^ 64 - 1 }
     ensures { result ≡ living_after entry.now before }
@@ -51,7 +51,7 @@ pub fn living_by(entry: &Entry, before: u64) -> u64
     }
 }
 
-/// How many clients live.
+/// Returns the number of living clients.
 #[tactic(auto, using(crate::proofs::Past::history_more))]
 pub fn living(entries: &[Entry]) -> u64
     ensures value { result ≡ living_in (history entries.now) }
@@ -64,7 +64,7 @@ pub fn living(entries: &[Entry]) -> u64
     count
 }
 
-/// Whether two clocks are one.
+/// Returns true if both clocks are the same.
 pub fn is_same_clock(one: Clock, other: Clock) -> bool
     ensures { result ≡ same_clock one other }
 {
@@ -74,7 +74,8 @@ pub fn is_same_clock(one: Clock, other: Clock) -> bool
     }
 }
 
-/// The greatest moment of a clock so far, in nanoseconds; before its first there is none.
+/// Returns the greatest moment of a clock so far, in nanoseconds, or `None` before its first
+/// moment.
 #[tactic(auto, using(crate::proofs::Past::history_more))]
 pub fn clock(entries: &[Entry], which: Clock) -> Option<u64>
     ensures { result ≡ clock_in (history entries.now) which }
@@ -94,7 +95,8 @@ pub fn clock(entries: &[Entry], which: Clock) -> Option<u64>
     latest
 }
 
-/// Whether a deadline is due: the clock equals or exceeds it.  [XSH pthread_mutex_timedlock]
+/// Returns true if a deadline is due: the clock equals or exceeds it.
+/// [XSH pthread_mutex_timedlock]
 pub fn is_due(clock: Option<u64>, deadline: Option<u64>) -> bool
     ensures { result ≡ is_due_at clock deadline }
 {

@@ -22,7 +22,7 @@ use pt_types::key_order::goes_before;
 use pt_types::operations::{ObjectClass, Operation, operation_of};
 use pt_types::{Name, ObjectId, Outcome};
 
-/// Whether the open call at a place is a wait that came to the condition of this name.
+/// Returns true if the open call at a place is a wait that came to the condition of this name.
 /// [XSH pthread_cond_wait]
 #[tactic(auto, using(crate::proofs::Opens::passes_open))]
 pub fn came_to(entries: &[Entry], n: &Name, i: u64) -> bool
@@ -41,8 +41,8 @@ pub fn came_to(entries: &[Entry], n: &Name, i: u64) -> bool
     }
 }
 
-/// Whether the open call at a place waits at the condition of this name still, and goes before
-/// this wait, which isn't moved.  [XSH 2.8.4]
+/// Returns true if the open call at a place still waits at the condition of this name and goes
+/// before `w`, a wait that was not moved.  [XSH 2.8.4]
 #[cycle(moves)]
 #[tactic(auto, using(crate::proofs::Opens::passes_open))]
 pub fn waits_before(entries: &[Entry], n: &Name, w: &WaitingCall, i: u64) -> bool
@@ -64,7 +64,7 @@ pub fn waits_before(entries: &[Entry], n: &Name, w: &WaitingCall, i: u64) -> boo
     is_open(entries, &v) && moved(entries, v.place).is_none()
 }
 
-/// Whether a wait at this condition goes before this call.  [XSH 2.8.4]
+/// Returns true if a wait at the condition of this name goes before this call.  [XSH 2.8.4]
 #[cycle(moves)]
 pub fn is_preceded(entries: &[Entry], n: &Name, w: &WaitingCall) -> bool
     ensures { result
@@ -79,8 +79,8 @@ pub fn is_preceded(entries: &[Entry], n: &Name, w: &WaitingCall) -> bool
     false
 }
 
-/// Whether the call at a place, which isn't moved, is the least wait at the condition of this
-/// name: a signal wakes that one alone.  [XSH pthread_cond_signal]
+/// Returns true if the call at a place was not moved and is the least wait at the condition of this
+/// name. A signal wakes only that wait.  [XSH pthread_cond_signal]
 #[cycle(moves)]
 #[tactic(auto, using(crate::proofs::Waits::first_is))]
 pub fn is_first_waiting(entries: &[Entry], n: &Name, before: Option<Move>, j: u64) -> bool
@@ -98,7 +98,8 @@ pub fn is_first_waiting(entries: &[Entry], n: &Name, before: Option<Move>, j: u6
     }
 }
 
-/// Why an entry after these moves the wait at a place.  [XSH pthread_cond_broadcast]
+/// Returns the cause for which an entry after these moves the wait at a place, if it does.
+/// [XSH pthread_cond_broadcast]
 #[cycle(moves)]
 #[tactic(auto, using(crate::proofs::Waits::waiting_is))]
 pub fn cause_by(entries: &[Entry], entry: &Entry, before: Option<Move>, j: u64) -> Option<Cause>
@@ -120,7 +121,7 @@ pub fn cause_by(entries: &[Entry], entry: &Entry, before: Option<Move>, j: u64) 
     }
 }
 
-/// A move at this place if there is a cause, else the one before.
+/// Returns a move at this place if there is a cause, or else the move before.
 pub fn move_or(at: u64, cause: Option<Cause>, before: Option<Move>) -> Option<Move>
     ensures { result ≡ move_after at cause before }
 {
@@ -130,7 +131,7 @@ pub fn move_or(at: u64, cause: Option<Cause>, before: Option<Move>) -> Option<Mo
     }
 }
 
-/// The move of the wait at a place.  [XSH pthread_cond_broadcast]
+/// Returns the move of the wait at a place.  [XSH pthread_cond_broadcast]
 #[cycle(moves)]
 #[tactic(auto, using(crate::proofs::Past::history_more, crate::proofs::Past::place_below))]
 pub fn moved(entries: &[Entry], j: u64) -> Option<Move>
@@ -143,14 +144,14 @@ pub fn moved(entries: &[Entry], j: u64) -> Option<Move>
     found
 }
 
-/// Whether a call is a wait that was moved.
+/// Returns true if a call is a wait that was moved.
 pub fn is_moved(entries: &[Entry], w: &WaitingCall) -> bool
     ensures { result ≡ is_moved_in (history entries.now) w.now }
 {
     moved(entries, w.place).is_some()
 }
 
-/// The object at which a call waits.  [XSH pthread_cond_broadcast]
+/// Returns the object at which a call waits.  [XSH pthread_cond_broadcast]
 pub fn at_object(entries: &[Entry], w: &WaitingCall) -> ObjectId
     ensures { result ≡ at_object_in (history entries.now) w.now }
 {
@@ -160,7 +161,7 @@ pub fn at_object(entries: &[Entry], w: &WaitingCall) -> ObjectId
     }
 }
 
-/// Whether a call goes before another.  [XSH 2.8.4, pthread_rwlock_unlock]
+/// Returns true if a call goes before another.  [XSH 2.8.4, pthread_rwlock_unlock]
 pub fn precedes(entries: &[Entry], v: &WaitingCall, w: &WaitingCall) -> bool
     ensures { result ≡ precedes_in (history entries.now) v.now w.now }
 {
@@ -169,7 +170,8 @@ pub fn precedes(entries: &[Entry], v: &WaitingCall, w: &WaitingCall) -> bool
     goes_before(one, other)
 }
 
-/// Whether the open call at a place waits at this object and goes before this call.  [XSH 2.8.4]
+/// Returns true if the open call at a place waits at this object and goes before this call.
+/// [XSH 2.8.4]
 pub fn is_ahead(entries: &[Entry], o: ObjectId, w: &WaitingCall, i: u64) -> bool
     ensures { result
         ≡ passes
@@ -183,7 +185,7 @@ pub fn is_ahead(entries: &[Entry], o: ObjectId, w: &WaitingCall, i: u64) -> bool
     }
 }
 
-/// Whether no call that waits at the same object goes before it.  [XSH 2.8.4]
+/// Returns true if no call that waits at the same object goes before this one.  [XSH 2.8.4]
 pub fn is_least(entries: &[Entry], w: &WaitingCall) -> bool
     ensures { result ≡ is_least_in (history entries.now) w.now }
 {

@@ -21,7 +21,8 @@ use pt_types::operations::{LockKind, ObjectClass, Operation, operation_of};
 use pt_types::views::{MutexView, is_acquired};
 use pt_types::{Call, ClientId, Consistency, ObjectId, Outcome};
 
-/// Whether a call that was answered 0 counts as a lock.  [XSH pthread_mutex_lock, RECURSIVE]
+/// Returns true if a call that was answered 0 counts as a lock.
+/// [XSH pthread_mutex_lock, RECURSIVE]
 pub fn relocks(entries: &[Entry], call: &Call, m: ObjectId) -> bool
     ensures { result ≡ relocks_in (history entries.now) (operation call.now) m }
 {
@@ -31,7 +32,8 @@ pub fn relocks(entries: &[Entry], call: &Call, m: ObjectId) -> bool
     }
 }
 
-/// Whether a call that was answered 0 gives back a lock on the mutex.  [XSH pthread_mutex_unlock]
+/// Returns true if a call that was answered 0 gives back a lock on the mutex.
+/// [XSH pthread_mutex_unlock]
 pub fn unlocks(entries: &[Entry], call: &Call, m: ObjectId) -> bool
     ensures { result ≡ unlocks_in (history entries.now) (operation call.now) m }
 {
@@ -41,7 +43,8 @@ pub fn unlocks(entries: &[Entry], call: &Call, m: ObjectId) -> bool
     }
 }
 
-/// Whether a call that was left waiting gives back a lock on the mutex.  [XSH pthread_cond_wait]
+/// Returns true if a call that was left waiting gives back a lock on the mutex.
+/// [XSH pthread_cond_wait]
 pub fn unlocks_to_wait(entries: &[Entry], call: &Call, m: ObjectId) -> bool
     ensures { result ≡ unlocks_to_wait_in (history entries.now) (operation call.now) m }
 {
@@ -51,7 +54,8 @@ pub fn unlocks_to_wait(entries: &[Entry], call: &Call, m: ObjectId) -> bool
     }
 }
 
-/// Whether a call that was answered 0 makes the mutex consistent.  [XSH pthread_mutex_consistent]
+/// Returns true if a call that was answered 0 makes the mutex consistent.
+/// [XSH pthread_mutex_consistent]
 pub fn restores(entries: &[Entry], call: &Call, m: ObjectId) -> bool
     ensures { result ≡ restores_in (history entries.now) (operation call.now) m }
 {
@@ -61,7 +65,8 @@ pub fn restores(entries: &[Entry], call: &Call, m: ObjectId) -> bool
     }
 }
 
-/// Whether the call at a place is a client's, for this mutex in the end.  [XSH pthread_mutex_lock]
+/// Returns true if the call at a place is the client's, and is a lock of this mutex or a wait with
+/// it.  [XSH pthread_mutex_lock]
 pub fn is_for(entries: &[Entry], j: u64, m: ObjectId, c: ClientId) -> bool
     ensures { result ≡ is_for_it (at_place j (stood (history entries.now))) m c }
 {
@@ -71,7 +76,8 @@ pub fn is_for(entries: &[Entry], j: u64, m: ObjectId, c: ClientId) -> bool
     }
 }
 
-/// What an entry adds to a client's locks; a Yield forgets them.  [XSH pthread_mutex_lock]
+/// Returns the number of a client's locks after an entry. A Yield resets it to 0.
+/// [XSH pthread_mutex_lock]
 pub fn gained_by(entries: &[Entry], entry: &Entry, m: ObjectId, c: ClientId, before: u64) -> u64
     requires { before < 2 ^ 64 - 1 }
     ensures { result ≡ gained_after (history entries.now) entry.now m c before }
@@ -86,7 +92,7 @@ pub fn gained_by(entries: &[Entry], entry: &Entry, m: ObjectId, c: ClientId, bef
     }
 }
 
-/// How often a client has locked a mutex since its last Yield.  [XSH pthread_mutex_lock]
+/// Returns how often a client has locked a mutex since its last Yield.  [XSH pthread_mutex_lock]
 #[tactic(auto, using(crate::proofs::Past::history_more))]
 pub fn gained(entries: &[Entry], m: ObjectId, c: ClientId) -> u64
     ensures value { result ≡ gained_in (history entries.now) m c }
@@ -99,7 +105,8 @@ pub fn gained(entries: &[Entry], m: ObjectId, c: ClientId) -> u64
     count
 }
 
-/// What an entry adds to a client's unlocks.  [XSH pthread_mutex_unlock, pthread_cond_wait]
+/// Returns the number of a client's unlocks after an entry. A Yield resets it to 0.
+/// [XSH pthread_mutex_unlock, pthread_cond_wait]
 pub fn lost_by(entries: &[Entry], entry: &Entry, m: ObjectId, c: ClientId, before: u64) -> u64
     requires { before < 2 ^ 64 - 1 }
     ensures { result ≡ lost_after (history entries.now) entry.now m c before }
@@ -114,7 +121,8 @@ pub fn lost_by(entries: &[Entry], entry: &Entry, m: ObjectId, c: ClientId, befor
     }
 }
 
-/// How often it has unlocked it since.  [XSH pthread_mutex_unlock, pthread_cond_wait]
+/// Returns how often a client has unlocked a mutex since its last Yield.
+/// [XSH pthread_mutex_unlock, pthread_cond_wait]
 #[tactic(auto, using(crate::proofs::Past::history_more))]
 pub fn lost(entries: &[Entry], m: ObjectId, c: ClientId) -> u64
     ensures value { result ≡ lost_in (history entries.now) m c }
@@ -127,14 +135,14 @@ pub fn lost(entries: &[Entry], m: ObjectId, c: ClientId) -> u64
     count
 }
 
-/// How often a client holds a mutex.  [XSH pthread_mutex_lock, pthread_cond_timedwait]
+/// Returns how often a client holds a mutex.  [XSH pthread_mutex_lock, pthread_cond_timedwait]
 pub fn count(entries: &[Entry], m: ObjectId, c: ClientId) -> u64
     ensures { result ≡ count_in (history entries.now) m c }
 {
     gained(entries, m, c).saturating_sub(lost(entries, m, c))
 }
 
-/// The client, dead or alive, that holds it.  [XSH pthread_mutex_lock]
+/// Returns the client, dead or alive, that holds the mutex.  [XSH pthread_mutex_lock]
 pub fn owner(entries: &[Entry], m: ObjectId) -> Option<ClientId>
     ensures { result ≡ owner_in (history entries.now) m }
 {
@@ -147,7 +155,7 @@ pub fn owner(entries: &[Entry], m: ObjectId) -> Option<ClientId>
     None
 }
 
-// What a consistency becomes if its dead owner loses the mutex.
+// Returns a mutex's consistency after the mutex is taken from its dead owner.
 // [XSH pthread_mutex_lock, EOWNERDEAD]
 fn after_yield(consistency: Consistency) -> Consistency
     ensures { result ≡ yielded consistency }
@@ -158,7 +166,7 @@ fn after_yield(consistency: Consistency) -> Consistency
     }
 }
 
-// What a consistency becomes by `consistent`.  [XSH pthread_mutex_consistent]
+// Returns a mutex's consistency after `consistent`.  [XSH pthread_mutex_consistent]
 fn after_consistent(consistency: Consistency) -> Consistency
     ensures { result ≡ restored consistency }
 {
@@ -168,7 +176,7 @@ fn after_consistent(consistency: Consistency) -> Consistency
     }
 }
 
-// What a consistency becomes once its owner's count is 0.  [XSH pthread_mutex_unlock]
+// Returns a mutex's consistency once its owner's count is 0.  [XSH pthread_mutex_unlock]
 fn after_release(consistency: Consistency) -> Consistency
     ensures { result ≡ released consistency }
 {
@@ -178,7 +186,7 @@ fn after_release(consistency: Consistency) -> Consistency
     }
 }
 
-/// What an entry does to a mutex's consistency.  [XSH pthread_mutex_unlock]
+/// Returns a mutex's consistency after an entry.  [XSH pthread_mutex_unlock]
 pub fn consistency_by(
     entries: &[Entry],
     entry: &Entry,
@@ -202,7 +210,7 @@ pub fn consistency_by(
     }
 }
 
-/// The consistency of a mutex.  [XSH pthread_mutex_lock, pthread_mutex_consistent]
+/// Returns the consistency of a mutex.  [XSH pthread_mutex_lock, pthread_mutex_consistent]
 #[tactic(auto, using(crate::proofs::Past::history_more))]
 pub fn consistency(entries: &[Entry], m: ObjectId) -> Consistency
     ensures { result ≡ consistency_in (history entries.now) m }
@@ -214,7 +222,7 @@ pub fn consistency(entries: &[Entry], m: ObjectId) -> Consistency
     found
 }
 
-/// A mutex as its table sees it.  [XSH 2.9.3]
+/// Returns the view of a mutex that its verdict table takes.  [XSH 2.9.3]
 pub fn mutex_view(entries: &[Entry], m: ObjectId) -> MutexView
     ensures { result ≡ view_in (history entries.now) m }
 {

@@ -13,21 +13,21 @@ use pt_model::Entry;
 use pt_types::operations::{ObjectClass, Operation, class_of, is_same, operation_of};
 use pt_types::{MutexKind, Name, ObjectId, ObjectKind, Outcome};
 
-/// An object: its number, which is the place of the call that made it, and its words.
+/// An object: its number, which is the place of the call that made it, and its kind.
 #[derive(Clone, Copy)]
 pub struct Object {
     pub number: u64,
     pub kind: ObjectKind,
 }
 
-/// Whether two names are the same bytes.
+/// Returns true if two names have the same bytes.
 pub fn is_name(one: &Name, other: &Name) -> bool
     ensures { result ≡ same_name one.now other.now }
 {
     one.as_bytes() == other.as_bytes()
 }
 
-/// What an entry at a place does to a name.
+/// Returns the object that bears a name after an entry at a place.
 pub fn named_by(entry: &Entry, at: u64, before: Option<Object>, n: &Name) -> Option<Object>
     ensures { option_map shown_object result
         ≡ named_after entry.now at (option_map shown_object before) n.now }
@@ -42,7 +42,7 @@ pub fn named_by(entry: &Entry, at: u64, before: Option<Object>, n: &Name) -> Opt
     }
 }
 
-/// The object that bears a name.
+/// Returns the object that bears a name.
 #[tactic(auto, using(crate::proofs::Past::history_more, crate::proofs::Past::place_below))]
 pub fn object_named(entries: &[Entry], n: &Name) -> Option<Object>
     ensures { option_map shown_object result ≡ object_with (history entries.now) n.now }
@@ -54,7 +54,7 @@ pub fn object_named(entries: &[Entry], n: &Name) -> Option<Object>
     found
 }
 
-/// The number of an object, if it is of this class.
+/// Returns the number of an object, if it is of this class.
 pub fn number_of(object: Option<Object>, class: ObjectClass) -> Option<ObjectId>
     ensures { result ≡ number_if (option_map shown_object object) class }
 {
@@ -64,14 +64,14 @@ pub fn number_of(object: Option<Object>, class: ObjectClass) -> Option<ObjectId>
     }
 }
 
-/// The object of this class that bears the name, if one does.
+/// Returns the object of this class that bears the name, if one does.
 pub fn find(entries: &[Entry], n: &Name, class: ObjectClass) -> Option<ObjectId>
     ensures { result ≡ find_in (history entries.now) n.now class }
 {
     number_of(object_named(entries, n), class)
 }
 
-/// Whether a name means the object with this number.
+/// Returns true if a name means the object with this number and class.
 pub fn means(entries: &[Entry], n: &Name, class: ObjectClass, o: ObjectId) -> bool
     ensures { result ≡ means_in (history entries.now) n.now class o }
 {
@@ -81,7 +81,7 @@ pub fn means(entries: &[Entry], n: &Name, class: ObjectClass, o: ObjectId) -> bo
     }
 }
 
-/// What an entry does to an object.
+/// Returns an object's kind after an entry; `None` once the object was destroyed.
 #[tactic(auto, using(crate::proofs::Past::place_all))]
 pub fn kind_by(
     entries: &[Entry],
@@ -101,7 +101,7 @@ pub fn kind_by(
     }
 }
 
-/// What the object with this number was made as, while it exists.
+/// Returns what the object with this number was made as, while it exists.
 #[tactic(auto, using(crate::proofs::Past::history_more))]
 pub fn kind_of(entries: &[Entry], o: ObjectId) -> Option<ObjectKind>
     ensures { result ≡ kind_in (history entries.now) o }
@@ -113,7 +113,7 @@ pub fn kind_of(entries: &[Entry], o: ObjectId) -> Option<ObjectKind>
     found
 }
 
-/// What an entry does to the number of objects.
+/// Returns the number of objects after an entry.
 pub fn objects_by(entry: &Entry, before: u64) -> u64
     requires { before < 2 ^ 64 - 1 }
     ensures { result ≡ objects_after entry.now before }
@@ -128,7 +128,7 @@ pub fn objects_by(entry: &Entry, before: u64) -> u64
     }
 }
 
-/// How many objects exist.
+/// Returns the number of objects that exist.
 #[tactic(auto, using(crate::proofs::Past::history_more))]
 pub fn objects(entries: &[Entry]) -> u64
     ensures value { result ≡ objects_in (history entries.now) }
@@ -141,7 +141,7 @@ pub fn objects(entries: &[Entry]) -> u64
     count
 }
 
-/// The kind of a mutex; of what is no mutex, NORMAL.  [XSH pthread_mutexattr_settype]
+/// Returns the kind of a mutex, or NORMAL for anything else.  [XSH pthread_mutexattr_settype]
 pub fn mutex_kind(kind: Option<ObjectKind>) -> MutexKind
     ensures { result ≡ kind_as_mutex kind }
 {
@@ -151,7 +151,7 @@ pub fn mutex_kind(kind: Option<ObjectKind>) -> MutexKind
     }
 }
 
-/// Whether a kind of object is a robust mutex.  [XSH pthread_mutexattr_setrobust]
+/// Returns true if a kind of object is a robust mutex.  [XSH pthread_mutexattr_setrobust]
 pub fn is_robust(kind: Option<ObjectKind>) -> bool
     ensures { result ≡ is_robust_kind kind }
 {
@@ -161,7 +161,7 @@ pub fn is_robust(kind: Option<ObjectKind>) -> bool
     }
 }
 
-/// The count of a barrier; of what is no barrier, 0.  [XSH pthread_barrier_init]
+/// Returns the count of a barrier, or 0 for anything else.  [XSH pthread_barrier_init]
 pub fn barrier_count(kind: Option<ObjectKind>) -> u64
     ensures { result ≡ count_of_barrier kind }
 {

@@ -20,7 +20,7 @@ use pt_types::operations::{ObjectClass, Operation, operation_of};
 use pt_types::views::RwlockView;
 use pt_types::{Call, ClientId, ObjectId, Outcome};
 
-/// Whether a call that was answered 0 gives the lock back.  [XSH pthread_rwlock_unlock]
+/// Returns true if a call that was answered 0 gives the lock back.  [XSH pthread_rwlock_unlock]
 pub fn rwunlocks(entries: &[Entry], call: &Call, r: ObjectId) -> bool
     ensures { result ≡ rwunlocks_in (history entries.now) (operation call.now) r }
 {
@@ -30,7 +30,8 @@ pub fn rwunlocks(entries: &[Entry], call: &Call, r: ObjectId) -> bool
     }
 }
 
-/// Whether the call at a place is the client's, for reading.  [XSH pthread_rwlock_rdlock]
+/// Returns true if the call at a place is the client's call for a read lock.
+/// [XSH pthread_rwlock_rdlock]
 pub fn is_for_read(entries: &[Entry], j: u64, r: ObjectId, c: ClientId) -> bool
     ensures { result ≡ is_reader (at_place j (stood (history entries.now))) r c }
 {
@@ -40,7 +41,8 @@ pub fn is_for_read(entries: &[Entry], j: u64, r: ObjectId, c: ClientId) -> bool
     }
 }
 
-/// Whether the call at a place is the client's, for writing.  [XSH pthread_rwlock_wrlock]
+/// Returns true if the call at a place is the client's call for the write lock.
+/// [XSH pthread_rwlock_wrlock]
 pub fn is_for_write(entries: &[Entry], j: u64, r: ObjectId, c: ClientId) -> bool
     ensures { result ≡ is_writer (at_place j (stood (history entries.now))) r c }
 {
@@ -50,7 +52,7 @@ pub fn is_for_write(entries: &[Entry], j: u64, r: ObjectId, c: ClientId) -> bool
     }
 }
 
-/// What an entry does to a client's write lock.  [XSH pthread_rwlock_unlock]
+/// Returns whether a client holds the write lock after an entry.  [XSH pthread_rwlock_unlock]
 pub fn writes_by(entries: &[Entry], entry: &Entry, r: ObjectId, c: ClientId, before: bool) -> bool
     ensures { result ≡ writes_after (history entries.now) entry.now r c before }
 {
@@ -63,7 +65,7 @@ pub fn writes_by(entries: &[Entry], entry: &Entry, r: ObjectId, c: ClientId, bef
     }
 }
 
-/// Whether a client holds the write lock.  [XSH pthread_rwlock_wrlock]
+/// Returns true if a client holds the write lock.  [XSH pthread_rwlock_wrlock]
 #[tactic(auto, using(crate::proofs::Past::history_more))]
 pub fn writes(entries: &[Entry], r: ObjectId, c: ClientId) -> bool
     ensures { result ≡ writes_in (history entries.now) r c }
@@ -75,8 +77,8 @@ pub fn writes(entries: &[Entry], r: ObjectId, c: ClientId) -> bool
     found
 }
 
-/// What an entry does to a client's read locks: one less, unless it is the write lock that goes
-/// back.  [XSH pthread_rwlock_unlock]
+/// Returns the number of a client's read locks after an entry. An unlock takes one away, unless it
+/// gives back the write lock.  [XSH pthread_rwlock_unlock]
 pub fn reads_by(entries: &[Entry], entry: &Entry, r: ObjectId, c: ClientId, before: u64) -> u64
     requires { before < 2 ^ 64 - 1 }
     ensures { result ≡ reads_after (history entries.now) entry.now r c before }
@@ -91,7 +93,7 @@ pub fn reads_by(entries: &[Entry], entry: &Entry, r: ObjectId, c: ClientId, befo
     }
 }
 
-/// How many read locks a client holds.  [XSH pthread_rwlock_rdlock]
+/// Returns the number of read locks that a client holds.  [XSH pthread_rwlock_rdlock]
 #[tactic(auto, using(crate::proofs::Past::history_more))]
 pub fn reads(entries: &[Entry], r: ObjectId, c: ClientId) -> u64
     ensures value { result ≡ reads_in (history entries.now) r c }
@@ -104,7 +106,7 @@ pub fn reads(entries: &[Entry], r: ObjectId, c: ClientId) -> u64
     count
 }
 
-/// The client, dead or alive, that holds the write lock.  [XSH pthread_rwlock_wrlock]
+/// Returns the client, dead or alive, that holds the write lock.  [XSH pthread_rwlock_wrlock]
 pub fn writer(entries: &[Entry], r: ObjectId) -> Option<ClientId>
     ensures { result ≡ writer_in (history entries.now) r }
 {
@@ -117,7 +119,7 @@ pub fn writer(entries: &[Entry], r: ObjectId) -> Option<ClientId>
     None
 }
 
-/// The first client, dead or alive, that holds read locks.  [XSH pthread_rwlock_rdlock]
+/// Returns the first client, dead or alive, that holds read locks.  [XSH pthread_rwlock_rdlock]
 pub fn reader(entries: &[Entry], r: ObjectId) -> Option<ClientId>
     ensures { result ≡ reader_in (history entries.now) r }
 {
@@ -130,7 +132,7 @@ pub fn reader(entries: &[Entry], r: ObjectId) -> Option<ClientId>
     None
 }
 
-/// A read-write lock as its tables see it, for one caller.  [XSH 2.9]
+/// Returns the view of a read-write lock that its verdict tables take, for one caller.  [XSH 2.9]
 pub fn rwlock_view(entries: &[Entry], r: ObjectId, c: ClientId) -> RwlockView
     ensures { result ≡ view (history entries.now) r c }
 {
@@ -142,14 +144,14 @@ pub fn rwlock_view(entries: &[Entry], r: ObjectId, c: ClientId) -> RwlockView
     }
 }
 
-/// Whether a client lives and holds the lock.  [XSH pthread_rwlock_destroy]
+/// Returns true if a client lives and holds the lock.  [XSH pthread_rwlock_destroy]
 pub fn holds_alive(entries: &[Entry], r: ObjectId, c: ClientId) -> bool
     ensures { result ≡ (lives (history entries.now) c && holds (view (history entries.now) r c)) }
 {
     is_alive(entries, c) && (writes(entries, r, c) || 0 < reads(entries, r, c))
 }
 
-/// Whether a living client holds the lock.  [XSH pthread_rwlock_destroy]
+/// Returns true if a living client holds the lock.  [XSH pthread_rwlock_destroy]
 pub fn is_held_alive(entries: &[Entry], r: ObjectId) -> bool
     ensures { result ≡ is_held_alive_in (history entries.now) r }
 {

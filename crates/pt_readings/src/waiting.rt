@@ -13,7 +13,7 @@ use pt_types::operations::{
 };
 use pt_types::{ClientId, Clock, Deadline, Name, ObjectId};
 
-/// The object that a name means as the call comes; 0 if it means none.
+/// Returns the object that a name means as the call comes, or 0 if it means none.
 pub fn meant(entries: &[Entry], n: &Name, class: ObjectClass) -> ObjectId
     ensures { result ≡ meant_in (history entries.now) n.now class }
 {
@@ -23,7 +23,7 @@ pub fn meant(entries: &[Entry], n: &Name, class: ObjectClass) -> ObjectId
     }
 }
 
-/// A client's call that is entered now.
+/// Returns a client's call as a waiting call that is entered now.
 #[tactic(auto, using(crate::proofs::Past::place_all))]
 pub fn entered(
     entries: &[Entry],
@@ -53,7 +53,7 @@ pub fn entered(
     }
 }
 
-/// What an entry leaves waiting.
+/// Returns the call that an entry leaves waiting, if it leaves one.
 pub fn stood_by(entries: &[Entry], entry: &Entry) -> Option<WaitingCall>
     ensures { listed result ≡ stood_after (history entries.now) entry.now }
 {
@@ -86,7 +86,7 @@ pub fn stood_by(entries: &[Entry], entry: &Entry) -> Option<WaitingCall>
     }
 }
 
-/// The call that came without a reply at a place.
+/// Returns the call that came without a reply at a place.
 pub fn waiting_call_at(entries: &[Entry], j: u64) -> Option<WaitingCall>
     ensures { result ≡ at_place j (stood (history entries.now)) }
 {
@@ -97,7 +97,7 @@ pub fn waiting_call_at(entries: &[Entry], j: u64) -> Option<WaitingCall>
     stood_by(&entries[..i], &entries[i])
 }
 
-/// Whether the call at a place is a wait.  [XSH pthread_cond_wait]
+/// Returns true if the call at a place is a wait.  [XSH pthread_cond_wait]
 pub fn is_wait_at(entries: &[Entry], j: u64) -> bool
     ensures { result ≡ is_wait_if (at_place j (stood (history entries.now))) }
 {

@@ -8,41 +8,43 @@ use Rattle.pt_records.specs.declared.answers.Answered.{Answered}
 use Rattle.pt_records.specs.declared.short.Short.{Short}
 use Rattle.pt_records.specs.declared.short.Short.TheVariants.{Near, Whole}
 
--- what is seen of a log: its answers in order, and how many it holds before it takes memory
+-- a log as contracts see it: its answers in order, and how many it can hold before it needs more
+-- memory
 pub record StoredLog : Type 0 where
   pub items : List Answered
   pub capacity : ℕ
 
--- what is read if there is no answer
+-- the answer that is read if there is none
 abbrev pub no_answer : Answered
 no_answer = record { at = 0; client = 0; place = 0; outcome = Done }
 
--- the answer that a short one is, over a base and beside those that are stored whole
+-- the answer that a short one stores, by a base and the answers that are stored whole
 abbrev pub lengthened : ℕ → List Answered → Short → Answered
 lengthened b ws (Near x k c j) =
     record { at = b + k; client = b + c; place = b + j; outcome = x }
 lengthened b ws (Whole i) = slice_index_or ws i no_answer
 
--- the answers that short ones are
+-- the answers that short ones store, by a base and the answers that are stored whole
 abbrev pub lengthened_all : ℕ → List Answered → List Short → List Answered
 lengthened_all b ws shorts = map (lengthened b ws) shorts
 
--- what a short answer refers to is there
+-- the whole answer that a short one refers to, if it refers to one, is stored
 abbrev pub IsThere : List Answered → Short → Type 0
 IsThere ws (Near x k c j) = Unit {0}
 IsThere ws (Whole i) = i < length ws
 
--- short answers can be read: the base and 32 bits make a number, and what they refer to is there
+-- short answers can be read: 32 bits can be added to the base, and the whole answers that they
+-- refer to are stored
 pub record AreReadable (b : ℕ) (ws : List Answered) (shorts : List Short) : Type 0 where
   pub base : b ≤ most_places
   pub there : All (IsThere ws) shorts
 
--- a short answer is this one, whatever else is stored
+-- the short answer stores this answer, whatever answers are stored whole
 pub record ShortensAlone (b : ℕ) (a : Answered) (s : Short) : Type 0 where
   pub same : (ws : List Answered) → lengthened b ws s ≡ a
   pub there : (ws : List Answered) → IsThere ws s
 
--- a short answer is this one, and at most one more answer is stored whole
+-- the short answer stores this answer, and at most one more answer is stored whole
 pub record Shortens {A : Type 0} (b : ℕ) (a : Answered) (old new : Vec Answered A) (s : Short)
     : Type 0 where
   pub same : lengthened b new.items s ≡ a
@@ -52,7 +54,7 @@ pub record Shortens {A : Type 0} (b : ℕ) (a : Answered) (old new : Vec Answere
   pub len : vec_len new ≤ vec_len old + 1
   pub capacity : vec_capacity new ≡ vec_capacity old
 
--- there is memory for so many answers more, whatever they are
+-- there is memory for n more answers, whatever they are
 pub record HasRoom {A : Type 0} (ss : Vec Short A) (ws : Vec Answered A) (n : ℕ) : Type 0 where
   pub shorts : vec_len ss + n ≤ vec_capacity ss
   pub wholes : vec_len ws + n ≤ vec_capacity ws

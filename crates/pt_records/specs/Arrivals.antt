@@ -1,4 +1,4 @@
--- Arrivals: the calls that wait at a barrier, as its queue has them, and what a Trip answers them.
+-- Arrivals: the calls that wait at a barrier, as its queue has them, and the answers of a Trip.
 use Rattle.std.specs.Prelude.{ℕ, ◌≡◌, ◌==◌, List, [], ◌∷◌, Some, length, option_map, if◌then◌else◌}
 use Rattle.std.specs.Prelude.{None, Bool, ◌≤◌}
 use Rattle.std.specs.List.{AllByRecursion as Each}
@@ -17,18 +17,18 @@ use Rattle.pt_records.specs.declared.answers.Answered.{Answered}
 use Rattle.pt_records.specs.declared.clients.Caller.{Caller}
 use Rattle.pt_records.specs.Callers.{Once, closed}
 
--- a call's answer by the entry at place k, if another call follows it
+-- the answer that the entry at place k gives to a call that another call follows
 -- [XSH pthread_barrier_wait]
 abbrev pub passed_at : ℕ → WaitingCall → Answered
 passed_at k w = record { at = k; client = w.client; place = w.place; outcome = Done }
 
--- the answer to a waiter's call by the entry at place k, if another call follows it
+-- the answer that the entry at place k gives to a waiter's call that another call follows
 -- [XSH pthread_barrier_wait]
 abbrev pub passed_to : ℕ → Waiter → Answered
 passed_to k v = record { at = k; client = v.client; place = v.place; outcome = Done }
 
--- a call's answer by the entry at place k: the last one is serial
--- [XSH pthread_barrier_wait, which one is profile]
+-- the answer that the entry at place k gives to a waiter's call: SERIAL for the last one, 0 for
+-- others  [XSH pthread_barrier_wait, which one is profile]
 abbrev pub answer_to : ℕ → Bool → Waiter → Answered
 answer_to k last v =
     record {
@@ -38,11 +38,11 @@ answer_to k last v =
       outcome = if last then Serial else Done;
     }
 
--- the call waits as this waiter
+-- the waiter has the client and the place of the call
 abbrev pub WaitsAs : WaitingCall → Waiter → Type 0
 WaitsAs w v = (v.client ≡ w.client) × (v.place ≡ w.place)
 
--- none came before one that is ahead of it
+-- no waiter has a lower place than one ahead of it
 abbrev pub AreInOrder : List Waiter → Type 0
 AreInOrder [] = Unit {0}
 AreInOrder (v ∷ vs) = Each (λ u. v.place ≤ u.place) vs × AreInOrder vs
@@ -62,13 +62,13 @@ pub record Empties (b : ℕ) (old new : QueuesView) : Type 0 where
   pub admitted : (c : ℕ) → new.admitted c ≡ old.admitted c
   pub made : (o : ℕ) → new.made o ≡ old.made o
 
--- these answers, where the last one is serial
+-- these answers, with SERIAL as the outcome of the last one
 abbrev pub with_serial : List Answered → List Answered
 with_serial [] = []
 with_serial (a ∷ []) = record a { outcome = Serial } ∷ []
 with_serial (a ∷ b ∷ ts) = a ∷ with_serial (b ∷ ts)
 
--- a row whose client's open call got this answer
+-- a row after its client's open call got this answer
 abbrev pub closed_by : Answered → Caller → Caller
 closed_by a v = closed (Some a.outcome) v
 
@@ -77,15 +77,14 @@ abbrev pub closed_by_all : ℕ → List Answered → Caller → Caller
 closed_by_all d [] v = v
 closed_by_all d (a ∷ ts) v = closed_by_all d ts (if a.client == d then closed_by a v else v)
 
--- each client's row is closed by the answers to it, and the others stay
+-- each client's row is closed by the answers to that client, and the other rows stay the same
 pub record ClosesBy (old new : List (ClientRow Caller)) (answers : List Answered) : Type 0 where
   pub look : (d : ℕ) → client_value new d
       ≡ option_map (closed_by_all d answers) (client_value old d)
   pub many : length new ≡ length old
   pub once : Once old → Once new
 
--- a row whose client's latest call came at place j, and waits at barrier b
--- [XSH pthread_barrier_wait]
+-- a row after its client's call at place j began to wait at barrier b  [XSH pthread_barrier_wait]
 abbrev pub arrived : ℕ → ℕ → ℕ → Clock → Caller → Caller
 arrived j c b k v =
     record v {

@@ -18,16 +18,16 @@ use Rattle.pt_model.specs.Found.{passes}
 use Rattle.pt_records.specs.declared.clients.Caller.{Caller}
 use Rattle.pt_records.specs.declared.clients.Open.{Open}
 
--- the first of these calls that is the client's
+-- the first of these calls that the client made
 abbrev pub call_of : List WaitingCall → ℕ → Option WaitingCall
 call_of [] c = None
 call_of (w ∷ ws) c = if w.client == c then Some w else call_of ws c
 
--- the open call in a client's row
+-- the open call in a client's row, with its move
 abbrev pub open_in : Option Caller → Option Open
 open_in kept = option_and_then (λ v. v.open) kept
 
--- the open call in a client's row
+-- the open call in a client's row, without its move
 abbrev pub call_in : Option Caller → Option WaitingCall
 call_in kept = option_map (λ o. o.call) (open_in kept)
 
@@ -35,7 +35,7 @@ call_in kept = option_map (λ o. o.call) (open_in kept)
 abbrev pub move_in : Option Caller → Option Move
 move_in kept = option_and_then (λ o. o.moved) (open_in kept)
 
--- the open calls in all rows, in order of the rows
+-- the open calls in all rows, in the order of the rows
 abbrev pub opens_of : List (ClientRow Caller) → List Open
 opens_of rows = filter_map (λ row. row.value.open) rows
 
@@ -44,23 +44,23 @@ abbrev pub joined : ℕ → Caller
 joined p =
     record { priority = p; «open» = None; latest = None; answer = None; owned = None }
 
--- an open call that the entry at place k moves  [XSH pthread_cond_broadcast]
+-- an open call after the entry at place k moved it  [XSH pthread_cond_broadcast]
 abbrev pub open_moved_at : ℕ → Cause → Open → Open
 open_moved_at k cause o = record o { moved = Some (record { at = k; cause = cause }) }
 
--- a row whose call the entry at place k moves  [XSH pthread_cond_broadcast]
+-- a row after the entry at place k moved its open call  [XSH pthread_cond_broadcast]
 abbrev pub moved_at : ℕ → Cause → Caller → Caller
 moved_at k cause v = record v { «open» = option_map (open_moved_at k cause) v.open }
 
--- a row whose client's open call got this answer
+-- a row after its client's open call got this answer
 abbrev pub closed : Option Outcome → Caller → Caller
 closed x v = record v { «open» = None; answer = x }
 
--- whether a row has an open call that passes
+-- whether a row has an open call that passes the test
 abbrev pub has_open : (Open → Bool) → Caller → Bool
 has_open test v = passes test v.open
 
--- a row whose client's latest call came at place k, with its answer if it has one
+-- a row whose client's latest call is the one at place k, with its answer if it has one
 abbrev pub called_at : ℕ → Option Outcome → Caller → Caller
 called_at k x v = record v { latest = Some k; answer = x }
 
@@ -68,12 +68,12 @@ called_at k x v = record v { latest = Some k; answer = x }
 abbrev pub latest_answer : History → ℕ → Option Outcome
 latest_answer h c = option_and_then (outcome h) (latest h c)
 
--- no two rows have one number
+-- no two rows have the same number
 abbrev pub Once : List (ClientRow Caller) → Type 0
 Once [] = Unit {0}
 Once (row ∷ rows) = (list_any (λ other. other.number == row.number) rows ≡ false) × Once rows
 
--- what is found of each client is what is read off the history
+-- what is looked up for each client is what is read off the history
 pub record CallersLook (h : History) (look : ℕ → Option Caller) : Type 0 where
   pub living : (c : ℕ) → option_map (λ v. v.priority) (look c) ≡ client h c
   pub calls : (c : ℕ) → call_in (look c) ≡ call_of (open_calls h) c

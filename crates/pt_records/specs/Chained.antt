@@ -1,4 +1,4 @@
--- Chained: the robust mutexes that a client owns are a chain of rows, and so are those of the dead.
+-- Chained: the chains of the robust mutexes that each client owns, and of those with dead owners.
 use Rattle.std.specs.Prelude.{ℕ, ◌≡◌, ◌==◌, ◌&&◌, ◌||◌, Bool, true, false, not, nat_eq, nat_lt}
 use Rattle.std.specs.Prelude.{List, ◌∷◌, map, Option, Some, None, is_none, is_some, if◌then◌else◌}
 use Rattle.std.specs.Option.{option_and_then}
@@ -12,44 +12,46 @@ use Rattle.pt_records.specs.declared.clients.Caller.{Caller}
 use Rattle.pt_records.specs.declared.objects.Object.{Object}
 use Rattle.pt_records.specs.declared.objects.Object.TheVariants.{Mutex}
 
--- a client's row, whatever mutexes it owns
+-- a client's row without the mutexes that the client owns
 abbrev pub without_owned : ClientRow Caller → ClientRow Caller
 without_owned row = record row { value = record row.value { owned = None } }
 
--- the rows of clients, whatever mutexes they own
+-- the rows of clients without the mutexes that the clients own
 abbrev pub unowned : List (ClientRow Caller) → List (ClientRow Caller)
 unowned rows = map without_owned rows
 
--- whether a client isn't one of the living
+-- whether a client is not one of the living
 abbrev pub is_gone : List (ClientRow Caller) → ℕ → Bool
 is_gone clients c = is_none (client_value clients c)
 
 module _ {A : Type 0} where
-  -- the owner of a robust mutex  [XSH pthread_mutexattr_getrobust]
+  -- the owner of an object, if it is a robust mutex that has an owner
+  -- [XSH pthread_mutexattr_getrobust]
   abbrev pub robust_owner : Object A → Option ℕ
   robust_owner (Mutex m) = if m.seen.robust then m.seen.owner else None
   robust_owner _ = None
 
-  -- the owner of an object, if it is a robust mutex
+  -- the owner of the object with a number, if it is a robust mutex that has an owner
   abbrev pub robust_owner_at : List (ObjectRow (Object A)) → ℕ → Option ℕ
   robust_owner_at objects m = option_and_then robust_owner (object_value objects m)
 
-  -- whether an object is a robust mutex that nobody owns  [XSH pthread_mutex_lock]
+  -- whether an object is a robust mutex without an owner  [XSH pthread_mutex_lock]
   abbrev pub is_robust_free : Object A → Bool
   is_robust_free (Mutex m) = m.seen.robust && is_none m.seen.owner
   is_robust_free _ = false
 
-  -- whether it is a robust mutex that its owner has locked once  [XSH pthread_mutex_unlock]
+  -- whether an object is a robust mutex that is locked at most once  [XSH pthread_mutex_unlock]
   abbrev pub is_locked_once : Object A → Bool
   is_locked_once (Mutex m) = m.seen.robust && not (nat_lt 1 m.seen.count)
   is_locked_once _ = false
 
-  -- each row that was in a chain is where it was, and no other row is in one
+  -- each row that was in a chain has the same links as before, and no other row is in a chain
   pub record KeepsChains (old new : List (ObjectRow (Object A))) : Type 0 where
     pub linked : (m : ℕ) → is_linked new m ≡ is_linked old m
     pub links : (m : ℕ) → is_linked old m ≡ true → link_of new m ≡ link_of old m
 
-  -- an object's row comes into the chain of a head, and its chain has this head then
+  -- an object's row enters the chain of `head` as its first row, and the chain's head is `after`
+  -- then
   pub record EntersChain (old new : List (ObjectRow (Object A))) (head after : Option ℕ) (m : ℕ) :
       Type 0 where
     pub chain : (numbers : List ℕ) → IsChain old head numbers
@@ -57,7 +59,7 @@ module _ {A : Type 0} where
     pub others : KeepsOthers old new head
     pub linked : (n : ℕ) → is_linked new n ≡ (nat_eq m n || is_linked old n)
 
-  -- an object's row goes out of the chain of a head, which has this head then
+  -- an object's row leaves the chain of `head`, and the chain's head is `after` then
   pub record LeavesChain (old new : List (ObjectRow (Object A))) (head after : Option ℕ) (m : ℕ) :
       Type 0 where
     pub chain : (numbers : List ℕ) → IsChain old head numbers
@@ -65,7 +67,7 @@ module _ {A : Type 0} where
     pub others : KeepsOthers old new head
     pub linked : (n : ℕ) → is_linked new n ≡ (not (nat_eq m n) && is_linked old n)
 
-  -- the chain of this head has the robust mutexes whose owner passes the test, and no others
+  -- the chain of this head has exactly the robust mutexes whose owner passes the test
   pub record HasOwned (objects : List (ObjectRow (Object A))) (head : Option ℕ) (test : ℕ → Bool) :
       Type 0 where
     pub numbers : List ℕ
@@ -73,8 +75,9 @@ module _ {A : Type 0} where
     pub listed : (m : ℕ) → IsOneOf numbers m → passes test (robust_owner_at objects m) ≡ true
     pub whole : (m : ℕ) → passes test (robust_owner_at objects m) ≡ true → IsOneOf numbers m
 
-  -- each living client's row has the head of the chain of the robust mutexes that it owns, and
-  -- those of dead owners have a chain too, in rising order  [XSH pthread_mutex_lock, EOWNERDEAD]
+  -- each living client's row has the head of the chain of the robust mutexes that the client owns,
+  -- and those with dead owners are in a chain too, in rising order
+  -- [XSH pthread_mutex_lock, EOWNERDEAD]
   pub record AreChained (clients : List (ClientRow Caller)) (objects : List (ObjectRow (Object A)))
       (orphans : Option ℕ) : Type 0 where
     pub living : (c : ℕ) (v : Caller) → client_value clients c ≡ Some v

@@ -1,4 +1,4 @@
--- Moved: a row that is moved in the chain of a client, if it must be.
+-- Moved: an object's row that enters or leaves the chain of a client, if it must.
 use Rattle.std.specs.Prelude.{ℕ, ◌≡◌, ◌⊎◌, Bool, true, false, List, Option, Some}
 use Rattle.pt_table.specs.declared.clients.ClientRow.{ClientRow}
 use Rattle.pt_table.specs.ClientRows.{client_value}
@@ -10,14 +10,14 @@ use Rattle.pt_records.specs.Callers.{Once}
 use Rattle.pt_records.specs.Chained.{unowned}
 use Rattle.pt_records.specs.Writes.{WritesCaller}
 
--- how an object's row moves among chains: from rows to rows, and from a head to a head
+-- how an object's row enters or leaves a chain: the rows and the head before, and those after
 abbrev pub Moves : Type 0 → Type 1
 Moves A =
     List (ObjectRow (Object A)) → List (ObjectRow (Object A)) → Option ℕ → Option ℕ → ℕ → Type 0
 
 module _ {A : Type 0} where
-  -- the row of object m moves so in the chain of client c, and nothing else changes; or if it
-  -- needn't move, nothing changes
+  -- if it must, the row of object m moves this way in the chain of client c, and nothing else
+  -- changes; if it need not, nothing changes
   abbrev pub IsMoved : Moves A → Bool → (clients after : List (ClientRow Caller))
       → (old new : List (ObjectRow (Object A))) → (c m : ℕ) → Type 0
   IsMoved moves must clients after old new c m =

@@ -19,11 +19,12 @@ use Rattle.pt_model.specs.Rwlocks.{writer, reads}
 use Rattle.pt_records.specs.declared.objects.Object.{Object}
 use Rattle.pt_records.specs.declared.objects.Object.TheVariants.{Mutex, Rwlock, Cond, Barrier}
 
--- a mutex's row is as read off the history  [XSH 2.9.3]
+-- a mutex's row is as it is read off the history  [XSH 2.9.3]
 abbrev pub IsMutex : History → ℕ → MutexState → Type 0
 IsMutex h o m = (m.seen ≡ mutex_view h o) × (m.bound_waits ≡ 0)
 
--- a lock's row is so too, and each client that reads there has a row in it  [XSH 2.9]
+-- a read-write lock's row is as it is read off the history, and each client whose call for a read
+-- lock waits there has a row in it  [XSH 2.9]
 pub record IsRwlock (h : History) (o : ℕ) (r : RwlockState) : Type 0 where
   pub writer : r.writer ≡ writer h o
   pub reads : (c : ℕ) → reads_of r c ≡ reads h o c
@@ -31,14 +32,14 @@ pub record IsRwlock (h : History) (o : ℕ) (r : RwlockState) : Type 0 where
       → is_some (row_of r w.client) ≡ true
 
 module _ {A : Type 0} where
-  -- what an object was made as  [XSH 2.9]
+  -- the kind that an object was made with  [XSH 2.9]
   abbrev pub kind_in_row : Object A → ObjectKind
   kind_in_row (Mutex m) = kind.Mutex m.seen.kind m.seen.robust
   kind_in_row (Rwlock r) = kind.Rwlock
   kind_in_row (Cond q) = kind.Cond
   kind_in_row (Barrier count) = kind.Barrier count
 
-  -- an object of this kind, as it is made  [XSH pthread_mutex_init, pthread_cond_init]
+  -- the object is one of this kind as it is made  [XSH pthread_mutex_init, pthread_cond_init]
   abbrev pub IsNew : Object A → ObjectKind → Type 0
   IsNew (Mutex m) (kind.Mutex k robust) = m ≡ made_mutex k robust
   IsNew (Rwlock r) kind.Rwlock = r ≡ made_rwlock
@@ -52,7 +53,7 @@ module _ {A : Type 0} where
   Rising (row ∷ rows) n =
       (row.number < n) × Each (λ other. row.number < other.number) rows × Rising rows n
 
-  -- what is found of each object is what is read off the history
+  -- what is looked up for each object is what is read off the history
   pub record ObjectsLook (h : History) (look : ℕ → Option (Object A)) : Type 0 where
     pub kinds : (o : ℕ) → option_map kind_in_row (look o) ≡ kind_of h o
     pub mutexes : (o : ℕ) (m : MutexState) → look o ≡ Some (Mutex m) → IsMutex h o m

@@ -1,4 +1,4 @@
--- OpenRows: tests of a stored open call.
+-- OpenRows: what is read off a stored open call.
 use Rattle.std.specs.Prelude.{ℕ, Bool, not, ◌&&◌, is_some}
 use Rattle.pt_types.specs.MutexTable.{is_number}
 use Rattle.pt_model.specs.Moves.{object_by}
@@ -9,7 +9,7 @@ use Rattle.pt_records.specs.declared.clients.Open.{Open}
 abbrev pub object_of : Open → ℕ
 object_of o = object_by o.call.role o.moved o.call.object
 
--- whether it is a wait that isn't moved and will come back to this mutex
+-- whether an open call is a wait that has not been moved and will return to this mutex
 -- [XSH pthread_mutex_destroy]
 abbrev pub returns_to : ℕ → Open → Bool
 returns_to m o = is_number (mutex_awaited o.call.role) m && not (is_some o.moved)

@@ -1,4 +1,4 @@
--- Writes: rows of the tables before and after some of them are written.
+-- Writes: the rows of the tables before and after some of them are written.
 use Rattle.std.specs.Prelude.{ℕ, zero, suc, ◌+◌, ◌≡◌, ◌==◌, ◌&&◌, Bool, false, List, [], ◌∷◌}
 use Rattle.std.specs.Prelude.{Option, Some, None, is_none, length, option_map, if◌then◌else◌}
 use Rattle.std.specs.Option.{option_and_then}
@@ -28,25 +28,25 @@ use Rattle.pt_records.specs.Chained.{KeepsChains}
 use Rattle.pt_records.specs.Logs.{outcome_in_log}
 use Rattle.pt_records.specs.Objects.{Rising}
 
--- one row is written, and the others stay
+-- one client's row is written, and the others stay the same
 pub record WritesCaller (old new : List (ClientRow Caller)) (c : ℕ) (v : Caller) : Type 0 where
   pub look : (d : ℕ) → client_value new d ≡ if c == d then Some v else client_value old d
   pub many : length new ≡ length old
   pub once : Once old → Once new
 
--- a client gets its row, and the others stay
+-- a client gets its row, and the others stay the same
 pub record AddsCaller (old new : List (ClientRow Caller)) (c : ℕ) (v : Caller) : Type 0 where
   pub look : (d : ℕ) → client_value new d ≡ if c == d then Some v else client_value old d
   pub many : length new ≡ length old + 1
   pub once : Once old → Once new
 
--- a client has no row any more, and the others stay
+-- a client's row is removed, and the others stay the same
 pub record RemovesCaller (old new : List (ClientRow Caller)) (c : ℕ) : Type 0 where
   pub look : (d : ℕ) → client_value new d ≡ if c == d then None else client_value old d
   pub many : Once old → length new + 1 ≡ length old
   pub once : Once old → Once new
 
--- each row has what g gives of what it had
+-- each row has what g makes of its old value
 pub record RewritesCallers (old new : List (ClientRow Caller)) (g : Caller → Caller) : Type 0 where
   pub look : (d : ℕ) → client_value new d ≡ option_map g (client_value old d)
   pub many : length new ≡ length old
@@ -62,12 +62,12 @@ rewritten_nth g (row ∷ rows) (suc i) = row ∷ rewritten_nth g rows i
 abbrev pub arrived_at : ℕ → Open → Bool
 arrived_at b o = is_arrival o.call.role && (o.call.object == b)
 
--- whether an open call waits at the condition, and isn't moved  [XSH pthread_cond_wait]
+-- whether an open call is a wait at the condition that has not been moved  [XSH pthread_cond_wait]
 abbrev pub still_waits_at : ℕ → Open → Bool
 still_waits_at q o =
     is_wait o.call.role && (is_none o.moved && (q == o.call.object))
 
--- the client's row has what g gives of what it had, if it has a row, and the others stay
+-- the client's row, if it has one, has what g makes of its old value, and the others stay the same
 pub record ChangesCaller (old new : List (ClientRow Caller)) (c : ℕ) (g : Caller → Caller) : Type 0
   where
     pub look : (d : ℕ) → client_value new d
@@ -75,19 +75,19 @@ pub record ChangesCaller (old new : List (ClientRow Caller)) (c : ℕ) (g : Call
     pub many : length new ≡ length old
     pub once : Once old → Once new
 
--- what these answers say to the open call in a row
+-- the outcome of these answers for the open call in a row
 abbrev pub answer_to_open : List (ℕ × Told) → Caller → Option Outcome
 answer_to_open log v = option_and_then (λ o. outcome_in_log log o.call.place) v.open
 
--- a row after the barrier let its calls go on with these answers  [XSH pthread_barrier_wait]
+-- a row after the calls at the barrier got these answers  [XSH pthread_barrier_wait]
 abbrev pub closed_at : ℕ → List (ℕ × Told) → Caller → Caller
 closed_at b log v = if has_open (arrived_at b) v then closed (answer_to_open log v) v else v
 
--- a row after a broadcast at the condition, by the entry at place k  [XSH pthread_cond_broadcast]
+-- a row after the entry at place k broadcasts at the condition  [XSH pthread_cond_broadcast]
 abbrev pub woken_at : ℕ → ℕ → Cause → Caller → Caller
 woken_at q k cause v = if has_open (still_waits_at q) v then moved_at k cause v else v
 
--- a row whose client's latest call came at place j, and waits at condition q with mutex m, by no
+-- a row after its client's call at place j began to wait at condition q with mutex m, without a
 -- deadline  [XSH pthread_cond_wait]
 abbrev pub waiting_by : ℕ → ℕ → ℕ → ℕ → Clock → Caller → Caller
 waiting_by j c q m k v =
@@ -109,12 +109,12 @@ waiting_by j c q m k v =
     }
 
 module _ {A : Type 0} where
-  -- no two rows have one name
+  -- no two rows have the same name
   abbrev pub NamesOnce : List (ObjectRow (Object A)) → Type 0
   NamesOnce [] = Unit {0}
   NamesOnce (row ∷ rows) = (object_named rows row.name ≡ None) × NamesOnce rows
 
-  -- one object is written, and the others stay
+  -- one object's row is written, and the others stay the same
   pub record WritesObject (old new : List (ObjectRow (Object A))) (o : ℕ) (x : Object A) :
       Type 0 where
     pub look : (p : ℕ) → object_value new p ≡ if o == p then Some x else object_value old p
@@ -123,7 +123,7 @@ module _ {A : Type 0} where
     pub many : length new ≡ length old
     pub once : NamesOnce old → NamesOnce new
 
-  -- an object gets its row, and the others stay
+  -- an object gets its row, and the others stay the same
   pub record AddsObject (old new : List (ObjectRow (Object A))) (o : ℕ) (name : List ℕ)
       (x : Object A) : Type 0 where
     pub look : (p : ℕ) → object_value new p ≡ if o == p then Some x else object_value old p
@@ -135,7 +135,7 @@ module _ {A : Type 0} where
     pub free : object_value old o ≡ None
     pub chains : KeepsChains old new
 
-  -- an object has no row any more, and the others stay
+  -- an object's row is removed, and the others stay the same
   pub record RemovesObject (old new : List (ObjectRow (Object A))) (o : ℕ) : Type 0 where
     pub look : (p : ℕ) → object_value new p ≡ if o == p then None else object_value old p
     pub names : NamesOnce old → (n : List ℕ)
@@ -145,7 +145,7 @@ module _ {A : Type 0} where
     pub once : NamesOnce old → NamesOnce new
     pub chains : is_linked old o ≡ false → KeepsChains old new
 
-  -- an object as it is made  [XSH 2.9]
+  -- an object of this kind as it is made  [XSH 2.9]
   abbrev pub new_object : ObjectKind → Object A
   new_object (kind.Mutex k robust) = Mutex (new_mutex k robust)
   new_object kind.Rwlock = Rwlock new_rwlock

@@ -6,19 +6,18 @@ use pt_history::take_memory;
 use std::alloc::{AllocError, Allocator, Global};
 use std::marker::Model;
 
-// For how many more answers than there has to be room memory is asked for, so that it is seldom
-// asked for.
+// The number of additional answers for which a growth allocates memory, so that growths are rare.
 const BATCH: usize = 64;
 
 /// All answers since the Start, in order.
 ///
-/// Contracts see the answers, and how many there may be before the log takes memory.
+/// Contracts see the answers, and how many the log can hold before it needs more memory.
 #[derive(Drop)]
 pub struct AnswerLog<A: Allocator + Copy = Global> {
     pub(crate) base: u64,
     pub(crate) shorts: Vec<Short, A>,
     pub(crate) wholes: Vec<Answered, A>,
-    /// For how many more answers there is memory, whatever they are.
+    /// The number of further answers for which there is memory, whatever they are.
     pub(crate) room: usize,
 }
 
@@ -37,7 +36,7 @@ impl<A: Allocator + Copy> Model for AnswerLog<A> {
         × HasRoom l.shorts l.wholes l.room };
 }
 
-/// The answers that are left of those in a log, one after another.
+/// The remaining answers of a log, which are returned one after another.
 #[derive(Drop)]
 pub struct LoggedAnswers<'a> {
     base: u64,
@@ -60,7 +59,7 @@ impl<'a> Model for LoggedAnswers<'a> {
 impl<'a> LoggedAnswers<'a> {
     ghost use Rattle.std.specs.Prelude.{◌≡◌, ◌∷◌, [], MatchOption, slice_get};
 
-    /// The next answer, if one is left.
+    /// Removes and returns the next answer, if one is left.
     #[inline(always)]
     pub fn next(&mut self) -> Option<Answered>
         ensures { MatchOption result ((self.old ≡ []) × (self.new ≡ []))
@@ -71,7 +70,7 @@ impl<'a> LoggedAnswers<'a> {
         Some(answer_of(self.base, self.wholes, *first))
     }
 
-    /// The answer at an index of those that are left.
+    /// Returns the answer at an index among those that are left.
     pub fn get(&self, index: usize) -> Option<Answered>
         ensures { result ≡ slice_get self.now index }
     {
@@ -85,7 +84,7 @@ impl<A: Allocator + Copy> AnswerLog<A> {
     ghost use Rattle.std.specs.Prelude.{slice_index_or, IfOk, IsOk, OnOk};
     ghost use Rattle.pt_records.specs.AnswerLogs.{no_answer};
 
-    /// No answers. It takes no memory.
+    /// Creates an empty log, which allocates nothing.
     pub fn new(alloc: A) -> AnswerLog<A>
         ensures { result.items ≡ [] }
     {
@@ -97,7 +96,7 @@ impl<A: Allocator + Copy> AnswerLog<A> {
         }
     }
 
-    /// No answers, with room for so many.
+    /// Creates an empty log with room for `room` answers.
     pub fn with_room(alloc: A, room: usize) -> Result<AnswerLog<A>, AllocError>
         ensures items { IfOk result (λ log. log.items ≡ []) }
         ensures room { IfOk result (λ log. room ≤ log.capacity) }
@@ -110,7 +109,7 @@ impl<A: Allocator + Copy> AnswerLog<A> {
         })
     }
 
-    // Asks for memory for so many answers more.
+    // Allocates memory for `many` more answers.
     #[cold]
     #[inline(never)]
     fn grow(&mut self, many: usize) -> Result<(), AllocError>
@@ -125,7 +124,7 @@ impl<A: Allocator + Copy> AnswerLog<A> {
         Ok(())
     }
 
-    /// Makes room for so many answers more. Room that is there already is never refused.
+    /// Makes room for `many` more answers. This never fails if there is enough room already.
     pub fn reserve(&mut self, many: usize) -> Result<(), AllocError>
         ensures items { self.new.items ≡ self.old.items }
         ensures capacity { self.old.capacity ≤ self.new.capacity }
@@ -138,8 +137,8 @@ impl<A: Allocator + Copy> AnswerLog<A> {
         self.grow(many.saturating_add(BATCH))
     }
 
-    // Adds an answer whose numbers don't fit, for which an empty log takes another base. It is
-    // seldom needed, so it is not inlined.
+    // Appends an answer whose numbers do not fit in short. An empty log takes another base for it.
+    // This is rare, so it is not inlined.
     #[cold]
     #[inline(never)]
     fn push_far(&mut self, answer: Answered)
@@ -153,7 +152,7 @@ impl<A: Allocator + Copy> AnswerLog<A> {
         self.room -= 1;
     }
 
-    /// Adds an answer, in room that was made for it.
+    /// Appends an answer, in room that was made for it.
     #[inline(always)]
     pub fn push(&mut self, answer: Answered)
         requires { length self.old.items < self.old.capacity }
@@ -167,7 +166,7 @@ impl<A: Allocator + Copy> AnswerLog<A> {
         self.room -= 1;
     }
 
-    /// Forgets the answers. The room for more stays, and so does the memory.
+    /// Removes all answers. The room for more stays, and so does the memory.
     pub fn clear(&mut self)
         ensures items { self.new.items ≡ [] }
         ensures room { self.old.capacity ≤ self.new.capacity + length self.old.items }
@@ -176,7 +175,8 @@ impl<A: Allocator + Copy> AnswerLog<A> {
         self.wholes.clear();
     }
 
-    /// Moves the answers into the memory of a log that is needed no more, if that has as much.
+    /// Moves the answers into the memory of a log that is no longer needed, if that log has as
+    /// much.
     pub fn take_memory(&mut self, other: AnswerLog<A>)
         ensures items { self.new.items ≡ self.old.items }
         ensures capacity { self.old.capacity ≤ self.new.capacity }
@@ -185,7 +185,7 @@ impl<A: Allocator + Copy> AnswerLog<A> {
         take_memory(&mut self.wholes, other.wholes);
     }
 
-    /// For how many more answers there is memory.
+    /// Returns the number of further answers for which there is memory.
     #[inline(always)]
     pub fn spare(&self) -> usize
         ensures { length self.now.items + result ≡ self.now.capacity }
@@ -193,14 +193,14 @@ impl<A: Allocator + Copy> AnswerLog<A> {
         self.room
     }
 
-    /// The number of answers.
+    /// Returns the number of answers.
     pub fn len(&self) -> usize
         ensures { result ≡ length self.now.items }
     {
         self.shorts.len()
     }
 
-    /// The place of the entry that gave the answer at an index.
+    /// Returns the place of the entry that gave the answer at an index.
     #[inline(always)]
     pub fn given_at(&self, i: usize) -> u64
         requires { i < length self.now.items }
@@ -209,7 +209,7 @@ impl<A: Allocator + Copy> AnswerLog<A> {
         answer_of(self.base, self.wholes.as_slice(), self.shorts[i]).at
     }
 
-    /// The answers from an index on.
+    /// Returns the answers from an index on.
     #[inline(always)]
     pub fn from(&self, i: usize) -> LoggedAnswers<'_>
         requires { i ≤ length self.now.items }

@@ -1,4 +1,4 @@
-//! The answers so far, and those from a place on.
+//! Answers, and how those from a place on are found.
 
 ghost use Rattle.std.specs.Prelude.{[], ◌==◌, ◌++◌, ◌+◌, ◌<◌, ◌∷◌, ◌≡◌, ◌≤◌, drop, find, length};
 ghost use Rattle.std.specs.Prelude.{map, option_map};
@@ -19,7 +19,8 @@ pub struct Answered {
     pub outcome: Outcome,
 }
 
-/// Where the answers begin that the entries from a place on gave. It is looked for from the end.
+/// Returns the index at which the answers begin that the entries from a place on gave. The search
+/// starts at the end of the log.
 pub fn answered_since<A: Allocator + Copy>(answers: &AnswerLog<A>, place: u64) -> usize
     requires { Rises 0 (map logged answers.now.items) }
     ensures within { result ≤ length answers.now.items }
@@ -36,7 +37,8 @@ pub fn answered_since<A: Allocator + Copy>(answers: &AnswerLog<A>, place: u64) -
     i
 }
 
-/// Where the answers begin that the entries from a place on gave, wherever that is among them.
+/// Returns the index at which the answers begin that the entries from a place on gave, by a binary
+/// search.
 pub fn halved_since<A: Allocator + Copy>(answers: &AnswerLog<A>, place: u64) -> usize
     requires { Rises 0 (map logged answers.now.items) }
     ensures within { result ≤ length answers.now.items }
@@ -56,7 +58,7 @@ pub fn halved_since<A: Allocator + Copy>(answers: &AnswerLog<A>, place: u64) -> 
     low
 }
 
-// What the first of these answers says that is to the call at a place.
+// Returns the outcome of the first of these answers that is to the call at a place.
 fn first_outcome(mut answers: LoggedAnswers<'_>, place: u64) -> Option<Outcome>
     ensures { result ≡ option_map (λ a. a.outcome) (find (λ a. a.place == place) answers.entry) }
 {
@@ -68,7 +70,8 @@ fn first_outcome(mut answers: LoggedAnswers<'_>, place: u64) -> Option<Outcome>
     None
 }
 
-/// What the answers since a place say to the call at that place: the first that is to it.
+/// Returns the outcome of the first answer to the call at a place, among the answers that the
+/// entries from that place on gave.
 pub fn outcome_since<A: Allocator + Copy>(answers: &AnswerLog<A>, place: u64) -> Option<Outcome>
     requires { Rises 0 (map logged answers.now.items) }
     ensures { result ≡ first_said (since place (map logged answers.now.items)) place }
@@ -77,8 +80,9 @@ pub fn outcome_since<A: Allocator + Copy>(answers: &AnswerLog<A>, place: u64) ->
     first_outcome(answers.from(from), place)
 }
 
-/// What the answers since a place say to the call at that place. They are looked for from the end,
-/// so this is for a call of late.
+/// Returns the outcome of the first answer to the call at a place, among the answers that the
+/// entries from that place on gave. The search starts at the end of the log, so this is for recent
+/// calls.
 pub fn recent_outcome<A: Allocator + Copy>(answers: &AnswerLog<A>, place: u64) -> Option<Outcome>
     requires { Rises 0 (map logged answers.now.items) }
     ensures { result ≡ first_said (since place (map logged answers.now.items)) place }
@@ -87,7 +91,7 @@ pub fn recent_outcome<A: Allocator + Copy>(answers: &AnswerLog<A>, place: u64) -
     first_outcome(answers.from(from), place)
 }
 
-/// Adds an answer, in room that was made for it.
+/// Appends an answer, in room that was made for it.
 #[inline(always)]
 pub fn tell<A: Allocator + Copy>(answers: &mut AnswerLog<A>, answer: Answered)
     requires { length answers.old.items < answers.old.capacity }

@@ -1,4 +1,4 @@
-//! Barriers: the calls that a Trip lets go, and their answers.
+//! Barriers: how a Trip answers the calls that wait there.
 
 ghost use Rattle.std.specs.Prelude.{◌++◌, ◌+◌, ◌≡◌, ◌≤◌, length, map};
 ghost use Rattle.pt_records.specs.Callers.{AreCallers};
@@ -21,7 +21,7 @@ use pt_types::{ObjectId, Outcome};
 use pt_waitq::{WaitList, Waiter};
 use std::alloc::Allocator;
 
-// What a call at a barrier is answered: the last one is serial.
+// Returns the answer to a call at a barrier: SERIAL for the last call, 0 for the others.
 // [XSH pthread_barrier_wait, which one is profile]
 #[inline(always)]
 fn answer_to(at: u64, waiter: &Waiter, is_last: bool) -> Answered
@@ -40,7 +40,7 @@ fn answer_to(at: u64, waiter: &Waiter, is_last: bool) -> Answered
     }
 }
 
-// The open call that an answer is to is open no more, and has that answer.
+// Closes the open call that an answer is to, and stores the answer in its client's row.
 #[inline(always)]
 fn close_by<A: Allocator + Copy>(clients: &mut Clients<Caller, A>, answer: &Answered)
     ensures { ChangesCaller clients.old clients.new «answer».now.client (closed_by answer.now) }
@@ -51,8 +51,8 @@ fn close_by<A: Allocator + Copy>(clients: &mut Clients<Caller, A>, answer: &Answ
     }
 }
 
-// Answers each waiter of a queue, in order of the queue, and all of them leave it. Their calls are
-// open no more, and each has its answer.
+// Answers each waiter of a queue, in the order of the queue, and removes it from the queue. Each
+// call is closed, and its client's row has the answer.
 #[inline(always)]
 fn tell_queue<Q: WaitList, A: Allocator + Copy>(
     clients: &mut Clients<Caller, A>,
@@ -80,8 +80,8 @@ fn tell_queue<Q: WaitList, A: Allocator + Copy>(
     }
 }
 
-/// Adds what the barrier's Trip after this history answers, in room that was made for it. The calls
-/// are open no more, each has its answer, and they leave the barrier's queue.
+/// Appends the answers that the barrier's Trip after this history gives, in room that was made for
+/// them. Each call is closed, its client's row has the answer, and it leaves the barrier's queue.
 #[inline(always)]
 pub fn trip<Q: WaitList, A: Allocator + Copy>(
     history: &History<A>,

@@ -1,4 +1,4 @@
-//! Open calls as the clients' rows have them.
+//! Open calls in the rows of clients.
 
 ghost use Rattle.std.specs.Prelude.{None, Some, ◌<◌, ◌≡◌, ◌≤◌, is_some, true};
 ghost use Rattle.pt_table.specs.ClientRows.{client_value, has_client, nth_value};
@@ -14,7 +14,7 @@ use pt_table::Clients;
 use pt_types::{ClientId, Clock, ObjectId, Outcome};
 use std::alloc::Allocator;
 
-/// The client's latest call came at this place, and is open.
+/// Stores the call at this place as its client's latest call, which is open.
 #[inline(always)]
 pub fn stand<A: Allocator + Copy>(
     clients: &mut Clients<Caller, A>,
@@ -34,7 +34,7 @@ pub fn stand<A: Allocator + Copy>(
     }
 }
 
-/// The client's latest call came at this place, and waits at this barrier.
+/// Stores the call at this place as its client's latest call, which waits at this barrier.
 /// [XSH pthread_barrier_wait]
 #[inline(always)]
 pub fn arrive<A: Allocator + Copy>(
@@ -66,7 +66,7 @@ pub fn arrive<A: Allocator + Copy>(
     }
 }
 
-/// The client's open call is answered.
+/// Closes the client's open call, and stores its answer.
 pub fn close<A: Allocator + Copy>(clients: &mut Clients<Caller, A>, c: ClientId, answer: Outcome)
     requires { has_client clients.old c ≡ true }
     ensures { (v : Caller) → client_value clients.old c ≡ Some v
@@ -78,7 +78,7 @@ pub fn close<A: Allocator + Copy>(clients: &mut Clients<Caller, A>, c: ClientId,
     }
 }
 
-/// The entries reserved for an open call.
+/// Returns the number of entries reserved for an open call, or 0 if there is none.
 pub fn reserved_by(open: Option<Open>) -> u64
     ensures value { result ≡ counted reserved_open «open» }
     ensures small { result ≤ 3 }
@@ -92,7 +92,7 @@ pub fn reserved_by(open: Option<Open>) -> u64
     }
 }
 
-/// The open call in the row at an index.
+/// Returns the open call in the row at an index, if there is one.
 pub fn open_at<A: Allocator + Copy>(clients: &Clients<Caller, A>, i: usize) -> Option<Open>
     ensures { result ≡ open_in (nth_value clients.now i) }
 {
@@ -102,14 +102,14 @@ pub fn open_at<A: Allocator + Copy>(clients: &Clients<Caller, A>, i: usize) -> O
     }
 }
 
-/// Whether an open call is a wait that was moved.  [XSH pthread_cond_broadcast]
+/// Returns whether an open call is a wait that was moved.  [XSH pthread_cond_broadcast]
 pub fn is_moved(open: &Open) -> bool
     ensures { result ≡ is_some «open».now.moved }
 {
     open.moved.is_some()
 }
 
-/// The object at which an open call waits.  [XSH pthread_cond_broadcast]
+/// Returns the object at which an open call waits.  [XSH pthread_cond_broadcast]
 pub fn at_object(open: &Open) -> ObjectId
     ensures { result ≡ object_of «open».now }
 {

@@ -12,7 +12,7 @@ use pt_table::Clients;
 use pt_types::{ClientId, Outcome, Priority, Refusal};
 use std::alloc::Allocator;
 
-/// The client's latest call came at this place, and was answered at once.
+/// Stores the call at this place as its client's latest call, with the answer that it got at once.
 #[inline(always)]
 pub fn note_call<A: Allocator + Copy>(
     clients: &mut Clients<Caller, A>,
@@ -30,7 +30,7 @@ pub fn note_call<A: Allocator + Copy>(
     }
 }
 
-/// A new client gets its row. ENOMEM if there is no memory for it.
+/// Adds the row of a new client. Returns ENOMEM if there is no memory for it.
 pub fn admit<A: Allocator + Copy>(
     clients: &mut Clients<Caller, A>,
     c: ClientId,
@@ -48,7 +48,7 @@ pub fn admit<A: Allocator + Copy>(
     }
 }
 
-/// The client's row is taken out.
+/// Removes the client's row.
 pub fn dismiss<A: Allocator + Copy>(clients: &mut Clients<Caller, A>, c: ClientId)
     requires { has_client clients.old c ≡ true }
     ensures { RemovesCaller clients.old clients.new c }
@@ -71,6 +71,7 @@ pub struct Caller {
     pub open: Option<Open>,
     pub latest: Option<u64>,
     pub answer: Option<Outcome>,
-    /// The robust mutex that it got last, of those that it owns: the head of their chain.
+    /// The robust mutex that the client acquired last, of those that it owns. It is the head of
+    /// their chain.
     pub owned: Option<u64>,
 }

@@ -17,8 +17,8 @@ use pt_table::Clients;
 use pt_types::{ClientId, Clock, ObjectId, Priority};
 use std::alloc::Allocator;
 
-/// The client's latest call came at this place, and waits at condition `q` with mutex `m`, by no
-/// deadline. Returns the client's priority.  [XSH pthread_cond_wait]
+/// Stores the call at this place as its client's latest call: a wait at condition `q` with mutex
+/// `m` and without a deadline. Returns the client's priority.  [XSH pthread_cond_wait]
 #[inline(always)]
 pub fn wait_at<A: Allocator + Copy>(
     clients: &mut Clients<Caller, A>,
@@ -51,7 +51,7 @@ pub fn wait_at<A: Allocator + Copy>(
     row.priority
 }
 
-// The client's open call, if it has one, is moved by the entry at this place.
+// Marks the client's open call, if it has one, as moved by the entry at this place.
 fn move_open(caller: &mut Caller, at: u64, cause: Cause)
     ensures { caller.new ≡ moved_at at cause caller.old }
 {
@@ -60,7 +60,7 @@ fn move_open(caller: &mut Caller, at: u64, cause: Cause)
     }
 }
 
-/// The client's open call is moved by the entry at this place.
+/// Marks the client's open call as moved by the entry at this place.
 pub fn wake<A: Allocator + Copy>(
     clients: &mut Clients<Caller, A>,
     c: ClientId,
@@ -76,7 +76,7 @@ pub fn wake<A: Allocator + Copy>(
     }
 }
 
-// Whether the client's open call is a wait with the condition that isn't moved.
+// Returns whether the client's open call is a wait at the condition that has not been moved.
 fn is_waiting(caller: &Caller, q: ObjectId) -> bool
     ensures { result ≡ has_open (still_waits_at q) caller.now }
 {
@@ -86,7 +86,7 @@ fn is_waiting(caller: &Caller, q: ObjectId) -> bool
     }
 }
 
-// Moves the client's open call in the row at this index, if it waits at the condition.
+// Marks the open call in the row at this index as moved, if it waits at the condition.
 fn wake_nth<A: Allocator + Copy>(
     clients: &mut Clients<Caller, A>,
     index: usize,
@@ -108,7 +108,7 @@ fn wake_nth<A: Allocator + Copy>(
     }
 }
 
-/// The waits at the condition are moved by the entry at this place.
+/// Marks the waits at the condition as moved by the entry at this place.
 pub fn wake_waits<A: Allocator + Copy>(
     clients: &mut Clients<Caller, A>,
     q: ObjectId,
@@ -123,7 +123,7 @@ pub fn wake_waits<A: Allocator + Copy>(
     }
 }
 
-// Whether an open call is a wait that isn't moved and will come back to the mutex.
+// Returns whether an open call is a wait that has not been moved and will return to the mutex.
 // [XSH pthread_mutex_destroy]
 fn returns_to(open: &Open, m: ObjectId) -> bool
     ensures { result ≡ returns_to_it m «open».now }
@@ -134,8 +134,8 @@ fn returns_to(open: &Open, m: ObjectId) -> bool
     }
 }
 
-/// Whether the open call in the row at an index is a wait that isn't moved and will come back to
-/// the mutex.  [XSH pthread_mutex_destroy]
+/// Returns whether the open call in the row at an index is a wait that has not been moved and will
+/// return to the mutex.  [XSH pthread_mutex_destroy]
 fn returns_from<A: Allocator + Copy>(clients: &Clients<Caller, A>, m: ObjectId, i: usize) -> bool
     ensures { result ≡ passes (returns_to_it m) (open_in (nth_value clients.now i)) }
 {
@@ -145,7 +145,8 @@ fn returns_from<A: Allocator + Copy>(clients: &Clients<Caller, A>, m: ObjectId, 
     }
 }
 
-/// Whether a wait that isn't moved will come back to the mutex.  [XSH pthread_mutex_destroy]
+/// Returns whether a wait that has not been moved will return to the mutex.
+/// [XSH pthread_mutex_destroy]
 pub fn any_returns<A: Allocator + Copy>(clients: &Clients<Caller, A>, m: ObjectId) -> bool
     ensures { result ≡ list_any (returns_to_it m) (opens_of clients.now) }
 {

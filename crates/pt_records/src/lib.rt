@@ -1,5 +1,5 @@
-//! The rows of one core: those of its living clients, of its objects and of its answers,
-//! what one row says, and loops over all of them.
+//! The rows of one core: those of its living clients, its objects and its answers. Functions read
+//! or change one row, or loop over all of them.
 #![tactic(auto)]
 
 mod answer_log;

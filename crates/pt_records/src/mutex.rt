@@ -1,4 +1,4 @@
-//! Rows of mutexes: what one says of a call, and how it changes.
+//! Rows of mutexes: what a mutex answers to a call, and how it changes.
 
 ghost use Rattle.std.specs.Prelude.{IsSome, IsTrue, List, None, Option, Some, ◌+◌, ◌<◌, ◌≡◌, true};
 ghost use Rattle.std.specs.Prelude.{false};
@@ -28,7 +28,7 @@ use pt_table::{Clients, Objects};
 use pt_types::{ClientId, Consistency, How, ObjectId, Verdict};
 use std::alloc::Allocator;
 
-/// Whether an object is a robust mutex on which the client has one lock.
+/// Returns whether an object is a robust mutex on which the client has exactly one lock.
 /// [XSH pthread_mutex_unlock]
 #[inline(always)]
 pub fn is_last<A: Allocator + Copy>(object: &Object<A>, c: ClientId) -> bool
@@ -40,7 +40,8 @@ pub fn is_last<A: Allocator + Copy>(object: &Object<A>, c: ClientId) -> bool
     }
 }
 
-/// Whether nothing but the order of calls keeps a call from a mutex.  [XSH pthread_mutex_unlock]
+/// Returns whether nothing but the order of calls keeps a call from a mutex: the mutex is not
+/// recoverable, or it has no owner.  [XSH pthread_mutex_unlock]
 #[inline(always)]
 pub fn may_lock(mutex: &MutexObj) -> bool
     ensures { result ≡ may_lock_it mutex.now.seen true }
@@ -48,8 +49,8 @@ pub fn may_lock(mutex: &MutexObj) -> bool
     mutex.consistency() == Consistency::NotRecoverable || mutex.owner().is_none()
 }
 
-/// What becomes of a client's call for this mutex. If nobody's lock keeps it from the mutex, it
-/// waits until its Grant.  [XSH pthread_mutex_lock]
+/// Returns the verdict of a client's call for this mutex. If no lock keeps the call from the mutex,
+/// it waits until its Grant.  [XSH pthread_mutex_lock]
 #[inline(always)]
 pub fn lock_verdict(m: &MutexObj, c: ClientId, how: &How) -> Verdict
     ensures { result ≡ lock_table m.now.seen c how.now }
@@ -64,7 +65,7 @@ pub fn lock_verdict(m: &MutexObj, c: ClientId, how: &How) -> Verdict
     }
 }
 
-// The mutex counts one lock more of the client.  [XSH pthread_mutex_lock]
+// Counts one more lock of the client on the mutex.  [XSH pthread_mutex_lock]
 #[inline(always)]
 fn lock<A: Allocator + Copy>(objects: &mut Objects<Object<A>, A>, m: ObjectId, c: ClientId)
     requires there { IsSome (mutex_in (object_value objects.old m)) }
@@ -82,7 +83,7 @@ fn lock<A: Allocator + Copy>(objects: &mut Objects<Object<A>, A>, m: ObjectId, c
     }
 }
 
-// The mutex counts one lock less of the client.  [XSH pthread_mutex_unlock]
+// Counts one fewer lock of the client on the mutex.  [XSH pthread_mutex_unlock]
 #[inline(always)]
 fn unlock<A: Allocator + Copy>(objects: &mut Objects<Object<A>, A>, m: ObjectId, c: ClientId)
     requires there { IsSome (mutex_in (object_value objects.old m)) }
@@ -100,7 +101,7 @@ fn unlock<A: Allocator + Copy>(objects: &mut Objects<Object<A>, A>, m: ObjectId,
     }
 }
 
-// The mutex has no owner any more.  [XSH pthread_mutex_lock, EOWNERDEAD]
+// Takes the mutex from its owner, which is dead.  [XSH pthread_mutex_lock, EOWNERDEAD]
 fn free<A: Allocator + Copy>(objects: &mut Objects<Object<A>, A>, m: ObjectId)
     requires { IsSome (mutex_in (object_value objects.old m)) }
     ensures mutex { (x : MutexState) → object_value objects.old m ≡ Some (Mutex x)
@@ -115,7 +116,7 @@ fn free<A: Allocator + Copy>(objects: &mut Objects<Object<A>, A>, m: ObjectId)
     }
 }
 
-/// The client has the mutex once more, and owns it.  [XSH pthread_mutex_lock]
+/// Gives the client one more lock on the mutex, which it then owns.  [XSH pthread_mutex_lock]
 #[inline(always)]
 pub fn acquire<A: Allocator + Copy>(
     clients: &mut Clients<Caller, A>,
@@ -138,8 +139,8 @@ pub fn acquire<A: Allocator + Copy>(
     lock(objects, m, c);
 }
 
-/// As `acquire`, of a mutex that is not a robust one without an owner: it comes into no chain.
-/// [XSH pthread_mutex_lock]
+/// Does what `acquire` does, for a mutex that is not robust or has an owner already. The mutex
+/// enters no chain.  [XSH pthread_mutex_lock]
 #[inline(always)]
 pub fn acquire_plain<A: Allocator + Copy>(
     objects: &mut Objects<Object<A>, A>,
@@ -159,7 +160,7 @@ pub fn acquire_plain<A: Allocator + Copy>(
     lock(objects, m, c);
 }
 
-/// The client gives one lock on the mutex back, and with the last one the mutex.
+/// Gives back one lock of the client on the mutex, and with the last one the mutex.
 /// [XSH pthread_mutex_unlock]
 #[inline(always)]
 pub fn release<A: Allocator + Copy>(
@@ -183,7 +184,7 @@ pub fn release<A: Allocator + Copy>(
     unlock(objects, m, c);
 }
 
-/// What the mutex guards is in order again.  [XSH pthread_mutex_consistent]
+/// Marks the mutex as consistent: what it guards is in order again.  [XSH pthread_mutex_consistent]
 pub fn restore<A: Allocator + Copy>(objects: &mut Objects<Object<A>, A>, m: ObjectId)
     requires { IsSome (mutex_in (object_value objects.old m)) }
     ensures mutex { (x : MutexState) → object_value objects.old m ≡ Some (Mutex x)
@@ -198,8 +199,9 @@ pub fn restore<A: Allocator + Copy>(objects: &mut Objects<Object<A>, A>, m: Obje
     }
 }
 
-/// The mutex is taken from its dead owner. It is the head of the chain of the robust mutexes whose
-/// owner is dead, and the head that is left is returned.  [XSH pthread_mutex_lock, EOWNERDEAD]
+/// Takes the mutex from its dead owner, and returns the new head of the chain of the robust mutexes
+/// whose owner is dead. The mutex must be the head of that chain before.
+/// [XSH pthread_mutex_lock, EOWNERDEAD]
 pub fn yield_dead<A: Allocator + Copy>(
     objects: &mut Objects<Object<A>, A>,
     m: ObjectId,

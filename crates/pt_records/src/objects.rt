@@ -1,4 +1,4 @@
-//! The row of an object, whatever it is.
+//! The row of an object of any class.
 
 ghost use Rattle.std.specs.Prelude.{IfErr, OnErr, OnOk, ◌+◌, ◌-◌, ◌<◌, ◌≡◌, false, length, true};
 ghost use Rattle.pt_types.specs.Operations.{class_of as class_meant};
@@ -18,7 +18,7 @@ use pt_types::operations::ObjectClass;
 use pt_types::{Name, ObjectId, ObjectKind, Refusal};
 use std::alloc::{Allocator, Global};
 
-/// The class of an object.  [XSH 2.9]
+/// Returns the class of an object.  [XSH 2.9]
 pub fn class_in_row<A: Allocator + Copy>(object: &Object<A>) -> ObjectClass
     ensures { result ≡ class_meant (kind_in_row object.now) }
 {
@@ -30,7 +30,7 @@ pub fn class_in_row<A: Allocator + Copy>(object: &Object<A>) -> ObjectClass
     }
 }
 
-/// The row of an object, by what it was made as.  [XSH 2.9]
+/// The row of an object, by its class.  [XSH 2.9]
 #[derive(Drop)]
 pub enum Object<A: Allocator + Copy = Global> {
     Mutex(MutexObj),
@@ -39,7 +39,7 @@ pub enum Object<A: Allocator + Copy = Global> {
     Barrier(BarrierObj),
 }
 
-/// A new object of this kind.  [XSH 2.9]
+/// Creates an object of this kind.  [XSH 2.9]
 pub fn make<A: Allocator + Copy>(kind: ObjectKind, alloc: A) -> Object<A>
     requires { is_bad_kind kind ≡ false }
     ensures { result ≡ new_object kind }
@@ -52,7 +52,7 @@ pub fn make<A: Allocator + Copy>(kind: ObjectKind, alloc: A) -> Object<A>
     }
 }
 
-/// A new object gets its row. ENOMEM if there is no memory for it.
+/// Adds the row of a new object. Returns ENOMEM if there is no memory for it.
 #[inline(always)]
 pub fn add<A: Allocator + Copy>(
     objects: &mut Objects<Object<A>, A>,
@@ -73,7 +73,7 @@ pub fn add<A: Allocator + Copy>(
     }
 }
 
-/// The object's row is taken out, and its name is free.
+/// Removes the object's row, and frees its name.
 #[inline(always)]
 pub fn remove<A: Allocator + Copy>(objects: &mut Objects<Object<A>, A>, o: ObjectId)
     requires { has_object objects.old o ≡ true }

@@ -22,7 +22,7 @@ use pt_table::{Clients, Objects};
 use pt_types::{ClientId, ObjectId};
 use std::alloc::Allocator;
 
-// Whether an object is a robust mutex that nobody owns.
+// Returns whether an object is a robust mutex without an owner.
 #[inline(always)]
 fn is_robust_free<A: Allocator + Copy>(objects: &Objects<Object<A>, A>, m: ObjectId) -> bool
     ensures { result ≡ passes is_robust_free_it (object_value objects.now m) }
@@ -33,7 +33,7 @@ fn is_robust_free<A: Allocator + Copy>(objects: &Objects<Object<A>, A>, m: Objec
     }
 }
 
-// Whether an object is a robust mutex that its owner has locked once.
+// Returns whether an object is a robust mutex that is locked at most once.
 #[inline(always)]
 fn is_locked_once<A: Allocator + Copy>(objects: &Objects<Object<A>, A>, m: ObjectId) -> bool
     ensures { result ≡ passes is_locked_once_it (object_value objects.now m) }
@@ -44,7 +44,7 @@ fn is_locked_once<A: Allocator + Copy>(objects: &Objects<Object<A>, A>, m: Objec
     }
 }
 
-// The mutex is one of those that the client owns.
+// Adds the mutex to the chain of those that the client owns.
 #[inline(never)]
 fn own<A: Allocator + Copy>(
     clients: &mut Clients<Caller, A>,
@@ -68,7 +68,7 @@ fn own<A: Allocator + Copy>(
     }
 }
 
-// The mutex is none of those that the client owns any more.
+// Removes the mutex from the chain of those that the client owns.
 #[inline(never)]
 fn disown<A: Allocator + Copy>(
     clients: &mut Clients<Caller, A>,
@@ -92,8 +92,8 @@ fn disown<A: Allocator + Copy>(
     }
 }
 
-/// A mutex that is about to be locked is put with those that the client owns, if it is robust and
-/// nobody owns it yet.
+/// Adds a mutex that is about to be locked to the chain of those that the client owns, if the mutex
+/// is robust and has no owner yet.
 #[inline(always)]
 pub(crate) fn hold<A: Allocator + Copy>(
     clients: &mut Clients<Caller, A>,
@@ -111,8 +111,8 @@ pub(crate) fn hold<A: Allocator + Copy>(
     }
 }
 
-/// A mutex of which the client is about to give one lock back is taken from those that it owns, if
-/// it is robust and that is its last lock.
+/// Removes a mutex from the chain of those that the client owns, if it is robust and the client is
+/// about to give back its last lock on it.
 #[inline(always)]
 pub(crate) fn let_go<A: Allocator + Copy>(
     clients: &mut Clients<Caller, A>,

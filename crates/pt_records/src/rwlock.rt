@@ -1,4 +1,4 @@
-//! Rows of read-write locks: what one says of a call, and how it changes.
+//! Rows of read-write locks: what a lock answers to a call, and how it changes.
 
 ghost use Rattle.std.specs.Prelude.{IfErr, IsOk, IsSome, IsTrue, OnErr, OnOk, Some, ◌+◌, ◌-◌, ◌<◌};
 ghost use Rattle.std.specs.Prelude.{◌≡◌, false};
@@ -23,14 +23,16 @@ use pt_table::{Clients, Objects};
 use pt_types::{ClientId, ObjectId, Refusal};
 use std::alloc::Allocator;
 
-/// Whether a client may read, with writers ahead or none.  [XSH pthread_rwlock_rdlock]
+/// Returns whether a client may get a read lock. `blocked` says whether a waiting writer goes
+/// before it.  [XSH pthread_rwlock_rdlock]
 pub fn may_read<A: Allocator + Copy>(lock: &Holders<A>, c: ClientId, blocked: bool) -> bool
     ensures { result ≡ may_read_it (seen_by lock.now c) blocked }
 {
     lock.writer().is_none() && (!blocked || lock.holds(c))
 }
 
-/// The client has its row in the lock. ENOMEM if there is no memory for a new one.
+/// Makes sure that the client has a row in the lock. Returns ENOMEM if there is no memory for a new
+/// one.
 #[inline(always)]
 pub fn make_row<A: Allocator + Copy>(
     objects: &mut Objects<Object<A>, A>,
@@ -58,7 +60,7 @@ pub fn make_row<A: Allocator + Copy>(
     Ok(())
 }
 
-/// The client has one read lock more.  [XSH pthread_rwlock_rdlock]
+/// Gives the client one more read lock.  [XSH pthread_rwlock_rdlock]
 #[inline(always)]
 pub fn acquire_read<A: Allocator + Copy>(
     objects: &mut Objects<Object<A>, A>,
@@ -82,7 +84,7 @@ pub fn acquire_read<A: Allocator + Copy>(
     }
 }
 
-/// The client has the write lock.  [XSH pthread_rwlock_wrlock]
+/// Gives the client the write lock.  [XSH pthread_rwlock_wrlock]
 pub fn acquire_write<A: Allocator + Copy>(
     objects: &mut Objects<Object<A>, A>,
     r: ObjectId,
@@ -103,7 +105,7 @@ pub fn acquire_write<A: Allocator + Copy>(
     }
 }
 
-/// The client gives back the write lock, or one read lock.  [XSH pthread_rwlock_unlock]
+/// Gives back the client's write lock, or one of its read locks.  [XSH pthread_rwlock_unlock]
 #[inline(always)]
 pub fn release_lock<A: Allocator + Copy>(
     objects: &mut Objects<Object<A>, A>,
@@ -128,7 +130,7 @@ pub fn release_lock<A: Allocator + Copy>(
     }
 }
 
-/// Whether the client in the row at an index holds the lock.  [XSH pthread_rwlock_unlock]
+/// Returns whether the client in the row at an index holds the lock.  [XSH pthread_rwlock_unlock]
 fn holds_lock<A: Allocator + Copy>(
     clients: &Clients<Caller, A>,
     lock: &Holders<A>,
@@ -142,7 +144,7 @@ fn holds_lock<A: Allocator + Copy>(
     }
 }
 
-/// Whether a client with a row holds the lock.  [XSH pthread_rwlock_destroy]
+/// Returns whether a client with a row holds the lock.  [XSH pthread_rwlock_destroy]
 pub fn any_holds<A: Allocator + Copy>(clients: &Clients<Caller, A>, lock: &Holders<A>) -> bool
     ensures { result ≡ list_any (λ row. holds (seen_by lock.now row.number)) clients.now }
 {

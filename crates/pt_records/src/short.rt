@@ -1,4 +1,4 @@
-//! Answers in short: their numbers count from a base, in 32 bits.
+//! Answers in short: their numbers are counted from a base, in 32 bits.
 
 ghost use Rattle.std.specs.Prelude.{◌≡◌, ◌+◌, ◌<◌, ◌≤◌, IfSome, List};
 ghost use Rattle.std.specs.Prelude.{vec_capacity, vec_len};
@@ -17,14 +17,14 @@ use std::mem::size_of;
 pub(crate) enum Short {
     /// The outcome, the place of the entry that gave it, the client, and the place of the call.
     Near(Outcome, u32, u32, u32),
-    /// The index of an answer that is stored whole, since a number of it doesn't fit.
+    /// The index of an answer that is stored whole, because one of its numbers does not fit.
     Whole(usize),
 }
 
 const _: () = prove!(size_of::<Short>() == 16);
 
-// The base for answers of which the first comes at a place: 2^31 before it, if that leaves room
-// for 32 bits. It is seldom needed, so it is not inlined.
+// Returns the base for answers that begin with one given at a place: 2^31 less than the place, but
+// at least 0, and at most 2^62 so that 32 bits can be added. This is rare, so it is not inlined.
 #[cold]
 #[inline(never)]
 fn base_before(at: u64) -> u64
@@ -34,7 +34,8 @@ fn base_before(at: u64) -> u64
         .min(4_611_686_018_427_387_904)
 }
 
-/// The base of answers with one more, which is given at a place: as it was, if there are any yet.
+/// Returns the base of a log after an answer that is given at a place is added. It is the old base,
+/// unless the log is empty.
 #[inline(always)]
 pub(crate) fn base_with(base: u64, shorts: &[Short], at: u64) -> u64
     requires { base ≤ most_places }
@@ -49,11 +50,11 @@ pub(crate) fn base_with(base: u64, shorts: &[Short], at: u64) -> u64
     }
 }
 
-// The greatest number of 32 bits.
+// The greatest number that fits in 32 bits.
 const MOST: u64 = 4_294_967_295;
 
-// A number counted from the base. One before the base wraps around to a large one, so that one test
-// of the count is enough.
+// Returns a number counted from the base. A number below the base wraps around to a large one, so
+// that a single test of the result is enough.
 #[inline(always)]
 fn count_from(base: u64, number: u64) -> u64
     requires { base ≤ most_places }
@@ -62,7 +63,7 @@ fn count_from(base: u64, number: u64) -> u64
     number.wrapping_sub(base)
 }
 
-/// An answer in short, if its numbers fit.
+/// Returns an answer in short, if its numbers fit.
 #[inline(always)]
 pub(crate) fn near_answer(base: u64, answer: &Answered) -> Option<Short>
     requires { base ≤ most_places }
@@ -71,14 +72,15 @@ pub(crate) fn near_answer(base: u64, answer: &Answered) -> Option<Short>
     let at = count_from(base, answer.at);
     let client = count_from(base, answer.client.0);
     let place = count_from(base, answer.place);
-    // Without a jump for each: nearly all answers fit.
+    // One test for all three, without a jump for each: nearly all answers fit.
     if (at > MOST) | (client > MOST) | (place > MOST) {
         return None;
     }
     Some(Short::Near(answer.outcome, at as u32, client as u32, place as u32))
 }
 
-/// An answer in short. It is stored whole, in room that was made for it, if its numbers don't fit.
+/// Returns an answer in short. If its numbers do not fit, it is stored whole, in room that was made
+/// for it.
 #[inline(always)]
 pub(crate) fn shortened<A: Allocator + Copy>(
     base: u64,
@@ -99,7 +101,7 @@ pub(crate) fn shortened<A: Allocator + Copy>(
     }
 }
 
-/// The answer that a short one is.
+/// Returns the answer that is stored in short.
 pub(crate) fn answer_of(base: u64, wholes: &[Answered], short: Short) -> Answered
     requires base { base ≤ most_places }
     requires there { IsThere wholes.now short }

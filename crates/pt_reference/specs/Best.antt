@@ -1,4 +1,4 @@
--- Best: the least of a list whose calls are looked at one by one, from its end.
+-- Best: the least of a list whose calls are examined one by one, from its end.
 use Rattle.std.specs.Prelude.{ℕ, Bool, Option, Some, None}
 use Rattle.pt_model.specs.declared.waiting_call.WaitingCall.{WaitingCall}
 use Rattle.pt_model.specs.Searches.{least_with}
@@ -6,19 +6,19 @@ use Rattle.pt_model.specs.Histories.{History}
 use Rattle.pt_model.specs.Verdicts.{mutex_awaited}
 use Rattle.pt_model.specs.Room.{reserved_for}
 
--- the least, if one more call may come before those whose least is known
+-- the least of a list, if a call may be added before those whose least is known
 abbrev pub best_of :
     (WaitingCall → WaitingCall → Bool) → Option WaitingCall → Option WaitingCall
     → Option WaitingCall
 best_of before None best = best
 best_of before (Some w) best = least_with before w best
 
--- the mutex of a wait, if there is a call; else the mutex that was found
+-- the mutex of a wait, if there is such a call, or else the mutex already found
 abbrev pub awaited_or : Option WaitingCall → Option ℕ → Option ℕ
 awaited_or None found = found
 awaited_or (Some w) found = mutex_awaited w.role
 
--- the entries reserved for a call, if there is one
+-- the entries reserved for a call, or 0 if there is no call
 abbrev pub reserved_of : History → Option WaitingCall → ℕ
 reserved_of h None = 0
 reserved_of h (Some w) = reserved_for h w

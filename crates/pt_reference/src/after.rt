@@ -21,14 +21,14 @@ use pt_readings::objects::{is_robust, kind_by, kind_of};
 use pt_readings::waiting::{stood_by, waiting_call_at};
 use pt_types::{ClientId, ObjectId, ObjectKind, Outcome};
 
-/// Whether a client lives after one more entry.
+/// Returns true if a client lives after one more entry.
 pub fn is_alive(entries: &[Entry], entry: &Entry, c: ClientId) -> bool
     ensures { result ≡ is_alive_in (history entries.now ▷ entry.now) c }
 {
     client_by(entry, client(entries, c), c).is_some()
 }
 
-/// The call that came without a reply at a place, after one more entry.
+/// Returns the call that came without a reply at a place, after one more entry.
 pub fn stood_at(entries: &[Entry], entry: &Entry, i: u64) -> Option<WaitingCall>
     ensures { result ≡ at_place i (stood (history entries.now ▷ entry.now)) }
 {
@@ -39,7 +39,7 @@ pub fn stood_at(entries: &[Entry], entry: &Entry, i: u64) -> Option<WaitingCall>
     }
 }
 
-/// The answer to the call at a place, after one more entry.  [XSH, the call's page]
+/// Returns the answer to the call at a place, after one more entry.  [XSH, the call's page]
 pub fn answer(entries: &[Entry], entry: &Entry, j: u64) -> Option<Outcome>
     ensures { result ≡ outcome_in (history entries.now ▷ entry.now) j }
 {
@@ -47,7 +47,7 @@ pub fn answer(entries: &[Entry], entry: &Entry, j: u64) -> Option<Outcome>
     answer_by(entries, entry, before, j).or(before)
 }
 
-/// Whether a waiting call is open after one more entry.
+/// Returns true if a waiting call is open after one more entry.
 pub fn is_open(entries: &[Entry], entry: &Entry, w: &WaitingCall) -> bool
     ensures { result
         ≡ is_open_by (history entries.now ▷ entry.now)
@@ -56,7 +56,7 @@ pub fn is_open(entries: &[Entry], entry: &Entry, w: &WaitingCall) -> bool
     is_alive(entries, entry, w.client) && answer(entries, entry, w.place).is_none()
 }
 
-/// The call at a place, if it is open after one more entry.
+/// Returns the call at a place, if it is open after one more entry.
 pub fn open_at(entries: &[Entry], entry: &Entry, i: u64) -> Option<WaitingCall>
     ensures { result ≡ at_place i (open_calls (history entries.now ▷ entry.now)) }
 {
@@ -72,7 +72,7 @@ pub fn open_at(entries: &[Entry], entry: &Entry, i: u64) -> Option<WaitingCall>
     }
 }
 
-/// The move of the wait at a place, after one more entry.  [XSH pthread_cond_broadcast]
+/// Returns the move of the wait at a place, after one more entry.  [XSH pthread_cond_broadcast]
 #[tactic(auto, using(crate::proofs::Ends::place_of_all))]
 pub fn move_of(entries: &[Entry], entry: &Entry, j: u64) -> Option<Move>
     ensures { result ≡ moved_in (history entries.now ▷ entry.now) j }
@@ -85,7 +85,7 @@ pub fn move_of(entries: &[Entry], entry: &Entry, j: u64) -> Option<Move>
     )
 }
 
-/// The entries reserved for the open call at a place, after one more entry.
+/// Returns how many entries are reserved for the open call at a place, after one more entry.
 pub fn reserved_at(entries: &[Entry], entry: &Entry, i: u64) -> u64
     ensures value { result
         ≡ reserved_of (history entries.now ▷ entry.now)
@@ -99,7 +99,7 @@ pub fn reserved_at(entries: &[Entry], entry: &Entry, i: u64) -> u64
     }
 }
 
-/// The entries reserved for all open calls, after one more entry.
+/// Returns how many entries are reserved for all open calls, after one more entry.
 pub fn reserved(entries: &[Entry], entry: &Entry) -> u64
     ensures value { result
         ≡ sum
@@ -114,14 +114,14 @@ pub fn reserved(entries: &[Entry], entry: &Entry) -> u64
     total
 }
 
-/// What an object is, after one more entry.
+/// Returns the kind of an object, after one more entry.
 pub fn kind(entries: &[Entry], entry: &Entry, o: ObjectId) -> Option<ObjectKind>
     ensures { result ≡ kind_in (history entries.now ▷ entry.now) o }
 {
     kind_by(entries, entry, kind_of(entries, o), o)
 }
 
-/// How often a client holds a mutex, after one more entry.  [XSH pthread_mutex_lock]
+/// Returns how often a client holds a mutex, after one more entry.  [XSH pthread_mutex_lock]
 pub fn count(entries: &[Entry], entry: &Entry, m: ObjectId, c: ClientId) -> u64
     ensures { result ≡ count_in (history entries.now ▷ entry.now) m c }
 {
@@ -130,7 +130,8 @@ pub fn count(entries: &[Entry], entry: &Entry, m: ObjectId, c: ClientId) -> u64
     gained.saturating_sub(lost)
 }
 
-/// Whether a client, dead or alive, holds a mutex, after one more entry.  [XSH pthread_mutex_lock]
+/// Returns true if a client, dead or alive, holds a mutex, after one more entry.
+/// [XSH pthread_mutex_lock]
 pub fn is_owned(entries: &[Entry], entry: &Entry, m: ObjectId) -> bool
     ensures { result ≡ is_some (owner_in (history entries.now ▷ entry.now) m) }
 {
@@ -142,14 +143,14 @@ pub fn is_owned(entries: &[Entry], entry: &Entry, m: ObjectId) -> bool
     false
 }
 
-/// Whether an object is a robust mutex with an owner, after one more entry.
+/// Returns true if an object is a robust mutex with an owner, after one more entry.
 pub fn is_robust_owned(entries: &[Entry], entry: &Entry, m: ObjectId) -> bool
     ensures { result ≡ is_robust_owned_in (history entries.now ▷ entry.now) m }
 {
     is_robust(kind(entries, entry, m)) && is_owned(entries, entry, m)
 }
 
-/// How many robust mutexes have an owner, after one more entry.
+/// Returns the number of robust mutexes that have an owner, after one more entry.
 #[tactic(auto, using(crate::proofs::Rooms::count_yes, crate::proofs::Rooms::count_no))]
 pub fn robust_owned(entries: &[Entry], entry: &Entry) -> u64
     ensures value { result
@@ -166,8 +167,8 @@ pub fn robust_owned(entries: &[Entry], entry: &Entry) -> u64
     total
 }
 
-/// The reserved entries after one more entry: for the Death of each living client, for open calls,
-/// for Yields.
+/// Returns the need after one more entry: the entries reserved for the Death of each living client,
+/// for open calls and for Yields.
 pub fn need(entries: &[Entry], entry: &Entry) -> u64
     ensures value { result ≡ need_in (history entries.now ▷ entry.now) }
     ensures small { result ≤ 5 * length entries.now + 5 }

@@ -23,7 +23,8 @@ use pt_readings::mutexes::owner;
 use pt_readings::objects::{is_robust, kind_of};
 use pt_types::ObjectId;
 
-/// The lower object first, and there the order of its calls.
+/// Returns true if `v` is served before `w`: at a lower object, or at the same object and before
+/// `w` in its order.
 pub fn is_served_before(entries: &[Entry], v: &WaitingCall, w: &WaitingCall) -> bool
     ensures { result ≡ is_served_before_in (history entries.now) v.now w.now }
 {
@@ -32,14 +33,14 @@ pub fn is_served_before(entries: &[Entry], v: &WaitingCall, w: &WaitingCall) -> 
     one < other || one == other && precedes(entries, v, w)
 }
 
-/// Whether a call may be granted, or is one at a full barrier.  [XSH pthread_barrier_wait]
+/// Returns true if a call may be granted, or waits at a full barrier.  [XSH pthread_barrier_wait]
 pub fn is_served(entries: &[Entry], w: &WaitingCall) -> bool
     ensures { result ≡ is_served_in (history entries.now) w.now }
 {
     is_grantable(entries, w) || is_complete(entries, w)
 }
 
-/// The open call at a place, if it may be served.
+/// Returns the open call at a place, if it may be served.
 pub fn served_at(entries: &[Entry], i: u64) -> Option<WaitingCall>
     ensures { result
         ≡ keep (is_served_in (history entries.now))
@@ -51,7 +52,7 @@ pub fn served_at(entries: &[Entry], i: u64) -> Option<WaitingCall>
     }
 }
 
-/// The one to serve first, of a call and the first after it.
+/// Returns the one to serve first, of a call and the first of those after it.
 pub fn better_served(
     entries: &[Entry],
     w: Option<WaitingCall>,
@@ -74,7 +75,7 @@ pub fn better_served(
     }
 }
 
-/// The call to serve first.
+/// Returns the call to serve first.
 pub fn first_served(entries: &[Entry]) -> Option<WaitingCall>
     ensures { result
         ≡ least (is_served_before_in (history entries.now))
@@ -89,7 +90,8 @@ pub fn first_served(entries: &[Entry]) -> Option<WaitingCall>
     best
 }
 
-/// A full barrier trips, another call is granted.  [XSH pthread_barrier_wait]
+/// Returns the entry that serves a call: a Trip at a barrier, or else a Grant.
+/// [XSH pthread_barrier_wait]
 pub fn service(entries: &[Entry], w: &WaitingCall) -> Entry
     ensures { result ≡ service_in (history entries.now) w.now }
 {
@@ -100,7 +102,8 @@ pub fn service(entries: &[Entry], w: &WaitingCall) -> Entry
     }
 }
 
-/// The Trip or the Grant that must follow.  [XSH pthread_mutex_unlock, the lowest first is profile]
+/// Returns the Trip or the Grant that must follow.
+/// [XSH pthread_mutex_unlock, the lowest first is profile]
 pub fn forced_service(entries: &[Entry]) -> Option<Entry>
     ensures { result ≡ forced_service_in (history entries.now) }
 {
@@ -110,7 +113,8 @@ pub fn forced_service(entries: &[Entry]) -> Option<Entry>
     }
 }
 
-/// Whether an object is a robust mutex with a dead owner.  [XSH pthread_mutex_lock, EOWNERDEAD]
+/// Returns true if an object is a robust mutex with a dead owner.
+/// [XSH pthread_mutex_lock, EOWNERDEAD]
 pub fn is_orphan(entries: &[Entry], m: ObjectId) -> bool
     ensures { result ≡ is_orphan_in (history entries.now) m }
 {
@@ -121,7 +125,8 @@ pub fn is_orphan(entries: &[Entry], m: ObjectId) -> bool
         }
 }
 
-/// The Yield that must follow.  [XSH pthread_mutex_lock, EOWNERDEAD; the lowest first is profile]
+/// Returns the Yield that must follow.
+/// [XSH pthread_mutex_lock, EOWNERDEAD; the lowest first is profile]
 pub fn forced_yield(entries: &[Entry]) -> Option<Entry>
     ensures { result ≡ forced_yield_in (history entries.now) }
 {
@@ -134,7 +139,7 @@ pub fn forced_yield(entries: &[Entry]) -> Option<Entry>
     None
 }
 
-/// Whether a call's deadline is due by its clock; a moved wait has none.
+/// Returns true if a call's deadline is due by its clock. A moved wait has no deadline.
 /// [XSH pthread_mutex_timedlock]
 pub fn is_overdue(entries: &[Entry], w: &WaitingCall) -> bool
     ensures { result ≡ is_overdue_in (history entries.now) w.now }
@@ -142,7 +147,7 @@ pub fn is_overdue(entries: &[Entry], w: &WaitingCall) -> bool
     is_due(clock(entries, w.clock), w.deadline) && !is_moved(entries, w)
 }
 
-/// The open call at a place, if it is overdue.
+/// Returns the open call at a place, if it is overdue.
 pub fn overdue_at(entries: &[Entry], i: u64) -> Option<WaitingCall>
     ensures { result
         ≡ keep (is_overdue_in (history entries.now))
@@ -154,7 +159,7 @@ pub fn overdue_at(entries: &[Entry], i: u64) -> Option<WaitingCall>
     }
 }
 
-/// The lesser deadline first, then the lesser place.
+/// Returns true if `v` expires before `w`: the lesser deadline first, then the lesser place.
 pub fn expires_before(v: &WaitingCall, w: &WaitingCall) -> bool
     ensures { result ≡ expires_before_it v.now w.now }
 {
@@ -163,7 +168,7 @@ pub fn expires_before(v: &WaitingCall, w: &WaitingCall) -> bool
     one < other || one == other && v.place < w.place
 }
 
-/// The one to expire first, of a call and the first after it.
+/// Returns the one to expire first, of a call and the first of those after it.
 pub fn sooner(w: Option<WaitingCall>, best: Option<WaitingCall>) -> Option<WaitingCall>
     ensures { result
         ≡ best_of expires_before_it w best }
@@ -181,7 +186,7 @@ pub fn sooner(w: Option<WaitingCall>, best: Option<WaitingCall>) -> Option<Waiti
     }
 }
 
-/// The call to expire first.
+/// Returns the call to expire first.
 pub fn first_overdue(entries: &[Entry]) -> Option<WaitingCall>
     ensures { result
         ≡ least expires_before_it
@@ -196,7 +201,7 @@ pub fn first_overdue(entries: &[Entry]) -> Option<WaitingCall>
     best
 }
 
-/// The Expire that must follow.  [XSH pthread_mutex_timedlock, the order is profile]
+/// Returns the Expire that must follow.  [XSH pthread_mutex_timedlock, the order is profile]
 pub fn forced_expire(entries: &[Entry]) -> Option<Entry>
     ensures { result ≡ forced_expire_in (history entries.now) }
 {
@@ -206,7 +211,7 @@ pub fn forced_expire(entries: &[Entry]) -> Option<Entry>
     }
 }
 
-/// The one entry that must follow: service, then yields, then deadlines.
+/// Returns the one entry that must follow: a Trip or a Grant first, then a Yield, then an Expire.
 pub fn forced(entries: &[Entry]) -> Option<Entry>
     ensures { result ≡ forced_in (history entries.now) }
 {

@@ -23,8 +23,8 @@ use pt_readings::rwlocks::rwlock_view;
 use pt_types::tables::lock_outcome;
 use pt_types::{ObjectId, Outcome};
 
-/// Whether the open call at a place waits at the lock as a writer of this priority or a higher
-/// one.  [XSH pthread_rwlock_rdlock]
+/// Returns true if the open call at a place waits at the lock as a writer of this priority or a
+/// higher one.  [XSH pthread_rwlock_rdlock]
 pub fn holds_back(entries: &[Entry], r: ObjectId, priority: u64, i: u64) -> bool
     ensures { result
         ≡ passes (λ v. (at_object_in (history entries.now) v == r) && holds_back_at v priority)
@@ -36,7 +36,8 @@ pub fn holds_back(entries: &[Entry], r: ObjectId, priority: u64, i: u64) -> bool
     }
 }
 
-/// Whether such a writer waits at the lock.  [XSH pthread_rwlock_rdlock]
+/// Returns true if a writer of this priority or a higher one waits at the lock.
+/// [XSH pthread_rwlock_rdlock]
 pub fn is_blocked(entries: &[Entry], r: ObjectId, priority: u64) -> bool
     ensures { result ≡ is_blocked_in (history entries.now) r priority }
 {
@@ -48,7 +49,8 @@ pub fn is_blocked(entries: &[Entry], r: ObjectId, priority: u64) -> bool
     false
 }
 
-/// Whether a call can have a mutex that is lost, or free.  [XSH pthread_mutex_unlock]
+/// Returns true if a call can be granted a mutex: the mutex is not recoverable, or it is free and
+/// the call is least.  [XSH pthread_mutex_unlock]
 pub fn may_lock(entries: &[Entry], m: ObjectId, w: &WaitingCall) -> bool
     ensures { result
         ≡ may_lock_it (mutex_view_in (history entries.now) m)
@@ -58,7 +60,8 @@ pub fn may_lock(entries: &[Entry], m: ObjectId, w: &WaitingCall) -> bool
     is_lost(view.consistency) || view.owner.is_none() && is_least(entries, w)
 }
 
-/// Whether an open call may be granted now.  [XSH pthread_mutex_unlock, pthread_rwlock_unlock]
+/// Returns true if an open call may be granted now.
+/// [XSH pthread_mutex_unlock, pthread_rwlock_unlock]
 pub fn is_grantable(entries: &[Entry], w: &WaitingCall) -> bool
     ensures { result ≡ is_grantable_in (history entries.now) w.now }
 {
@@ -81,7 +84,7 @@ pub fn is_grantable(entries: &[Entry], w: &WaitingCall) -> bool
     }
 }
 
-/// How many open calls wait at a barrier.  [XSH pthread_barrier_wait]
+/// Returns the number of open calls that wait at a barrier.  [XSH pthread_barrier_wait]
 #[tactic(auto, using(crate::proofs::Ends::counting))]
 pub fn arrivals(entries: &[Entry], b: ObjectId) -> u64
     ensures value { result ≡ length (at_barrier b (open_calls (history entries.now))) }
@@ -96,7 +99,8 @@ pub fn arrivals(entries: &[Entry], b: ObjectId) -> u64
     count
 }
 
-/// Whether a call waits at a barrier with as many as its count.  [XSH pthread_barrier_wait]
+/// Returns true if a call waits at a full barrier: as many calls wait there as its count.
+/// [XSH pthread_barrier_wait]
 pub fn is_complete(entries: &[Entry], w: &WaitingCall) -> bool
     ensures { result ≡ is_complete_in (history entries.now) w.now }
 {
@@ -104,14 +108,15 @@ pub fn is_complete(entries: &[Entry], w: &WaitingCall) -> bool
     is_arrival(w.role) && arrivals(entries, b) == barrier_count(kind_of(entries, b))
 }
 
-/// What a mutex answers to a call.  [XSH pthread_mutex_lock, pthread_cond_timedwait]
+/// Returns the outcome with which a mutex answers a call.
+/// [XSH pthread_mutex_lock, pthread_cond_timedwait]
 pub fn mutex_outcome(entries: &[Entry], w: &WaitingCall, m: ObjectId) -> Outcome
     ensures { result ≡ mutex_outcome_in (history entries.now) w.now m }
 {
     lock_outcome(consistency(entries, m), is_expired(moved(entries, w.place)))
 }
 
-/// What an open call is answered when it is granted.  [XSH, the call's page]
+/// Returns the outcome of an open call when it is granted.  [XSH, the call's page]
 pub fn grant_outcome(entries: &[Entry], w: &WaitingCall) -> Outcome
     ensures { result ≡ grant_outcome_in (history entries.now) w.now }
 {

@@ -21,7 +21,7 @@ use pt_readings::moves::is_moved;
 use pt_readings::waiting::waiting_call_at;
 use pt_types::{ClientId, Clock, Outcome};
 
-/// An answer: who gets it, to the call at which place, and what it says.
+/// An answer: the client that gets it, the place of the call, and the outcome.
 #[derive(Clone, Copy, PartialEq, Eq)]
 pub struct Told {
     pub client: ClientId,
@@ -30,7 +30,7 @@ pub struct Told {
     pub outcome: Outcome,
 }
 
-/// What an entry does to the caller of a place.
+/// Returns the client of the call at a place, after an entry.
 #[tactic(auto, using(crate::proofs::Ends::place_of_all))]
 pub fn caller_by(
     entries: &[Entry],
@@ -46,7 +46,7 @@ pub fn caller_by(
     }
 }
 
-/// The client of the call at a place.
+/// Returns the client of the call at a place.
 #[tactic(auto, using(crate::proofs::Ends::one_more))]
 pub fn caller(entries: &[Entry], j: u64) -> Option<ClientId>
     ensures { result ≡ caller_in (history entries.now) j }
@@ -58,7 +58,7 @@ pub fn caller(entries: &[Entry], j: u64) -> Option<ClientId>
     found
 }
 
-/// What an entry does to a client's latest call.
+/// Returns the place of a client's latest call, after an entry.
 #[tactic(auto, using(crate::proofs::Ends::place_of_all))]
 pub fn latest_by(entries: &[Entry], entry: &Entry, before: Option<u64>, c: ClientId) -> Option<u64>
     ensures { result ≡ latest_after (history entries.now) entry.now before c }
@@ -69,7 +69,7 @@ pub fn latest_by(entries: &[Entry], entry: &Entry, before: Option<u64>, c: Clien
     }
 }
 
-/// The place of a client's latest call.
+/// Returns the place of a client's latest call.
 #[tactic(auto, using(crate::proofs::Ends::one_more))]
 pub fn latest(entries: &[Entry], c: ClientId) -> Option<u64>
     ensures { result ≡ latest_in (history entries.now) c }
@@ -81,7 +81,7 @@ pub fn latest(entries: &[Entry], c: ClientId) -> Option<u64>
     found
 }
 
-/// The answer to a client's call at this place, if it has one.
+/// Returns the answer to a client's call at this place, if it has one.
 pub fn told_if(client: ClientId, place: u64, outcome: Option<Outcome>) -> Option<Told>
     ensures { option_map shown_told result ≡ told_meant client place outcome }
 {
@@ -95,7 +95,7 @@ pub fn told_if(client: ClientId, place: u64, outcome: Option<Outcome>) -> Option
     }
 }
 
-/// The answer to a living client's latest call.
+/// Returns the answer to a living client's latest call.
 pub fn answer_of(entries: &[Entry], c: ClientId) -> Option<Told>
     ensures { option_map shown_told result ≡ answer_of_in (history entries.now) c }
 {
@@ -108,7 +108,8 @@ pub fn answer_of(entries: &[Entry], c: ClientId) -> Option<Told>
     }
 }
 
-/// The client of the call that came without a reply at a place; 0 if there is none.
+/// Returns the client of the call that came without a reply at a place, or 0 if no such call
+/// exists.
 pub fn client_at(entries: &[Entry], j: u64) -> ClientId
     ensures { result ≡ client_if (at_place j (stood (history entries.now))) }
 {
@@ -118,7 +119,7 @@ pub fn client_at(entries: &[Entry], j: u64) -> ClientId
     }
 }
 
-/// Who gets the answer to the call at a place that an entry after these gives.
+/// Returns the client that gets the answer which an entry after these gives to the call at a place.
 pub fn told_client(entries: &[Entry], entry: &Entry, j: u64) -> ClientId
     ensures { result ≡ client_told (history entries.now) entry.now j }
 {
@@ -128,7 +129,7 @@ pub fn told_client(entries: &[Entry], entry: &Entry, j: u64) -> ClientId
     }
 }
 
-/// The answer that an entry after these gives to the call at a place, if it gives one.
+/// Returns the answer that an entry after these gives to the call at a place, if it gives one.
 /// [XSH, the call's page]
 #[tactic(auto, using(crate::proofs::Tellings::told_at_place))]
 pub fn told_at(entries: &[Entry], entry: &Entry, j: u64) -> Option<Told>
@@ -142,7 +143,7 @@ pub fn told_at(entries: &[Entry], entry: &Entry, j: u64) -> Option<Told>
     )
 }
 
-/// Whether a call has a deadline by this clock; a moved wait has none.
+/// Returns true if a call has a deadline by this clock. A moved wait has none.
 /// [XSH pthread_cond_timedwait]
 pub fn has_deadline(entries: &[Entry], which: Clock, w: &WaitingCall) -> bool
     ensures { result ≡ has_deadline_in (history entries.now) which w.now }
@@ -150,7 +151,7 @@ pub fn has_deadline(entries: &[Entry], which: Clock, w: &WaitingCall) -> bool
     w.deadline.is_some() && is_same_clock(w.clock, which) && !is_moved(entries, w)
 }
 
-/// The open call at a place, if it has a deadline by this clock.
+/// Returns the open call at a place, if it has a deadline by this clock.
 pub fn timed_at(entries: &[Entry], which: Clock, i: u64) -> Option<WaitingCall>
     ensures { result
         ≡ keep (has_deadline_in (history entries.now) which)
@@ -162,7 +163,7 @@ pub fn timed_at(entries: &[Entry], which: Clock, i: u64) -> Option<WaitingCall>
     }
 }
 
-/// The call with the least deadline by this clock.
+/// Returns the call with the least deadline by this clock.
 pub fn first_timed(entries: &[Entry], which: Clock) -> Option<WaitingCall>
     ensures { result
         ≡ least expires_before_it
@@ -177,7 +178,7 @@ pub fn first_timed(entries: &[Entry], which: Clock) -> Option<WaitingCall>
     best
 }
 
-/// The least deadline by this clock of the open calls that aren't moved, in nanoseconds.
+/// Returns the least deadline by this clock of the open calls that were not moved, in nanoseconds.
 pub fn least_deadline(entries: &[Entry], which: Clock) -> Option<u64>
     ensures { result ≡ least_deadline_in (history entries.now) which }
 {

@@ -13,7 +13,8 @@ use pt_readings::clients::{is_alive, living};
 use pt_types::tables::reply;
 use pt_types::{ClientId, MOST_CLIENTS, Refusal};
 
-/// The reserved entries: for the Death of each living client, open calls and Yields.
+/// Returns the need: the entries reserved for the Death of each living client, for open calls and
+/// for Yields.
 pub fn need(entries: &[Entry]) -> u64
     ensures value { result ≡ need_in (history entries.now) }
     ensures small { result ≤ 5 * length entries.now }
@@ -25,7 +26,7 @@ pub fn need(entries: &[Entry]) -> u64
     after::need(&entries[..last], &entries[last])
 }
 
-/// The outer entry that an accepted event becomes.
+/// Returns the outer entry that an accepted event becomes.
 #[tactic(auto, using(crate::proofs::Ends::place_of_all))]
 pub fn entry_for(entries: &[Entry], event: &Event) -> Entry
     ensures { result ≡ entry_for_in (history entries.now) event.now }
@@ -41,7 +42,8 @@ pub fn entry_for(entries: &[Entry], event: &Event) -> Entry
     }
 }
 
-/// A client that doesn't live: DEAD if a place has its number, else NOHELLO.
+/// Returns the refusal for a client that does not live: DEAD if a place has its number, else
+/// NOHELLO.
 #[tactic(auto, using(crate::proofs::Ends::place_of_all))]
 pub fn refusal_of_stranger(entries: &[Entry], c: ClientId) -> Refusal
     ensures { result ≡ refusal_of_stranger_in (history entries.now) c }
@@ -53,7 +55,8 @@ pub fn refusal_of_stranger(entries: &[Entry], c: ClientId) -> Refusal
     }
 }
 
-/// Why an event is refused for its sender, or at 1,024 living clients; or none.
+/// Returns why an event is refused because of its sender, or because 1,024 clients live; `None` if
+/// it is not refused for these reasons.
 pub fn refusal(entries: &[Entry], event: &Event) -> Option<Refusal>
     ensures { result ≡ refusal_in (history entries.now) event.now }
 {
@@ -66,14 +69,16 @@ pub fn refusal(entries: &[Entry], event: &Event) -> Option<Refusal>
     }
 }
 
-/// Whether a history with one entry more, and what must still be written, is longer than a limit.
+/// Returns true if a history with one more entry, and all entries reserved after it, is longer than
+/// the limit.
 pub fn is_over(entries: &[Entry], entry: &Entry, limit: u64) -> bool
     ensures { result ≡ is_over_in limit (history entries.now ▷ entry.now) }
 {
     limit < entries.len() as u64 + 1 + after::need(entries, entry)
 }
 
-/// The first refusal that applies, with so many entries at most; or none.
+/// Returns the first refusal that applies to an event, or `None`. The history may have at most
+/// `limit` entries.
 pub fn refusal_within(entries: &[Entry], limit: u64, event: &Event) -> Option<Refusal>
     ensures { result ≡ refusal_within_in limit (history entries.now) event.now }
 {

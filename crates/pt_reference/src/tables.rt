@@ -1,4 +1,4 @@
-//! The verdict tables: what becomes of a call, by what one object is seen as.
+//! The verdict tables: what becomes of a call, from the view of one object.
 
 ghost use Rattle.std.specs.Prelude.{◌≡◌};
 ghost use Rattle.pt_types.specs.ObjectTable.{init_verdict as init_table};
@@ -24,7 +24,8 @@ use pt_types::{
     MutexKind, ObjectId, ObjectKind, Outcome, Verdict,
 };
 
-// A barrier's count is from 1 to 1,024.  [XSH pthread_barrier_init, the upper end is profile]
+// Returns true if a barrier's count is outside 1 to 1,024.
+// [XSH pthread_barrier_init, the upper end is profile]
 fn is_bad_kind(kind: ObjectKind) -> bool
     ensures { result ≡ is_bad kind }
 {
@@ -34,7 +35,8 @@ fn is_bad_kind(kind: ObjectKind) -> bool
     }
 }
 
-/// Making an object, if so many exist; EBUSY is profile.  [XSH pthread_mutex_init, EAGAIN]
+/// Returns the verdict of a call that makes an object while `objects` exist; EBUSY is profile.
+/// [XSH pthread_mutex_init, EAGAIN]
 pub fn init_verdict(kind: ObjectKind, in_use: bool, objects: u64) -> Verdict
     ensures { result ≡ init_table kind in_use objects }
 {
@@ -49,14 +51,15 @@ pub fn init_verdict(kind: ObjectKind, in_use: bool, objects: u64) -> Verdict
     }
 }
 
-// Whether a call for a lock never waits.  [XSH pthread_mutex_trylock]
+// Returns true if a call for a lock never waits.  [XSH pthread_mutex_trylock]
 fn is_try(how: &How) -> bool
     ensures { result ≡ is_try_how how.now }
 {
     matches!(how, How::Try)
 }
 
-// Whether a call has a deadline that is no time.  [XSH pthread_mutex_timedlock, EINVAL]
+// Returns true if a call has a deadline that is not a valid time.
+// [XSH pthread_mutex_timedlock, EINVAL]
 fn has_bad_deadline(deadline: Option<Deadline>) -> bool
     ensures { result ≡ has_bad deadline }
 {
@@ -66,7 +69,8 @@ fn has_bad_deadline(deadline: Option<Deadline>) -> bool
     }
 }
 
-// Whether a call for a lock has a deadline that is no time.  [XSH pthread_mutex_timedlock, EINVAL]
+// Returns true if a call for a lock has a deadline that is not a valid time.
+// [XSH pthread_mutex_timedlock, EINVAL]
 fn is_bad_how(how: &How) -> bool
     ensures { result ≡ has_bad (deadline_meant how.now) }
 {
@@ -76,7 +80,7 @@ fn is_bad_how(how: &How) -> bool
     }
 }
 
-/// Whether the client is the owner.  [XSH pthread_mutex_lock]
+/// Returns true if the client is the owner.  [XSH pthread_mutex_lock]
 pub fn owns(m: &MutexView, c: ClientId) -> bool
     ensures { result ≡ owns_it m.now c }
 {
@@ -86,7 +90,8 @@ pub fn owns(m: &MutexView, c: ClientId) -> bool
     }
 }
 
-/// `lock`, `trylock`, `timedlock`.  [XSH pthread_mutex_lock, pthread_mutex_timedlock]
+/// Returns the verdict of `lock`, `trylock` or `timedlock`.
+/// [XSH pthread_mutex_lock, pthread_mutex_timedlock]
 pub fn lock_verdict(m: &MutexView, c: ClientId, how: &How) -> Verdict
     ensures { result ≡ lock_table m.now c how.now }
 {
@@ -110,7 +115,8 @@ pub fn lock_verdict(m: &MutexView, c: ClientId, how: &How) -> Verdict
     }
 }
 
-/// `unlock`; EPERM is profile if the standard leaves it open.  [XSH pthread_mutex_unlock]
+/// Returns the verdict of `unlock`; EPERM is profile if the standard leaves it open.
+/// [XSH pthread_mutex_unlock]
 pub fn unlock_verdict(m: &MutexView, c: ClientId) -> Verdict
     ensures { result ≡ unlock_table m.now c }
 {
@@ -121,7 +127,7 @@ pub fn unlock_verdict(m: &MutexView, c: ClientId) -> Verdict
     }
 }
 
-/// `consistent`; EPERM is profile.  [XSH pthread_mutex_consistent]
+/// Returns the verdict of `consistent`; EPERM is profile.  [XSH pthread_mutex_consistent]
 pub fn consistent_verdict(m: &MutexView, c: ClientId) -> Verdict
     ensures { result ≡ consistent_table m.now c }
 {
@@ -134,35 +140,37 @@ pub fn consistent_verdict(m: &MutexView, c: ClientId) -> Verdict
     }
 }
 
-/// Whether the mutex is permanently unusable.  [XSH pthread_mutex_lock, ENOTRECOVERABLE]
+/// Returns true if the mutex is permanently unusable.  [XSH pthread_mutex_lock, ENOTRECOVERABLE]
 pub fn is_lost(consistency: Consistency) -> bool
     ensures { result ≡ is_lost_consistency consistency }
 {
     matches!(consistency, Consistency::NotRecoverable)
 }
 
-/// Whether a moved wait can have it back from its own client.
+/// Returns true if a moved wait can relock the mutex that its own client holds.
 pub fn may_relock(m: &MutexView, c: ClientId) -> bool
     ensures { result ≡ may_relock_it m.now c }
 {
     m.kind == MutexKind::Recursive && owns(m, c)
 }
 
-// Whether the caller holds the lock in either way.  [XSH pthread_rwlock_unlock]
+// Returns true if the caller holds the lock, for reading or for writing.
+// [XSH pthread_rwlock_unlock]
 fn holds(r: RwlockView) -> bool
     ensures { result ≡ holds_it r }
 {
     r.writes || 0 < r.reads
 }
 
-// Whether nobody holds it.  [XSH pthread_rwlock_wrlock]
+// Returns true if nobody holds the lock.  [XSH pthread_rwlock_wrlock]
 fn is_free(r: RwlockView) -> bool
     ensures { result ≡ is_free_lock r }
 {
     !r.is_written && !r.is_read
 }
 
-// A lock asked for by its own holder; the answer is profile.  [XSH pthread_rwlock_wrlock]
+// Returns the answer to a holder that asks for the lock again; it is profile.
+// [XSH pthread_rwlock_wrlock]
 fn relock_outcome(tries: bool) -> Outcome
     ensures { result ≡ outcome_of_relock tries }
 {
@@ -173,8 +181,8 @@ fn relock_outcome(tries: bool) -> Outcome
     }
 }
 
-/// `rdlock`, `tryrdlock`, `timedrdlock`; a reader who holds a read lock isn't held back, which is
-/// a deviation.  [XSH pthread_rwlock_rdlock]
+/// Returns the verdict of `rdlock`, `tryrdlock` or `timedrdlock`. A client that holds a read lock
+/// is not held back, which is a deviation.  [XSH pthread_rwlock_rdlock]
 pub fn read_verdict(r: RwlockView, blocked: bool, how: &How) -> Verdict
     ensures { result ≡ read_table r blocked how.now }
 {
@@ -196,7 +204,8 @@ pub fn read_verdict(r: RwlockView, blocked: bool, how: &How) -> Verdict
     }
 }
 
-/// `wrlock`, `trywrlock`, `timedwrlock`.  [XSH pthread_rwlock_wrlock, pthread_rwlock_timedwrlock]
+/// Returns the verdict of `wrlock`, `trywrlock` or `timedwrlock`.
+/// [XSH pthread_rwlock_wrlock, pthread_rwlock_timedwrlock]
 pub fn write_verdict(r: RwlockView, how: &How) -> Verdict
     ensures { result ≡ write_table r how.now }
 {
@@ -215,7 +224,7 @@ pub fn write_verdict(r: RwlockView, how: &How) -> Verdict
     }
 }
 
-/// `rwunlock`; EPERM is profile.  [XSH pthread_rwlock_unlock]
+/// Returns the verdict of `rwunlock`; EPERM is profile.  [XSH pthread_rwlock_unlock]
 pub fn rwunlock_verdict(r: RwlockView) -> Verdict
     ensures { result ≡ rwunlock_table r }
 {
@@ -226,22 +235,24 @@ pub fn rwunlock_verdict(r: RwlockView) -> Verdict
     }
 }
 
-/// Whether a reader can have it; its way past writers is a deviation.  [XSH pthread_rwlock_rdlock]
+/// Returns true if a reader can have the lock. A holder of a read lock passes waiting writers,
+/// which is a deviation.  [XSH pthread_rwlock_rdlock]
 pub fn may_read(r: RwlockView, blocked: bool) -> bool
     ensures { result ≡ may_read_it r blocked }
 {
     !r.is_written && (!blocked || 0 < r.reads)
 }
 
-/// Whether a writer can have it: nobody holds it and it is least.  [XSH pthread_rwlock_unlock]
+/// Returns true if a writer can have the lock: nobody holds it, and the writer is least.
+/// [XSH pthread_rwlock_unlock]
 pub fn may_write(r: RwlockView, is_least: bool) -> bool
     ensures { result ≡ may_write_it r is_least }
 {
     is_free(r) && is_least
 }
 
-/// `wait`, `timedwait`, at a condition that is bound to a mutex or to none; EINVAL by another mutex
-/// and EPERM are profile.  [XSH pthread_cond_timedwait]
+/// Returns the verdict of `wait` or `timedwait` at a condition that is bound to a mutex or to none.
+/// EINVAL for another mutex and EPERM are profile.  [XSH pthread_cond_timedwait]
 pub fn wait_verdict(
     bound: Option<ObjectId>,
     mutex: ObjectId,

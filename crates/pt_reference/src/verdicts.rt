@@ -32,8 +32,8 @@ use pt_types::operations::{LockKind, ObjectClass, Operation, class_needed, opera
 use pt_types::tables::destroy_verdict;
 use pt_types::{Call, ClientId, Deadline, How, Name, ObjectId, Outcome, Verdict};
 
-/// The mutex of the call at a place, if it is open and waits at the condition; else the one that
-/// was found.  [XSH pthread_cond_wait]
+/// Returns the mutex of the call at a place, if the call is open and waits at the condition, or
+/// else the mutex already found.  [XSH pthread_cond_wait]
 pub fn awaited_at(
     entries: &[Entry],
     q: ObjectId,
@@ -52,7 +52,8 @@ pub fn awaited_at(
     }
 }
 
-/// The mutex with which calls wait at a condition, if some do.  [XSH pthread_cond_wait]
+/// Returns the mutex with which calls wait at a condition, if any call waits there.
+/// [XSH pthread_cond_wait]
 pub fn bound(entries: &[Entry], q: ObjectId) -> Option<ObjectId>
     ensures { result ≡ bound_by (waiting_at_object (history entries.now) q) }
 {
@@ -65,7 +66,7 @@ pub fn bound(entries: &[Entry], q: ObjectId) -> Option<ObjectId>
     found
 }
 
-/// Whether the open call at a place waits at the object.  [XSH pthread_mutex_destroy]
+/// Returns true if the open call at a place waits at the object.  [XSH pthread_mutex_destroy]
 pub fn stands_at(entries: &[Entry], o: ObjectId, i: u64) -> bool
     ensures { result
         ≡ passes (λ w. at_object_in (history entries.now) w == o)
@@ -77,7 +78,7 @@ pub fn stands_at(entries: &[Entry], o: ObjectId, i: u64) -> bool
     }
 }
 
-/// Whether a call waits at the object.  [XSH pthread_mutex_destroy]
+/// Returns true if a call waits at the object.  [XSH pthread_mutex_destroy]
 pub fn is_awaited(entries: &[Entry], o: ObjectId) -> bool
     ensures { result ≡ is_awaited_in (history entries.now) o }
 {
@@ -89,8 +90,8 @@ pub fn is_awaited(entries: &[Entry], o: ObjectId) -> bool
     false
 }
 
-/// Whether the open call at a place is a wait that isn't moved and will come back to the mutex.
-/// [XSH pthread_mutex_destroy]
+/// Returns true if the open call at a place is a wait that was not moved and will come back to the
+/// mutex.  [XSH pthread_mutex_destroy]
 pub fn returns_from(entries: &[Entry], m: ObjectId, i: u64) -> bool
     ensures { result
         ≡ passes (will_return_in (history entries.now) m)
@@ -102,7 +103,8 @@ pub fn returns_from(entries: &[Entry], m: ObjectId, i: u64) -> bool
     }
 }
 
-/// Whether a wait that isn't moved will come back to the mutex.  [XSH pthread_mutex_destroy]
+/// Returns true if a wait that was not moved will come back to the mutex.
+/// [XSH pthread_mutex_destroy]
 pub fn will_return(entries: &[Entry], m: ObjectId) -> bool
     ensures { result
         ≡ list_any (will_return_in (history entries.now) m) (open_calls (history entries.now)) }
@@ -115,7 +117,7 @@ pub fn will_return(entries: &[Entry], m: ObjectId) -> bool
     false
 }
 
-/// Whether an owner is a living client.  [XSH pthread_mutex_destroy]
+/// Returns true if an owner is a living client.  [XSH pthread_mutex_destroy]
 pub fn is_alive_if(entries: &[Entry], owner: Option<ClientId>) -> bool
     ensures { result ≡ is_alive_if_in (history entries.now) owner }
 {
@@ -125,7 +127,8 @@ pub fn is_alive_if(entries: &[Entry], owner: Option<ClientId>) -> bool
     }
 }
 
-/// Whether an object can't be ended now.  [XSH pthread_mutex_destroy, the answer is profile]
+/// Returns true if an object can't be destroyed now.
+/// [XSH pthread_mutex_destroy, the answer is profile]
 pub fn is_busy(entries: &[Entry], class: ObjectClass, o: ObjectId) -> bool
     ensures { result ≡ is_busy_in (history entries.now) class o }
 {
@@ -140,7 +143,7 @@ pub fn is_busy(entries: &[Entry], class: ObjectClass, o: ObjectId) -> bool
     }
 }
 
-/// The priority of a living client; 0 of any other.  [XSH 2.8.4]
+/// Returns the priority of a living client, or 0 for any other.  [XSH 2.8.4]
 pub fn priority_of(entries: &[Entry], c: ClientId) -> u64
     ensures { result ≡ unwrap_or (client_in (history entries.now) c) 0 }
 {
@@ -150,7 +153,8 @@ pub fn priority_of(entries: &[Entry], c: ClientId) -> u64
     }
 }
 
-/// A client's call for a lock of this object.  [XSH pthread_mutex_lock, pthread_rwlock_rdlock]
+/// Returns the verdict of a client's call for a lock of this object.
+/// [XSH pthread_mutex_lock, pthread_rwlock_rdlock]
 pub fn lock_kind_verdict(
     entries: &[Entry],
     c: ClientId,
@@ -171,7 +175,8 @@ pub fn lock_kind_verdict(
     }
 }
 
-/// A client's call for a lock.  [XSH pthread_mutex_lock, pthread_rwlock_rdlock]
+/// Returns the verdict of a client's call for a lock.
+/// [XSH pthread_mutex_lock, pthread_rwlock_rdlock]
 pub fn acquires_verdict(
     entries: &[Entry],
     c: ClientId,
@@ -188,7 +193,8 @@ pub fn acquires_verdict(
     }
 }
 
-/// A client's wait at a condition with a mutex.  [XSH pthread_cond_timedwait]
+/// Returns the verdict of a client's wait at a condition with a mutex.
+/// [XSH pthread_cond_timedwait]
 pub fn awaits_verdict(
     entries: &[Entry],
     c: ClientId,
@@ -208,7 +214,7 @@ pub fn awaits_verdict(
     wait_verdict(bound(entries, q), m, owns, deadline)
 }
 
-/// A client's call that ends an object.  [XSH pthread_mutex_destroy]
+/// Returns the verdict of a client's call that destroys an object.  [XSH pthread_mutex_destroy]
 pub fn ends_verdict(entries: &[Entry], c: ClientId, n: &Name, class: ObjectClass) -> Verdict
     ensures { result ≡ said_of (history entries.now) c (Ends n.now class) }
 {
@@ -218,7 +224,7 @@ pub fn ends_verdict(entries: &[Entry], c: ClientId, n: &Name, class: ObjectClass
     }
 }
 
-/// A client's call on a mutex that it may own.  [XSH pthread_mutex_unlock]
+/// Returns the verdict of a client's call on a mutex that it may own.  [XSH pthread_mutex_unlock]
 pub fn unlocks_verdict(entries: &[Entry], c: ClientId, n: &Name) -> Verdict
     ensures { result ≡ said_of (history entries.now) c (Unlocks n.now) }
 {
@@ -228,7 +234,8 @@ pub fn unlocks_verdict(entries: &[Entry], c: ClientId, n: &Name) -> Verdict
     }
 }
 
-/// A client's call to make a mutex consistent.  [XSH pthread_mutex_consistent]
+/// Returns the verdict of a client's call to make a mutex consistent.
+/// [XSH pthread_mutex_consistent]
 pub fn restores_verdict(entries: &[Entry], c: ClientId, n: &Name) -> Verdict
     ensures { result ≡ said_of (history entries.now) c (Restores n.now) }
 {
@@ -238,7 +245,8 @@ pub fn restores_verdict(entries: &[Entry], c: ClientId, n: &Name) -> Verdict
     }
 }
 
-/// A client's call to give a read-write lock back.  [XSH pthread_rwlock_unlock]
+/// Returns the verdict of a client's call to give a read-write lock back.
+/// [XSH pthread_rwlock_unlock]
 pub fn rwunlocks_verdict(entries: &[Entry], c: ClientId, n: &Name) -> Verdict
     ensures { result ≡ said_of (history entries.now) c (Rwunlocks n.now) }
 {
@@ -248,8 +256,8 @@ pub fn rwunlocks_verdict(entries: &[Entry], c: ClientId, n: &Name) -> Verdict
     }
 }
 
-/// A call that looks at nothing but its object, which is of this class.
-/// [XSH pthread_cond_signal, pthread_barrier_wait]
+/// Returns `known` if the name means an object of this class, or else EINVAL: the verdict of a call
+/// that depends on nothing else.  [XSH pthread_cond_signal, pthread_barrier_wait]
 pub fn known_verdict(entries: &[Entry], n: &Name, class: ObjectClass, known: Verdict) -> Verdict
     ensures { result ≡ on (find_in (history entries.now) n.now class) (λ o. known) }
 {
@@ -259,7 +267,7 @@ pub fn known_verdict(entries: &[Entry], n: &Name, class: ObjectClass, known: Ver
     }
 }
 
-/// What becomes of a client's call at once.  [XSH, the call's page]
+/// Returns what becomes of a client's call at once.  [XSH, the call's page]
 pub fn verdict(entries: &[Entry], c: ClientId, call: &Call) -> Verdict
     ensures { result ≡ verdict_in (history entries.now) c call.now }
 {

@@ -1,18 +1,18 @@
-//! The program `pt_reference_tests`: scripts played by the plain slow program, entry by entry.
+//! The program `pt_reference_tests`: plays scripts by the plain slow program, entry by entry.
 //!
 //! The folder `data` has four groups: `rows`, worked rows of docs/ROWS.md; `limits`, histories that
-//! become full; `questions`, which ask what is read off a history; and `drawn`, scripts drawn at
-//! random. A second implementation of the rules made the text that each must give. A group has
-//! folders, and a folder has cases: the files NAME.script and NAME.expected.
+//! become full; `questions`, scripts that ask what is read off a history; and `drawn`, scripts
+//! drawn at random. A second implementation of the rules made the text that each script must give.
+//! A group has folders, and a folder has cases: the files NAME.script and NAME.expected.
 //!
 //! A script has the lines of `ptserver script`, and the name of a client is its number. A line may
-//! also be `limit N`, which is how many entries there may be from there on, or `? WORD ..`, a
-//! question. An expected text has the word of each refusal, each entry of the history with the
-//! answers that it gives (client, place of the call, outcome), and what each question is answered.
+//! also be `limit N`, the number of entries that the history may have from there on, or a question,
+//! `? WORD ..`. An expected text has the word of each refusal, each entry of the history with the
+//! answers that it gives (client, place of the call, outcome), and the answer to each question.
 //!
-//! A line of output says how many scripts of a group agree. Where a text differs from the expected
-//! one, the program shows the first line that does, and ends with status 1. Only its run shows what
-//! is printed.
+//! For each group, a line of output says how many scripts agree. If a text differs from the
+//! expected one, the program shows the first line that does, and ends with status 1. Only its run
+//! shows what is printed.
 #![tactic(auto)]
 
 mod player;
@@ -36,7 +36,7 @@ fn case_agrees(rt: &HostRuntime, case: &Case) -> Result<bool> {
     Ok(agrees(rt, case, player.text().as_bytes())?)
 }
 
-// Plays the cases of a group, up to one that differs, and returns whether all agree.
+// Plays the cases of a group, up to the first that differs, and returns whether all agree.
 fn group_agrees(rt: &HostRuntime, folder: &str, group: &str) -> Result<bool> {
     let cases = cases_of(rt, folder, group)?;
     for case in &cases {
@@ -59,7 +59,7 @@ fn run(rt: &HostRuntime, folder: &str) -> Result<ExitCode> {
     Ok(ExitCode::SUCCESS)
 }
 
-// The first word of the command line is the folder of the groups, `.` if there is none.
+// The first word of the command line is the folder of the groups, or `.` if there is none.
 fn main(rt: HostRuntime) -> Result<ExitCode> {
     match env::args(&rt)?.nth(1) {
         Some(folder) => run(&rt, folder.as_str()),

@@ -10,13 +10,13 @@ use pt_reference::queries::told_at;
 use pt_reference::room::{entry_for, refusal_within};
 use std::alloc::{AllocError, Global};
 
-// How many entries may be in a history before a script says otherwise.
+// The most entries that a history may have, until a script sets another limit.
 const LIMIT: u64 = 1 << 20;
 
-// How many entries may follow an event of these scripts.
+// The most entries that may follow an event of these scripts.
 const MOST_FORCED: u64 = 100;
 
-// Enters an event, and what must follow.
+// Enters an event, and all entries that must follow it.
 fn enter(entries: &mut Vec<Entry>, event: &Event) -> Result<()> {
     let entry = entry_for(entries, event);
     entries.push(entry)?;
@@ -62,7 +62,7 @@ fn write_lines(text: &mut String, entries: &[Entry], first: usize) -> Result<(),
     Ok(())
 }
 
-/// A history that grows by the lines of a script, and the text of what came of them.
+/// A history that grows by the lines of a script, and the text of their results.
 #[derive(Drop)]
 pub struct Player {
     entries: Vec<Entry>,
@@ -71,7 +71,7 @@ pub struct Player {
 }
 
 impl Player {
-    /// A player of no line so far.
+    /// Creates a player that has played no line.
     pub fn new(alloc: Global) -> Player {
         Player {
             entries: Vec::new(alloc),
@@ -80,12 +80,12 @@ impl Player {
         }
     }
 
-    /// What came of the lines so far.
+    /// Returns the text of the results so far.
     pub fn text(&self) -> &str {
         self.text.as_str()
     }
 
-    // Refuses an event, or enters it with what must follow.
+    // Refuses an event, or enters it with all entries that must follow it.
     fn apply(&mut self, event: &Event) -> Result<()> {
         if let Some(refusal) = refusal_within(&self.entries, self.limit, event) {
             let word = refusal.word();

@@ -6,10 +6,10 @@ use pt_reference::room::need;
 use pt_types::{ClientId, Clock};
 use std::alloc::AllocError;
 
-/// What a script asks of a history.
+/// A question that a script asks about a history.
 #[derive(Clone, Copy)]
 pub enum Question {
-    /// How many entries must be free for what may have to follow.
+    /// The number of entries that must be free for what may have to follow.
     Need,
     /// The least deadline of an open call by this clock, in nanoseconds.
     LeastDeadline(Clock),
@@ -23,7 +23,7 @@ pub enum Question {
     AnswerOf(ClientId),
 }
 
-// Writes a number, or that there is none.
+// Writes a number, or `none`.
 fn write_number(text: &mut String, number: Option<u64>) -> Result<(), AllocError> {
     match number {
         Some(number) => writeln!(text, "{number}"),
@@ -31,7 +31,7 @@ fn write_number(text: &mut String, number: Option<u64>) -> Result<(), AllocError
     }
 }
 
-// Writes a client's answer: the client, the place of its call, and the outcome.
+// Writes the answer to a client's latest call: the client, the place of the call, and the outcome.
 fn write_answer_of(
     text: &mut String,
     entries: &[Entry],
@@ -47,7 +47,7 @@ fn write_answer_of(
 }
 
 impl Question {
-    /// Reads what follows the question mark of a line.
+    /// Reads the text after the question mark of a line.
     pub fn read(text: &str) -> Result<Question> {
         match text.split_once(' ').unwrap_or((text, "")) {
             ("need", "") => Ok(Question::Need),

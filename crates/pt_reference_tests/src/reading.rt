@@ -3,13 +3,13 @@ use pt_lines::{ClientName, ScriptBody, ScriptLine, Who, read_script_line};
 use pt_model::Event;
 use pt_types::ClientId;
 
-// The client whose name is its number.
+// Returns the client whose number is this name.
 fn client_of(name: &ClientName) -> Result<ClientId> {
     let number = str::from_utf8(name.as_bytes())?.parse::<u64>()?;
     Ok(ClientId(number))
 }
 
-// What a line says, as an event.
+// Returns what a line says, as an event.
 fn event_for(who: &Who, body: ScriptBody) -> Result<Event> {
     match (who, body) {
         (Who::Named(_), ScriptBody::Hello(priority)) => Ok(Event::Join(priority)),
@@ -20,7 +20,7 @@ fn event_for(who: &Who, body: ScriptBody) -> Result<Event> {
     }
 }
 
-/// The event that a line asks for.
+/// Returns the event that a line asks for.
 pub fn event_of(line: &str) -> Result<Event> {
     let ScriptLine { who, body } = read_script_line(line.as_bytes());
     match body {

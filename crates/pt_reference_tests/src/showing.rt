@@ -43,7 +43,7 @@ fn clock_of(clock: &Clock) -> &'static str {
     }
 }
 
-// Writes the entry of a call, with its answer if that came at once.
+// Writes the entry of a call, with its answer if it was answered at once.
 fn write_call(
     text: &mut String,
     i: usize,
@@ -71,7 +71,7 @@ fn write_moment(
     write!(text, "{i} Moment({clock}, {sec}, {nsec})")
 }
 
-/// Writes an entry and its place, as the tables of histories have it.
+/// Writes an entry and its place, in the form of the tables of histories.
 pub fn write_entry(text: &mut String, i: usize, entry: &Entry) -> Result<(), AllocError> {
     match entry {
         Entry::Join(client, priority) => {

@@ -5,8 +5,8 @@ use Rattle.pt_lanes.specs.Counts.{AnyFrom}
 use Rattle.pt_types.specs.Limits.{most_priority}
 use Rattle.pt_rwlock.specs.RwlockState.{RwlockState, made}
 
--- who holds the lock; and how many writers wait at each priority, that of priority p at index p - 1
--- [XSH pthread_rwlock_rdlock]
+-- the holders of the lock, and the number of writers that wait at each priority, that of priority p
+-- at index p - 1  [XSH pthread_rwlock_rdlock]
 pub record AwaitedLock : Type 0 where
   pub lock : RwlockState
   pub waiting : List ℕ
@@ -16,7 +16,7 @@ pub record AwaitedLock : Type 0 where
 abbrev pub awaited_by_none : AwaitedLock
 awaited_by_none = record { lock = made; waiting = replicate most_priority 0 }
 
--- it is held like this, and as many writers wait as before
+-- the lock with these holders, and with as many waiting writers as before
 abbrev pub with_lock : AwaitedLock → RwlockState → AwaitedLock
 with_lock r l = record r { lock = l }
 
@@ -25,21 +25,22 @@ with_lock r l = record r { lock = l }
 abbrev pub SaysBlocked : AwaitedLock → (priority : ℕ) → Bool → Type 0
 SaysBlocked r p blocked = IsTrue blocked ↔ AnyFrom r.waiting (p - 1)
 
--- how many writers of this priority wait  [XSH pthread_rwlock_rdlock]
+-- the number of writers of this priority that wait  [XSH pthread_rwlock_rdlock]
 abbrev pub writers_at : AwaitedLock → (priority : ℕ) → ℕ
 writers_at r p = slice_index r.waiting (p - 1)
 
--- a writer waits that is of this priority or a higher one exactly if their counts say so
--- [XSH pthread_rwlock_rdlock]
+-- a writer of this priority or a higher one waits exactly if one of these priorities has a count
+-- above 0  [XSH pthread_rwlock_rdlock]
 abbrev pub BlockedByCounts : Type 0
 BlockedByCounts = (r : AwaitedLock) (p : ℕ) → length r.waiting ≡ most_priority → 1 ≤ p
     → AnyFrom r.waiting (p - 1) ↔ ((q : ℕ) × (p ≤ q) × (q ≤ most_priority) × (0 < writers_at r q))
 
--- so many writers of this priority wait, and of each other one as many as before
+-- the lock with this number of waiting writers of this priority, and of each other one as many as
+-- before
 abbrev pub with_writers : AwaitedLock → (priority : ℕ) → ℕ → AwaitedLock
 with_writers r p n = record r { waiting = slice_set r.waiting (p - 1) n }
 
--- so many writers of this priority wait, and each other priority has its count
+-- this priority has the new count of waiting writers, and each other priority has its old count
 abbrev pub ChangesCount : (old new : AwaitedLock) (priority count : ℕ) → Type 0
 ChangesCount old new p n =
     (other : ℕ) → 1 ≤ other → other ≤ most_priority

@@ -14,7 +14,7 @@ use Rattle.pt_waitq.specs.declared.waiter.Waiter.{Waiter}
 use Rattle.pt_rwlock.specs.declared.holders.Held.{Held}
 use Rattle.pt_rwlock.specs.declared.holders.Held.TheVariants.{Nothing, Read, Write}
 
--- the writer; and the clients that have a row, in order, each with its read locks
+-- the writer, and the clients that have a row, in order, each with its read locks
 -- [XSH pthread_rwlock_rdlock]
 pub record RwlockState : Type 0 where
   pub writer : Option ℕ
@@ -36,7 +36,7 @@ reads_of r c = unwrap_or (row_of r c) 0
 abbrev pub is_read : RwlockState → Bool
 is_read r = list_any (λ c. nat_lt 0 (reads_of r c)) (keys_of r.rows)
 
--- how many of these rows have read locks
+-- the number of these rows that have read locks
 abbrev pub readers_in : List (ℕ × ℕ) → ℕ
 readers_in [] = 0
 readers_in (e ∷ es) = (if nat_lt 0 e.1 then 1 else 0) + readers_in es
@@ -58,18 +58,18 @@ seen_by r c = record {
   is_read = is_read r;
 }
 
--- the client has a row: its own as it was, or a new one without read locks
+-- the lock with a row for the client: its own as it was, or a new one without read locks
 abbrev pub with_row : RwlockState → (client : ℕ) → RwlockState
 with_row r c =
     if is_some (row_of r c) then r
     else record r { rows = insert_entry nat_cmp r.rows c 0 }
 
--- the client has so many read locks in its row, and each other one as many as before
+-- the lock with this number of read locks in the client's row, and every other row as it was
 -- [XSH pthread_rwlock_rdlock]
 abbrev pub with_reads : RwlockState → (client : ℕ) → ℕ → RwlockState
 with_reads r c n = record r { rows = set_value (is_at (nat_cmp c)) r.rows n }
 
--- whether it is a row that takes one read lock more: it has fewer than 255
+-- whether there is a row that can take one more read lock: it has fewer than 255
 -- [XSH pthread_rwlock_rdlock, the number is profile]
 abbrev pub has_room : Option ℕ → Bool
 has_room None = false
@@ -80,19 +80,19 @@ has_room (Some reads) = nat_lt reads most_reads
 abbrev pub can_acquire_read : RwlockState → (client : ℕ) → Bool
 can_acquire_read r c = is_none r.writer && has_room (row_of r c)
 
--- this is the client's row, and each other client has the row that it had
+-- the client has this row now, and each other client has the row that it had
 abbrev pub ChangesRow : (old new : RwlockState) (client : ℕ) → Option ℕ → Type 0
 ChangesRow old new c row =
     (other : ℕ) → row_of new other ≡ (if c == other then row else row_of old other)
 
--- the client gave back the write lock, or one read lock  [XSH pthread_rwlock_unlock]
+-- the lock after the client gave back the write lock, or one read lock  [XSH pthread_rwlock_unlock]
 abbrev pub released : RwlockState → (client : ℕ) → RwlockState
 released r c =
     if is_number r.writer c then record r { writer = None }
     else with_reads r c (reads_of r c - 1)
 
--- whether the first waiter can have the lock now, if writers of its priority or a higher one
--- wait or don't  [XSH pthread_rwlock_unlock, pthread_rwlock_rdlock]
+-- whether the first waiter can have the lock now, given whether writers of its priority or a higher
+-- one wait  [XSH pthread_rwlock_unlock, pthread_rwlock_rdlock]
 abbrev pub may_have : RwlockState → Waiter → (blocked : Bool) → Bool
 may_have r w blocked =
     if w.writer then may_write (seen_by r w.client) true

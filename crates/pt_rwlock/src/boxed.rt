@@ -1,4 +1,4 @@
-//! Rows that have a box once there is one.
+//! Rows that are stored in a box as soon as there is one row.
 
 ghost use Rattle.std.specs.Prelude.{◌≡◌, ◌==◌, ◌<◌, ◌+◌, ◌-◌, ◌^◌, length, is_some, IfSome, IsSome};
 ghost use Rattle.std.specs.Prelude.{OnErr, OnOk, Some, None, [], if◌then◌else◌, ℕ};
@@ -11,8 +11,8 @@ use crate::rows::Rows;
 use std::alloc::{AllocError, Allocator};
 use std::marker::Model;
 
-/// The read locks of clients, as `Rows`. They have a box once there is one: what stores a lock is
-/// small then, and a lock that nobody reads takes no memory.
+/// The read locks of clients, as `Rows` in a box that is made for the first row. This keeps what
+/// stores a lock small, and a lock that nobody reads takes no memory.
 #[derive(Drop)]
 pub(crate) struct BoxedRows<A: Allocator + Copy> {
     boxed: Option<Box<Rows<A>, A>>,
@@ -29,14 +29,14 @@ impl<A: Allocator + Copy> Model for BoxedRows<A> {
 }
 
 impl<A: Allocator + Copy> BoxedRows<A> {
-    /// No rows. It takes no memory.
+    /// Creates an empty set of rows, which allocates nothing.
     pub(crate) fn new(alloc: A) -> Self
         ensures { result ≡ [] }
     {
         BoxedRows { boxed: None, alloc }
     }
 
-    /// Each row: its client's number and its read locks.
+    /// Returns the rows. Each has its client's number and read locks.
     #[inline(always)]
     pub(crate) fn as_slice(&self) -> &[(u64, u8)]
         ensures { result.now ≡ self.now }
@@ -47,7 +47,7 @@ impl<A: Allocator + Copy> BoxedRows<A> {
         }
     }
 
-    /// How many rows there are.
+    /// Returns the number of rows.
     #[inline(always)]
     pub(crate) fn len(&self) -> usize
         ensures len { result ≡ length self.now }
@@ -60,7 +60,7 @@ impl<A: Allocator + Copy> BoxedRows<A> {
         }
     }
 
-    /// The read locks of a client, if it has a row.
+    /// Returns the read locks of a client, if it has a row.
     #[inline(always)]
     pub(crate) fn get(&self, client: u64) -> Option<u8>
         ensures { result ≡ lookup (is_at (nat_cmp client)) self.now }
@@ -71,7 +71,7 @@ impl<A: Allocator + Copy> BoxedRows<A> {
         }
     }
 
-    /// Whether a client has a row. Its place is noted.
+    /// Returns whether a client has a row. Its place is stored as the client's hint.
     #[inline(always)]
     pub(crate) fn has(&mut self, client: u64) -> bool
         ensures found { result ≡ is_some (lookup (is_at (nat_cmp client)) self.old) }
@@ -83,7 +83,7 @@ impl<A: Allocator + Copy> BoxedRows<A> {
         }
     }
 
-    // Adds the first row.
+    // Adds the first row, which has no read locks.
     fn insert_first(&mut self, client: u64) -> Result<(), AllocError>
         requires { self.old ≡ [] }
         ensures rows { OnOk result (self.new ≡ insert_entry nat_cmp self.old client 0) }
@@ -98,7 +98,7 @@ impl<A: Allocator + Copy> BoxedRows<A> {
         Ok(())
     }
 
-    /// Adds a row with no read locks for a client that has none.
+    /// Adds a row without read locks for a client that has no row.
     #[cold]
     #[inline(never)]
     pub(crate) fn insert(&mut self, client: u64) -> Result<(), AllocError>
@@ -115,7 +115,7 @@ impl<A: Allocator + Copy> BoxedRows<A> {
         }
     }
 
-    /// Adds one to a row, and returns what it was.
+    /// Adds a read lock to a client's row, and returns how many it had before.
     #[inline(always)]
     pub(crate) fn add_read(&mut self, client: u64) -> u8
         requires few { IfSome (lookup (is_at (nat_cmp client)) self.old) (λ reads. reads < 255) }
@@ -134,7 +134,7 @@ impl<A: Allocator + Copy> BoxedRows<A> {
         }
     }
 
-    /// Takes one off a row, and returns what it was.
+    /// Removes a read lock from a client's row, and returns how many it had before.
     #[inline(always)]
     pub(crate) fn take_read(&mut self, client: u64) -> u8
         requires some { IfSome (lookup (is_at (nat_cmp client)) self.old) (λ reads. 0 < reads) }

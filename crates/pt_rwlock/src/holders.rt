@@ -8,7 +8,7 @@ use pt_types::{ClientId, How, MOST_READS, Outcome, Refusal, Verdict};
 use std::alloc::{Allocator, Global};
 use std::marker::Model;
 
-/// How a client holds a lock.  [XSH pthread_rwlock_unlock]
+/// The way in which a client holds a lock.  [XSH pthread_rwlock_unlock]
 #[derive(Clone, Copy, PartialEq, Eq)]
 pub enum Held {
     Nothing,
@@ -17,15 +17,15 @@ pub enum Held {
     Write,
 }
 
-/// Who holds a read-write lock: its writer, or the clients with read locks.  [XSH 2.9]
+/// The holders of a read-write lock: its writer, or the clients with read locks.  [XSH 2.9]
 ///
-/// A client gets its row by `make_row`, which alone takes memory; a lock is had and given back
-/// without.
+/// A client gets its row by `make_row`, the only method that takes memory. Acquiring and releasing
+/// a lock takes none.
 pub struct Holders<A: Allocator + Copy = Global> {
     writer: Option<ClientId>,
-    /// By the number of the client.
+    /// The read locks, by the number of the client.
     reads: BoxedRows<A>,
-    /// How many clients have read locks.
+    /// The number of clients that have read locks.
     readers: usize,
 }
 
@@ -40,7 +40,7 @@ impl<A: Allocator + Copy> Model for Holders<A> {
     ghost invariant = { λ h. readers_in h.reads ≡ h.readers };
 }
 
-// Not derived, so that those that drop a lock prove nothing of its parts.
+// Not derived, so that code that drops a lock has nothing to prove about its parts.
 impl<A: Allocator + Copy> Drop for Holders<A> {
     fn drop(self) {
         let Holders {
@@ -56,7 +56,7 @@ impl<A: Allocator + Copy> Holders<A> {
     ghost use Rattle.pt_rwlock.specs.RwlockState.{seen_by, with_row, with_reads, can_acquire_read};
     ghost use Rattle.pt_rwlock.specs.RwlockState.{ChangesRow, released, held};
 
-    /// A lock that nobody holds.  [XSH pthread_rwlock_init]
+    /// Creates a lock that nobody holds.  [XSH pthread_rwlock_init]
     pub fn new(alloc: A) -> Holders<A>
         ensures { result ≡ made }
     {
@@ -67,8 +67,8 @@ impl<A: Allocator + Copy> Holders<A> {
         }
     }
 
-    /// Makes room for the client's read locks; one that has its row keeps it. ENOMEM if there
-    /// is no memory for a new one.
+    /// Makes a row for the client's read locks, unless the client has one already. Returns ENOMEM
+    /// if memory cannot be grown for a new row.
     #[inline(always)]
     pub fn make_row(&mut self, client: ClientId) -> Result<(), Refusal>
         ensures ok { OnOk result (self.new ≡ with_row self.old client) }
@@ -87,7 +87,7 @@ impl<A: Allocator + Copy> Holders<A> {
         }
     }
 
-    // Whether the client has a row.
+    // Returns whether the client has a row.
     #[inline(always)]
     fn has_row(&mut self, client: ClientId) -> bool
         ensures found { result ≡ is_some (row_of self.old client) }
@@ -96,7 +96,7 @@ impl<A: Allocator + Copy> Holders<A> {
         self.reads.has(client.0)
     }
 
-    /// How the client holds the lock.  [XSH pthread_rwlock_unlock]
+    /// Returns how the client holds the lock.  [XSH pthread_rwlock_unlock]
     #[inline(always)]
     pub fn held_by(&self, client: ClientId) -> Held
         ensures { result ≡ held (seen_by self.now client) }
@@ -110,14 +110,14 @@ impl<A: Allocator + Copy> Holders<A> {
         }
     }
 
-    /// The client that holds the write lock, dead or alive.  [XSH pthread_rwlock_wrlock]
+    /// Returns the client that holds the write lock, dead or alive.  [XSH pthread_rwlock_wrlock]
     pub fn writer(&self) -> Option<ClientId>
         ensures { result ≡ self.now.writer }
     {
         self.writer
     }
 
-    /// The rows of its readers, each by the number of its client, with its read locks; a row may
+    /// Returns the rows of the readers: the number of each client, with its read locks. A row may
     /// have none.  [XSH pthread_rwlock_rdlock]
     pub fn readers(&self) -> &[(u64, u8)]
         ensures { result.now ≡ self.now.rows }
@@ -141,20 +141,20 @@ impl<A: Allocator + Copy> Holders<A> {
     fn is_read(&self) -> bool
         ensures { result ≡ is_read self.now }
     {
-        // It is the length that says that the rows are in order.
+        // The contract of `len` says that the rows are in order.
         let _rows = self.reads.len();
         self.readers > 0
     }
 
-    /// Whether nobody holds the lock, dead or alive.  [XSH pthread_rwlock_wrlock]
+    /// Returns whether nobody, dead or alive, holds the lock.  [XSH pthread_rwlock_wrlock]
     pub fn is_free(&self) -> bool
         ensures { result ≡ nobody_holds self.now }
     {
         self.writer.is_none() && !self.is_read()
     }
 
-    /// What becomes of a read lock's call, given whether such a writer waits.
-    /// [XSH pthread_rwlock_rdlock]
+    /// Returns the verdict of a call for a read lock, given whether a writer of the caller's
+    /// priority or a higher one waits.  [XSH pthread_rwlock_rdlock]
     #[inline(always)]
     pub fn verdict_read_behind(&self, caller: ClientId, blocked: bool, how: How) -> Verdict
         ensures { result ≡ read_verdict (seen_by self.now caller) blocked how }
@@ -173,8 +173,8 @@ impl<A: Allocator + Copy> Holders<A> {
         }
     }
 
-    /// What becomes of the client's `wrlock`, `trywrlock` or `timedwrlock`. Whether a deadline is
-    /// due is not asked here.  [XSH pthread_rwlock_wrlock, pthread_rwlock_timedwrlock]
+    /// Returns the verdict of the client's `wrlock`, `trywrlock` or `timedwrlock`. Doesn't check
+    /// whether a deadline is due.  [XSH pthread_rwlock_wrlock, pthread_rwlock_timedwrlock]
     #[inline(always)]
     pub fn verdict_write(&self, caller: ClientId, how: How) -> Verdict
         ensures { result ≡ write_verdict (seen_by self.now caller) how }
@@ -190,7 +190,8 @@ impl<A: Allocator + Copy> Holders<A> {
         }
     }
 
-    /// What becomes of the client's `rwunlock`; EPERM is profile.  [XSH pthread_rwlock_unlock]
+    /// Returns the verdict of the client's `rwunlock`. EPERM is profile.
+    /// [XSH pthread_rwlock_unlock]
     #[inline(always)]
     pub fn verdict_unlock(&self, caller: ClientId) -> Verdict
         ensures { result ≡ rwunlock_verdict (seen_by self.now caller) }
@@ -202,7 +203,7 @@ impl<A: Allocator + Copy> Holders<A> {
         }
     }
 
-    /// Whether the client holds the lock in either way.  [XSH pthread_rwlock_unlock]
+    /// Returns whether the client holds the lock in either way.  [XSH pthread_rwlock_unlock]
     #[inline(always)]
     pub fn holds(&self, client: ClientId) -> bool
         ensures { result ≡ holds (seen_by self.now client) }
@@ -210,22 +211,22 @@ impl<A: Allocator + Copy> Holders<A> {
         self.held_by(client) != Held::Nothing
     }
 
-    /// The client has one read lock more. No writer holds the lock, and the client has its row with
-    /// fewer than 255 read locks.  [XSH pthread_rwlock_rdlock]
+    /// Gives the client one more read lock. No writer may hold the lock, and the client must have a
+    /// row with fewer than 255 read locks.  [XSH pthread_rwlock_rdlock]
     #[inline(always)]
     pub fn acquire_read(&mut self, client: ClientId)
         requires { IsTrue (can_acquire_read self.old client) }
         ensures change { self.new ≡ with_reads self.old client (reads_of self.old client + 1) }
         ensures row { ChangesRow self.old self.new client (Some (reads_of self.old client + 1)) }
     {
-        // It is the length that says that one reader more can be counted.
+        // The contract of `len` says that one more reader can be counted.
         let _rows = self.reads.len();
         if self.reads.add_read(client.0) == 0 {
             self.readers += 1;
         }
     }
 
-    /// The client has the write lock.  [XSH pthread_rwlock_wrlock]
+    /// Gives the client the write lock. Nobody may hold the lock.  [XSH pthread_rwlock_wrlock]
     pub fn acquire_write(&mut self, client: ClientId)
         requires { IsTrue (nobody_holds self.old) }
         ensures { self.new ≡ record self.old { writer = Some client } }
@@ -233,7 +234,7 @@ impl<A: Allocator + Copy> Holders<A> {
         self.writer = Some(client);
     }
 
-    /// The client gives back the write lock, or one read lock.  [XSH pthread_rwlock_unlock]
+    /// Takes back the client's write lock, or one of its read locks.  [XSH pthread_rwlock_unlock]
     #[inline(always)]
     pub fn release(&mut self, client: ClientId)
         requires { IsTrue (holds (seen_by self.old client)) }

@@ -16,11 +16,11 @@ use std::marker::Model;
 // readers           the same, or it is one of them   no
 // a writer          no                               no
 
-/// A read-write lock: who holds it, and the writers that wait.  [XSH 2.9]
+/// A read-write lock: its holders, and the number of writers that wait.  [XSH 2.9]
 #[derive(Drop)]
 pub struct RwObj<A: Allocator + Copy = Global> {
     holders: Holders<A>,
-    /// Priority p is at index p - 1.
+    /// The number of waiting writers of each priority. That of priority p is at index p - 1.
     waiting_writers: [u32; MOST_PRIORITY],
 }
 
@@ -39,7 +39,7 @@ impl<A: Allocator + Copy> RwObj<A> {
     ghost use Rattle.pt_rwlock.specs.AwaitedLock.{awaited_by_none, with_lock, SaysBlocked};
     ghost use Rattle.pt_rwlock.specs.AwaitedLock.{writers_at, with_writers, ChangesCount};
 
-    /// A lock that nobody holds.  [XSH pthread_rwlock_init]
+    /// Creates a lock that nobody holds.  [XSH pthread_rwlock_init]
     pub fn new(alloc: A) -> RwObj<A>
         ensures { result ≡ awaited_by_none }
     {
@@ -49,8 +49,8 @@ impl<A: Allocator + Copy> RwObj<A> {
         }
     }
 
-    /// Makes room for the client's read locks; one that has its row keeps it. ENOMEM if there
-    /// is no memory for a new one.
+    /// Makes a row for the client's read locks, unless the client has one already. Returns ENOMEM
+    /// if memory cannot be grown for a new row.
     pub fn make_row(&mut self, client: ClientId) -> Result<(), Refusal>
         ensures ok { OnOk result (self.new ≡ with_lock self.old (with_row self.old.lock client)) }
         ensures row { let reads = reads_of self.old.lock client in
@@ -62,21 +62,21 @@ impl<A: Allocator + Copy> RwObj<A> {
         self.holders.make_row(client)
     }
 
-    /// How the client holds the lock.  [XSH pthread_rwlock_unlock]
+    /// Returns how the client holds the lock.  [XSH pthread_rwlock_unlock]
     pub fn held_by(&self, client: ClientId) -> Held
         ensures { result ≡ held (seen_by self.now.lock client) }
     {
         self.holders.held_by(client)
     }
 
-    /// The client that holds the write lock, dead or alive.  [XSH pthread_rwlock_wrlock]
+    /// Returns the client that holds the write lock, dead or alive.  [XSH pthread_rwlock_wrlock]
     pub fn writer(&self) -> Option<ClientId>
         ensures { result ≡ self.now.lock.writer }
     {
         self.holders.writer()
     }
 
-    /// The rows of its readers, each by the number of its client, with its read locks; a row may
+    /// Returns the rows of the readers: the number of each client, with its read locks. A row may
     /// have none.  [XSH pthread_rwlock_rdlock]
     pub fn readers(&self) -> &[(u64, u8)]
         ensures { result.now ≡ self.now.lock.rows }
@@ -84,22 +84,22 @@ impl<A: Allocator + Copy> RwObj<A> {
         self.holders.readers()
     }
 
-    /// Whether nobody holds the lock, dead or alive.  [XSH pthread_rwlock_wrlock]
+    /// Returns whether nobody, dead or alive, holds the lock.  [XSH pthread_rwlock_wrlock]
     pub fn is_free(&self) -> bool
         ensures { result ≡ nobody_holds self.now.lock }
     {
         self.holders.is_free()
     }
 
-    // Whether a writer of this priority or a higher one waits.
+    // Returns whether a writer of this priority or a higher one waits.
     fn is_blocked(&self, priority: Priority) -> bool
         ensures { SaysBlocked self.now priority result }
     {
         any_from(&self.waiting_writers, priority.level() as usize - 1)
     }
 
-    /// What becomes of the client's `rdlock`, `tryrdlock` or `timedrdlock`. Whether a deadline is
-    /// due is not asked here.  [XSH pthread_rwlock_rdlock, pthread_rwlock_timedrdlock]
+    /// Returns the verdict of the client's `rdlock`, `tryrdlock` or `timedrdlock`. Doesn't check
+    /// whether a deadline is due.  [XSH pthread_rwlock_rdlock, pthread_rwlock_timedrdlock]
     pub fn verdict_read(&self, caller: ClientId, priority: Priority, how: How) -> Verdict
         ensures { (blocked : Bool) → SaysBlocked self.now priority blocked
             → result ≡ read_verdict (seen_by self.now.lock caller) blocked how }
@@ -107,39 +107,41 @@ impl<A: Allocator + Copy> RwObj<A> {
         self.verdict_read_behind(caller, self.is_blocked(priority), how)
     }
 
-    /// What becomes of a read lock's call, given whether such a writer waits.
-    /// [XSH pthread_rwlock_rdlock]
+    /// Returns the verdict of a call for a read lock, given whether a writer of the caller's
+    /// priority or a higher one waits.  [XSH pthread_rwlock_rdlock]
     pub fn verdict_read_behind(&self, caller: ClientId, blocked: bool, how: How) -> Verdict
         ensures { result ≡ read_verdict (seen_by self.now.lock caller) blocked how }
     {
         self.holders.verdict_read_behind(caller, blocked, how)
     }
 
-    /// What becomes of the client's `wrlock`, `trywrlock` or `timedwrlock`. Whether a deadline is
-    /// due is not asked here.  [XSH pthread_rwlock_wrlock, pthread_rwlock_timedwrlock]
+    /// Returns the verdict of the client's `wrlock`, `trywrlock` or `timedwrlock`. Doesn't check
+    /// whether a deadline is due.  [XSH pthread_rwlock_wrlock, pthread_rwlock_timedwrlock]
     pub fn verdict_write(&self, caller: ClientId, how: How) -> Verdict
         ensures { result ≡ write_verdict (seen_by self.now.lock caller) how }
     {
         self.holders.verdict_write(caller, how)
     }
 
-    /// What becomes of the client's `rwunlock`; EPERM is profile.  [XSH pthread_rwlock_unlock]
+    /// Returns the verdict of the client's `rwunlock`. EPERM is profile.
+    /// [XSH pthread_rwlock_unlock]
     pub fn verdict_unlock(&self, caller: ClientId) -> Verdict
         ensures { result ≡ rwunlock_verdict (seen_by self.now.lock caller) }
     {
         self.holders.verdict_unlock(caller)
     }
 
-    /// Whether the client holds the lock in either way.  [XSH pthread_rwlock_unlock]
+    /// Returns whether the client holds the lock in either way.  [XSH pthread_rwlock_unlock]
     pub fn holds(&self, client: ClientId) -> bool
         ensures { result ≡ holds (seen_by self.now.lock client) }
     {
         self.holders.holds(client)
     }
 
-    /// Whether the first waiter of its queue can have the lock now: a writer if nobody holds it;
-    /// a reader if no writer holds it, and no writer of its priority or a higher one waits or
-    /// its client has a read lock already, which is a deviation.  [XSH pthread_rwlock_unlock]
+    /// Returns whether the first waiter of the lock's queue can have the lock now: a writer if
+    /// nobody holds it; a reader if no writer holds it, and either no writer of its priority or a
+    /// higher one waits or its client has a read lock already. The last case is a deviation.
+    /// [XSH pthread_rwlock_unlock]
     pub fn grantable(&self, first: Option<Waiter>) -> bool
         ensures none { IfNone first (result ≡ false) }
         ensures some { (blocked : Bool)
@@ -157,7 +159,7 @@ impl<A: Allocator + Copy> RwObj<A> {
         }
     }
 
-    /// A writer of this priority begins to wait.  [XSH pthread_rwlock_rdlock]
+    /// Counts a writer of this priority that begins to wait.  [XSH pthread_rwlock_rdlock]
     pub fn note_writer(&mut self, priority: Priority)
         requires { writers_at self.old priority < u32.MAX }
         ensures change { let before = writers_at self.old priority in
@@ -169,7 +171,7 @@ impl<A: Allocator + Copy> RwObj<A> {
         self.waiting_writers[priority.level() as usize - 1] += 1;
     }
 
-    /// A writer of this priority waits no more.  [XSH pthread_rwlock_rdlock]
+    /// Counts off a writer of this priority that no longer waits.  [XSH pthread_rwlock_rdlock]
     pub fn drop_writer(&mut self, priority: Priority)
         requires { 0 < writers_at self.old priority }
         ensures change { let before = writers_at self.old priority in
@@ -181,8 +183,8 @@ impl<A: Allocator + Copy> RwObj<A> {
         self.waiting_writers[priority.level() as usize - 1] -= 1;
     }
 
-    /// The client has one read lock more. No writer holds the lock, and the client has its row with
-    /// fewer than 255 read locks.  [XSH pthread_rwlock_rdlock]
+    /// Gives the client one more read lock. No writer may hold the lock, and the client must have a
+    /// row with fewer than 255 read locks.  [XSH pthread_rwlock_rdlock]
     pub fn acquire_read(&mut self, client: ClientId)
         requires { IsTrue (can_acquire_read self.old.lock client) }
         ensures change { let reads = reads_of self.old.lock client in
@@ -193,7 +195,7 @@ impl<A: Allocator + Copy> RwObj<A> {
         self.holders.acquire_read(client);
     }
 
-    /// The client has the write lock.  [XSH pthread_rwlock_wrlock]
+    /// Gives the client the write lock. Nobody may hold the lock.  [XSH pthread_rwlock_wrlock]
     pub fn acquire_write(&mut self, client: ClientId)
         requires { IsTrue (nobody_holds self.old.lock) }
         ensures { self.new
@@ -202,7 +204,7 @@ impl<A: Allocator + Copy> RwObj<A> {
         self.holders.acquire_write(client);
     }
 
-    /// The client gives back the write lock, or one read lock.  [XSH pthread_rwlock_unlock]
+    /// Takes back the client's write lock, or one of its read locks.  [XSH pthread_rwlock_unlock]
     pub fn release(&mut self, client: ClientId)
         requires { IsTrue (holds (seen_by self.old.lock client)) }
         ensures change { self.new ≡ with_lock self.old (released self.old.lock client) }

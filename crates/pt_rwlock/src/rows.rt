@@ -12,10 +12,10 @@ use pt_hints::Hints;
 use std::alloc::{AllocError, Allocator};
 use std::marker::Model;
 
-/// How many rows there may be before there are hints.
+/// The least number of rows for which hints are made.
 const FEW: usize = 8;
 
-// The read locks in the row at a place, if it is the client's.
+// Returns the read locks in the row at a place, if it is the client's.
 #[inline(always)]
 fn reads_at(rows: &[(u64, u8)], place: usize, client: u64) -> Option<u8>
     ensures { result ≡ reads_for client (slice_get rows.now place) }
@@ -26,7 +26,7 @@ fn reads_at(rows: &[(u64, u8)], place: usize, client: u64) -> Option<u8>
     }
 }
 
-// How many rows are of lower clients.
+// Returns the number of rows that belong to clients with lower numbers.
 #[inline(never)]
 fn count_below(rows: &[(u64, u8)], client: u64) -> usize
     requires { IsInOrder rows.now }
@@ -45,7 +45,7 @@ fn count_below(rows: &[(u64, u8)], client: u64) -> usize
     low
 }
 
-// The read locks in a client's row, if its hint leads there.
+// Returns the read locks in a client's row, if the hint leads there.
 #[inline(always)]
 fn reads_hinted(rows: &[(u64, u8)], hint: Option<usize>, client: u64) -> Option<u8>
     requires { IsInOrder rows.now }
@@ -54,7 +54,7 @@ fn reads_hinted(rows: &[(u64, u8)], hint: Option<usize>, client: u64) -> Option<
     reads_at(rows, hint?, client)
 }
 
-// The read locks in a client's row, if it has one, found without a hint.
+// Returns the read locks in a client's row, if it has one. Finds it without a hint.
 #[inline(never)]
 fn reads_apart(rows: &[(u64, u8)], client: u64) -> Option<u8>
     requires { IsInOrder rows.now }
@@ -63,7 +63,7 @@ fn reads_apart(rows: &[(u64, u8)], client: u64) -> Option<u8>
     reads_at(rows, count_below(rows, client), client)
 }
 
-// The place of a client's row, if it is the one of its hint.
+// Returns the place of a client's row, if the hint leads there.
 #[inline(always)]
 fn hinted(rows: &[(u64, u8)], hint: Option<usize>, client: u64) -> Option<usize>
     requires { IsInOrder rows.now }
@@ -76,7 +76,7 @@ fn hinted(rows: &[(u64, u8)], hint: Option<usize>, client: u64) -> Option<usize>
     }
 }
 
-// Makes hints for so many rows and one more, if they are not few.
+// Makes hints for these rows and one more, unless there are few.
 fn grow<A: Allocator + Copy>(hints: &mut Hints<A>, rows: &[(u64, u8)]) -> Result<(), AllocError> {
     if rows.len() < FEW {
         return Ok(());
@@ -87,14 +87,14 @@ fn grow<A: Allocator + Copy>(hints: &mut Hints<A>, rows: &[(u64, u8)]) -> Result
     })
 }
 
-// Notes the place of each row from this one on.
+// Stores the place of each row from `from` on as the hint of its client.
 fn note_from<A: Allocator + Copy>(hints: &mut Hints<A>, rows: &[(u64, u8)], from: usize) {
     for place in from..rows.len() {
         hints.set(rows[place].0, place);
     }
 }
 
-// Adds a row with no read locks for a client that has none, in its place.
+// Inserts a row without read locks, in its place, for a client that has no row.
 fn insert_at<A: Allocator + Copy>(
     rows: &mut Vec<(u64, u8), A>,
     place: usize,
@@ -120,7 +120,7 @@ fn insert_at<A: Allocator + Copy>(
 
 /// The read locks of clients, in the order of the clients' numbers.
 ///
-/// A row is looked for first where the client's hint says, which may be wrong.
+/// A row is first looked for at the place that the client's hint gives, which may be wrong.
 #[derive(Drop)]
 pub(crate) struct Rows<A: Allocator + Copy> {
     rows: Vec<(u64, u8), A>,
@@ -139,7 +139,7 @@ impl<A: Allocator + Copy> Model for Rows<A> {
 }
 
 impl<A: Allocator + Copy> Rows<A> {
-    /// No rows. It takes no memory.
+    /// Creates an empty set of rows, which allocates nothing.
     pub(crate) fn new(alloc: A) -> Self
         ensures { result ≡ [] }
     {
@@ -149,14 +149,14 @@ impl<A: Allocator + Copy> Rows<A> {
         }
     }
 
-    /// Each row: its client's number and its read locks.
+    /// Returns the rows. Each has its client's number and read locks.
     pub(crate) fn as_slice(&self) -> &[(u64, u8)]
         ensures { result.now ≡ self.now }
     {
         self.rows.as_slice()
     }
 
-    /// How many rows there are.
+    /// Returns the number of rows.
     pub(crate) fn len(&self) -> usize
         ensures len { result ≡ length self.now }
         ensures small { result < 2 ^ 63 }
@@ -165,8 +165,8 @@ impl<A: Allocator + Copy> Rows<A> {
         self.rows.len()
     }
 
-    // The place of a client's row, or the one in which it would be, found without a hint and noted
-    // as one.
+    // Returns the place of a client's row, or the place at which it would be. Finds it without a
+    // hint, and stores it as the client's hint.
     #[inline(never)]
     fn search(&mut self, client: u64) -> usize
         ensures place { result ≡ place_in self.old client }
@@ -177,7 +177,7 @@ impl<A: Allocator + Copy> Rows<A> {
         place
     }
 
-    // The same, which is noted as the client's hint.
+    // Does what search does, but tries the client's hint first.
     #[inline(always)]
     fn note_place_of(&mut self, client: u64) -> usize
         ensures place { result ≡ place_in self.old client }
@@ -189,7 +189,7 @@ impl<A: Allocator + Copy> Rows<A> {
         }
     }
 
-    /// The read locks of a client, if it has a row.
+    /// Returns the read locks of a client, if it has a row.
     #[inline(always)]
     pub(crate) fn get(&self, client: u64) -> Option<u8>
         ensures { result ≡ lookup (is_at (nat_cmp client)) self.now }
@@ -201,7 +201,7 @@ impl<A: Allocator + Copy> Rows<A> {
         }
     }
 
-    // Whether a client has a row, found without a hint. Its place is noted.
+    // Returns whether a client has a row. Finds it without a hint, and stores its place as one.
     #[inline(never)]
     fn has_apart(&mut self, client: u64) -> bool
         ensures found { result ≡ is_some (lookup (is_at (nat_cmp client)) self.old) }
@@ -211,7 +211,7 @@ impl<A: Allocator + Copy> Rows<A> {
         reads_at(self.rows.as_slice(), place, client).is_some()
     }
 
-    /// Whether a client has a row. Its place is noted.
+    /// Returns whether a client has a row. Its place is stored as the client's hint.
     #[inline(always)]
     pub(crate) fn has(&mut self, client: u64) -> bool
         ensures found { result ≡ is_some (lookup (is_at (nat_cmp client)) self.old) }
@@ -223,7 +223,7 @@ impl<A: Allocator + Copy> Rows<A> {
         }
     }
 
-    /// Adds a row with no read locks for a client that has none.
+    /// Adds a row without read locks for a client that has no row.
     #[cold]
     #[inline(never)]
     pub(crate) fn insert(&mut self, client: u64) -> Result<(), AllocError>
@@ -241,7 +241,7 @@ impl<A: Allocator + Copy> Rows<A> {
         Ok(())
     }
 
-    // The read locks in a client's row, which is at this place.
+    // Returns the read locks in a client's row, which is at `place`.
     #[inline(always)]
     fn reads(&self, place: usize, client: u64) -> u8
         requires place { place ≡ place_in self.now client }
@@ -251,7 +251,7 @@ impl<A: Allocator + Copy> Rows<A> {
         reads_at(self.rows.as_slice(), place, client).unwrap()
     }
 
-    // Changes a client's row, which is at this place.
+    // Sets the read locks in a client's row, which is at `place`.
     #[inline(always)]
     fn set(&mut self, place: usize, client: u64, reads: u8)
         requires place { place ≡ place_in self.old client }
@@ -264,7 +264,7 @@ impl<A: Allocator + Copy> Rows<A> {
         self.rows[place].1 = reads;
     }
 
-    /// Adds one to a row, and returns what it was.
+    /// Adds a read lock to a client's row, and returns how many it had before.
     #[inline(always)]
     pub(crate) fn add_read(&mut self, client: u64) -> u8
         requires few { IfSome (lookup (is_at (nat_cmp client)) self.old) (λ reads. reads < 255) }
@@ -283,7 +283,7 @@ impl<A: Allocator + Copy> Rows<A> {
         before
     }
 
-    /// Takes one off a row, and returns what it was.
+    /// Removes a read lock from a client's row, and returns how many it had before.
     #[inline(always)]
     pub(crate) fn take_read(&mut self, client: u64) -> u8
         requires some { IfSome (lookup (is_at (nat_cmp client)) self.old) (λ reads. 0 < reads) }

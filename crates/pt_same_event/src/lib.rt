@@ -1,7 +1,7 @@
-//! Whether two events are the same.
+//! Equality of events.
 //!
-//! The contract of the derived `==` of calls has a case for each call word, which are more than the
-//! prover's search can go through. `same_call` says no more than what it comes to.
+//! The contract of the derived `==` of calls has a case for each call word. These are more cases
+//! than the prover's search can go through, so the contract of `same_call` states the result alone.
 #![tactic(auto)]
 
 ghost use Rattle.std.specs.Prelude.{◌≡◌, ◌≢◌, false, true};
@@ -9,7 +9,7 @@ ghost use Rattle.std.specs.Prelude.{◌≡◌, ◌≢◌, false, true};
 use pt_model::Event;
 use pt_types::Call;
 
-/// Whether two calls are of the same word, with the same arguments.
+/// Returns whether two calls have the same word and the same arguments.
 fn same_call(a: &Call, b: &Call) -> bool
     ensures yes { result ≡ true → a.now ≡ b.now }
     ensures no { result ≡ false → a.now ≢ b.now }
@@ -17,7 +17,7 @@ fn same_call(a: &Call, b: &Call) -> bool
     a == b
 }
 
-/// Whether two events are the same.
+/// Returns whether two events are the same.
 pub fn same_event(a: &Event, b: &Event) -> bool
     ensures yes { result ≡ true → a.now ≡ b.now }
     ensures no { result ≡ false → a.now ≢ b.now }

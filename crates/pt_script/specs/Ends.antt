@@ -14,19 +14,19 @@ use Rattle.pt_engine.specs.Scripts.{Script, begun, core_of}
 use Rattle.pt_engine.specs.Says.{SaysAll}
 use Rattle.pt_script.specs.Texts.{IsBroken, Writing}
 
--- the lines of a script's bytes, as they are read
+-- the lines in a script's bytes, as they are read
 abbrev pub lines_of : List ℕ → List ScriptLine
 lines_of bytes = map script_of (lines bytes)
 
--- all that may be written for these bytes was written, and nothing else; these are the number of
--- lines and the place of the next entry
+-- exactly what may be written for these bytes was written; the count is that of the lines, and next
+-- is the place of the next entry
 pub record IsScriptText (bytes text : List ℕ) (count next : ℕ) : Type 0 where
   pub last : Script
   pub says : SaysAll begun (lines_of bytes) last text
   pub lines : count ≡ length (lines_of bytes)
   pub history : next ≡ place (past (core_of last))
 
--- what was written begins what may be written for the first lines of these bytes
+-- what was written begins a text that may be written for the first lines of these bytes
 pub record BeginsScriptText (bytes text : List ℕ) : Type 0 where
   pub count : ℕ
   pub last : Script
@@ -35,23 +35,23 @@ pub record BeginsScriptText (bytes text : List ℕ) : Type 0 where
   pub says : SaysAll begun (take count (lines_of bytes)) last whole
   pub begins : IsPrefix text whole
 
--- the lines that are whole in these bytes were answered by this text, and a cutter holds the rest
--- of the bytes
+-- lines from the front of these bytes were answered by this text, and a cutter holds the rest of
+-- the bytes
 pub record IsBehind (bytes : List ℕ) (held : Held) (s : Script) (text : List ℕ) : Type 0 where
   pub cuts : List Cut
   pub given : (more : List ℕ) → lines (bytes ++ more) ≡ cuts ++ to_come held more
   pub says : SaysAll begun (map script_of cuts) s text
 
--- each line that is whole in these bytes was answered, by this text and nothing else; the rest of
--- the bytes is the beginning of a line
+-- each whole line in these bytes was answered, by this text and nothing else; the rest of the bytes
+-- is the beginning of a line
 pub record AnswersWhole (bytes text : List ℕ) : Type 0 where
   pub rest : Held
   pub last : Script
   pub behind : IsBehind bytes rest last text
   pub begun : IsBegun rest
 
--- what a reader gave, and what it gave before its latest read; how often it failed, how many reads
--- there were meanwhile, and whether it has reported its end
+-- what a reader gave, what it gave before its latest read, how often it failed, the number of reads
+-- meanwhile, and whether it has reported its end
 pub record Reading : Type 0 where
   pub given : List ℕ
   pub earlier : List ℕ
@@ -59,9 +59,9 @@ pub record Reading : Type 0 where
   pub reads : ℕ
   pub has_ended : Bool
 
--- the same of a reader of some type, by what is known of one: what it gave, what it gave before its
--- latest read, how often it failed, how many reads there were, and whether it has reported its end;
--- with the reader before and after
+-- the same for a reader of any type, from what contracts see of it: what it gave, what it gave
+-- before its latest read, how often it failed, the number of its reads, and whether it has reported
+-- its end; the last two arguments are the reader before and after
 abbrev pub reading : {R : Type 0} → (R → List ℕ) → (R → List ℕ) → (R → ℕ) → (R → ℕ) → (R → Bool)
     → R → R → Reading
 reading given earlier failures reads ended old new = record {
@@ -72,20 +72,21 @@ reading given earlier failures reads ended old new = record {
   has_ended = ended new;
 }
 
--- how a run went: the reader and the writer after it, and how many reads there may be  [profile]
+-- how a run went: the reader and the writer after it, and the most reads that it may make
+-- [profile]
 pub record Course : Type 0 where
   pub reader : Reading
   pub writer : Writing
   pub limit : ℕ
 
--- why the input is given up: a read failed; or there were as many reads as there may be, and each
--- gave a byte or more
+-- why reading is given up: a read failed; or the number of reads reached its limit, and each gave a
+-- byte or more
 abbrev pub IsCutInput : Course → Type 0
 IsCutInput c =
     (c.reader.failures ≡ 1)
     ⊎ ((c.reader.failures ≡ 0) × (c.reader.reads ≡ c.limit) × (c.limit ≤ length c.reader.given))
 
--- a read fault: no end was reported, and each line that had come whole is answered, written and
+-- a read fault: no end was reported, and each line that had come in whole is answered, written and
 -- flushed
 pub record IsReadFault (c : Course) : Type 0 where
   pub cause : IsCutInput c
@@ -113,7 +114,7 @@ pub record IsWantOfMemory (c : Course) : Type 0 where
   pub answers : AnswersWhole c.reader.earlier c.writer.taken
   pub flushed : c.writer.flushed ≡ c.writer.taken
 
--- when each fault comes
+-- when each fault occurs
 abbrev pub IsFaultOf : Course → ScriptFault → Type 0
 IsFaultOf c Read = IsReadFault c
 IsFaultOf c Write = IsWriteFault c

@@ -1,4 +1,4 @@
--- Laws: whose the answers are, and that there is one text for all lines.
+-- Laws: which line each answer belongs to, and that there is one text for all lines.
 use Rattle.std.specs.Prelude.{◌≡◌, ℕ, zero, suc, ◌↔◌, ◌++◌, Bool, true, false, not, ◌&&◌, List, []}
 use Rattle.std.specs.Prelude.{◌∷◌, Some, Result, Ok, Err}
 use mathlib.Core.List.{IsPrefix}
@@ -15,22 +15,22 @@ use Rattle.pt_engine.specs.Scripts.{refusal_text}
 use Rattle.pt_engine.specs.Says.{SaysAll, IsRefused, IsUnmet, IsAccepted, counted}
 use Rattle.pt_script.specs.Ends.{BeginsScriptText, lines_of}
 
--- the line that made the call of an answer is noted, and it is the client's own
+-- the line that made an answer's call is noted, and it is the client's own
 pub record HasLine (s : Script) (t : Told) : Type 0 where
   pub line : LineId
   pub noted : line_at s.calls t.place ≡ Some line
   pub own : number_of s.clients line.who ≡ Some t.client
 
--- Lines of answers: each answer of the history that the first lines lead to has its line, also
--- after all lines. So those from before a seal have theirs too.
+-- Lines of answers: each answer of the history that the first lines lead to has its line, even
+-- after all lines. So the answers from before a seal have theirs too.
 abbrev pub AnswersHaveLines : Type 0
 AnswersHaveLines =
     (lines more : List ScriptLine) (s last : Script) (text rest : List ℕ)
     → SaysAll begun lines s text → SaysAll s more last rest
     → Each (HasLine last) (replies_behind s.start s.entries)
 
--- what is written for an event, if memory lacks or not: ENOMEM is written only if it does, and
--- then if there is no other refusal, and for no `die`  [profile]
+-- what is written for an event, given whether memory is lacking: ENOMEM is written only if it is,
+-- and then only if there is no other refusal and the event is not a `die`  [profile]
 pub data SaysMet (wanted : Bool) (s : Script) (event : Event) (line : LineId) (next : Script)
     (text : List ℕ) : Type 0 where
   refused : IsRefused s event line next text → SaysMet wanted s event line next text
@@ -38,12 +38,12 @@ pub data SaysMet (wanted : Bool) (s : Script) (event : Event) (line : LineId) (n
   accepted : (wanted && not (is_death event)) ≡ false → IsAccepted s event line next text
       → SaysMet wanted s event line next text
 
--- the same, if the line may have a refusal of its own  [profile]
+-- the same for a line that may have a refusal of its own  [profile]
 abbrev pub SaysToMet : Bool → Script → LineId → Result Event Refusal → Script → List ℕ → Type 0
 SaysToMet wanted s line (Err why) next text = (next ≡ s) × (text ≡ refusal_text line why)
 SaysToMet wanted s line (Ok event) next text = SaysMet wanted s event line next text
 
--- what is written for these lines, one after the other, if memory lacks at the lines of these
+-- what is written for these lines, one after another, if memory is lacking at the lines with these
 -- numbers, from 0
 abbrev pub SaysAllMet : (ℕ → Bool) → Script → List ScriptLine → Script → List ℕ → Type 0
 SaysAllMet wanted s [] last text = (last ≡ s) × (text ≡ [])
@@ -53,7 +53,8 @@ SaysAllMet wanted s (line ∷ more) last text =
     first
     × SaysAllMet (λ k. wanted (suc k)) next more last rest × (text ≡ first ++ rest)
 
--- there is one script after these lines, and one text for them
+-- for a choice of the lines at which memory is lacking, these lines lead to exactly one script and
+-- one text
 pub record IsOneText (wanted : ℕ → Bool) (lines : List ScriptLine) : Type 0 where
   pub last : Script
   pub text : List ℕ
@@ -62,11 +63,13 @@ pub record IsOneText (wanted : ℕ → Bool) (lines : List ScriptLine) : Type 0 
       (other : Script) (others : List ℕ) → SaysAllMet wanted begun lines other others
       → (other ≡ last) × (others ≡ text)
 
--- One text: the lines, and those of them at which memory is lacking, have one text.
+-- One text: a list of lines, and a choice of the lines at which memory is lacking, determine one
+-- text.
 abbrev pub OneText : Type 0
 OneText = (wanted : ℕ → Bool) (lines : List ScriptLine) → IsOneText wanted lines
 
--- Each text: what may be written for some lines is their text, if memory lacks at some of them.
+-- Each text: a text may be written for some lines exactly if it is their text for some choice of
+-- the lines at which memory is lacking.
 abbrev pub EachText : Type 0
 EachText =
     (lines : List ScriptLine) (last : Script) (text : List ℕ)

@@ -5,7 +5,7 @@ use Rattle.pt_engine.specs.declared.fault.ScriptFault.TheVariants.{Read, Write, 
 use Rattle.pt_script.specs.Texts.{IsBroken, Writing}
 use Rattle.pt_script.specs.Ends.{Course, IsFaultOf, IsScriptText}
 
--- the exit status of a fault: 3 for one of a device, 5 for lack of memory  [profile]
+-- the exit status after a fault: 3 for that of a device, 5 for lack of memory  [profile]
 abbrev pub status_of : ScriptFault → ℕ
 status_of Read = 3
 status_of Write = 3
@@ -21,7 +21,7 @@ words_of Memory = codes "ptserver: out of memory"
 abbrev pub report_of : ScriptFault → List ℕ
 report_of fault = words_of fault ++ 10 ∷ []
 
--- the writer broke while a line was written after the old text, or flushed
+-- the writer broke while a line was written after the old text, or while it was flushed
 pub record IsCutReport (old line : List ℕ) (w : Writing) : Type 0 where
   pub front : List ℕ
   pub rest : List ℕ
@@ -34,7 +34,7 @@ abbrev pub Reports : List ℕ → List ℕ → Writing → Type 0
 Reports old line w =
     ((w.taken ≡ old ++ line) × (w.flushed ≡ old ++ line)) ⊎ IsCutReport old line w
 
--- all was read, and all of its text is written and flushed
+-- all was read, and its whole text is written and flushed
 pub record IsDone (c : Course) : Type 0 where
   pub lines : ℕ
   pub entries : ℕ
@@ -44,7 +44,7 @@ pub record IsDone (c : Course) : Type 0 where
   pub read : c.reader.failures ≡ 0
   pub wrote : c.writer.failures ≡ 0
 
--- how the program ends: with status 0 and no report, if all is done; else with the status of a
+-- how the program ends: with status 0 and no report, if all is done; otherwise with the status of a
 -- fault, which is reported
 pub data EndsWith (c : Course) (old : List ℕ) (errors : Writing) (status : ℕ) : Type 0 where
   done : IsDone c → errors.taken ≡ old → status ≡ 0 → EndsWith c old errors status

@@ -1,4 +1,4 @@
--- Stops: what came of the lines to come: the writer broke, memory lacked, or all were answered.
+-- Stops: what became of the lines to come: the writer broke, memory lacked, or all were answered.
 use Rattle.std.specs.Prelude.{◌≡◌, ℕ, ◌++◌, List, [], length, map}
 use Rattle.pt_grammar.specs.declared.cut.Cut.{Cut}
 use Rattle.pt_grammar.specs.Lines.{Held, to_come}
@@ -13,7 +13,7 @@ use Rattle.pt_engine.specs.Engines.{IsAnswered}
 use Rattle.pt_script.specs.Texts.{BreaksOff, IsUntouched, Writing}
 
 -- the first of the lines to come were answered, and the writer broke while the answers were written
--- after the old text, or flushed
+-- after the old text, or while they were flushed
 pub record IsCutOff (held : Held) (s : Script) (old : List ℕ) (w : Writing) : Type 0 where
   pub cuts : List Cut
   pub later : List Cut
@@ -23,14 +23,14 @@ pub record IsCutOff (held : Held) (s : Script) (old : List ℕ) (w : Writing) : 
   pub says : SaysAll s (map script_of cuts) last text
   pub breaks : BreaksOff old text w
 
--- how the answers to lines to come are stopped; no reader has a part in it
+-- how answering the lines to come is stopped by a fault; no reader takes part in it
 abbrev pub IsStopped : ScriptFault → Held → Script → List ℕ → Writing → Type 0
 IsStopped Read held s old w = ⊥
 IsStopped Write held s old w = IsCutOff held s old w
 IsStopped Memory held s old w = IsUntouched old w
 
--- all lines to come were answered, and these are the number of all lines and the place of the next
--- entry
+-- all lines to come were answered; the count is that of all lines, and next is the place of the
+-- next entry
 pub record IsEnd (held : Held) (s : Script) (old new : List ℕ) (count next : ℕ) : Type 0 where
   pub last : Script
   pub answered : IsAnswered s (to_come held []) old last new

@@ -1,7 +1,7 @@
--- Texts: how a text is written, and how its writing breaks off.
+-- Texts: how a text is written, and how writing it breaks off.
 use Rattle.std.specs.Prelude.{◌≡◌, ℕ, ◌-◌, ◌<◌, ◌++◌, ◌⊎◌, List, length}
 
--- a front of these bytes was taken after the old text, and not all of them
+-- a front of these bytes, but not all of them, was taken after the old text
 pub record IsCutShort (old bytes text : List ℕ) : Type 0 where
   pub front : List ℕ
   pub rest : List ℕ
@@ -9,22 +9,23 @@ pub record IsCutShort (old bytes text : List ℕ) : Type 0 where
   pub parts : bytes ≡ front ++ rest
   pub taken : text ≡ old ++ front
 
--- why a writer is given up: a write or a flush failed, or else a write took none of its bytes; with
--- the count of failures, and of such writes  [XSH write]
+-- why a writer is given up, from the number of its failures and of its writes that took no byte: a
+-- write or a flush failed, or else a write took none of its bytes  [XSH write]
 abbrev pub IsBroken : ℕ → ℕ → Type 0
 IsBroken failures rejections =
     ((failures ≡ 1) × (rejections ≡ 0)) ⊎ ((failures ≡ 0) × (rejections ≡ 1))
 
--- what a writer took, what of it is flushed, how often it failed, and how many writes took none of
--- their bytes meanwhile
+-- what a writer took, what of it is flushed, how often it failed, and the number of writes
+-- meanwhile that took none of their bytes
 pub record Writing : Type 0 where
   pub taken : List ℕ
   pub flushed : List ℕ
   pub failures : ℕ
   pub rejections : ℕ
 
--- the same of a writer of some type, by what is known of one: what it took, what is flushed, how
--- often it failed, and how many of its writes took none; with the writer before and after
+-- the same for a writer of any type, from what contracts see of it: what it took, what is flushed,
+-- how often it failed, and the number of its writes that took no byte; the last two arguments are
+-- the writer before and after
 abbrev pub writing : {W : Type 0} → (W → List ℕ) → (W → List ℕ) → (W → ℕ) → (W → ℕ) → W → W
     → Writing
 writing taken flushed failures rejections old new = record {
@@ -34,8 +35,8 @@ writing taken flushed failures rejections old new = record {
   rejections = rejections new - rejections old;
 }
 
--- the writer broke while these bytes were written after the old text, or flushed: some were taken,
--- in order, and none of them is flushed
+-- the writer broke while these bytes were written after the old text, or while they were flushed: a
+-- front of them was taken, in order, and none of them is flushed
 pub record BreaksOff (old bytes : List ℕ) (w : Writing) : Type 0 where
   pub front : List ℕ
   pub rest : List ℕ

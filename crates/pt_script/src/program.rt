@@ -16,13 +16,13 @@ use std::alloc::Allocator;
 /// The exit status of a script that was read to its end.  [profile]
 const DONE: u8 = 0;
 
-/// The exit status of a fault of a device.  [profile]
+/// The exit status after a fault of a device.  [profile]
 const DEVICE: u8 = 3;
 
-/// The exit status of lack of memory.  [profile]
+/// The exit status after a lack of memory.  [profile]
 const MEMORY: u8 = 5;
 
-/// The exit status of a program that runs a script and ends by this fault.
+/// Returns the exit status of a program that runs a script and ends with this fault.
 pub fn status_of(fault: ScriptFault) -> u8
     ensures { result ≡ status_of fault }
 {
@@ -42,7 +42,7 @@ fn report_of(fault: ScriptFault) -> &'static [u8]
     }
 }
 
-/// Reports a fault in one line. A fault of this writer is reported nowhere.
+/// Reports a fault in one line. A fault of this writer itself is not reported anywhere.
 pub fn report<E: Sink>(errors: &mut E, fault: ScriptFault)
     requires { E.failures errors.old ≡ 0 }
     ensures { Reports (E.taken errors.old) (report_of fault)
@@ -53,10 +53,11 @@ pub fn report<E: Sink>(errors: &mut E, fault: ScriptFault)
     }
 }
 
-/// Runs a script as `script` does, and returns the exit status of a program that does nothing else.
+/// Runs a script as `script` does, and returns the exit status for a program that does nothing
+/// else.
 ///
-/// The status is 0 if all lines were read and answered. A fault is reported on `errors`, and gives
-/// 3 if it is one of the reader or the writer, and 5 if it is lack of memory.  [profile]
+/// The status is 0 if all lines were read and answered. A fault is reported on `errors`. The status
+/// is then 3 if the reader or the writer failed, and 5 if memory was lacking.  [profile]
 pub fn answer<C: LegalHistory, R: Source, W: Sink, E: Sink, A: Allocator + Copy>(
     core: C,
     alloc: A,

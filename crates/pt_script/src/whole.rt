@@ -16,23 +16,24 @@ use pt_legal::LegalHistory;
 use pt_lines::Cutter;
 use std::alloc::Allocator;
 
-/// How many reads there may be of one input, the one that reports its end counted.  [profile]
+/// The most reads of one input, including the one that reports its end.  [profile]
 pub const MOST_READS: u64 = 1 << 40;
 
-/// How many bytes are read at once, at most.
+/// The most bytes that are read at once.
 const PIECE: usize = 4096;
 
-/// How a script ended that was read to its end.
+/// The result of a script that was read to its end.
 #[derive(Clone, Copy)]
 pub struct ScriptEnd {
-    /// How many lines it had, refused ones too.
+    /// The number of lines in the script, including refused ones.
     pub lines: u64,
-    /// How many entries came of them: the place of the next one. Those that were dropped at a seal
-    /// count too.
+    /// The number of entries that came of them, which is the place of the next entry. Entries that
+    /// were dropped at a seal count too.
     pub entries: u64,
 }
 
-// No answers, with room for those to most pieces. If that room is refused, they grow as they need.
+// Returns an empty buffer of answers with room for those to most pieces. If that room is refused,
+// the buffer grows as needed.
 fn no_answers<A: Allocator + Copy>(alloc: A) -> Vec<u8, A>
     ensures { result.items ≡ [] }
 {
@@ -41,7 +42,7 @@ fn no_answers<A: Allocator + Copy>(alloc: A) -> Vec<u8, A>
     out
 }
 
-// Takes in a piece of the input, and writes the answers to the lines that it ends.
+// Takes in a piece of the input, and writes the answers to the lines that end in it.
 fn take_in<C: LegalHistory, W: Sink, A: Allocator + Copy>(
     alloc: A,
     engine: &mut Engine<C, A>,
@@ -74,7 +75,7 @@ fn take_in<C: LegalHistory, W: Sink, A: Allocator + Copy>(
     Ok(())
 }
 
-// Answers the last line, which no newline ended, if there is one.
+// Answers the last line, if there is one that no newline ended.
 fn finish<C: LegalHistory, W: Sink, A: Allocator + Copy>(
     alloc: A,
     engine: &mut Engine<C, A>,
@@ -104,7 +105,7 @@ fn finish<C: LegalHistory, W: Sink, A: Allocator + Copy>(
     })
 }
 
-// Does what `script_within` says, with an engine that has answered nothing yet.
+// Does what `script_within` does, with an engine that has answered nothing yet.
 fn run_within<C: LegalHistory, R: Source, W: Sink, A: Allocator + Copy>(
     alloc: A,
     reads: u64,
@@ -144,14 +145,14 @@ fn run_within<C: LegalHistory, R: Source, W: Sink, A: Allocator + Copy>(
     Err(ScriptFault::Read)
 }
 
-/// Runs a script over an empty core, with at most so many reads of up to 4,096 bytes.  [profile]
+/// Runs a script over an empty core, with at most `reads` reads of up to 4,096 bytes.  [profile]
 ///
-/// Each line is answered once it has come; the answers to the lines of one read are written
-/// together, and flushed before the next read. `Read` is returned if a read failed or the last of
-/// these reads did not report the end: all lines that had come whole are answered by then. `Write`
-/// is returned if a write or a flush failed or a write took no byte, and `Memory` if a growth was
-/// refused that no line is answered ENOMEM for: at most the answers to the lines of the latest read
-/// are lost.
+/// Each line is answered once it has come. The answers to the lines of one read are written
+/// together, and flushed before the next read. Returns `Read` if a read failed or the last of these
+/// reads did not report the end: all lines that had come in whole are then answered. Returns
+/// `Write` if a write or a flush failed or a write took no byte, and `Memory` if a growth was
+/// refused for which no line is answered ENOMEM: at most the answers to the lines of the latest
+/// read are then lost.
 pub fn script_within<C: LegalHistory, R: Source, W: Sink, A: Allocator + Copy>(
     core: C,
     alloc: A,
@@ -166,7 +167,7 @@ pub fn script_within<C: LegalHistory, R: Source, W: Sink, A: Allocator + Copy>(
     requires working { (R.failures reader.old ≡ 0) × (W.failures writer.old ≡ 0) }
     requires few { reads ≤ 2 ^ 40 }
 
-    // All is read, and all of its text written and nothing else.
+    // All is read, and exactly the text of it is written.
     ensures ok { IfOk result (λ end. IsScriptText
         (R.given reader.new) (W.taken writer.new) end.lines end.entries) }
     ensures ended { OnOk result (R.ended reader.new ≡ true) }
@@ -174,7 +175,7 @@ pub fn script_within<C: LegalHistory, R: Source, W: Sink, A: Allocator + Copy>(
     ensures working { OnOk result ((R.failures reader.new ≡ 0) × (W.failures writer.new ≡ 0)) }
     ensures calls { R.reads reader.new ≤ R.reads reader.old + reads }
 
-    // A fault: what is written begins such a text, and the fault says what stopped it.
+    // After a fault, what is written begins such a text, and the fault says what stopped it.
     ensures err { OnErr result (BeginsScriptText (R.given reader.new) (W.taken writer.new)) }
     ensures why { IfErr result (λ fault. IsFaultOf (record {
       reader = reading R.given R.earlier R.failures R.reads R.ended reader.old reader.new;
@@ -186,7 +187,7 @@ pub fn script_within<C: LegalHistory, R: Source, W: Sink, A: Allocator + Copy>(
     run_within(alloc, reads, &mut engine, reader, writer)
 }
 
-/// Runs a script, as `script_within` does with 2^40 reads.  [profile]
+/// Runs a script as `script_within` does, with at most 2^40 reads.  [profile]
 pub fn script<C: LegalHistory, R: Source, W: Sink, A: Allocator + Copy>(
     core: C,
     alloc: A,
@@ -199,7 +200,7 @@ pub fn script<C: LegalHistory, R: Source, W: Sink, A: Allocator + Copy>(
         × (R.ended reader.old ≡ false) }
     requires working { (R.failures reader.old ≡ 0) × (W.failures writer.old ≡ 0) }
 
-    // All is read, and all of its text written and nothing else.
+    // All is read, and exactly the text of it is written.
     ensures ok { IfOk result (λ end. IsScriptText
         (R.given reader.new) (W.taken writer.new) end.lines end.entries) }
     ensures ended { OnOk result (R.ended reader.new ≡ true) }
@@ -207,7 +208,7 @@ pub fn script<C: LegalHistory, R: Source, W: Sink, A: Allocator + Copy>(
     ensures working { OnOk result ((R.failures reader.new ≡ 0) × (W.failures writer.new ≡ 0)) }
     ensures calls { R.reads reader.new ≤ R.reads reader.old + 2 ^ 40 }
 
-    // A fault: what is written begins such a text, and the fault says what stopped it.
+    // After a fault, what is written begins such a text, and the fault says what stopped it.
     ensures err { OnErr result (BeginsScriptText (R.given reader.new) (W.taken writer.new)) }
     ensures why { IfErr result (λ fault. IsFaultOf (record {
       reader = reading R.given R.earlier R.failures R.reads R.ended reader.old reader.new;

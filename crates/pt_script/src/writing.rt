@@ -14,7 +14,7 @@ fn put_some<W: Sink>(writer: &mut W, bytes: &[u8]) -> Result<usize, ScriptFault>
     ensures accepted { OnOk result ((W.failures writer.new ≡ 0)
         × (W.rejections writer.new ≡ W.rejections writer.old)) }
 
-    // A fault has a cause, and no byte is taken with it.
+    // A fault has a cause, and no byte is taken by the write that gives it.
     ensures cause { OnErr result
         (IsBroken (W.failures writer.new) (W.rejections writer.new - W.rejections writer.old)) }
     ensures err { OnErr result (W.taken writer.new ≡ W.taken writer.old) }
@@ -49,7 +49,7 @@ pub fn put<W: Sink>(writer: &mut W, bytes: &[u8]) -> Result<(), ScriptFault>
     Ok(())
 }
 
-/// Writes all the bytes, and flushes them, so that none waits in a buffer.
+/// Writes all the bytes and flushes them, so that none waits in a buffer.
 pub fn deliver<W: Sink>(writer: &mut W, bytes: &[u8]) -> Result<(), ScriptFault>
     requires working { W.failures writer.old ≡ 0 }
     requires out { W.flushed writer.old ≡ W.taken writer.old }

@@ -9,7 +9,7 @@ abbrev pub is_due : Option ℕ → ℕ → Bool
 is_due None now = false
 is_due (Some deadline) now = nat_le deadline now
 
--- no moment is handed in, or one of this clock  [profile]
+-- no moment is handed in, or one moment of this clock  [profile]
 pub data IsLookedAt (clock : Clock) (old new : List Tick) : Type 0 where
   nothing : new ≡ old → IsLookedAt clock old new
   ticks : (moment : ℕ) → new ≡ old ++ record { clock = clock; moment = moment } ∷ []

@@ -1,4 +1,4 @@
--- Faults: how the program that serves ends by a fault, and what it reports.
+-- Faults: how a program that serves ends with a fault, and what it reports.
 use Rattle.std.specs.Prelude.{ℕ, ◌++◌, List, [], ◌∷◌, codes, decimal}
 use Rattle.pt_hub.specs.declared.closing.CloseFault.{CloseFault}
 use Rattle.pt_hub.specs.declared.closing.CloseFault.TheVariants.{Missing, Forked}
@@ -7,8 +7,8 @@ use Rattle.pt_serve.specs.declared.fault.ServeFault.{ServeFault}
 use Rattle.pt_serve.specs.declared.fault.ServeFault.TheVariants.{Bind, Accept, Thread, Write, Close}
 use Rattle.pt_serve.specs.declared.fault.ServeFault.TheVariants.{Memory}
 
--- the exit status of a fault: 3 for one of a device, 4 if the history does not close, 5 for lack of
--- memory  [profile]
+-- the exit status after a fault: 3 for that of a device, 4 if the history does not close, 5 for
+-- lack of memory  [profile]
 abbrev pub status_of : ServeFault → ℕ
 status_of Bind = 3
 status_of Accept = 3

@@ -10,7 +10,7 @@ ready_line = codes "ready" ++ 10 ∷ []
 abbrev pub closed_line : ℕ → List ℕ
 closed_line outer = codes "closed " ++ decimal outer ++ 10 ∷ []
 
--- a front of what a server writes was taken after the old text, for some number of events
+-- a front of what a server writes for some number of events was taken after the old text
 pub record IsServiceBegun (old taken : List ℕ) : Type 0 where
   pub outer : ℕ
   pub begun : IsCutShort old (ready_line ++ closed_line outer) taken

@@ -1,4 +1,4 @@
-//! The clock of the system, read by the server.
+//! The clocks of the system, as the server reads them.
 
 ghost use Rattle.std.specs.Prelude.{◌≡◌, ◌+◌, ◌*◌, ◌⊎◌, ◌∷◌, ◌++◌, [], option_map, IfSome};
 ghost use Rattle.std.specs.Duration.{as_nanos};
@@ -14,10 +14,10 @@ use std::sync::ledger::Ledger;
 use std::thread;
 use std::time::{Clock as SystemClock, Duration};
 
-/// How many milliseconds the server sleeps between two looks at the clocks.  [profile]
+/// The number of milliseconds that the server sleeps between two looks at the clocks.  [profile]
 const LOOK_MILLIS: u64 = 10;
 
-// How long the server has run. `None` if its clock can't be read.
+// Returns how long the server has run, or `None` if its clock can't be read.
 fn elapsed(start: Option<Duration>, now: Option<Duration>) -> Option<Duration>
     ensures { IfSome result (λ d. IfSome start (λ s. IfSome now (λ n.
         as_nanos d + as_nanos s ≡ as_nanos n))) }
@@ -25,7 +25,8 @@ fn elapsed(start: Option<Duration>, now: Option<Duration>) -> Option<Duration>
     now?.checked_sub(start?)
 }
 
-// The moment that a clock shows. `None` if it can't be read, or past 9,999,999,999 seconds.
+// Returns the moment that a clock shows, or `None` if the clock can't be read or shows more than
+// 9,999,999,999 seconds.
 fn moment_of(reading: Option<Duration>) -> Option<Moment>
     ensures { IfSome result (λ moment. IfSome reading (λ now. moment ≡ as_nanos now)) }
 {
@@ -33,7 +34,7 @@ fn moment_of(reading: Option<Duration>) -> Option<Moment>
     Moment::new(now.as_secs(), u64::from(now.subsec_nanos()))
 }
 
-// Whether a deadline is at or before a moment.  [XSH pthread_mutex_timedlock]
+// Returns whether a deadline is at or before a moment.  [XSH pthread_mutex_timedlock]
 fn is_due(deadline: Option<Deadline>, now: Moment) -> bool
     ensures { result ≡ is_due (option_map deadline_nanos deadline) now }
 {
@@ -63,7 +64,7 @@ fn look<C: LegalHistory, L: Ledger, R: Wait>(
 }
 
 /// Hands in the clocks of the system until the server ends: the time since 1970, and the time since
-/// it started.  [profile]
+/// the server started.  [profile]
 pub fn tick<C: LegalHistory, L: Ledger, R: Wait + SystemClock>(
     rt: &R,
     shared: &Shared<C, L>,

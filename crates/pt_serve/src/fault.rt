@@ -3,7 +3,7 @@ ghost use Rattle.std.specs.Prelude.{◌≢◌};
 use pt_hub::CloseFault;
 use thiserror::Error;
 
-/// Why a server ends before its sessions are served and closed.  [profile]
+/// The reason why a server ends before its sessions are served and closed.  [profile]
 #[derive(Clone, Copy, Debug, PartialEq, Eq, Error)]
 pub enum ServeFault {
     /// The socket could not be made: its path is empty or exists, or the system refused it.
@@ -26,7 +26,7 @@ pub enum ServeFault {
     Memory,
 }
 
-/// Why no more connections are served.
+/// The reason why no more connections are served.
 #[derive(Clone, Copy, PartialEq, Eq)]
 pub enum HostFault {
     Accept,
@@ -34,7 +34,7 @@ pub enum HostFault {
     Memory,
 }
 
-/// The server ends by this too.
+/// Returns the fault with which a server ends after this one.
 pub fn fault_of(fault: HostFault) -> ServeFault
     ensures { result ≢ ServeFault.Write }
 {

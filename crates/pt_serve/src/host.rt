@@ -25,7 +25,7 @@ struct Server<'a, C: LegalHistory, L: Ledger, R> {
     alloc: Global,
     shared: &'a Shared<C, L>,
     mode: ClockMode,
-    /// How many connections are accepted; without end if that is 0.
+    /// The number of connections to accept, or 0 for no limit.
     sessions: u64,
     connections: Connections,
     remains: Mutex<Remains<L>>,
@@ -37,8 +37,8 @@ impl<'a, C: LegalHistory + Send, L: Ledger + Send + Sync, R: Threads + Wait + Sy
     L,
     R,
 > {
-    // Serves one connection, and stores what its session leaves. The end of the session, or its
-    // refusal, closes the connection.
+    // Serves one connection, and stores what its session leaves. The connection is closed as the
+    // session ends or is refused.
     fn converse(&self, stream: UnixStream) {
         let stream = TcpStream::from(OwnedFd::from(stream));
         self.connections.begin();
@@ -58,7 +58,7 @@ impl<'a, C: LegalHistory + Send, L: Ledger + Send + Sync, R: Threads + Wait + Sy
             return;
         };
         end.reader.into_inner().finish();
-        // What is left is needed for the close alone.
+        // What the session leaves is needed only to close the history.
         if self.sessions > 0 {
             self.remains.lock(self.rt).add(Remain {
                 left: end.left,
@@ -67,8 +67,8 @@ impl<'a, C: LegalHistory + Send, L: Ledger + Send + Sync, R: Threads + Wait + Sy
         }
     }
 
-    // Accepts the connections, and serves each in a thread of its own. After a fault nothing more
-    // is accepted.
+    // Accepts connections, and serves each in a thread of its own. After a fault no more are
+    // accepted.
     fn accept_in<'s, E>(
         &'s self,
         scope: &Scope<'s, E>,
@@ -93,7 +93,7 @@ impl<'a, C: LegalHistory + Send, L: Ledger + Send + Sync, R: Threads + Wait + Sy
         Ok(())
     }
 
-    // As `accept_in`, and waits for the sessions.
+    // Does what `accept_in` does, and waits for the sessions.
     fn accept(&self, listener: &UnixListener) -> Result<(), HostFault> {
         thread::scope(
             thread::scope_env(),
@@ -109,7 +109,8 @@ impl<'a, C: LegalHistory + Send, L: Ledger + Send + Sync, R: Threads + Wait + Cl
     L,
     R,
 > {
-    // As `accept`, while another thread hands in the clocks of the system. Gives their pass back.
+    // Does what `accept` does, while another thread hands in the clocks of the system. Returns
+    // their pass.
     fn accept_by_clock(
         &self,
         listener: &UnixListener,
@@ -132,7 +133,7 @@ impl<'a, C: LegalHistory + Send, L: Ledger + Send + Sync, R: Threads + Wait + Cl
     }
 }
 
-/// Serves so many connections, and returns what they leave; without end if that is 0.
+/// Serves `sessions` connections, or goes on without end if that is 0, and returns what they leave.
 pub fn host<C: LegalHistory + Send, L: Ledger + Send + Sync, R: Threads + Wait + Clock + Sync>(
     rt: &R,
     alloc: Global,

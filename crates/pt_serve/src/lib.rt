@@ -1,7 +1,7 @@
-//! The server of a Unix socket: a session for each connection, over one hub.
+//! The server of a Unix socket: one session for each connection, over one hub.
 //!
-//! Contracts see what is written to `out`. Which bytes a socket carried, that each connection has a
-//! session of its own over its own stream, and when the clock is read, only tests show.
+//! Contracts see what is written to `out`. Only tests show which bytes a socket carried, that each
+//! connection has its own session over its own stream, and when the clock is read.
 #![tactic(auto)]
 
 mod clock;

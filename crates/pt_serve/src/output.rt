@@ -12,16 +12,16 @@ use itoa::Buffer;
 use pt_hub::CloseFault;
 use pt_io::Sink;
 
-/// The exit status of a device's fault.  [profile]
+/// The exit status after a fault of a device.  [profile]
 const DEVICE: u8 = 3;
 
 /// The exit status if the history does not close.  [profile]
 const CLOSE: u8 = 4;
 
-/// The exit status of lack of memory.  [profile]
+/// The exit status after a lack of memory.  [profile]
 const MEMORY: u8 = 5;
 
-/// The exit status of a program that serves and ends by this fault.
+/// Returns the exit status of a program that serves and ends with this fault.
 pub fn status_of(fault: ServeFault) -> u8
     ensures { result ≡ status_of fault }
 {
@@ -32,7 +32,7 @@ pub fn status_of(fault: ServeFault) -> u8
     }
 }
 
-// Writes some of the bytes, and returns how many the writer took; 0 if it broke.
+// Writes some of the bytes, and returns how many the writer took, or 0 if it broke.
 fn put_some<W: Sink>(writer: &mut W, bytes: &[u8]) -> usize
     requires working { W.failures writer.old ≡ 0 }
     requires some { 0 < length bytes.now }
@@ -49,7 +49,7 @@ fn put_some<W: Sink>(writer: &mut W, bytes: &[u8]) -> usize
     }
 }
 
-// Writes all the bytes. `false` if the writer broke.
+// Writes all the bytes, and returns `false` if the writer broke.
 fn put<W: Sink>(writer: &mut W, bytes: &[u8]) -> bool
     requires { W.failures writer.old ≡ 0 }
     ensures ok { IsTrue result → (W.taken writer.new ≡ W.taken writer.old ++ bytes.now)
@@ -69,7 +69,7 @@ fn put<W: Sink>(writer: &mut W, bytes: &[u8]) -> bool
     true
 }
 
-// Writes a line, and flushes it.
+// Writes a line and flushes it.
 fn say<W: Sink>(out: &mut W, line: &[u8]) -> Result<(), ServeFault>
     requires { W.failures out.old ≡ 0 }
     ensures ok { OnOk result ((W.taken out.new ≡ W.taken out.old ++ line.now)
@@ -103,7 +103,7 @@ pub fn say_ready<W: Sink>(out: &mut W) -> Result<(), ServeFault>
     say(out, b"ready\n")
 }
 
-/// Writes that the history is closed, and how many events it has.
+/// Writes that the history is closed, and the number of its events.
 pub fn say_closed<W: Sink>(out: &mut W, outer: u64) -> Result<(), ServeFault>
     requires { W.failures out.old ≡ 0 }
     ensures ok { OnOk result ((W.taken out.new ≡ W.taken out.old ++ closed_line outer)
@@ -123,10 +123,10 @@ pub fn say_closed<W: Sink>(out: &mut W, outer: u64) -> Result<(), ServeFault>
     say(out, line.as_slice())
 }
 
-// The most bytes of the words that report a fault.
+// The most bytes in the words that report a fault.
 const WORDS: usize = 80;
 
-// The words that say why the history does not close.
+// Returns the words that say why the history does not close.
 fn close_words(fault: CloseFault) -> ArrayVec<u8, WORDS>
     ensures words { result.items ≡ close_words fault }
     ensures short { length result.items ≤ 70 }
@@ -155,7 +155,7 @@ fn close_words(fault: CloseFault) -> ArrayVec<u8, WORDS>
     words
 }
 
-// The words that report a fault.
+// Returns the words that report a fault.
 fn words_of(fault: ServeFault) -> ArrayVec<u8, WORDS>
     ensures words { result.items ≡ words_of fault }
     ensures short { length result.items ≤ 76 }
@@ -178,7 +178,7 @@ fn words_of(fault: ServeFault) -> ArrayVec<u8, WORDS>
     words
 }
 
-// The line that reports a fault.
+// Returns the line that reports a fault.
 fn report_of(fault: ServeFault) -> ArrayVec<u8, 96>
     ensures { result.items ≡ report_of fault }
 {
@@ -190,7 +190,7 @@ fn report_of(fault: ServeFault) -> ArrayVec<u8, 96>
     line
 }
 
-/// Reports a fault in one line. A fault of this writer is reported nowhere.
+/// Reports a fault in one line. A fault of this writer itself is not reported anywhere.
 pub fn report<W: Sink>(errors: &mut W, fault: ServeFault)
     requires { W.failures errors.old ≡ 0 }
     ensures begun { IsCutShort (W.taken errors.old) (report_of fault) (W.taken errors.new) }

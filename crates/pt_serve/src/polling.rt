@@ -1,10 +1,10 @@
-//! The socket of a connection, which is polled for a while before a read of it sleeps, and whose
-//! lines are taken out of it only after they are answered.
+//! The socket of a connection. It is polled for a while before a read of it sleeps, and lines are
+//! taken out of it only after they are answered.
 //!
-//! A client often sends its next line as soon as it has an answer. To poll until the line is there
-//! takes less time than to sleep and be woken. As bytes are taken out of a socket the system wakes
-//! the client if it waits, since it could write again. A client that waits for an answer is woken
-//! for nothing by that, so its line stays in the socket until it has the answer.
+//! A client often sends its next line as soon as it has an answer. Polling until the line has come
+//! takes less time than sleeping and being woken. When bytes are taken out of a socket, the system
+//! wakes a client that waits, since it could write again. For a client that waits for an answer
+//! this is a useless wake-up, so its line stays in the socket until it has the answer.
 //!
 //! The sockets are handled as `TcpStream`s, since a `UnixStream` has no `peek`.
 
@@ -17,20 +17,21 @@ use std::net::TcpStream;
 use std::sync::atomic::{AtomicU64, Ordering};
 use std::{io, thread};
 
-/// How often a read polls the socket before it sleeps. Other threads may run in between.  [profile]
+/// The number of times a read polls the socket before it sleeps. Other threads may run in between.
+/// [profile]
 const MOST_POLLS: u32 = 40;
 
-/// How often a write that finds the socket polled is tried again.  [profile]
+/// The number of times a write is retried if it finds the socket polled.  [profile]
 const MOST_TRIES: u32 = 64;
 
-/// If there are more connections than these none is polled, as they may keep all processors busy,
-/// and lines are taken out of a socket as they are read.  [profile]
+/// The most connections for which sockets are polled. If there are more, none is polled, as they
+/// may keep all processors busy, and lines are taken out of a socket as they are read.  [profile]
 const MOST_POLLED: u64 = 16;
 
-/// How many bytes are taken out of a socket at once when its session has ended.
+/// The most bytes that are taken out of a socket at once after its session has ended.
 const REST: usize = 256;
 
-/// How many connections there are.
+/// The number of connections.
 #[derive(Drop)]
 pub(crate) struct Connections {
     count: AtomicU64,
@@ -43,17 +44,17 @@ impl Connections {
         }
     }
 
-    /// A connection begins.
+    /// Counts a connection that begins.
     pub fn begin(&self) {
         self.count.fetch_add(1, Ordering::Relaxed);
     }
 
-    /// A connection has ended.
+    /// Counts a connection that has ended.
     pub fn end(&self) {
         self.count.fetch_sub(1, Ordering::Relaxed);
     }
 
-    // Whether they are few enough to be polled.
+    // Returns whether there are few enough to be polled.
     fn are_few(&self) -> bool {
         self.count.load(Ordering::Relaxed) <= MOST_POLLED
     }
@@ -65,7 +66,7 @@ pub(crate) struct PolledReader<'a> {
     stream: &'a TcpStream,
     connections: &'a Connections,
     patience: Patience,
-    /// How many bytes were read that are still in the socket.
+    /// The number of bytes that were read and are still in the socket.
     seen: usize,
 }
 
@@ -79,7 +80,7 @@ impl<'a> PolledReader<'a> {
         }
     }
 
-    // Takes the bytes that were read out of the socket. Each read takes one at least.
+    // Takes out of the socket the bytes that were already read. Each read takes at least one.
     fn take_seen(&mut self, buf: &mut [u8]) -> io::Result<()> {
         for _ in 0..self.seen {
             let most = self.seen.min(buf.len());
@@ -92,7 +93,7 @@ impl<'a> PolledReader<'a> {
         Ok(())
     }
 
-    // The bytes in the socket while it does not block. `None` if none come.
+    // Returns the bytes in the socket while it does not block, or `None` if none come.
     fn poll(&self, buf: &mut [u8]) -> Option<io::Result<usize>>
         ensures { IfSome result (λ found. ReadsAtMost found buf.new) }
     {
@@ -105,7 +106,7 @@ impl<'a> PolledReader<'a> {
         None
     }
 
-    // The bytes in the socket, once there are any.
+    // Returns the bytes in the socket, once there are any.
     fn look(&mut self, buf: &mut [u8]) -> io::Result<usize>
         ensures { ReadsAtMost result buf.new }
     {
@@ -122,8 +123,8 @@ impl<'a> PolledReader<'a> {
         }
     }
 
-    /// Takes what was read out of the socket, since a client of a socket that is closed with bytes
-    /// in it gets an error.
+    /// Takes out of the socket the bytes that were already read. A client gets an error if its
+    /// socket is closed with bytes in it.
     pub fn finish(mut self) {
         let mut rest = [0u8; REST];
         let _ = self.take_seen(&mut rest);
@@ -142,7 +143,7 @@ impl<'a> Read for PolledReader<'a> {
     }
 }
 
-/// The output of a connection, whose input another thread may poll.
+/// The output of a connection. Another thread may be polling its input.
 #[derive(Drop)]
 pub(crate) struct PolledWriter<'a> {
     stream: &'a TcpStream,
@@ -158,7 +159,7 @@ impl<'a> Write for PolledWriter<'a> {
     fn write(&mut self, buf: &[u8]) -> io::Result<usize> {
         for _ in 0..MOST_TRIES {
             match self.stream.write(buf) {
-                // From here on a read that polls sleeps in place of it.
+                // From now on, a read that polls this socket sleeps instead.
                 Err(error) if error.kind() == ErrorKind::WouldBlock => {
                     self.stream.set_nonblocking(false)?;
                 }

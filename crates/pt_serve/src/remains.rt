@@ -1,4 +1,4 @@
-//! What sessions leave, which the hub needs to close.
+//! What sessions leave. The hub needs it to close.
 
 ghost use Rattle.std.specs.Prelude.{◌≡◌, ◌≢◌, [], ◌∷◌, ◌++◌, option_to_list, false, IfOk, IfErr};
 ghost use Rattle.pt_hub.specs.Passes.{events_found};
@@ -22,12 +22,12 @@ pub struct Remain<L: Ledger> {
 pub struct Remains<L: Ledger> {
     lefts: Vec<Left<L>>,
     clocks: Vec<ClockPass<L>>,
-    /// Whether a growth was refused, so that something is not here.
+    /// Whether a growth was refused, so that something is missing here.
     is_short: bool,
 }
 
 impl<L: Ledger> Remains<L> {
-    /// Nothing yet.
+    /// Creates an empty set of what sessions leave.
     pub fn new(alloc: Global) -> Remains<L>
         ensures { (result.lefts.items ≡ []) × (result.clocks.items ≡ []) }
     {
@@ -38,14 +38,14 @@ impl<L: Ledger> Remains<L> {
         }
     }
 
-    /// Whether memory was refused for something that was left.
+    /// Returns whether memory was refused for something that was left.
     pub fn is_short(&self) -> bool
         ensures { result ≡ self.now.is_short }
     {
         self.is_short
     }
 
-    /// One clock more.
+    /// Adds a clock.
     pub fn add_clock(&mut self, clock: ClockPass<L>)
         ensures clocks { self.new.is_short ≡ false
             → self.new.clocks.items ≡ self.old.clocks.items ++ clock ∷ [] }
@@ -57,7 +57,7 @@ impl<L: Ledger> Remains<L> {
         }
     }
 
-    /// What one session leaves.
+    /// Adds what one session leaves.
     pub fn add(&mut self, remain: Remain<L>)
         ensures clocks { self.new.is_short ≡ false
             → self.new.clocks.items ≡ self.old.clocks.items ++ remain.clock ∷ [] }
@@ -74,7 +74,7 @@ impl<L: Ledger> Remains<L> {
         self.add_clock(clock);
     }
 
-    /// Closes the hub, if these have all of its events.
+    /// Closes the hub, if all of its events are accounted for here.
     pub fn close<C: LegalHistory>(self, hub: Hub<C, L>) -> Result<Closed, ServeFault>
         ensures ok { IfOk result (λ closed. (self.is_short ≡ false)
             × (closed.outer ≡ events_found self.lefts.items self.clocks.items)) }

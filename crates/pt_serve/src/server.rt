@@ -22,10 +22,10 @@ use std::sync::ledger::{Blank, Ledger};
 use std::thread::Threads;
 use std::time::Clock;
 
-/// How many shares of the ledger there may be: one for each client, session and clock.
+/// The most shares of the ledger: one for each client, session and clock.
 const SHARES: u64 = 1 << 63;
 
-// Serves with this ledger on a socket that listens, once that is written.
+// Serves with this ledger on a socket that listens. `ready` is written before this.
 fn serve_ready<C: LegalHistory + Send, L: Ledger + Send + Sync, R: Threads + Wait + Clock + Sync>(
     rt: &R,
     alloc: Global,
@@ -49,13 +49,14 @@ fn serve_ready<C: LegalHistory + Send, L: Ledger + Send + Sync, R: Threads + Wai
     }
 }
 
-/// Serves so many connections to a Unix socket at this path, and then closes the history of their
-/// clients, which begins as an empty core; without end if `sessions` is 0.  [profile]
+/// Serves `sessions` connections to a Unix socket at this path, or goes on without end if
+/// `sessions` is 0. Then closes the history of their clients, which begins as an empty core.
+/// [profile]
 ///
 /// It writes `ready` once it listens, and `closed` with the number of events after the close. A
-/// connection whose session is refused is closed, and counts as one. After a fault nothing more is
-/// accepted, the running sessions are waited for, and the history is not closed. The file at the
-/// path stays.
+/// connection whose session is refused is closed, and counts as one. After a fault no more
+/// connections are accepted, the server waits for the running sessions, and the history is not
+/// closed. The file at the path stays.
 pub fn serve<C: LegalHistory + Send, W: Sink, R: Files + Net + Threads + Wait + Clock + Sync>(
     rt: &R,
     alloc: Global,
@@ -69,18 +70,19 @@ pub fn serve<C: LegalHistory + Send, W: Sink, R: Files + Net + Threads + Wait + 
         ≡ record { start = nothing; entries = []; limit = most_entries } }
     requires output { W.failures out.old ≡ 0 }
 
-    // Both lines are written and nothing else, and all of it is flushed.
+    // Exactly these two lines are written, and all of it is flushed.
     ensures ok { IfOk result (λ closed.
         W.taken out.new ≡ (W.taken out.old ++ ready_line) ++ closed_line closed.outer) }
     ensures out { OnOk result
         ((W.flushed out.new ≡ W.taken out.new) × (W.failures out.new ≡ 0)) }
 
-    // A fault: what is written begins such a text. `Write` comes only if the writer broke.
+    // After a fault, what is written begins such a text. `Write` is returned only if the writer
+    // broke.
     ensures err { OnErr result (IsServiceBegun (W.taken out.old) (W.taken out.new)) }
     ensures why { IfErr result (λ fault. fault ≡ ServeFault.Write
         → IsBroken (W.failures out.new) (W.rejections out.new - W.rejections out.old)) }
 {
-    // The system would make a socket without a name for it.  [XSH bind: ENOENT]
+    // The system would make a socket without a name for an empty path.  [XSH bind: ENOENT]
     if path.is_empty() {
         return Err(ServeFault::Bind);
     }

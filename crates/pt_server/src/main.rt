@@ -1,9 +1,9 @@
-//! The program `ptserver`: POSIX synchronisation calls in, their answers out; as a script, or over
-//! a Unix socket.
+//! The program `ptserver`: it reads POSIX synchronisation calls and writes their answers, as a
+//! script or over a Unix socket.
 //!
-//! What a script is answered, what is reported of a fault, and the exit status of both is the
-//! contract of `pt_script`, whose `answer` is handed a core and the three standard streams. The
-//! same of a server is the contract of `pt_serve`. The words of the command line are those of
+//! The contract of `pt_script` says what a script is answered, what is reported of a fault, and
+//! which exit status follows. Its `answer` is given a core and the three standard streams. The
+//! contract of `pt_serve` says the same for a server. The words of the command line are those of
 //! `pt_command`.
 #![tactic(auto)]
 
@@ -36,7 +36,7 @@ fn mode_of(clock: ClockWord) -> ClockMode {
     }
 }
 
-// Reports the fault that a server ended by, if it did.
+// Reports the fault with which a server ended, if any, and returns the exit status.
 fn end_of(rt: &HostRuntime, served: Result<Closed, ServeFault>) -> ExitCode {
     match served {
         Ok(_) => ExitCode::SUCCESS,

@@ -6,7 +6,7 @@ use std::rt::Files;
 use std::time::{Clock, Duration};
 use std::{io, thread};
 
-/// How many milliseconds a client waits for the server at most.
+/// The most milliseconds that a client waits for the server.
 const PATIENCE: u32 = 20_000;
 
 /// A connection to a server, for tests.
@@ -16,7 +16,7 @@ pub struct Client {
 }
 
 impl Client {
-    /// Connects once the server listens. The socket is there a moment before.
+    /// Connects once the server listens, which is a moment after its socket exists.
     pub fn connect<R: Files + Net + Clock>(rt: &R, path: &str) -> io::Result<Client> {
         for _ in 0..PATIENCE {
             if let Ok(stream) = UnixStream::connect(rt, path) {
@@ -32,7 +32,7 @@ impl Client {
         self.stream.write_all(lines)
     }
 
-    /// Reads as many bytes as are expected, and returns whether they are these.
+    /// Reads as many bytes as are expected, and returns true if they are the expected ones.
     pub fn hears(&mut self, alloc: Global, answers: &[u8]) -> io::Result<bool> {
         let mut bytes = Vec::new(alloc);
         for _ in 0..answers.len() {

@@ -13,7 +13,7 @@ pub type CloseRefused<L> = pt_hub::CloseRefused<Core<Global>, L, Global>;
 
 pub type Shared<L> = pt_session::Shared<Core<Global>, L>;
 
-// A hub over an empty core, and its clock. `None` if a growth is refused.
+// Returns a hub over an empty core and the hub's clock, or `None` if a growth is refused.
 pub fn open<L: Ledger, A: Allocator + Copy>(
     alloc: A,
     blank: Blank,

@@ -7,7 +7,7 @@ mod seals;
 mod sessions;
 mod threads;
 
-// A call on the one object of a row, by its word. A deadline is in five seconds.
+// The word of a call on a row's one object. Its deadline, if it has one, is at five seconds.
 #[derive(Clone, Copy)]
 enum Word {
     MutexInit,

@@ -1,6 +1,7 @@
 //! Tests of the hub, of sessions, and of a server over real sockets.
 //!
-//! There are only tests here, a module for each crate that is tested. They see what is public.
+//! This crate has only tests, in one module for each crate that is tested. They use public items
+//! alone.
 #![tactic(auto)]
 
 mod client;

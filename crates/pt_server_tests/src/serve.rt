@@ -13,7 +13,7 @@ use std::thread::Threads;
 use std::time::Clock;
 use std::{fs, io, thread};
 
-// A server of so many sessions, and what it wrote.
+// Runs a server of this number of sessions, and returns its result and what it wrote.
 fn serve_in_memory<R: Files + Net + Threads + Wait + Clock + Sync>(
     rt: &R,
     alloc: Global,
@@ -28,7 +28,8 @@ fn serve_in_memory<R: Files + Net + Threads + Wait + Clock + Sync>(
     (served, out.into_inner())
 }
 
-// Two clients, of which one waits for the mutex of the other. Whether all answers are right.
+// Runs two clients, one of which waits for the other's mutex. Returns true if all answers are
+// right.
 fn converse<R: Files + Net + Clock>(rt: &R, alloc: Global, path: &str) -> io::Result<bool> {
     let mut first = Client::connect(rt, path)?;
     let mut second = Client::connect(rt, path)?;
@@ -61,7 +62,7 @@ fn serve_two(rt: HostRuntime) -> Result<(), Fail> {
     Ok(())
 }
 
-// A client that sends more lines at once than may wait. Whether each is answered.
+// Runs a client that sends more lines at once than may wait. Returns true if each is answered.
 fn sends_ahead<R: Files + Net + Clock>(rt: &R, alloc: Global, path: &str) -> io::Result<bool> {
     let mut client = Client::connect(rt, path)?;
     let lines = "signal c\n".repeat(alloc, 48)?;

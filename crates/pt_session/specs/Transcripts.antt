@@ -19,7 +19,7 @@ use Rattle.pt_hub.specs.declared.pass.Tick.{Tick as Reported}
 use Rattle.pt_hub.specs.Passes.{PassView, LeftView, ClockView}
 use Rattle.pt_session.specs.Readings.{Reading}
 
--- a line that was submitted, with its word; none if its call is open  [profile]
+-- a submitted line with its word, or none if its call is open  [profile]
 abbrev pub Exchange : Type 0
 Exchange = Reading × Option Word
 
@@ -27,23 +27,23 @@ Exchange = Reading × Option Word
 abbrev pub exchanges_of : List (Snapshot Reading × Option Word) → List Exchange
 exchanges_of ps = map (λ p. (p.0.value, p.1)) ps
 
--- the priority of a hello that was accepted  [profile]
+-- the priority of a hello, if it was accepted  [profile]
 abbrev pub hello_by : Exchange → List ℕ
 hello_by (Ok (Hello p), Some (Outcome x)) = p ∷ []
 hello_by _ = []
 
--- a call that was accepted, with its answer; none if it is open  [profile]
+-- a call with its answer, or none if it is open, if the call was accepted  [profile]
 abbrev pub asked_by : Exchange → List (Call × Option Answer)
 asked_by (Ok (Ask call), Some (Outcome x)) = (call, Some x) ∷ []
 asked_by (Ok (Ask call), None) = (call, None) ∷ []
 asked_by _ = []
 
--- a moment that was accepted, of its clock  [profile]
+-- a moment with its clock, if it was accepted  [profile]
 abbrev pub moment_by : Exchange → List Reported
 moment_by (Ok (Tick clock t), Some (Outcome x)) = record { clock = clock; moment = t } ∷ []
 moment_by _ = []
 
--- all of them, in order  [profile]
+-- all accepted hellos, calls and moments, each in order  [profile]
 abbrev pub hellos_in : List Exchange → List ℕ
 hellos_in xs = flat_map hello_by xs
 
@@ -53,7 +53,7 @@ asked_in xs = flat_map asked_by xs
 abbrev pub moments_in : List Exchange → List Reported
 moments_in xs = flat_map moment_by xs
 
--- whether there are any
+-- whether a list has any elements
 abbrev pub are_some : List ℕ → Bool
 are_some [] = false
 are_some (p ∷ ps) = true
@@ -62,24 +62,26 @@ are_some (p ∷ ps) = true
 abbrev pub has_joined : List Exchange → Bool
 has_joined xs = are_some (hellos_in xs)
 
--- a refusal that is not of the line itself  [profile]
+-- the refusal is of an event, and not of the line itself: neither SYNTAX nor LONG nor NOHELLO
+-- [profile]
 abbrev pub IsOfEvent : Reason → Type 0
 IsOfEvent r = (r ≢ Syntax) × (r ≢ Long) × (r ≢ Nohello)
 
--- `0`, or such a refusal  [profile]
+-- the word is `0` or a refusal of an event  [profile]
 abbrev pub IsDoneWord : Option Word → Type 0
 IsDoneWord None = ⊥
 IsDoneWord (Some (Outcome x)) = x ≡ Done
 IsDoneWord (Some (Refusal r)) = IsOfEvent r
 
--- an answer, or such a refusal; none if the call is open  [profile]
+-- the word is an outcome or a refusal of an event, or there is none since the call is open
+-- [profile]
 abbrev pub IsCallWord : Option Word → Type 0
 IsCallWord None = Unit {0}
 IsCallWord (Some (Outcome x)) = Unit {0}
 IsCallWord (Some (Refusal r)) = IsOfEvent r
 
--- the word that may answer a line, if a hello was accepted before it or not: hello comes first and
--- once, and what is not read is answered by its own refusal  [profile]
+-- this word may answer the line, given whether a hello was accepted before it: hello comes first
+-- and only once, and a line that cannot be read is answered by its own refusal  [profile]
 abbrev pub IsWordFor : Bool → Reading → Option Word → Type 0
 IsWordFor joined (Err r) w = w ≡ Some (Refusal r)
 IsWordFor joined (Ok (Tick clock t)) w = IsDoneWord w
@@ -93,33 +95,34 @@ abbrev pub all_answered : List Exchange → Bool
 all_answered [] = true
 all_answered (x ∷ xs) = is_some x.1 && all_answered xs
 
--- after these lines each more was submitted once all before it were answered, and its word may
--- answer it  [profile]
+-- each further line was submitted after all lines before it were answered, and its word may answer
+-- it  [profile]
 abbrev pub AreAnsweredBehind : List Exchange → List Exchange → Type 0
 AreAnsweredBehind before [] = Unit {0}
 AreAnsweredBehind before (x ∷ xs) =
     (all_answered before ≡ true) × IsWordFor (has_joined before) x.0 x.1
     × AreAnsweredBehind (before ++ x ∷ []) xs
 
--- the same from the first line on  [profile]
+-- each line was submitted after all lines before it were answered, and its word may answer it
+-- [profile]
 abbrev pub IsTranscript : List Exchange → Type 0
 IsTranscript xs = AreAnsweredBehind [] xs
 
--- the lines alone
+-- the lines without their words
 abbrev pub lines_of : List Exchange → List Reading
 lines_of xs = map (λ x. x.0) xs
 
--- the answer to line n  [profile]
+-- the text of the answer to line n  [profile]
 abbrev pub answer_line : ℕ → Option Word → List ℕ
 answer_line n None = []
 answer_line n (Some w) = reply_line None n w
 
--- the answers to these lines, if the first is line n  [profile]
+-- the text of the answers to these lines, if the first is line n  [profile]
 abbrev pub text_from : ℕ → List Exchange → List ℕ
 text_from n [] = []
 text_from n (x ∷ xs) = answer_line n x.1 ++ text_from (suc n) xs
 
--- the answers to all lines, which are numbered from 1  [profile]
+-- the text of the answers to all lines, which are numbered from 1  [profile]
 abbrev pub text_of : List Exchange → List ℕ
 text_of xs = text_from 1 xs
 
@@ -127,17 +130,18 @@ text_of xs = text_from 1 xs
 abbrev pub calls_of : List Receipt → List (Call × Option Answer)
 calls_of rs = map (λ r. (r.call, r.answer)) rs
 
--- a client is there if a hello was accepted: of that priority, and with the receipts of these calls
--- [profile]
+-- a client joined exactly if a hello was accepted; it has that hello's priority, and its receipts
+-- are of the accepted calls  [profile]
 abbrev pub IsPassOf : List Exchange → Option PassView → Type 0
 IsPassOf xs None = (hellos_in xs ≡ []) × (asked_in xs ≡ [])
 IsPassOf xs (Some p) = (hellos_in xs ≡ p.priority ∷ []) × (calls_of p.receipts ≡ asked_in xs)
 
--- what was left, without the Death
+-- the pass that a client left, without its Death
 abbrev pub pass_of : LeftView → PassView
 pass_of l = record { client = l.client; priority = l.priority; receipts = l.receipts }
 
--- the same of what a client left  [profile]
+-- a client left something exactly if a hello was accepted; it had that hello's priority, and its
+-- receipts are of the accepted calls  [profile]
 abbrev pub IsLeftOf : List Exchange → Option LeftView → Type 0
 IsLeftOf xs left = IsPassOf xs (option_map pass_of left)
 
@@ -147,8 +151,8 @@ pub record Dealings : Type 0 where
   pub clock : ClockView
   pub exchanges : List Exchange
 
--- each line has a word that may answer it; the client's calls are the accepted ones, and the
--- clock's moments too  [profile]
+-- each line has a word that may answer it; the client's calls and the clock's moments are the
+-- accepted ones  [profile]
 pub record AreDealings (d : Dealings) : Type 0 where
   pub words : IsTranscript d.exchanges
   pub pass : IsPassOf d.exchanges d.pass

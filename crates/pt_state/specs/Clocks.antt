@@ -6,11 +6,11 @@ use Rattle.pt_model.specs.Histories.{History}
 use Rattle.pt_model.specs.Clients.{clock}
 use Rattle.pt_state.specs.declared.clock.Clocks.{Clocks}
 
--- what is stored of a clock: its greatest moment, in nanoseconds; before its first there is none
+-- the stored reading of a clock: its greatest moment in nanoseconds, or none before its first
 abbrev pub reading : Clocks → Clock → Option ℕ
 reading kept Real = kept.real
 reading kept Mono = kept.mono
 
--- the clocks are those of the history
+-- the stored clocks are those of the history
 abbrev pub AreClocks : History → Clocks → Type 0
 AreClocks h kept = (k : Clock) → reading kept k ≡ clock h k

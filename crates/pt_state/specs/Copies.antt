@@ -14,7 +14,7 @@ use Rattle.pt_records.specs.declared.objects.Object.{Object}
 use Rattle.pt_records.specs.declared.objects.Object.TheVariants.{Mutex, Rwlock}
 use Rattle.pt_records.specs.Objects.{kind_in_row}
 
--- a living client, with its priority, its latest call and the answer to that
+-- a living client, with its priority, its latest call and the answer to that call
 abbrev pub client_start : ClientRow Caller → StartClient
 client_start row =
     record {
@@ -28,7 +28,7 @@ client_start row =
 abbrev pub call_start : Open → StartCall
 call_start o = record { call = o.call; moved = o.moved }
 
--- a client's row at a lock, with its read locks  [XSH pthread_rwlock_rdlock]
+-- a client's row at a lock, with the number of its read locks  [XSH pthread_rwlock_rdlock]
 abbrev pub reader_start : ℕ → ℕ × ℕ → StartReader
 reader_start o row = record { lock = o; client = row.0; count = row.1 }
 
@@ -37,7 +37,7 @@ abbrev pub readers_of : ℕ → List (ℕ × ℕ) → List StartReader
 readers_of o rows = map (reader_start o) rows
 
 module _ {A : Type 0} where
-  -- who holds an object, but for the readers of a lock  [XSH 2.9]
+  -- the holders of an object, except for the readers of a lock  [XSH 2.9]
   abbrev pub holders_start : Object A → StartHolders
   holders_start (Mutex m) = holds.Mutex m.seen.consistency m.seen.owner m.seen.count
   holders_start (Rwlock r) = holds.Rwlock r.writer
@@ -58,7 +58,7 @@ module _ {A : Type 0} where
   readers_at o (Rwlock r) = readers_of o r.rows
   readers_at o _ = []
 
-  -- the rows of the readers of all locks, in order of the locks' rows
+  -- the rows of the readers of all locks, in the order of the locks' rows
   abbrev pub readers_in : List (ObjectRow (Object A)) → List StartReader
   readers_in [] = []
   readers_in (row ∷ rows) = readers_at row.number row.value ++ readers_in rows

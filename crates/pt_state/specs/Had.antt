@@ -1,4 +1,4 @@
--- Had: a call for a lock that is granted as it comes, and the tables with its entry and its Grant.
+-- Had: a call for a lock that is granted as it comes, and the tables after its entry and its Grant.
 use Rattle.std.specs.Prelude.{ℕ, ◌≡◌, ◌++◌, ◌∷◌, [], Some, None, map}
 use Rattle.pt_types.specs.declared.call.Call.{Call as Asked}
 use Rattle.pt_types.specs.declared.outcome.Outcome.{Outcome}
@@ -17,8 +17,8 @@ use Rattle.pt_state.specs.Adds.{Adds, IsReadyFor, past, pushed}
 use Rattle.pt_state.specs.Left.{IsLeft}
 
 module _ {A : Type 0} where
-  -- the call would be left waiting for this lock, in this role, and must be granted once its entry
-  -- is there  [XSH pthread_mutex_lock, pthread_rwlock_rdlock, pthread_rwlock_wrlock]
+  -- the call would be left waiting for this lock in this role, and must be granted right after its
+  -- entry is added  [XSH pthread_mutex_lock, pthread_rwlock_rdlock, pthread_rwlock_wrlock]
   pub record IsHad (s : State A) (c : ℕ) (call : Asked) (kind : Role) (m : ℕ) (o : Open)
       : Type 0 where
     pub left : IsLeft (past s) c call o
@@ -29,7 +29,7 @@ module _ {A : Type 0} where
     pub next : (mid : State A) → Adds s (Call c call None) mid
         → IsReadyFor mid (Grant o.call.place (grant_outcome (past mid) o.call))
 
-  -- its entry was added, and then its Grant with this outcome
+  -- the call's entry was added, and then its Grant with this outcome
   pub record AddsHad (old : State A) (c : ℕ) (call : Asked) (o : Open) (x : Outcome)
       (new : State A) : Type 0 where
     pub mid : State A
@@ -38,8 +38,8 @@ module _ {A : Type 0} where
     pub told : x ≡ grant_outcome (past mid) o.call
     pub second : Adds mid (Grant o.call.place x) new
 
-  -- a call's entry and its Grant with this outcome were stored, and noted in the row of its client
-  -- and among the answers
+  -- a call's entry and its Grant with this outcome were stored, and the call was noted in its
+  -- client's row and in the log of answers
   pub record NotesHad (old : State A) (c : ℕ) (call : Asked) (x : Outcome) (new : State A)
       : Type 0 where
     pub stored : new.stored

@@ -1,4 +1,4 @@
--- Requests: what a call asks for, with the objects that its names mean as it comes.
+-- Requests: the objects that the names of a call refer to when the call comes.
 use Rattle.std.specs.Prelude.{ℕ, ◌≡◌, Option, None}
 use Rattle.pt_types.specs.Operations.{Operation, Makes, Ends, Acquires, Unlocks, Restores}
 use Rattle.pt_types.specs.Operations.{Rwunlocks, Awaits, Signals, Broadcasts, Arrives, class_needed}
@@ -10,8 +10,8 @@ use Rattle.pt_model.specs.Histories.{History}
 use Rattle.pt_model.specs.Objects.{find}
 use Rattle.pt_state.specs.declared.request.Request.{Request}
 
--- the object of a call, if its name means one; a call that makes one has none yet
--- [XSH, the call's page]
+-- the object that the first name of a call refers to, if any; a call that makes an object has none
+-- yet  [XSH, the call's page]
 abbrev pub object_meant : History → Operation → Option ℕ
 object_meant h (Makes n kind) = None
 object_meant h (Ends n class) = find h n class
@@ -24,7 +24,8 @@ object_meant h (Signals n) = find h n CondClass
 object_meant h (Broadcasts n) = find h n CondClass
 object_meant h (Arrives n) = find h n BarrierClass
 
--- the mutex of a wait at a condition, if its name means one  [XSH pthread_cond_wait]
+-- the mutex that the second name of a wait at a condition refers to, if any
+-- [XSH pthread_cond_wait]
 abbrev pub mutex_meant : History → Operation → Option ℕ
 mutex_meant h (Awaits n m deadline) = find h m MutexClass
 mutex_meant h (Makes n kind) = None
@@ -37,7 +38,7 @@ mutex_meant h (Signals n) = None
 mutex_meant h (Broadcasts n) = None
 mutex_meant h (Arrives n) = None
 
--- the objects that the names of a call with this operation mean
+-- the request has the objects that the names of a call with this operation refer to
 pub record IsRequest (h : History) (d : Operation) (r : Request) : Type 0 where
   pub object : r.object ≡ object_meant h d
   pub mutex : r.mutex ≡ mutex_meant h d

@@ -6,8 +6,9 @@ use Rattle.pt_state.specs.declared.state.State.{State}
 use Rattle.pt_state.specs.Adds.{past}
 use Rattle.pt_state.specs.Reads.{AreTables}
 
--- the entries and the answers were dropped, and the history begins with the seal of what it was;
--- clients, objects and clocks stay, and so do the limit, the room and the room for answers
+-- the entries and the answers were dropped, and the history begins with the seal of the old one;
+-- clients, objects, clocks, the limit and the room stay the same, and the room for answers is no
+-- less
 pub record Seals {A : Type 0} (old new : State A) : Type 0 where
   pub starts : reads_of new.stored.start ≡ seal (past old)
   pub entries : new.stored.entries ≡ []
@@ -21,15 +22,15 @@ pub record Seals {A : Type 0} (old new : State A) : Type 0 where
   pub answers : length new.answers.items ≡ 0
   pub held : old.answers.capacity ≤ new.answers.capacity + length old.answers.items
 
--- nothing changed, but that there may be more memory for answers
+-- nothing changed, except that there may be more memory for answers
 pub record StaysOrGrows {A : Type 0} (old new : State A) : Type 0 where
   pub stored : new.stored ≡ old.stored
   pub read : AreTables new
   pub told : length new.answers.items ≡ length old.answers.items
   pub held : old.answers.capacity ≤ new.answers.capacity
 
--- the entries and the answers were put aside, and the history begins with the seal of what it was,
--- with room and memory for so many entries and answers
+-- the entries and the answers were put aside, and the history begins with the seal of the old one,
+-- with room for this number of entries and memory for as many answers
 pub record SealsWithRoom {A : Type 0} (old new : State A) (n : ℕ) : Type 0 where
   pub starts : reads_of new.stored.start ≡ seal (past old)
   pub entries : new.stored.entries ≡ []

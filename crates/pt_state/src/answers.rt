@@ -1,4 +1,4 @@
-//! Answers: their clients, their calls and their outcomes, from any place on.
+//! Answers: how calls are answered, and the log of all answers since the Start.
 
 ghost use Rattle.std.specs.Prelude.{◌<◌, ◌≤◌, ◌^◌, ◌≡◌, drop, length, map, option_map, slice_get};
 ghost use Rattle.std.specs.Prelude.{Some, true};
@@ -21,7 +21,7 @@ use pt_records::{Caller, LoggedAnswers, Open};
 use pt_types::{ClientId, Outcome};
 use std::alloc::Allocator;
 
-// Whether the client's latest call came at this place.
+// Returns whether the client's latest call is the one at this place.
 fn is_latest(caller: &Caller, place: u64) -> bool
     ensures { OnTrue result (caller.now.latest ≡ Some place) }
 {
@@ -32,7 +32,7 @@ fn is_latest(caller: &Caller, place: u64) -> bool
 }
 
 impl<A: Allocator + Copy> State<A> {
-    // The call is open no more, and is answered.
+    // Closes an open call and logs its answer.
     #[inline(always)]
     pub(crate) fn answer(&mut self, found: &Open, outcome: Outcome)
         requires there { has_client self.old.clients found.now.call.client ≡ true }
@@ -55,7 +55,7 @@ impl<A: Allocator + Copy> State<A> {
         );
     }
 
-    /// The answer to the call at a place.  [XSH, the call's page]
+    /// Returns the answer to the call at a place, if it has one.  [XSH, the call's page]
     pub fn outcome(&self, place: u64) -> Option<Outcome>
         requires { AreTables self.now }
         ensures { result ≡ said (past self.now) place }
@@ -66,7 +66,8 @@ impl<A: Allocator + Copy> State<A> {
         }
     }
 
-    // The answer to the call at a place, which is looked for from the end.  [XSH, the call's page]
+    // Returns the answer to the call at a place, if it has one. The search starts at the end of the
+    // log.  [XSH, the call's page]
     #[cold]
     #[inline(never)]
     fn recent_outcome(&self, place: u64) -> Option<Outcome>
@@ -79,8 +80,8 @@ impl<A: Allocator + Copy> State<A> {
         }
     }
 
-    /// The answer to the call at a place. The client's row has it if that is its latest call.
-    /// [XSH, the call's page]
+    /// Returns the answer to the call at a place, if it has one. If this is the client's latest
+    /// call, the client's row has the answer.  [XSH, the call's page]
     #[inline(always)]
     pub fn outcome_of(&self, c: ClientId, place: u64) -> Option<Outcome>
         requires { AreTables self.now }
@@ -92,7 +93,8 @@ impl<A: Allocator + Copy> State<A> {
         }
     }
 
-    /// The answer to a living client's latest call, with the place of the call.
+    /// Returns the answer to a living client's latest call, with the place of the call, if it has
+    /// one.
     pub fn answer_of(&self, c: ClientId) -> Option<(u64, Outcome)>
         requires { AreTables self.now }
         ensures { told_to c result ≡ answer_in (past self.now) c }
@@ -105,7 +107,7 @@ impl<A: Allocator + Copy> State<A> {
         }
     }
 
-    /// The answers that the entries from a place on gave, in order.
+    /// Returns the answers that the entries from a place on gave, in order.
     #[inline(always)]
     pub fn answers_since(&self, place: u64) -> LoggedAnswers<'_>
         requires { AreTables self.now }
@@ -115,7 +117,8 @@ impl<A: Allocator + Copy> State<A> {
         self.answers.from(answered_since(&self.answers, place))
     }
 
-    /// How many answers the entries before a place gave. It is looked for from the end.
+    /// Returns the number of answers that the entries before a place gave. The search starts at the
+    /// end of the log.
     #[inline(always)]
     pub fn answers_before(&self, place: u64) -> usize
         requires { AreTables self.now }
@@ -128,7 +131,7 @@ impl<A: Allocator + Copy> State<A> {
         answered_since(&self.answers, place)
     }
 
-    /// The answer at an index of all since the Start, in order.
+    /// Returns the answer at an index among all answers since the Start, in order.
     #[inline(always)]
     pub fn answer_at(&self, index: usize) -> Option<Answered>
         requires { AreTables self.now }
@@ -144,7 +147,7 @@ impl<A: Allocator + Copy> State<A> {
         }
     }
 
-    /// The answer at an index of those that the entries from a place on gave, in order.
+    /// Returns the answer at an index among those that the entries from a place on gave, in order.
     pub fn answer_since(&self, place: u64, index: usize) -> Option<Answered>
         requires { AreTables self.now }
         ensures { option_map (λ a. (logged a).1) result ≡ slice_get (answers_in

@@ -18,7 +18,7 @@ use pt_types::{Call, ClientId, Clock, Name, ObjectId};
 use pt_waitq::WaitList;
 use std::alloc::Allocator;
 
-// The clock of a call, of which no more is asked once it is known to be an arrival.
+// Returns the clock of a call. If the call is known to be an arrival, nothing more is looked up.
 // [XSH pthread_mutex_clocklock]
 #[inline(always)]
 fn clock_of_arrival(call: &Call) -> Clock
@@ -31,8 +31,8 @@ fn clock_of_arrival(call: &Call) -> Clock
 }
 
 impl<A: Allocator + Copy> State<A> {
-    /// A full barrier lets the calls that wait at it go on, and they leave its queue.
-    /// [XSH pthread_barrier_wait]
+    /// Pushes the Trip of a full barrier: the calls that wait there are answered, and they leave
+    /// its queue.  [XSH pthread_barrier_wait]
     #[inline(always)]
     pub fn push_trip<Q: WaitList>(&mut self, b: ObjectId, queues: &mut Q)
         requires ready { IsReadyFor self.old (entry.Trip b) }
@@ -50,7 +50,7 @@ impl<A: Allocator + Copy> State<A> {
         self.stored.push_forced(ForcedEntry::Trip(b));
     }
 
-    /// An arrival at a barrier.  [XSH pthread_barrier_wait]
+    /// Pushes an arrival at a barrier.  [XSH pthread_barrier_wait]
     #[inline(always)]
     pub fn push_arrival(&mut self, c: ClientId, call: &Call, n: &Name, object: Option<ObjectId>)
         requires ready { IsReadyFor self.old (entry.Call c call.now None) }
@@ -58,7 +58,7 @@ impl<A: Allocator + Copy> State<A> {
         requires found { object ≡ find (past self.old) n.now class.Barrier }
         ensures { Adds self.old (entry.Call c call.now None) self.new }
     {
-        // What is read off the call is read first, while the compiler knows which word it is.
+        // The call is read first, while the compiler still knows which word it is.
         let place = self.stored.len();
         let clock = clock_of_arrival(call);
         self.stored.push_named(c, call, None);

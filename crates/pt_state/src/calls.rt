@@ -29,7 +29,7 @@ use pt_types::{Call, ClientId, Clock, Deadline, How, Name, ObjectId, Outcome, Re
 use std::alloc::Allocator;
 
 impl<A: Allocator + Copy> State<A> {
-    /// A call that is answered anything but 0 changes nothing.  [XSH 2.3]
+    /// Pushes a call that is answered anything but 0. Such a call changes nothing else.  [XSH 2.3]
     pub fn push_told(&mut self, c: ClientId, call: &Call, outcome: Outcome)
         requires ready { IsReadyFor self.old (entry.Call c call.now (Some outcome)) }
         requires other { is_done outcome ≡ false }
@@ -38,8 +38,8 @@ impl<A: Allocator + Copy> State<A> {
         self.finish(c, call, outcome);
     }
 
-    /// A lock that is had at once is a mutex that its owner locks once more.
-    /// [XSH pthread_mutex_lock]
+    /// Pushes a call for a lock that is answered 0 at once. The lock is a mutex that its owner
+    /// locks once more.  [XSH pthread_mutex_lock]
     pub fn push_locked(
         &mut self,
         c: ClientId,
@@ -57,20 +57,20 @@ impl<A: Allocator + Copy> State<A> {
     {
         match lock_kind {
             LockKind::MutexLock => self.push_relock(c, call, n, how, object),
-            // A call for one of these two is answered by its Grant, and never at once.
+            // A call for a read lock or a write lock is answered 0 by its Grant, never at once.
             LockKind::ReadLock => self.finish(c, call, Outcome::Done),
             LockKind::WriteLock => self.finish(c, call, Outcome::Done),
         }
     }
 
-    /// The open call in the row of clients at this index.
+    /// Returns the open call in the row of clients at this index, if there is one.
     pub fn open_nth(&self, index: usize) -> Option<Open>
         ensures { result ≡ open_in (nth_value self.now.clients index) }
     {
         open_at(&self.clients, index)
     }
 
-    /// The call is noted, answered, and pushed.
+    /// Stores the call and its answer in the client's row, logs the answer, and pushes the call.
     #[inline(always)]
     pub fn finish(&mut self, c: ClientId, call: &Call, outcome: Outcome)
         requires { IsNearly self.old c call.now (Some outcome) }
@@ -87,7 +87,7 @@ impl<A: Allocator + Copy> State<A> {
         self.stored.push_named(c, call, Some(outcome));
     }
 
-    /// As `finish`, for a call that may say more than a name.
+    /// Does what `finish` does, for a call that may have more arguments than a name.
     #[inline(always)]
     pub fn finish_long(&mut self, c: ClientId, call: &Call, outcome: Outcome)
         requires { IsNearly self.old c call.now (Some outcome) }
@@ -104,7 +104,7 @@ impl<A: Allocator + Copy> State<A> {
         self.stored.push_call(c, call, Some(outcome));
     }
 
-    /// As `finish`, for calls that are seldom answered so. It isn't inlined.
+    /// Does what `finish` does, for any call that is rarely answered this way. It is not inlined.
     #[cold]
     #[inline(never)]
     pub fn finish_seldom(&mut self, c: ClientId, call: &Call, outcome: Outcome)
@@ -114,7 +114,7 @@ impl<A: Allocator + Copy> State<A> {
         self.finish_long(c, call, outcome);
     }
 
-    /// A client's call that is entered now.
+    /// Returns a client's call as an open call that is entered now and has not been moved.
     #[inline(always)]
     pub fn entered(
         &self,
@@ -144,7 +144,7 @@ impl<A: Allocator + Copy> State<A> {
         Open { call, moved: None }
     }
 
-    /// The call is noted, opened, and pushed.
+    /// Stores the call in the client's row as its open call, and pushes it.
     #[inline(always)]
     pub fn leave(&mut self, c: ClientId, call: &Call, open: Open)
         requires { IsNearlyLeft self.old c call.now «open» }
@@ -155,7 +155,7 @@ impl<A: Allocator + Copy> State<A> {
         self.stored.push_named(c, call, None);
     }
 
-    /// As `leave`, for a wait.
+    /// Does what `leave` does, for a wait.
     #[inline(always)]
     pub(crate) fn leave_wait(&mut self, c: ClientId, call: &Call, open: Open)
         requires { IsNearlyLeft self.old c call.now «open» }
@@ -166,8 +166,8 @@ impl<A: Allocator + Copy> State<A> {
         self.stored.push_wait(c, call, None);
     }
 
-    // What changes as a call for a lock begins to wait, but for its client's row: a reader gets a
-    // row in its lock. ENOMEM if there is no memory for it.
+    // Changes what a call for a lock changes when it begins to wait, except its client's row: a
+    // reader gets a row in its lock. Returns ENOMEM if there is no memory for that row.
     // [XSH pthread_mutex_lock, pthread_rwlock_rdlock, pthread_rwlock_wrlock]
     #[inline(always)]
     fn begin(
@@ -193,8 +193,9 @@ impl<A: Allocator + Copy> State<A> {
         }
     }
 
-    /// A call for a lock that is left waiting. ENOMEM if there is no memory for its row in a
-    /// read-write lock.  [XSH pthread_mutex_lock, pthread_rwlock_rdlock, pthread_rwlock_wrlock]
+    /// Pushes a call for a lock that is left waiting. Returns ENOMEM if there is no memory for its
+    /// row in a read-write lock.
+    /// [XSH pthread_mutex_lock, pthread_rwlock_rdlock, pthread_rwlock_wrlock]
     #[inline(always)]
     pub fn push_acquire(
         &mut self,
@@ -220,9 +221,9 @@ impl<A: Allocator + Copy> State<A> {
         Ok(())
     }
 
-    /// A call that is left waiting: for a lock, at a condition or at a barrier, as no other call
-    /// is. ENOMEM if there is no memory for its row in a read-write lock. It isn't inlined.
-    /// [XSH, the call's page]
+    /// Pushes a call that is left waiting: for a lock, at a condition or at a barrier. No other
+    /// call waits. Returns ENOMEM if there is no memory for its row in a read-write lock. It is not
+    /// inlined.  [XSH, the call's page]
     #[inline(never)]
     pub fn push_left(&mut self, c: ClientId, call: &Call, request: &Request) -> Result<(), Refusal>
         requires ready { IsReadyFor self.old (entry.Call c call.now None) }
@@ -244,7 +245,7 @@ impl<A: Allocator + Copy> State<A> {
                 self.push_arrival(c, call, n, request.object);
                 Ok(())
             }
-            // The others never wait.
+            // Other calls never wait.
             _ => Ok(()),
         }
     }

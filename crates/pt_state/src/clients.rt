@@ -1,4 +1,5 @@
-//! Living clients: who lives, with which priority, and what a join and a death change.
+//! Living clients: who lives, with which priority and open call, and what a join and a death
+//! change.
 
 ghost use Rattle.std.specs.Prelude.{IfErr, OnErr, OnOk, Some, ℕ, ◌≡◌, false, unwrap_or};
 ghost use Rattle.std.specs.Option.{option_copied};
@@ -22,7 +23,7 @@ use pt_table::{Clients, Objects};
 use pt_types::{ClientId, Priority, Refusal};
 use std::alloc::Allocator;
 
-// The robust mutex that a client got last, of those that it owns.
+// Returns the robust mutex that a client acquired last, of those that it owns.
 fn owned_by<A: Allocator + Copy>(clients: &Clients<Caller, A>, c: ClientId) -> Option<u64>
     ensures { result ≡ owned_in (client_value clients.now c) }
 {
@@ -32,7 +33,8 @@ fn owned_by<A: Allocator + Copy>(clients: &Clients<Caller, A>, c: ClientId) -> O
     }
 }
 
-// The robust mutexes that a client owns, put in rising order for the dead.
+// Puts the chain of the robust mutexes that a dying client owns in rising order of their numbers,
+// and returns its head.
 fn orphans_of<A: Allocator + Copy>(
     clients: &Clients<Caller, A>,
     objects: &mut Objects<Object<A>, A>,
@@ -50,7 +52,7 @@ fn orphans_of<A: Allocator + Copy>(
 }
 
 impl<A: Allocator + Copy> State<A> {
-    /// Whether a client lives.
+    /// Returns whether a client lives.
     pub fn is_alive(&self, c: ClientId) -> bool
         requires { AreTables self.now }
         ensures { result ≡ is_alive_in (past self.now) c }
@@ -58,7 +60,7 @@ impl<A: Allocator + Copy> State<A> {
         self.clients.at(c.0).is_some()
     }
 
-    /// The priority of a living client.  [XSH 2.8.4]
+    /// Returns the priority of a client, or None if it does not live.  [XSH 2.8.4]
     #[inline(always)]
     pub fn priority(&self, c: ClientId) -> Option<Priority>
         requires { AreTables self.now }
@@ -70,7 +72,7 @@ impl<A: Allocator + Copy> State<A> {
         }
     }
 
-    /// The priority of a living client; 0 of any other.  [XSH 2.8.4]
+    /// Returns the priority of a client, or 0 if it does not live.  [XSH 2.8.4]
     #[inline(always)]
     pub fn priority_of(&self, c: ClientId) -> u64
         requires { AreTables self.now }
@@ -82,7 +84,7 @@ impl<A: Allocator + Copy> State<A> {
         }
     }
 
-    /// A client's open call, with its move.
+    /// Returns a client's open call with its move, if it has one.
     pub fn open_of(&self, c: ClientId) -> Option<&Open>
         requires { AreTables self.now }
         ensures { option_copied result ≡ open_in (client_value self.now.clients c) }
@@ -93,7 +95,7 @@ impl<A: Allocator + Copy> State<A> {
         }
     }
 
-    /// The place of a client's open call.
+    /// Returns the place of a client's open call, if it has one.
     pub fn open_place(&self, c: ClientId) -> Option<u64>
         requires { AreTables self.now }
         ensures { result ≡ open_place_in (past self.now) c }
@@ -104,7 +106,7 @@ impl<A: Allocator + Copy> State<A> {
         }
     }
 
-    /// How many clients live.
+    /// Returns the number of living clients.
     pub fn living(&self) -> usize
         requires { AreTables self.now }
         ensures { result ≡ living_in (past self.now) }
@@ -112,7 +114,7 @@ impl<A: Allocator + Copy> State<A> {
         self.clients.len()
     }
 
-    /// Whether an owner is a living client.  [XSH pthread_mutex_destroy]
+    /// Returns whether there is an owner and it is a living client.  [XSH pthread_mutex_destroy]
     pub fn is_alive_if(&self, owner: Option<ClientId>) -> bool
         requires { AreTables self.now }
         ensures { result ≡ is_alive_if_in (past self.now) owner }
@@ -123,7 +125,8 @@ impl<A: Allocator + Copy> State<A> {
         }
     }
 
-    /// A client joins, and has its row; ENOMEM if the row's growth is refused.
+    /// Pushes the Join of a client, and adds its row. Returns ENOMEM if the row's growth is
+    /// refused.
     pub fn push_join(&mut self, priority: Priority) -> Result<(), Refusal>
         requires { IsReadyFor self.old (entry.Join (place (past self.old)) priority) }
         ensures ok { OnOk result
@@ -144,8 +147,8 @@ impl<A: Allocator + Copy> State<A> {
         Ok(())
     }
 
-    /// A client's process ends, and its row and its open call are gone. The robust mutexes that it
-    /// owned have a dead owner from then on.  [XSH pthread_mutex_lock, EOWNERDEAD]
+    /// Pushes the Death of a client, and removes its row with its open call. The robust mutexes
+    /// that it owned have a dead owner from then on.  [XSH pthread_mutex_lock, EOWNERDEAD]
     pub fn push_death(&mut self, c: ClientId)
         requires { IsReadyFor self.old (entry.Death c) }
         ensures { Adds self.old (entry.Death c) self.new }

@@ -12,14 +12,15 @@ use pt_model::Entry;
 use pt_types::{Clock, Moment};
 use std::alloc::Allocator;
 
-/// The greatest moment so far of each clock; before its first there is none.
+/// The greatest moment of each clock so far, or None before its first.
 #[derive(Clone, Copy)]
 pub struct Clocks {
     pub real: Option<Moment>,
     pub mono: Option<Moment>,
 }
 
-/// The later of a clock and a moment.
+/// Returns the later of a clock's reading and a moment. Returns the moment if the clock has no
+/// reading.
 fn later(clock: Option<Moment>, moment: Moment) -> Moment
     ensures { result ≡ later_of clock moment }
 {
@@ -30,7 +31,7 @@ fn later(clock: Option<Moment>, moment: Moment) -> Moment
 }
 
 impl Clocks {
-    /// No moment yet.
+    /// Creates both clocks, without a moment.
     pub fn new() -> Clocks
         ensures { result ≡ record { real = None; mono = None } }
     {
@@ -40,7 +41,7 @@ impl Clocks {
         }
     }
 
-    /// What a clock says.
+    /// Returns the reading of a clock, or None before its first moment.
     pub fn reading(&self, clock: Clock) -> Option<Moment>
         ensures { result ≡ reading self.now clock }
     {
@@ -50,7 +51,8 @@ impl Clocks {
         }
     }
 
-    /// A moment of a clock is handed in: that clock says the later one, and the other is as it was.
+    /// Advances a clock to a moment, unless the clock shows a later one already. The other clock
+    /// stays as it is.
     pub fn advance(&mut self, clock: Clock, moment: Moment)
         ensures { (which : OneClock) → reading self.new which
             ≡ clock_by (entry.Moment clock moment) (reading self.old which) which }
@@ -63,7 +65,7 @@ impl Clocks {
 }
 
 impl<A: Allocator + Copy> State<A> {
-    /// A reading of a clock is handed in.
+    /// Pushes a moment, and advances its clock by it.
     pub fn push_moment(&mut self, clock: Clock, moment: Moment)
         requires { IsReadyFor self.old (entry.Moment clock moment) }
         ensures { Adds self.old (entry.Moment clock moment) self.new }

@@ -27,7 +27,8 @@ use pt_types::{Call, ClientId, Deadline, Name, ObjectId, Outcome, Priority};
 use std::alloc::Allocator;
 
 impl<A: Allocator + Copy> State<A> {
-    /// The first wait at a condition, if there is one, is woken.  [XSH pthread_cond_signal]
+    /// Pushes a signal. The first wait at the condition, if there is one, is moved to its mutex.
+    /// [XSH pthread_cond_signal]
     pub fn push_woken(&mut self, c: ClientId, call: &Call, n: &Name, first: Option<Open>)
         requires ready { IsReadyFor self.old (entry.Call c call.now (Some told.Done)) }
         requires operation { operation call.now ≡ Signals n.now }
@@ -46,7 +47,8 @@ impl<A: Allocator + Copy> State<A> {
         }
     }
 
-    /// All waits at a condition are woken.  [XSH pthread_cond_broadcast]
+    /// Pushes a broadcast. All waits at the condition are moved to their mutex.
+    /// [XSH pthread_cond_broadcast]
     pub fn push_broadcast(&mut self, c: ClientId, call: &Call, n: &Name, object: Option<ObjectId>)
         requires ready { IsReadyFor self.old (entry.Call c call.now (Some told.Done)) }
         requires operation { operation call.now ≡ Broadcasts n.now }
@@ -59,7 +61,7 @@ impl<A: Allocator + Copy> State<A> {
         self.finish(c, call, Outcome::Done);
     }
 
-    /// A wait: its client gives one lock on the mutex back.  [XSH pthread_cond_wait]
+    /// Pushes a wait. Its client gives back one lock on the mutex.  [XSH pthread_cond_wait]
     #[inline(always)]
     pub fn push_wait(&mut self, c: ClientId, call: &Call, m: ObjectId, open: Open)
         requires ready { IsReadyFor self.old (entry.Call c call.now None) }
@@ -71,7 +73,7 @@ impl<A: Allocator + Copy> State<A> {
         self.leave_wait(c, call, open);
     }
 
-    /// A wait at a condition.  [XSH pthread_cond_wait]
+    /// Pushes a wait at a condition.  [XSH pthread_cond_wait]
     #[inline(always)]
     pub fn push_await(
         &mut self,
@@ -94,7 +96,7 @@ impl<A: Allocator + Copy> State<A> {
         self.push_wait(c, call, mutex, open);
     }
 
-    /// A wait at a condition, by no deadline. Returns its client's priority.
+    /// Pushes a wait without a deadline at a condition. Returns the priority of its client.
     /// [XSH pthread_cond_wait]
     #[inline(always)]
     pub fn push_endless_wait(
@@ -112,7 +114,7 @@ impl<A: Allocator + Copy> State<A> {
         ensures adds { Adds self.old (entry.Call c call.now None) self.new }
         ensures priority { client (past self.old) c ≡ Some result }
     {
-        // What is read off the call is read first, while the compiler knows which word it is.
+        // The call is read first, while the compiler still knows which word it is.
         let place = self.stored.len();
         let clock = clock_of(call);
         let mutex = or_zero(request.mutex);

@@ -1,4 +1,5 @@
-//! Forced entries: grants, what they answer, and the calls that they serve.
+//! Forced entries: which of them must follow, the pushes of Grant and Expire, and what a Grant
+//! answers.
 
 ghost use Rattle.std.specs.Prelude.{◌<◌, ◌≡◌, false};
 ghost use Rattle.pt_model.specs.declared.entry.Entry.TheVariants as entry;
@@ -23,8 +24,9 @@ use pt_records::cond::wake;
 use pt_types::{ObjectId, Outcome};
 use std::alloc::Allocator;
 
-/// What must follow: a call is served, a dead owner's mutex is taken from it, or a deadline ends a
-/// call.  [XSH pthread_mutex_unlock, pthread_mutex_lock EOWNERDEAD, pthread_mutex_timedlock]
+/// The forced entry that must follow: a call is served, a mutex is taken from its dead owner, or a
+/// call's deadline has passed.
+/// [XSH pthread_mutex_unlock, pthread_mutex_lock EOWNERDEAD, pthread_mutex_timedlock]
 #[derive(Clone, Copy)]
 pub enum Forced {
     Serve(Open),
@@ -33,8 +35,8 @@ pub enum Forced {
 }
 
 impl<A: Allocator + Copy> State<A> {
-    /// A deadline has passed: a wait goes on to its mutex, another call ends.
-    /// [XSH pthread_cond_timedwait, pthread_mutex_timedlock]
+    /// Pushes the Expire of a call whose deadline has passed. A wait is moved to its mutex; any
+    /// other call is answered ETIMEDOUT.  [XSH pthread_cond_timedwait, pthread_mutex_timedlock]
     pub fn push_expire(&mut self, found: &Open)
         requires ready { IsReadyFor self.old (entry.Expire found.now.call.place) }
         requires known { In found.now (opens_of self.old.clients) }
@@ -51,7 +53,7 @@ impl<A: Allocator + Copy> State<A> {
         }
     }
 
-    // The call goes on, now that its object is written.
+    // Answers a call and pushes its Grant, after the call's object has been changed.
     #[inline(always)]
     pub(crate) fn grant(&mut self, found: &Open, outcome: Outcome)
         requires { IsGranted self.old found.now outcome }
@@ -61,8 +63,8 @@ impl<A: Allocator + Copy> State<A> {
         self.stored.push_grant(found.call.place, outcome);
     }
 
-    /// A call that waits at no barrier gets what it is for.
-    /// [XSH pthread_mutex_unlock, pthread_rwlock_unlock]
+    /// Pushes the Grant of an open call that does not wait at a barrier, and gives the call what it
+    /// waits for.  [XSH pthread_mutex_unlock, pthread_rwlock_unlock]
     #[inline(always)]
     pub fn push_granted(&mut self, found: &Open)
         requires ready { IsReadyFor self.old (service (past self.old) (called found.now)) }
@@ -83,7 +85,7 @@ impl<A: Allocator + Copy> State<A> {
         }
     }
 
-    // What a call is answered when it is granted, by its role.  [XSH, its page]
+    // Returns what a call is answered when it is granted, by its role.  [XSH, its page]
     #[inline(always)]
     fn outcome_by_role(&self, open: &Open) -> Outcome
         ensures { result ≡ outcome_by_role_in self.now.objects «open».now }
@@ -95,7 +97,7 @@ impl<A: Allocator + Copy> State<A> {
         }
     }
 
-    /// What an open call is answered when it is granted.  [XSH, the call's page]
+    /// Returns what an open call is answered when it is granted.  [XSH, the call's page]
     #[inline(always)]
     pub fn grant_outcome(&self, open: &Open) -> Outcome
         requires read { AreTables self.now }

@@ -1,4 +1,5 @@
-//! What a call for a lock gets that is granted: as it comes, with its entry, or once it waited.
+//! What a granted call for a lock gets, whether it is granted as it comes, along with its own
+//! entry, or after it has waited.
 
 ghost use Rattle.std.specs.Prelude.{IfErr, IsSome, IsTrue, None, OnErr, OnOk, Option, Some, ℕ};
 ghost use Rattle.std.specs.Prelude.{◌&&◌, ◌-◌, ◌<◌, ◌≡◌, false, is_none, length, true};
@@ -39,17 +40,17 @@ use pt_types::views::is_acquired;
 use pt_types::{Call, ClientId, Consistency, ObjectId, Outcome, Refusal};
 use std::alloc::Allocator;
 
-/// What a call for a mutex gets that is granted.
+/// What a granted call for a mutex gets.
 #[derive(Clone, Copy)]
 pub struct Had {
-    /// Whether the mutex was a robust one that nobody owned.
+    /// Whether the mutex was robust and had no owner.
     pub robust: bool,
-    /// What the call is answered.
+    /// The answer to the call.
     pub outcome: Outcome,
 }
 
 impl<A: Allocator + Copy> State<A> {
-    // What a call for a mutex, with this move, gets if it is granted now.
+    // Returns what a call for a mutex, with this move, gets if it is granted now.
     // [XSH pthread_mutex_lock]
     #[inline(always)]
     pub(crate) fn had_at(&self, m: ObjectId, moved: Option<Move>) -> Had
@@ -71,7 +72,8 @@ impl<A: Allocator + Copy> State<A> {
         }
     }
 
-    // The client gets the mutex, if its call is answered so.  [XSH pthread_mutex_lock]
+    // Gives the client the mutex, if its call is answered with an outcome that acquires it.
+    // [XSH pthread_mutex_lock]
     #[inline(always)]
     pub(crate) fn take(&mut self, m: ObjectId, c: ClientId, had: Had)
         requires there { IsSome (mutex_in (object_value self.old.objects m)) }
@@ -107,7 +109,7 @@ impl<A: Allocator + Copy> State<A> {
     }
 
     // Pushes the entry of a call that is granted as it comes, and its Grant. The call is never
-    // open, so the row of its client is written once.
+    // open, so its client's row is written only once.
     #[inline(always)]
     fn note_had(&mut self, c: ClientId, call: &Call, outcome: Outcome)
         requires there { has_client self.old.clients c ≡ true }
@@ -128,8 +130,8 @@ impl<A: Allocator + Copy> State<A> {
         self.stored.push_grant(place, outcome);
     }
 
-    /// The entry of a call for a mutex that is granted as it comes, and its Grant. What it gets is
-    /// returned.  [XSH pthread_mutex_lock]
+    /// Pushes the entry of a call for a mutex that is granted as it comes, and its Grant. Returns
+    /// what the call gets.  [XSH pthread_mutex_lock]
     #[inline(always)]
     pub fn push_had(&mut self, c: ClientId, call: &Call, m: ObjectId) -> Had
         requires ready { IsReadyFor self.old (entry.Call c call.now None) }
@@ -145,8 +147,9 @@ impl<A: Allocator + Copy> State<A> {
         had
     }
 
-    /// The entry of a call for a read lock that is granted as it comes, and its Grant. ENOMEM if
-    /// there is no memory for the row of its client in the lock: then nothing is pushed.
+    /// Pushes the entry of a call for a read lock that is granted as it comes, and its Grant.
+    /// Returns ENOMEM if there is no memory for its client's row in the lock; then nothing is
+    /// pushed.
     /// [XSH pthread_rwlock_rdlock]
     #[inline(always)]
     pub fn push_had_read(&mut self, c: ClientId, call: &Call, r: ObjectId) -> Result<(), Refusal>
@@ -163,7 +166,7 @@ impl<A: Allocator + Copy> State<A> {
         Ok(())
     }
 
-    /// The entry of a call for a write lock that is granted as it comes, and its Grant.
+    /// Pushes the entry of a call for a write lock that is granted as it comes, and its Grant.
     /// [XSH pthread_rwlock_wrlock]
     #[inline(always)]
     pub fn push_had_write(&mut self, c: ClientId, call: &Call, r: ObjectId)

@@ -1,4 +1,4 @@
-//! Mutexes: verdicts, locking, unlocking, and the robust ones of dead owners.
+//! Mutexes: verdicts, locking, unlocking, and the robust mutexes of dead owners.
 
 ghost use Rattle.std.specs.Prelude.{IfSome, Some, ◌&&◌, ◌||◌, ◌≡◌, is_none, option_map};
 ghost use Rattle.std.specs.List.{list_any};
@@ -42,7 +42,8 @@ use pt_types::{Call, ClientId, Consistency, How, Name, ObjectId, Outcome, Verdic
 use std::alloc::Allocator;
 
 impl<A: Allocator + Copy> State<A> {
-    /// Whether a wait that isn't moved will come back to the mutex.  [XSH pthread_mutex_destroy]
+    /// Returns whether a wait that has not been moved will return to the mutex.
+    /// [XSH pthread_mutex_destroy]
     pub fn will_return(&self, m: ObjectId) -> bool
         requires { AreTables self.now }
         ensures { result
@@ -52,7 +53,7 @@ impl<A: Allocator + Copy> State<A> {
         any_returns(&self.clients, m)
     }
 
-    /// The owner of a mutex locks it once more.  [XSH pthread_mutex_lock]
+    /// Pushes a call by which the owner of a mutex locks it once more.  [XSH pthread_mutex_lock]
     pub fn push_relock(
         &mut self,
         c: ClientId,
@@ -71,7 +72,7 @@ impl<A: Allocator + Copy> State<A> {
         self.finish(c, call, Outcome::Done);
     }
 
-    /// The owner of a mutex gives one lock back.  [XSH pthread_mutex_unlock]
+    /// Pushes a call by which the owner of a mutex gives back one lock.  [XSH pthread_mutex_unlock]
     #[inline(always)]
     pub fn push_unlock(&mut self, c: ClientId, call: &Call, n: &Name, object: Option<ObjectId>)
         requires ready { IsReadyFor self.old (entry.Call c call.now (Some told.Done)) }
@@ -84,7 +85,8 @@ impl<A: Allocator + Copy> State<A> {
         self.finish(c, call, Outcome::Done);
     }
 
-    /// The owner of a mutex makes it consistent.  [XSH pthread_mutex_consistent]
+    /// Pushes a call by which the owner of a mutex makes it consistent.
+    /// [XSH pthread_mutex_consistent]
     pub fn push_restored(&mut self, c: ClientId, call: &Call, n: &Name, object: Option<ObjectId>)
         requires ready { IsReadyFor self.old (entry.Call c call.now (Some told.Done)) }
         requires operation { operation call.now ≡ Restores n.now }
@@ -96,7 +98,7 @@ impl<A: Allocator + Copy> State<A> {
         self.finish(c, call, Outcome::Done);
     }
 
-    /// Whether the object is a robust mutex that nobody owns.  [XSH pthread_mutex_lock]
+    /// Returns whether the object is a robust mutex without an owner.  [XSH pthread_mutex_lock]
     #[inline(always)]
     pub fn is_robust_free(&self, m: ObjectId) -> bool
         requires { AreTables self.now }
@@ -109,7 +111,8 @@ impl<A: Allocator + Copy> State<A> {
         }
     }
 
-    /// A robust mutex is taken from its dead owner.  [XSH pthread_mutex_lock, EOWNERDEAD]
+    /// Pushes the Yield of a robust mutex, which is taken from its dead owner.
+    /// [XSH pthread_mutex_lock, EOWNERDEAD]
     pub fn push_yield(&mut self, m: ObjectId)
         requires { IsReadyFor self.old (entry.Yield m) }
         ensures { Adds self.old (entry.Yield m) self.new }
@@ -118,8 +121,8 @@ impl<A: Allocator + Copy> State<A> {
         self.stored.push_forced(ForcedEntry::Yield(m));
     }
 
-    /// A call gets its mutex, or is answered that the mutex is lost. What it gets is returned.
-    /// [XSH pthread_mutex_lock]
+    /// Pushes the Grant of a call for a mutex: it gets the mutex, or learns that the mutex is not
+    /// recoverable. Returns what the call gets.  [XSH pthread_mutex_lock]
     #[inline(always)]
     pub fn push_grant_mutex(&mut self, found: &Open, m: ObjectId) -> Had
         requires ready { IsReadyFor self.old (entry.Grant found.now.call.place
@@ -138,7 +141,8 @@ impl<A: Allocator + Copy> State<A> {
         had
     }
 
-    // Its consistency.  [XSH pthread_mutex_consistent]
+    // Returns the consistency of the mutex with this number, or `Consistent` if the object is not a
+    // mutex.  [XSH pthread_mutex_consistent]
     #[inline(always)]
     fn consistency_at(&self, m: ObjectId) -> Consistency
         ensures { result ≡ consistency_in_row (object_value self.now.objects m) }
@@ -149,7 +153,7 @@ impl<A: Allocator + Copy> State<A> {
         }
     }
 
-    // What a mutex answers to a call with this move.  [XSH pthread_mutex_lock]
+    // Returns what a mutex answers to a granted call with this move.  [XSH pthread_mutex_lock]
     #[inline(always)]
     pub(crate) fn told_at(&self, m: ObjectId, moved: Option<Move>) -> Outcome
         ensures { result ≡ told_at_in self.now.objects m moved }
@@ -157,7 +161,7 @@ impl<A: Allocator + Copy> State<A> {
         lock_outcome(self.consistency_at(m), is_expired(moved))
     }
 
-    /// The mutex with this number, if it is one.
+    /// Returns the mutex with this number, if the object is a mutex.
     #[inline(always)]
     pub fn mutex_at(&self, m: ObjectId) -> Option<&MutexObj>
         ensures { option_copied result ≡ mutex_in (object_value self.now.objects m) }
@@ -168,7 +172,7 @@ impl<A: Allocator + Copy> State<A> {
         }
     }
 
-    /// The mutex that a name means, with its number.
+    /// Returns the mutex that a name refers to, with its number, if there is one.
     #[inline(always)]
     pub fn mutex_found(&self, n: &Name, object: Option<ObjectId>) -> Option<(ObjectId, &MutexObj)>
         requires read { AreTables self.now }
@@ -185,7 +189,7 @@ impl<A: Allocator + Copy> State<A> {
         }
     }
 
-    /// A client's call for a mutex.  [XSH pthread_mutex_lock]
+    /// Returns the verdict of a client's call for a mutex.  [XSH pthread_mutex_lock]
     #[inline(always)]
     pub fn mutex_verdict(
         &self,
@@ -206,8 +210,8 @@ impl<A: Allocator + Copy> State<A> {
         }
     }
 
-    /// A call that ends a mutex, given whether a call waits for it or will come back to it.
-    /// [XSH pthread_mutex_destroy]
+    /// Returns the verdict of a call that destroys a mutex. `awaited` says whether a call waits for
+    /// the mutex or will return to it.  [XSH pthread_mutex_destroy]
     pub fn mutex_end_verdict(&self, m: ObjectId, awaited: bool) -> Verdict
         requires read { AreTables self.now }
         requires class { option_map class_of (kind_of (past self.now) m) ≡ Some MutexClass }
@@ -219,7 +223,7 @@ impl<A: Allocator + Copy> State<A> {
         mutex.verdict_destroy(owner_lives, awaited)
     }
 
-    /// A client's call on a mutex that it may own.  [XSH pthread_mutex_unlock]
+    /// Returns the verdict of a client's call to unlock a mutex.  [XSH pthread_mutex_unlock]
     #[inline(always)]
     pub fn unlocks_verdict(&self, c: ClientId, n: &Name, object: Option<ObjectId>) -> Verdict
         requires read { AreTables self.now }
@@ -232,7 +236,8 @@ impl<A: Allocator + Copy> State<A> {
         }
     }
 
-    /// A client's call to make a mutex consistent.  [XSH pthread_mutex_consistent]
+    /// Returns the verdict of a client's call to make a mutex consistent.
+    /// [XSH pthread_mutex_consistent]
     pub fn restores_verdict(&self, c: ClientId, n: &Name, object: Option<ObjectId>) -> Verdict
         requires read { AreTables self.now }
         requires found { object ≡ find_in (past self.now) n.now MutexClass }
@@ -244,7 +249,7 @@ impl<A: Allocator + Copy> State<A> {
         }
     }
 
-    /// The robust mutex to take from its dead owner first.
+    /// Returns the robust mutex that must be taken from its dead owner first, if there is one.
     /// [XSH pthread_mutex_lock, EOWNERDEAD; the lowest first is profile]
     pub fn first_orphan(&self) -> Option<ObjectId>
         requires { AreTables self.now }

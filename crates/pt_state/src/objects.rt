@@ -1,4 +1,4 @@
-//! Objects by name and by number, and the calls that make and destroy them.
+//! Objects found by their names, and the calls that make and destroy objects.
 
 ghost use Rattle.std.specs.Prelude.{IfErr, None, OnErr, OnOk, Some, ◌≡◌, false, is_some};
 ghost use Rattle.pt_types.specs.ObjectTable.{init_verdict as init_table};
@@ -19,8 +19,8 @@ use pt_types::{
 };
 use std::alloc::Allocator;
 
-/// A call that looks at nothing but whether its object exists.
-/// [XSH pthread_cond_signal, pthread_barrier_wait]
+/// Returns the verdict of a call that depends only on whether its object exists: `known` if it
+/// does, else EINVAL.  [XSH pthread_cond_signal, pthread_barrier_wait]
 pub fn known_verdict(object: Option<ObjectId>, known: Verdict) -> Verdict
     ensures { result ≡ on object (λ o. known) }
 {
@@ -30,8 +30,8 @@ pub fn known_verdict(object: Option<ObjectId>, known: Verdict) -> Verdict
     }
 }
 
-// What becomes of a call that makes an object of this kind, as far as the kind decides it.
-// [XSH pthread_barrier_init]
+// Returns the verdict of a call that makes an object of this kind, as far as the kind alone decides
+// it.  [XSH pthread_barrier_init]
 fn kind_verdict(kind: ObjectKind) -> Verdict
     ensures { result ≡ init_table kind false 0 }
 {
@@ -44,7 +44,8 @@ fn kind_verdict(kind: ObjectKind) -> Verdict
 }
 
 impl<A: Allocator + Copy> State<A> {
-    /// An object is made. ENOMEM if there is no memory for its row.
+    /// Pushes a call that makes an object, and adds the object's row. Returns ENOMEM if there is no
+    /// memory for the row.
     #[inline(always)]
     pub fn push_made(
         &mut self,
@@ -74,7 +75,7 @@ impl<A: Allocator + Copy> State<A> {
         }
     }
 
-    /// An object is ended.
+    /// Pushes a call that destroys an object, and removes the object's row.
     #[inline(always)]
     pub fn push_ended(
         &mut self,
@@ -94,7 +95,7 @@ impl<A: Allocator + Copy> State<A> {
         self.finish(c, call, Outcome::Done);
     }
 
-    /// The object of this class that bears the name, if one does.
+    /// Returns the object of this class that has the name, if one exists.
     #[inline(always)]
     pub fn find(&self, n: &Name, class: ObjectClass) -> Option<ObjectId>
         requires { AreTables self.now }
@@ -112,7 +113,7 @@ impl<A: Allocator + Copy> State<A> {
         }
     }
 
-    // As `find`, for a caller that is large already: it isn't inlined.
+    // Does what `find` does, for a caller that is already large. It is not inlined.
     #[inline(never)]
     pub(crate) fn find_apart(&self, n: &Name, class: ObjectClass) -> Option<ObjectId>
         requires { AreTables self.now }
@@ -121,7 +122,7 @@ impl<A: Allocator + Copy> State<A> {
         self.find(n, class)
     }
 
-    /// A call that makes an object.  [XSH pthread_mutex_init]
+    /// Returns the verdict of a call that makes an object.  [XSH pthread_mutex_init]
     #[inline(always)]
     pub fn makes_verdict(&self, n: &Name, kind: ObjectKind) -> Verdict
         requires { AreTables self.now }

@@ -1,4 +1,4 @@
-//! What a call asks for: the objects that its names mean, each found once.
+//! What a call asks for: the objects that its names refer to, each looked up once.
 
 ghost use Rattle.std.specs.Prelude.{MatchOption, None, unwrap_or, ◌≡◌};
 ghost use Rattle.pt_types.specs.Shown.{shown_operation};
@@ -13,16 +13,18 @@ use pt_types::operations::{ObjectClass, Operation, class_needed};
 use pt_types::{Name, ObjectId};
 use std::alloc::Allocator;
 
-/// The objects that the names of a call mean when it is made.  [XSH, the call's page]
+/// The objects that the names of a call refer to when the call is made.  [XSH, the call's page]
 #[derive(Clone, Copy)]
 pub struct Request {
-    /// The object that its first name means; None if it means none, and for a call that makes one.
+    /// The object that the first name refers to. None if it refers to no object of the class that
+    /// the call needs, and for a call that makes an object.
     pub object: Option<ObjectId>,
-    /// The mutex that a wait's second name means; None if that means none, and for other calls.
+    /// The mutex that the second name of a wait refers to. None if it refers to no mutex, and for
+    /// other calls.
     pub mutex: Option<ObjectId>,
 }
 
-/// The object's number; 0 if there is none.
+/// Returns the number of the object, or 0 if there is none.
 pub(crate) fn or_zero(object: Option<ObjectId>) -> ObjectId
     ensures { result ≡ unwrap_or object 0 }
 {
@@ -32,8 +34,8 @@ pub(crate) fn or_zero(object: Option<ObjectId>) -> ObjectId
     }
 }
 
-// The name that an operation gives first, and the class of the object that it is to mean; None for
-// an operation that makes one.
+// Returns the first name of an operation, with the class that its object must have. Returns None
+// for an operation that makes an object.
 #[inline(always)]
 fn named_first<'c>(operation: &Operation<'c>) -> Option<(&'c Name, ObjectClass)>
     ensures { (h : History) → MatchOption result
@@ -56,7 +58,8 @@ fn named_first<'c>(operation: &Operation<'c>) -> Option<(&'c Name, ObjectClass)>
 }
 
 impl<A: Allocator + Copy> State<A> {
-    // The object that an operation's first name means; None for an operation that makes one.
+    // Returns the object that an operation's first name refers to, if any. Returns None for an
+    // operation that makes an object.
     #[inline(always)]
     fn object_of(&self, operation: &Operation<'_>) -> Option<ObjectId>
         requires { AreTables self.now }
@@ -68,7 +71,8 @@ impl<A: Allocator + Copy> State<A> {
         }
     }
 
-    // The mutex that a wait's second name means; None for any other operation.
+    // Returns the mutex that the second name of a wait refers to, if any. Returns None for any
+    // other operation.
     #[inline(always)]
     fn mutex_of(&self, operation: &Operation<'_>) -> Option<ObjectId>
         requires { AreTables self.now }
@@ -80,7 +84,8 @@ impl<A: Allocator + Copy> State<A> {
         }
     }
 
-    /// What the names of an operation mean, each looked up once.  [XSH, the call's page]
+    /// Looks up the objects that the names of an operation refer to, each once.
+    /// [XSH, the call's page]
     #[inline(always)]
     pub fn request(&self, operation: &Operation<'_>) -> Request
         requires { AreTables self.now }

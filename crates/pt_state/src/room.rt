@@ -17,7 +17,7 @@ use pt_types::{ClientId, MOST_CLIENTS, Refusal};
 use std::alloc::Allocator;
 
 impl<A: Allocator + Copy> State<A> {
-    /// The entries reserved for a client's open call, if it has one.
+    /// Returns the number of entries reserved for a client's open call, or 0 if it has none.
     pub fn reserved_of(&self, c: ClientId) -> u64
         ensures value { result ≡ counted reserved_open (open_in (client_value self.now.clients c)) }
         ensures small { result ≤ 3 }
@@ -28,7 +28,8 @@ impl<A: Allocator + Copy> State<A> {
         }
     }
 
-    // A client that doesn't live: DEAD if a place has its number, else NOHELLO.
+    // Returns the refusal for a client that does not live: DEAD if its number is a place that the
+    // history has reached, else NOHELLO.
     #[cold]
     #[inline(never)]
     #[tactic(auto, using(pt_history::proofs::Places::place_of_next))]
@@ -42,7 +43,8 @@ impl<A: Allocator + Copy> State<A> {
         }
     }
 
-    // Why a client's call is refused: the client doesn't live, or has an open call; or none.
+    // Returns why a client's call is refused: the client does not live, or it has an open call.
+    // Returns None if neither applies.
     #[inline(always)]
     fn refusal_of_call(&self, c: ClientId) -> Option<Refusal>
         requires { AreTables self.now }
@@ -56,7 +58,7 @@ impl<A: Allocator + Copy> State<A> {
         }
     }
 
-    // Why any event is refused, or none. It is for those that are no calls.
+    // Returns why any event is refused, if it is. It is called for events that are not calls.
     #[inline(never)]
     fn refusal_of_any(&self, event: &Event) -> Option<Refusal>
         requires { AreTables self.now }
@@ -70,7 +72,8 @@ impl<A: Allocator + Copy> State<A> {
         }
     }
 
-    /// Why an event is refused for its sender, or at 1,024 living clients; or none.
+    /// Returns why an event is refused: because of its sender, or because 1,024 clients live
+    /// already. Returns None if neither applies.
     #[inline(always)]
     pub fn refusal(&self, event: &Event) -> Option<Refusal>
         requires { AreTables self.now }

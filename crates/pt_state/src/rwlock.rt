@@ -1,4 +1,4 @@
-//! Read-write locks: verdicts, reading, writing, and who holds the last lock of a client.
+//! Read-write locks: verdicts, reading, writing, and whether a living client holds a lock.
 
 ghost use Rattle.std.specs.Prelude.{IfErr, IfSome, None, OnErr, OnOk, Some, ◌<◌, ◌≡◌, option_map};
 ghost use Rattle.pt_model.specs.Objects.{find as find_in, kind_of, objects};
@@ -32,7 +32,7 @@ use pt_types::{Call, ClientId, How, Name, ObjectId, ObjectKind, Outcome, Refusal
 use std::alloc::Allocator;
 
 impl<A: Allocator + Copy> State<A> {
-    /// Whether a living client holds the lock.  [XSH pthread_rwlock_destroy]
+    /// Returns whether a living client holds the lock.  [XSH pthread_rwlock_destroy]
     pub fn is_held_alive(&self, r: ObjectId) -> bool
         requires read { AreTables self.now }
         requires lock { kind_of (past self.now) r ≡ Some ObjectKind.Rwlock }
@@ -44,7 +44,8 @@ impl<A: Allocator + Copy> State<A> {
         }
     }
 
-    /// A holder of a read-write lock gives it back.  [XSH pthread_rwlock_unlock]
+    /// Pushes a call by which a holder of a read-write lock gives back the write lock, or one read
+    /// lock.  [XSH pthread_rwlock_unlock]
     pub fn push_rwunlock(&mut self, c: ClientId, call: &Call, n: &Name, object: Option<ObjectId>)
         requires ready { IsReadyFor self.old (entry.Call c call.now (Some told.Done)) }
         requires operation { operation call.now ≡ Rwunlocks n.now }
@@ -56,7 +57,7 @@ impl<A: Allocator + Copy> State<A> {
         self.finish(c, call, Outcome::Done);
     }
 
-    /// A call gets its read lock.  [XSH pthread_rwlock_rdlock]
+    /// Pushes the Grant of a call for a read lock.  [XSH pthread_rwlock_rdlock]
     #[inline(always)]
     pub(crate) fn push_grant_read(&mut self, found: &Open)
         requires ready { IsReadyFor self.old (entry.Grant found.now.call.place
@@ -71,7 +72,7 @@ impl<A: Allocator + Copy> State<A> {
         self.grant(found, Outcome::Done);
     }
 
-    /// A call gets its write lock.  [XSH pthread_rwlock_wrlock]
+    /// Pushes the Grant of a call for a write lock.  [XSH pthread_rwlock_wrlock]
     #[inline(always)]
     pub(crate) fn push_grant_write(&mut self, found: &Open)
         requires ready { IsReadyFor self.old (entry.Grant found.now.call.place
@@ -86,7 +87,7 @@ impl<A: Allocator + Copy> State<A> {
         self.grant(found, Outcome::Done);
     }
 
-    /// The read-write lock with this number, if it is one.
+    /// Returns the read-write lock with this number, if the object is a read-write lock.
     #[inline(always)]
     pub fn rwlock_at(&self, r: ObjectId) -> Option<&Holders<A>>
         ensures { option_copied result ≡ rwlock_in (object_value self.now.objects r) }
@@ -97,7 +98,7 @@ impl<A: Allocator + Copy> State<A> {
         }
     }
 
-    /// The read-write lock that a name means, with its number.
+    /// Returns the read-write lock that a name refers to, with its number, if there is one.
     #[inline(always)]
     pub fn rwlock_found(
         &self,
@@ -118,8 +119,8 @@ impl<A: Allocator + Copy> State<A> {
         }
     }
 
-    /// A client's call to read, given whether a writer goes before it.
-    /// [XSH pthread_rwlock_rdlock]
+    /// Returns the verdict of a client's call for a read lock. `blocked` says whether a waiting
+    /// writer goes before it.  [XSH pthread_rwlock_rdlock]
     #[inline(always)]
     pub fn read_verdict(&self, c: ClientId, r: ObjectId, blocked: bool, how: &How) -> Verdict
         requires read { AreTables self.now }
@@ -130,7 +131,7 @@ impl<A: Allocator + Copy> State<A> {
         lock.verdict_read_behind(c, blocked, *how)
     }
 
-    /// A client's call to write.  [XSH pthread_rwlock_wrlock]
+    /// Returns the verdict of a client's call for a write lock.  [XSH pthread_rwlock_wrlock]
     pub fn write_verdict(
         &self,
         c: ClientId,
@@ -148,7 +149,8 @@ impl<A: Allocator + Copy> State<A> {
         }
     }
 
-    /// A client's call to give a read-write lock back.  [XSH pthread_rwlock_unlock]
+    /// Returns the verdict of a client's call to give back a read-write lock.
+    /// [XSH pthread_rwlock_unlock]
     pub fn rwunlocks_verdict(&self, c: ClientId, n: &Name, object: Option<ObjectId>) -> Verdict
         requires read { AreTables self.now }
         requires found { object ≡ find_in (past self.now) n.now RwlockClass }
@@ -160,8 +162,8 @@ impl<A: Allocator + Copy> State<A> {
         }
     }
 
-    // A call for a read lock begins to wait: its client gets a row in the lock. ENOMEM if there is
-    // no memory for it.  [XSH pthread_rwlock_rdlock]
+    // Makes sure that the client has a row in the lock, as its call for a read lock begins to wait.
+    // Returns ENOMEM if there is no memory for a new one.  [XSH pthread_rwlock_rdlock]
     #[inline(always)]
     pub(crate) fn begin_reading(
         &mut self,

@@ -1,4 +1,4 @@
-//! A state whose entries are dropped.
+//! Seals: a state drops its entries, and its history goes on from a Start.
 
 ghost use Rattle.std.specs.Prelude.{◌≡◌, ◌≤◌, OnErr, OnOk};
 ghost use Rattle.pt_types.specs.Limits.{most_places};
@@ -20,16 +20,17 @@ mod start;
 pub use renewing::{Unsealed, seal_with_room, take_memory, unseal};
 pub use start::start_of;
 
-/// Drops the entries and the answers: the history goes on from its seal, with the place that comes
-/// next. Clients, objects and clocks stay as they are, and so does the room. An error if a growth
-/// is refused: then nothing changes.
+/// Drops the entries and the answers. The history goes on from its seal, at the place that comes
+/// next. Clients, objects, clocks and the room stay as they are. Returns an error if a growth is
+/// refused; then nothing changes.
 pub fn seal<A: Allocator + Copy>(state: &mut State<A>) -> Result<(), AllocError>
     requires read { AreTables state.old }
     requires places { place (past state.old) ≤ most_places }
     ensures ok { OnOk result (Seals state.old state.new) }
     ensures err { OnErr result (state.new ≡ state.old) }
 {
-    // The rows of the Start are copied from the objects by their indices.
+    // The rows of the Start are copied from the objects by index, which is fast once they are
+    // packed.
     state.objects.pack();
     let start = start_of(state)?;
     state.stored.seal(start);

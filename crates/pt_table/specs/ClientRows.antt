@@ -1,4 +1,4 @@
--- Clients: the rows of the table of clients as a map from their numbers.
+-- Clients: the rows of the table of clients, as a map from their numbers.
 use Rattle.std.specs.Prelude.{◌≡◌, ℕ, Bool, false, List, [], ◌∷◌, ◌++◌, Option, is_some, length}
 use Rattle.std.specs.Prelude.{slice_get}
 use Rattle.std.specs.Option.{option_map}
@@ -8,11 +8,11 @@ use Rattle.pt_table.specs.Rows.{row_at, without, changed_at}
 use Rattle.pt_table.specs.Slots.{IsNumbered}
 
 module _ {T : Type 0} where
-  -- the row of this client
+  -- the row of the client with this number
   abbrev pub client_at : List (ClientRow T) → ℕ → Option (ClientRow T)
   client_at rows number = row_at (λ row. row.number) rows number
 
-  -- the value of this client
+  -- the value of the client with this number
   abbrev pub client_value : List (ClientRow T) → ℕ → Option T
   client_value rows number = option_map (λ row. row.value) (client_at rows number)
 
@@ -20,7 +20,7 @@ module _ {T : Type 0} where
   abbrev pub has_client : List (ClientRow T) → ℕ → Bool
   has_client rows number = is_some (client_at rows number)
 
-  -- the number is new, and there are as many clients as there may be
+  -- no client has the number yet, and the table is at its limit of clients
   abbrev pub IsFullFor : List (ClientRow T) → ℕ → Type 0
   IsFullFor rows number = (has_client rows number ≡ false) × (length rows ≡ most_clients)
 
@@ -31,19 +31,19 @@ module _ {T : Type 0} where
   abbrev pub nth_value : List (ClientRow T) → ℕ → Option T
   nth_value rows index = option_map (λ row. row.value) (slice_get rows index)
 
-  -- the rows, and this one last
+  -- the rows, followed by a new row with this number and value
   abbrev pub and_client : List (ClientRow T) → ℕ → T → List (ClientRow T)
   and_client rows number value = rows ++ record { number = number; value = value } ∷ []
 
-  -- the rows, with this value in the row of the client
+  -- the rows, with this value stored in the client's row
   abbrev pub with_client : List (ClientRow T) → ℕ → T → List (ClientRow T)
   with_client rows number value =
       changed_at (λ row. row.number) (λ row. record row { value = value }) rows number
 
-  -- the rows but the one of this client
+  -- the rows without that of the client with this number
   abbrev pub without_client : List (ClientRow T) → ℕ → List (ClientRow T)
   without_client rows number = without (λ row. row.number) rows number
 
-  -- the numbers list each client once, and there are at most 1,024
+  -- the numbers list each client exactly once, and there are at most 1,024 clients
   abbrev pub AreClients : List (Option (ClientRow T)) → List (ℕ × ℕ) → Type 0
   AreClients slots numbers = IsNumbered (λ row. row.number) slots numbers most_clients

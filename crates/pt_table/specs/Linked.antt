@@ -7,7 +7,7 @@ use Rattle.pt_table.specs.declared.link.Link.{Link}
 use Rattle.pt_table.specs.declared.objects.ObjectRow.{ObjectRow}
 use Rattle.pt_table.specs.ObjectRows.{link_of, out_of_chains}
 
--- the number is one of these
+-- the number is in the list
 abbrev pub IsOneOf : List ℕ → ℕ → Type 0
 IsOneOf [] n = ⊥
 IsOneOf (m ∷ ms) n = (n ≡ m) ⊎ IsOneOf ms n
@@ -16,11 +16,12 @@ IsOneOf (m ∷ ms) n = (n ≡ m) ⊎ IsOneOf ms n
 abbrev pub AreApart : List ℕ → List ℕ → Type 0
 AreApart ns ms = (n : ℕ) → IsOneOf ns n → IsOneOf ms n → ⊥
 
--- the numbers but this one
+-- the numbers without this one
 abbrev pub but_number : List ℕ → ℕ → List ℕ
 but_number ns n = filter (λ m. not (nat_eq n m)) ns
 
--- from a head each number leads to the next one and back, all are linked, and none comes twice
+-- from the head, each number leads to the next one and back to the one before it, all are linked,
+-- and no number comes twice
 abbrev pub Leads : (ℕ → Option ℕ) → (ℕ → Option ℕ) → (ℕ → Bool) → Option ℕ → Option ℕ → List ℕ
     → Type 0
 Leads next before linked previous head [] = head ≡ None
@@ -28,12 +29,12 @@ Leads next before linked previous head (n ∷ ns) =
     (head ≡ Some n) × (linked n ≡ true) × (before n ≡ previous) × (IsOneOf ns n → ⊥)
     × Leads next before linked (Some n) (next n) ns
 
--- whether it is this number
+-- whether the number is present and equals this one
 abbrev pub is_number : Option ℕ → ℕ → Bool
 is_number None n = false
 is_number (Some m) n = nat_eq m n
 
--- the last of some numbers
+-- the last number of a list, if any
 abbrev pub last_number : List ℕ → Option ℕ
 last_number [] = None
 last_number (n ∷ []) = Some n
@@ -54,11 +55,11 @@ module _ {T : Type 0} where
   abbrev pub is_linked : List (ObjectRow T) → ℕ → Bool
   is_linked rows number = linked_by (link_of rows number)
 
-  -- the number after an object's in its chain
+  -- the number of the object after this one in its chain
   abbrev pub next_number : List (ObjectRow T) → ℕ → Option ℕ
   next_number rows number = option_and_then (λ link. link.next) (link_of rows number)
 
-  -- the number before an object's in its chain
+  -- the number of the object before this one in its chain
   abbrev pub number_before : List (ObjectRow T) → ℕ → Option ℕ
   number_before rows number = option_and_then (λ link. link.before) (link_of rows number)
 
@@ -66,36 +67,37 @@ module _ {T : Type 0} where
   abbrev pub IsLinkedIf : List (ObjectRow T) → Option ℕ → Type 0
   IsLinkedIf rows number = (n : ℕ) → number ≡ Some n → is_linked rows n ≡ true
 
-  -- the chain of a head has these numbers
+  -- the chain of this head has exactly these numbers, in this order
   abbrev pub IsChain : List (ObjectRow T) → Option ℕ → List ℕ → Type 0
   IsChain rows head numbers =
       Leads (next_number rows) (number_before rows) (is_linked rows) None head numbers
 
-  -- the head has a chain
+  -- the links from this head form a chain, which may be empty
   abbrev pub HasChain : List (ObjectRow T) → Option ℕ → Type 0
   HasChain rows head = (numbers : List ℕ) × IsChain rows head numbers
 
-  -- the chain of a head has at most so many rows
+  -- the chain of this head has at most `most` rows
   abbrev pub IsAtMost : List (ObjectRow T) → Option ℕ → ℕ → Type 0
   IsAtMost rows head most =
       (numbers : List ℕ) → IsChain rows head numbers → length numbers ≤ most
 
-  -- the head has a chain, and the object's row is in it
+  -- the links from this head form a chain, and the object's row is in it
   abbrev pub IsInChain : List (ObjectRow T) → ℕ → ℕ → Type 0
   IsInChain rows head number =
       (numbers : List ℕ) × IsChain rows (Some head) numbers × IsOneOf numbers number
 
-  -- chains that have nothing in common with that of a head are what they were
+  -- chains that share no row with the chain of this head are unchanged
   abbrev pub KeepsOthers : List (ObjectRow T) → List (ObjectRow T) → Option ℕ → Type 0
   KeepsOthers old new head =
       (numbers : List ℕ) → IsChain old head numbers → (other : Option ℕ) (others : List ℕ)
       → IsChain old other others → AreApart numbers others → IsChain new other others
 
-  -- the rows, whatever chains they are in
+  -- the rows, with every link replaced by that of a row in no chain
   abbrev pub unlinked : List (ObjectRow T) → List (ObjectRow T)
   unlinked rows = map (λ (row : ObjectRow T). record row { link = out_of_chains }) rows
 
-  -- the chain of a head has the same numbers in rising order, from this head on
+  -- the chain of the first head, which begins at the second one afterwards, has the same numbers in
+  -- rising order
   abbrev pub IsSortedTo : List (ObjectRow T) → List (ObjectRow T) → Option ℕ → Option ℕ → Type 0
   IsSortedTo old new head after =
       (numbers : List ℕ) → IsChain old head numbers

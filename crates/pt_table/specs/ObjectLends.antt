@@ -1,4 +1,4 @@
--- Lends: the table of objects, once a `&mut` into one of its rows has ended.
+-- Lends: the table of objects after a `&mut` into one of its rows has ended.
 use Rattle.std.specs.Prelude.{ℕ, List, Option}
 use Rattle.std.specs.Borrow.{Lends, LendsIf, Fml, RattleType, MutBor}
 use Rattle.std.specs.declared.alloc.Allocator.{Ghosts}
@@ -14,10 +14,11 @@ module _ (T : RattleType) where
 
 module _ (T A : RattleType) (alloc : Ghosts A.Denot)
     (s : MutBor (List (ObjectRow T.Denot))) (number : ℕ) where
-  -- the table of objects, once a `&mut` into an object's value has ended
+  -- the table of objects after a `&mut` into an object's value has ended
   abbrev pub lends_at : MutBor T.Denot → Fml
   lends_at r = Lends (the_row T A alloc) T s r (with_object s.now number)
 
-  -- the table of objects then, if there is such an object; else the rows stay
+  -- the table of objects after a `&mut` into an object's value has ended, or unchanged if there is
+  -- no such object
   abbrev pub lends_if_at : Option (MutBor T.Denot) → Fml
   lends_if_at r = LendsIf (the_row T A alloc) T s r (with_object s.now number) s.now

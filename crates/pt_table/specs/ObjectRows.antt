@@ -1,4 +1,4 @@
--- Objects: the rows of the table of objects as a map from their numbers and from their names.
+-- Objects: the rows of the table of objects, as a map from their numbers and from their names.
 use Rattle.std.specs.Prelude.{◌≡◌, ℕ, ◌||◌, Bool, false, List, [], ◌∷◌, ◌++◌, Option, None, find}
 use Rattle.std.specs.Prelude.{is_some, length, slice_get}
 use Rattle.std.specs.Option.{option_map}
@@ -15,11 +15,11 @@ abbrev pub out_of_chains : Link
 out_of_chains =
     record { linked = false; next = None; next_slot = 0; before = None; before_slot = 0 }
 
--- the link leads on as another does, and back as it did
+-- a link whose next number and slot are replaced by those of another
 abbrev pub leading_on : Link → (other : Link) → Link
 leading_on its link = record its { next = link.next; next_slot = link.next_slot }
 
--- the link leads back as another does, and on as it did
+-- a link whose previous number and slot are replaced by those of another
 abbrev pub leading_back : Link → (other : Link) → Link
 leading_back its link = record its { before = link.before; before_slot = link.before_slot }
 
@@ -28,7 +28,7 @@ module _ {T : Type 0} where
   abbrev pub object_at : List (ObjectRow T) → ℕ → Option (ObjectRow T)
   object_at rows number = row_at (λ row. row.number) rows number
 
-  -- the value of this object
+  -- the value of the object with this number
   abbrev pub object_value : List (ObjectRow T) → ℕ → Option T
   object_value rows number = option_map (λ row. row.value) (object_at rows number)
 
@@ -40,7 +40,7 @@ module _ {T : Type 0} where
   abbrev pub number_of : List (ObjectRow T) → List ℕ → Option ℕ
   number_of rows name = option_map (λ row. row.number) (object_named rows name)
 
-  -- the link of the row of this object
+  -- the link of the row of the object with this number
   abbrev pub link_of : List (ObjectRow T) → ℕ → Option Link
   link_of rows number = option_map (λ row. row.link) (object_at rows number)
 
@@ -52,7 +52,7 @@ module _ {T : Type 0} where
   abbrev pub is_taken : List (ObjectRow T) → ℕ → List ℕ → Bool
   is_taken rows number name = has_object rows number || is_some (object_named rows name)
 
-  -- number and name are new, and there are as many objects as there may be
+  -- no object has the number or the name yet, and the table is at its limit of objects
   abbrev pub IsFullFor : List (ObjectRow T) → ℕ → List ℕ → Type 0
   IsFullFor rows number name = (is_taken rows number name ≡ false) × (length rows ≡ most_objects)
 
@@ -63,26 +63,27 @@ module _ {T : Type 0} where
   abbrev pub nth_value : List (ObjectRow T) → ℕ → Option T
   nth_value rows index = option_map (λ row. row.value) (slice_get rows index)
 
-  -- the rows, and this one last
+  -- the rows, followed by a new row with this number, name and value, which is in no chain
   abbrev pub and_object : List (ObjectRow T) → ℕ → List ℕ → T → List (ObjectRow T)
   and_object rows number name value =
       rows ++ record { number = number; name = name; value = value; link = out_of_chains } ∷ []
 
-  -- the rows, with this value in the row of the object
+  -- the rows, with this value stored in the object's row
   abbrev pub with_object : List (ObjectRow T) → ℕ → T → List (ObjectRow T)
   with_object rows number value =
       changed_at (λ row. row.number) (λ row. record row { value = value }) rows number
 
-  -- the rows, with this link in the row of the object
+  -- the rows, with this link stored in the object's row
   abbrev pub with_link : List (ObjectRow T) → ℕ → Link → List (ObjectRow T)
   with_link rows number link =
       changed_at (λ row. row.number) (λ row. record row { link = link }) rows number
 
-  -- the rows but the one of this object
+  -- the rows without that of the object with this number
   abbrev pub without_object : List (ObjectRow T) → ℕ → List (ObjectRow T)
   without_object rows number = without (λ row. row.number) rows number
 
-  -- numbers list each object once, names lead to it, and there are at most 4,096
+  -- the numbers list each object exactly once, its name leads to it, and there are at most 4,096
+  -- objects
   abbrev pub AreObjects : List (Option (ObjectRow T)) → List (ℕ × ℕ) → Cells
       → List (List ℕ × ℕ) → Type 0
   AreObjects slots numbers cells others =

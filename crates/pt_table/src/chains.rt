@@ -1,4 +1,4 @@
-//! Chains of objects, linked in both directions, whose links are in the rows.
+//! Chains of objects, linked in both directions by links that are stored in the rows.
 
 ghost use Rattle.std.specs.Prelude.{◌≡◌, ◌||◌, ◌&&◌, ◌∷◌, ℕ, List, Some, None, true, false, not};
 ghost use Rattle.std.specs.Prelude.{nat_eq, if◌then◌else◌};
@@ -12,7 +12,7 @@ use crate::objects::Objects;
 use std::alloc::Allocator;
 
 impl<T, A: Allocator + Copy> Objects<T, A> {
-    /// The number after this object's in its chain.
+    /// Returns the number of the object after this one in its chain.
     pub fn next(&self, number: u64) -> Option<u64>
         ensures { result ≡ next_number self.now number }
     {
@@ -22,7 +22,7 @@ impl<T, A: Allocator + Copy> Objects<T, A> {
         }
     }
 
-    // The slot of the first row of a chain, or any if there is none.
+    // Returns the slot of the first row of a chain, or any slot if the chain is empty.
     fn slot_of_head(&self, head: Option<u64>) -> usize {
         match head {
             Some(first) => self.slot_near(first),
@@ -30,7 +30,7 @@ impl<T, A: Allocator + Copy> Objects<T, A> {
         }
     }
 
-    // Writes what comes after a row of a chain, if there is such a row.
+    // Sets what comes after the row with this number in its chain, if a number is given.
     fn set_next(&mut self, slot: usize, number: Option<u64>, link: Link)
         requires { IsLinkedIf self.old number }
         ensures next { (n : ℕ)
@@ -45,7 +45,7 @@ impl<T, A: Allocator + Copy> Objects<T, A> {
         }
     }
 
-    // Writes what comes before a row of a chain, if there is such a row.
+    // Sets what comes before the row with this number in its chain, if a number is given.
     fn set_before(&mut self, slot: usize, number: Option<u64>, link: Link)
         requires { IsLinkedIf self.old number }
         ensures next { (n : ℕ) → next_number self.new n ≡ next_number self.old n }
@@ -60,7 +60,7 @@ impl<T, A: Allocator + Copy> Objects<T, A> {
         }
     }
 
-    // Writes the link of a row.
+    // Sets the link of a row.
     #[inline(always)]
     pub(crate) fn set_own(&mut self, slot: usize, number: u64, link: Link)
         requires { has_object self.old number ≡ true }
@@ -78,7 +78,8 @@ impl<T, A: Allocator + Copy> Objects<T, A> {
         self.set_link(slot, number, link);
     }
 
-    /// Puts a row first in the chain of a head, or begins one, and returns the head.
+    /// Puts a row first in the chain of a head, or begins a chain with it, and returns the new
+    /// head.
     #[inline(always)]
     pub fn link(&mut self, head: Option<u64>, number: u64) -> u64
         requires chain { HasChain self.old head }
@@ -114,7 +115,8 @@ impl<T, A: Allocator + Copy> Objects<T, A> {
         number
     }
 
-    // Takes a row out of its chain: those before it and after it lead to one another.
+    // Removes a row from its chain by linking the rows before and after it to one another, and
+    // returns the number of the row after it.
     fn take(&mut self, number: u64) -> Option<u64>
         requires row { has_object self.old number ≡ true }
         requires next { IsLinkedIf self.old (next_number self.old number) }
@@ -146,7 +148,7 @@ impl<T, A: Allocator + Copy> Objects<T, A> {
         link.next
     }
 
-    /// Takes a row out of the chain of a head, and returns the head that is left.
+    /// Removes a row from the chain of a head, and returns the head of the rest.
     #[inline(always)]
     pub fn unlink(&mut self, head: u64, number: u64) -> Option<u64>
         requires { IsInChain self.old head number }

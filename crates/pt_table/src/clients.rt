@@ -36,7 +36,7 @@ impl<T> ClientRow<T> {
     }
 }
 
-// This slot, if a number's row is in it.
+// Returns this slot if the row of a number is in it.
 #[inline(always)]
 fn slot_if_its<T, A: Allocator + Copy>(
     rows: &Slab<ClientRow<T>, A>,
@@ -53,7 +53,7 @@ fn slot_if_its<T, A: Allocator + Copy>(
     }
 }
 
-// The slot of a number's row, if the number's hint is right.
+// Returns the slot of a number's row if the number's hint is right.
 #[inline(always)]
 fn slot_by_hint<T, A: Allocator + Copy>(
     rows: &Slab<ClientRow<T>, A>,
@@ -66,7 +66,7 @@ fn slot_by_hint<T, A: Allocator + Copy>(
     slot_if_its(rows, numbers, numbers.hint(number), number)
 }
 
-// The row of a number, which is looked for by the number's hint first.
+// Returns the row of a number. The slot that the number's hint gives is tried first.
 #[inline(always)]
 fn row_of<'a, T, A: Allocator + Copy>(
     rows: &'a Slab<ClientRow<T>, A>,
@@ -83,7 +83,7 @@ fn row_of<'a, T, A: Allocator + Copy>(
     }
 }
 
-// The slot of a client's row, which is looked for in this slot first.
+// Returns the slot of a client's row. The given slot is tried first.
 #[inline(always)]
 fn slot_by<T, A: Allocator + Copy>(
     rows: &Slab<ClientRow<T>, A>,
@@ -124,7 +124,7 @@ impl<T, A: Allocator + Copy> Model for Clients<T, A> {
     ghost invariant = { λ c. AreClients c.rows.slots c.numbers.entries };
 }
 
-// Not derived, so that those that drop clients prove nothing of their parts.
+// Not derived, so that code that drops the table need not prove anything about its parts.
 impl<T: Drop, A: Allocator + Copy> Drop for Clients<T, A> {
     fn drop(self) {
         let Clients {
@@ -135,7 +135,7 @@ impl<T: Drop, A: Allocator + Copy> Drop for Clients<T, A> {
 }
 
 impl<T, A: Allocator + Copy> Clients<T, A> {
-    /// A table with no client. It takes no memory.
+    /// Creates an empty table, which allocates nothing.
     pub fn new(alloc: A) -> Self
         ensures { result ≡ [] }
     {
@@ -145,7 +145,7 @@ impl<T, A: Allocator + Copy> Clients<T, A> {
         }
     }
 
-    /// How many clients there are.
+    /// Returns the number of clients.
     pub fn len(&self) -> usize
         ensures len { result ≡ length self.now }
         ensures within { length self.now ≤ most_clients }
@@ -153,7 +153,7 @@ impl<T, A: Allocator + Copy> Clients<T, A> {
         self.numbers.len()
     }
 
-    /// The value of the client with this number.
+    /// Returns the value of the client with this number, if there is one.
     #[inline(always)]
     pub fn at(&self, number: u64) -> Option<&T>
         ensures { option_copied result ≡ client_value self.now number }
@@ -164,9 +164,9 @@ impl<T, A: Allocator + Copy> Clients<T, A> {
         }
     }
 
-    /// The number of the client at this index, and its value.
+    /// Returns the number and the value of the client at this index.
     ///
-    /// The clients are in the order in which they were added, from index 0 on.
+    /// Clients are indexed from 0, in the order in which they were added.
     pub fn nth(&self, index: usize) -> Option<(u64, &T)>
         ensures number { option_map (λ p. p.0) result ≡ nth_number self.now index }
         ensures value { option_map (λ p. p.1.now) result ≡ nth_value self.now index }
@@ -177,7 +177,7 @@ impl<T, A: Allocator + Copy> Clients<T, A> {
         }
     }
 
-    /// As `nth`, with the slot in which the client's row is, for `at_mut_near`.
+    /// Does what `nth` does, and also returns the slot of the client's row, for `at_mut_near`.
     #[inline(always)]
     pub fn nth_in_slot(&self, index: usize) -> Option<(usize, u64, &T)>
         ensures number { option_map (λ p. p.1) result ≡ nth_number self.now index }
@@ -189,7 +189,7 @@ impl<T, A: Allocator + Copy> Clients<T, A> {
         }
     }
 
-    /// The row at this index, in the order in which the clients were added.
+    /// Returns the row at this index, in the order in which the clients were added.
     pub fn row(&self, index: usize) -> Option<&ClientRow<T>>
         ensures { option_copied result ≡ slice_get self.now index }
     {
@@ -204,14 +204,14 @@ impl<T, A: Allocator + Copy> Clients<T, A> {
 
     ghost use Rattle.pt_table.specs.ClientLends.{lends_at};
 
-    // The slot of a client's row, if there is such a client, found with no hint.
+    // Returns the slot of a client's row, found without the slot hint, if there is such a client.
     fn slot_if(&self, number: u64) -> Option<usize>
         ensures { is_some result ≡ has_client self.now number }
     {
         self.numbers.get(number)
     }
 
-    // The value of a client, whose row is looked for in this slot first.
+    // Returns a mutable reference to the value of a client. The given slot is tried first.
     #[inline(always)]
     fn value_mut(&mut self, slot: usize, number: u64) -> &mut T
         requires { IsSome (client_at self.old number) }
@@ -224,7 +224,8 @@ impl<T, A: Allocator + Copy> Clients<T, A> {
 
     ghost use Rattle.pt_table.specs.ClientLends.{lends_if_at};
 
-    // The value of a client whose number's hint is of no use.
+    // Returns a mutable reference to the value of a client, found without the slot hint, if there
+    // is such a client.
     #[cold]
     #[inline(never)]
     fn at_mut_by_number(&mut self, number: u64) -> Option<&mut T>
@@ -237,7 +238,7 @@ impl<T, A: Allocator + Copy> Clients<T, A> {
         }
     }
 
-    // The slot of a client's row, if its number's hint is right.
+    // Returns the slot of a client's row if its number's hint is right.
     #[inline(always)]
     fn hinted(&self, number: u64) -> Option<usize>
         ensures { OnSome result (IsSome (client_at self.now number)) }
@@ -245,7 +246,7 @@ impl<T, A: Allocator + Copy> Clients<T, A> {
         slot_by_hint(&self.rows, &self.numbers, number)
     }
 
-    /// The value of the client with this number, to be changed.
+    /// Returns a mutable reference to the value of the client with this number, if there is one.
     #[inline(always)]
     pub fn at_mut(&mut self, number: u64) -> Option<&mut T>
         ensures* lends { sem 𝓛 (lends_if_at T.row A.row A.Allocator self.entry number result) }
@@ -257,7 +258,7 @@ impl<T, A: Allocator + Copy> Clients<T, A> {
         }
     }
 
-    // This slot, if a client's row is in it.
+    // Returns this slot if a client's row is in it.
     #[inline(always)]
     fn its_slot(&self, slot: usize, number: u64) -> Option<usize>
         ensures { OnSome result (IsSome (client_at self.now number)) }
@@ -265,8 +266,8 @@ impl<T, A: Allocator + Copy> Clients<T, A> {
         slot_if_its(&self.rows, &self.numbers, slot, number)
     }
 
-    /// The value of the client with this number, to be changed. The client is looked for in this
-    /// slot first, and need not be there.
+    /// Returns a mutable reference to the value of the client with this number, if there is one.
+    /// This slot is tried first, and need not be the right one.
     #[inline(always)]
     pub fn at_mut_near(&mut self, slot: usize, number: u64) -> Option<&mut T>
         ensures* lends { sem 𝓛 (lends_if_at T.row A.row A.Allocator self.entry number result) }
@@ -278,28 +279,28 @@ impl<T, A: Allocator + Copy> Clients<T, A> {
         }
     }
 
-    /// Takes the client with this number out.
+    /// Removes the client with this number, and returns its value.
     pub fn remove(&mut self, number: u64) -> Option<T>
         ensures value { result ≡ client_value self.old number }
         ensures rows { self.new ≡ without_client self.old number }
     {
         let row = take_out(&mut self.rows, &mut self.numbers, number)?;
-        // Each broadcast walks over all clients by their indices.
+        // Packed at once, since each broadcast walks over all clients by their indices.
         self.numbers.pack();
         let ClientRow { number: _, value } = row;
         Some(value)
     }
 
-    /// Adds a client with its value, or returns the value.
+    /// Adds a client with its value, or returns the value with the fault that prevented it.
     ///
     /// # Errors
     ///
-    /// Taken if a client has the number already, else AtLimit at 1,024 clients, else
-    /// Memory if a growth was refused. The table stays as it was.
+    /// Returns `Taken` if a client has the number already, else `AtLimit` at 1,024 clients, else
+    /// `Memory` if a growth is refused. The table stays unchanged.
     pub fn add(&mut self, number: u64, value: T) -> Result<(), (T, TableFault)>
         ensures ok { OnOk result (self.new ≡ and_client self.old number value) }
 
-        // Refused: for the first reason that applies, and nothing moved.
+        // A fault is the first one that applies, and the table stays unchanged.
         ensures taken { IsFault TableFault.Taken result ↔ IsTrue (has_client self.old number) }
         ensures at_limit { IsFault TableFault.AtLimit result ↔ IsFullFor self.old number }
         ensures err { OnErr result (self.new ≡ self.old) }

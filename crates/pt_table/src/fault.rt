@@ -1,12 +1,12 @@
 use thiserror::Error;
 
-/// Why a table took no row.
+/// The reason why a table refused a row.
 #[derive(Clone, Copy, Debug, PartialEq, Eq, Error)]
 pub enum TableFault {
-    /// A row has the number, or the name, already.
+    /// A row already has the number or the name.
     #[error("taken")]
     Taken,
-    /// There are as many rows as there may be.
+    /// The table is at its limit of rows.
     #[error("at the limit")]
     AtLimit,
     /// A growth was refused.

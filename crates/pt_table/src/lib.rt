@@ -1,10 +1,10 @@
-//! The tables of clients and of objects: rows found by their number, and objects by their name too,
-//! over `slab` and a map of names.
+//! The tables of clients and of objects. Rows are found by number, and those of objects by name
+//! too. The tables are built on `slab` and a map of names.
 //!
-//! Contracts see a table as the list of its rows in the order in which they were added, as a finite
-//! map from numbers, and for objects from names, that has a limit. They pin the answer and the
-//! rows after each call. Only tests show that `Memory` is returned only if a growth was
-//! refused, that an empty table takes no memory, and the texts that `Display` writes.
+//! Contracts see a table as the list of its rows in the order in which they were added, and as a
+//! finite map with a limit, from numbers and for objects also from names. They fix the result and
+//! the rows after each call. Only tests show that `Memory` is returned only if a growth was
+//! refused, that an empty table allocates nothing, and which texts `Display` writes.
 #![tactic(auto)]
 
 mod chains;

@@ -11,25 +11,25 @@ use std::collections::HashMap;
 use std::hash::{BuildHasherDefault, FoldHasher};
 use std::marker::Model;
 
-/// How many cells there are.
+/// The number of cells.
 const COUNT: usize = 16384;
 
-/// The slots below this one fit a cell.
+/// The number of slots that fit a cell: those below this one.
 const MOST_SLOTS: usize = 65536;
 
-/// Slots of names.
+/// A map from names to slots.
 type NameMap<A> = HashMap<Name, usize, BuildHasherDefault<FoldHasher>, A>;
 
-/// Where the rows of names lie.
+/// The slots of the rows of all names.
 ///
-/// A name's cell is the one of its key's low bits. It has the slot of one name's row, and says
-/// whether others of these names are in the map: so a name is hashed only where two of them share
-/// a cell.
+/// A name's cell is chosen by the low bits of its key. The cell stores the slot of the row of one
+/// of its names, and says whether others may be in the map. So a name is hashed only if its cell is
+/// or was shared with another one.
 #[derive(Drop)]
 pub(crate) struct Names<A: Allocator + Copy> {
-    /// Of each cell the slot of one name's row, if it has one.
+    /// For each cell, the slot of the row of one of its names, if it has one.
     firsts: [Option<u16>; COUNT],
-    /// Of each cell whether others of its names are in the map.
+    /// For each cell, whether others of its names may be in the map.
     shared: [bool; COUNT],
     others: NameMap<A>,
 }
@@ -47,7 +47,7 @@ impl<A: Allocator + Copy> Model for Names<A> {
     } };
 }
 
-/// The index of a name's cell.
+/// Returns the index of a name's cell.
 #[inline(always)]
 pub(crate) fn place_of(name: &Name) -> usize
     ensures { result ≡ place_of name.now }
@@ -56,7 +56,7 @@ pub(crate) fn place_of(name: &Name) -> usize
 }
 
 impl<A: Allocator + Copy> Names<A> {
-    /// No name. It takes no memory.
+    /// Creates an empty set of names, which allocates nothing.
     pub(crate) fn new(alloc: A) -> Self {
         Names {
             firsts: [None; COUNT],
@@ -65,7 +65,7 @@ impl<A: Allocator + Copy> Names<A> {
         }
     }
 
-    /// The slot in a name's cell, if there is one. It may be another's.
+    /// Returns the slot in a name's cell, if there is one. It may be that of another name.
     #[inline(always)]
     pub(crate) fn first(&self, name: &Name) -> Option<usize>
         ensures { (slot : ℕ) → IsFirst self.now.cells name.now slot → result ≡ Some slot }
@@ -76,7 +76,7 @@ impl<A: Allocator + Copy> Names<A> {
         }
     }
 
-    /// Whether others of the names of a name's cell are in the map.
+    /// Returns whether others of the names of a name's cell may be in the map.
     #[inline(always)]
     pub(crate) fn is_shared(&self, name: &Name) -> bool
         ensures { result ≡ is_shared self.now.cells name.now }
@@ -84,7 +84,8 @@ impl<A: Allocator + Copy> Names<A> {
         self.shared[place_of(name)]
     }
 
-    /// The slot of a name that is in the map. It may be another's.
+    /// Returns the slot of a name in the map, if there is one. The row in it may be that of another
+    /// name.
     pub(crate) fn other(&self, name: &Name) -> Option<usize>
         ensures { (slot : ℕ) → IsOther self.now.cells self.now.others name.now slot
             → result ≡ Some slot }
@@ -103,7 +104,7 @@ impl<A: Allocator + Copy> Names<A> {
         self.others.reserve(1)
     }
 
-    /// Makes room for a name, given the index of its cell, whose row will lie in a slot.
+    /// Makes room for a name whose row will lie in this slot, given the index of the name's cell.
     #[inline(always)]
     pub(crate) fn reserve_for(
         &mut self,
@@ -122,7 +123,7 @@ impl<A: Allocator + Copy> Names<A> {
         self.reserve_other()
     }
 
-    // Adds a name with its slot to the map, if there is room.
+    // Adds a name with its slot to the map, which must have room for it.
     #[cold]
     #[inline(never)]
     fn insert_other(&mut self, name: &Name, slot: usize)
@@ -137,7 +138,7 @@ impl<A: Allocator + Copy> Names<A> {
         inserted.unwrap();
     }
 
-    /// Adds a name, given the index of its cell, with its slot, if there is room.
+    /// Adds a name with its slot, given the index of the name's cell. There must be room for it.
     #[inline(always)]
     pub(crate) fn insert(&mut self, name: &Name, place: usize, slot: usize)
         requires place { place ≡ place_of name.now }
@@ -154,7 +155,7 @@ impl<A: Allocator + Copy> Names<A> {
         }
     }
 
-    // Takes a name out of the map.
+    // Removes a name from the map.
     #[cold]
     #[inline(never)]
     fn forget_other(&mut self, name: &Name)
@@ -164,7 +165,7 @@ impl<A: Allocator + Copy> Names<A> {
         let _ = self.others.remove(name);
     }
 
-    /// Takes a name out, whose row lies in a slot.
+    /// Removes a name whose row lies in this slot.
     #[inline(always)]
     pub(crate) fn forget(&mut self, name: &Name, slot: usize)
         ensures { (t : List ℕ) (s : ℕ) → same_name name.now t ≡ false → s ≢ slot

@@ -13,27 +13,26 @@ use crate::slot_hints::SlotHints;
 use std::alloc::{AllocError, Allocator};
 use std::marker::Model;
 
-/// A number in the order in which it was added, with the slot of its row; None if it was taken out.
+/// An entry of the order: a number with the slot of its row, or with None if it was removed.
 type Listed = (u64, Option<usize>);
 
 /// The numbers in the order in which they were added, each with the slot of its row.
 ///
-/// A number's row is first looked for in the slot that its hint gives. Else the number is found in
-/// the order: where it was noted, or by a binary search if the numbers rise, as those that the
-/// server adds do, and by a look at each entry if not.
+/// A number's row is first looked for in the slot that its hint gives. If it is not there, the
+/// number is found in the order: at the index that was noted for it, else by a binary search if the
+/// numbers rise, as those that the server adds do, and by a scan of all entries if not.
 ///
-/// A number that is taken out is struck out in the order, and those that are struck out leave it
-/// once they are more than the others: to move all entries after each one that is taken out would
-/// cost more.
+/// A number that is removed is struck out in the order. Struck-out entries are dropped once they
+/// are more than the others, since moving all later entries after each removal would cost more.
 #[derive(Drop)]
 pub(crate) struct Numbers<A: Allocator + Copy> {
     order: Vec<(u64, Option<usize>), A>,
-    /// How many entries of the order are struck out.
+    /// The number of entries of the order that are struck out.
     struck: usize,
-    /// Whether the numbers of the order rise, those that are struck out too.
+    /// Whether the numbers of the order rise, those of struck-out entries included.
     rises: bool,
     hints: SlotHints,
-    /// Where in the order a number is looked for first.
+    /// The indices in the order at which numbers are looked for first.
     places: SlotHints,
 }
 
@@ -51,14 +50,14 @@ impl<A: Allocator + Copy> Model for Numbers<A> {
     ghost invariant = { λ n. AreListed n.order.items n.struck n.rises };
 }
 
-// Whether an entry is the one of a number, and is not struck out.
+// Returns whether an entry has this number and is not struck out.
 fn is_left(listed: &Listed, number: u64) -> bool
     ensures { result ≡ (listed.now.0 == number) && is_some listed.now.1 }
 {
     listed.0 == number && listed.1.is_some()
 }
 
-// An entry with its slot, if there is one that is not struck out.
+// Returns an entry with its slot, if there is one and it is not struck out.
 fn with_slot(listed: Option<Listed>) -> Option<(u64, usize)>
     ensures { result ≡ option_and_then with_slot listed }
 {
@@ -69,7 +68,7 @@ fn with_slot(listed: Option<Listed>) -> Option<(u64, usize)>
     }
 }
 
-// The entry at an index, struck out or not.
+// Returns the entry at an index, struck out or not.
 fn entry_at(entries: &[Listed], index: usize) -> Option<Listed>
     ensures { result ≡ slice_get entries.now index }
 {
@@ -79,7 +78,7 @@ fn entry_at(entries: &[Listed], index: usize) -> Option<Listed>
     }
 }
 
-// Whether the entry at an index is the one of a number, and is not struck out.
+// Returns whether the entry at an index has this number and is not struck out.
 #[inline(always)]
 fn is_left_at(entries: &[Listed], index: usize, number: u64) -> bool
     ensures there { OnTrue result (IsLeftAt entries.now number index) }
@@ -91,7 +90,7 @@ fn is_left_at(entries: &[Listed], index: usize, number: u64) -> bool
     }
 }
 
-// The slot of a number that is listed at an index.
+// Returns the slot of a number that is listed at an index.
 fn slot_at(entries: &[Listed], index: usize, number: u64) -> usize
     requires listed { IsLeftAt entries.now number index }
     requires once { Distinct (left_of entries.now) }
@@ -100,7 +99,7 @@ fn slot_at(entries: &[Listed], index: usize, number: u64) -> usize
     entries[index].1.unwrap()
 }
 
-// The index of a number, found by a look at each entry.
+// Returns the index of a number, found by a scan of all entries.
 fn scan(entries: &[Listed], number: u64) -> Option<usize>
     ensures found { IfSome result (IsLeftAt entries.now number) }
     ensures absent { IfNone result (lookup (nat_eq number) (left_of entries.now) ≡ None) }
@@ -113,7 +112,7 @@ fn scan(entries: &[Listed], number: u64) -> Option<usize>
     None
 }
 
-// The index of a number among numbers that rise.
+// Returns the index of a number among entries whose numbers rise.
 fn search(entries: &[Listed], number: u64) -> Option<usize>
     requires { Rises entries.now }
     ensures found { IfSome result (IsLeftAt entries.now number) }
@@ -127,7 +126,7 @@ fn search(entries: &[Listed], number: u64) -> Option<usize>
     }
 }
 
-// The index of a number that is not where it is looked for first.
+// Returns the index of a number that is not where it is looked for first.
 #[cold]
 #[inline(never)]
 fn index_far(entries: &[Listed], rises: bool, number: u64) -> Option<usize>
@@ -142,7 +141,7 @@ fn index_far(entries: &[Listed], rises: bool, number: u64) -> Option<usize>
     }
 }
 
-// The index of a number. It is looked for at this index first.
+// Returns the index of a number. The given index is tried first.
 #[inline(always)]
 fn index_of(entries: &[Listed], hint: usize, rises: bool, number: u64) -> Option<usize>
     requires { OnTrue rises (Rises entries.now) }
@@ -155,7 +154,7 @@ fn index_of(entries: &[Listed], hint: usize, rises: bool, number: u64) -> Option
     index_far(entries, rises, number)
 }
 
-// Whether the numbers rise with this one after them.
+// Returns whether the numbers still rise if this one is added at the end.
 fn rises_with(entries: &[Listed], rises: bool, number: u64) -> bool
     requires { OnTrue rises (Rises entries.now) }
     ensures { OnTrue result ((slot : Option ℕ) → Rises (entries.now ++ (number, slot) ∷ [])) }
@@ -166,7 +165,7 @@ fn rises_with(entries: &[Listed], rises: bool, number: u64) -> bool
     }
 }
 
-// The entry at an index of those that are not struck out, found by a look at each entry.
+// Returns the entry at an index of those that are not struck out, found by a scan of all entries.
 fn nth_left(entries: &[Listed], index: usize) -> Option<(u64, usize)>
     ensures { result ≡ slice_get (left_of entries.now) index }
 {
@@ -201,14 +200,14 @@ fn strike<A: Allocator + Copy>(
     slot
 }
 
-// Notes where in the order each number is.
+// Notes the index of each number in the order.
 fn note_places(places: &mut SlotHints, entries: &[Listed]) {
     for i in 0..entries.len() {
         places.set(entries[i].0, i);
     }
 }
 
-// Takes those that are struck out from the order.
+// Removes the struck-out entries from the order.
 fn pack<A: Allocator + Copy>(order: &mut Vec<(u64, Option<usize>), A>)
     ensures left { left_of order.new.items ≡ left_of order.old.items }
     ensures len { vec_len order.new ≡ length (left_of order.old.items) }
@@ -217,8 +216,8 @@ fn pack<A: Allocator + Copy>(order: &mut Vec<(u64, Option<usize>), A>)
     order.retain(|entry| entry.1.is_some());
 }
 
-// Takes those that are struck out from the order if they are more than the others, and returns how
-// many are struck out then.
+// Removes the struck-out entries from the order if they are more than the others, and returns how
+// many entries are struck out afterwards.
 fn pack_if_sparse<A: Allocator + Copy>(
     order: &mut Vec<(u64, Option<usize>), A>,
     places: &mut SlotHints,
@@ -238,7 +237,7 @@ fn pack_if_sparse<A: Allocator + Copy>(
 }
 
 impl<A: Allocator + Copy> Numbers<A> {
-    /// No number. It takes no memory.
+    /// Creates an empty list of numbers, which allocates nothing.
     pub(crate) fn new(alloc: A) -> Self
         ensures { result.entries ≡ [] }
     {
@@ -251,20 +250,21 @@ impl<A: Allocator + Copy> Numbers<A> {
         }
     }
 
-    /// How many numbers there are.
+    /// Returns how many numbers are listed.
     pub(crate) fn len(&self) -> usize
         ensures { result ≡ length self.now.entries }
     {
         self.order.len() - self.struck
     }
 
-    /// The slot in which the row of a number is looked for first. It may be another's.
+    /// Returns the slot in which the row of a number is looked for first. The row in it may be that
+    /// of another number.
     #[inline(always)]
     pub(crate) fn hint(&self, number: u64) -> usize {
         self.hints.get(number)
     }
 
-    /// The slot of a number.
+    /// Returns the slot of a number, if it is listed.
     pub(crate) fn get(&self, number: u64) -> Option<usize>
         ensures value { result ≡ lookup (nat_eq number) self.now.entries }
     {
@@ -273,7 +273,7 @@ impl<A: Allocator + Copy> Numbers<A> {
         Some(slot_at(self.order.as_slice(), index, number))
     }
 
-    /// The number at an index, and its slot.
+    /// Returns the number at an index, and its slot.
     pub(crate) fn get_index(&self, index: usize) -> Option<(u64, usize)>
         ensures { result ≡ slice_get self.now.entries index }
     {
@@ -291,7 +291,7 @@ impl<A: Allocator + Copy> Numbers<A> {
         self.order.reserve(1)
     }
 
-    /// Adds a new number with its slot, if there is room.
+    /// Adds a new number with its slot. There must be room for it.
     pub(crate) fn insert(&mut self, number: u64, slot: usize)
         requires room { 0 < self.old.room }
         requires new { lookup (nat_eq number) self.old.entries ≡ None }
@@ -303,7 +303,7 @@ impl<A: Allocator + Copy> Numbers<A> {
         self.order.push_reserved((number, Some(slot)));
     }
 
-    /// Takes a number out, and returns its slot.
+    /// Removes a number, and returns its slot.
     #[inline(always)]
     pub(crate) fn take(&mut self, number: u64) -> Option<usize>
         ensures slot { result ≡ lookup (nat_eq number) self.old.entries }
@@ -317,7 +317,8 @@ impl<A: Allocator + Copy> Numbers<A> {
         Some(slot)
     }
 
-    /// Takes those that are struck out from the order, so that a number is found by its index.
+    /// Removes the struck-out entries from the order, so that an index leads directly to its
+    /// number.
     pub(crate) fn pack(&mut self)
         ensures { self.new.entries ≡ self.old.entries }
     {

@@ -1,4 +1,4 @@
-//! Where the rows of objects lie, by their numbers and by their names.
+//! The slots in which the rows of objects lie, found by number and by name.
 
 ghost use Rattle.std.specs.Prelude.{◌≡◌, ◌≢◌, ◌<◌, ◌++◌, [], ◌∷◌, ℕ, List, Some, None, IsSome};
 ghost use Rattle.std.specs.Prelude.{IfSome, IfNone, OnOk, OnSome, false, nat_eq};
@@ -22,7 +22,7 @@ use pt_types::Name;
 use slab::Slab;
 use std::alloc::{AllocError, Allocator};
 
-// The slot of a number's row, if the number's hint is right.
+// Returns the slot of a number's row if the number's hint is right.
 #[inline(always)]
 pub(crate) fn slot_by_hint<T, A: Allocator + Copy>(
     rows: &Slab<ObjectRow<T>, A>,
@@ -39,7 +39,7 @@ pub(crate) fn slot_by_hint<T, A: Allocator + Copy>(
     }
 }
 
-// The row of a number, which is looked for by the number's hint first.
+// Returns the row of a number. The slot that the number's hint gives is tried first.
 #[inline(always)]
 pub(crate) fn row_of<'a, T, A: Allocator + Copy>(
     rows: &'a Slab<ObjectRow<T>, A>,
@@ -56,7 +56,8 @@ pub(crate) fn row_of<'a, T, A: Allocator + Copy>(
     }
 }
 
-// Whether two names are the same, of which it is not known that they differ.
+// Returns whether two names are the same. It is called if `are_same` returned false, which does not
+// prove that they differ.
 #[cold]
 #[inline(never)]
 fn are_equal(one: &Name, other: &Name) -> bool
@@ -65,7 +66,7 @@ fn are_equal(one: &Name, other: &Name) -> bool
     *one == *other
 }
 
-// Whether two names are the same.
+// Returns whether two names are the same.
 #[inline(always)]
 fn is_same(one: &Name, other: &Name) -> bool
     ensures { result ≡ same_name one.now other.now }
@@ -73,7 +74,7 @@ fn is_same(one: &Name, other: &Name) -> bool
     are_same(one.as_bytes(), other.as_bytes()) || are_equal(one, other)
 }
 
-// The row in a slot, if it is that of a name.
+// Returns the row in a slot if it has this name.
 #[inline(always)]
 fn row_if_named<'a, T, A: Allocator + Copy>(
     rows: &'a Slab<ObjectRow<T>, A>,
@@ -88,7 +89,7 @@ fn row_if_named<'a, T, A: Allocator + Copy>(
     }
 }
 
-// The row of a name whose cell others share, if it is there.
+// Returns the row to which the map leads for a name of a shared cell, if it has this name.
 #[cold]
 #[inline(never)]
 fn row_in_shared<'a, T, A: Allocator + Copy>(
@@ -102,7 +103,7 @@ fn row_in_shared<'a, T, A: Allocator + Copy>(
     row_if_named(rows, names.other(name), name)
 }
 
-// The row of a name that is in the map, if it is there.
+// Returns the row to which the map leads for a name, if it has this name and the cell is shared.
 #[inline(never)]
 fn row_in_map<'a, T, A: Allocator + Copy>(
     rows: &'a Slab<ObjectRow<T>, A>,
@@ -118,7 +119,7 @@ fn row_in_map<'a, T, A: Allocator + Copy>(
     row_in_shared(rows, names, name)
 }
 
-// The row of a name. It is looked for where the name's cell says, and then by the map.
+// Returns the row of a name. The slot in the name's cell is tried first, and then the map.
 #[inline(always)]
 pub(crate) fn row_named<'a, T, A: Allocator + Copy>(
     rows: &'a Slab<ObjectRow<T>, A>,
@@ -134,7 +135,7 @@ pub(crate) fn row_named<'a, T, A: Allocator + Copy>(
     }
 }
 
-// The slot of an object's row, which is looked for in this slot first.
+// Returns the slot of an object's row. The given slot is tried first.
 #[inline(always)]
 pub(crate) fn slot_by<T, A: Allocator + Copy>(
     rows: &Slab<ObjectRow<T>, A>,
@@ -154,8 +155,8 @@ pub(crate) fn slot_by<T, A: Allocator + Copy>(
     }
 }
 
-// Takes the row with a number out, and its name, if there is one. The name is read where it lies,
-// so that the row is not copied for it.
+// Removes the row with a number and its name, if there is one, and returns the row. The name is
+// read in place, so that the row is not copied for it.
 #[inline(always)]
 pub(crate) fn take_named<T, A: Allocator + Copy>(
     rows: &mut Slab<ObjectRow<T>, A>,
@@ -204,8 +205,8 @@ pub(crate) fn make_room_named<T, A: Allocator + Copy>(
     names.reserve_for(name, place, rows.vacant_key())
 }
 
-// Puts a row with a new number and a new name in, given the index of the name's cell, if there is
-// room, and returns its slot.
+// Adds a row with a new number and a new name, given the index of the name's cell, and returns its
+// slot. There must be room for it.
 #[inline(always)]
 pub(crate) fn put_named<T, A: Allocator + Copy>(
     rows: &mut Slab<ObjectRow<T>, A>,

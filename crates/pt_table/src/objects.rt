@@ -70,7 +70,7 @@ impl<T, A: Allocator + Copy> Model for Objects<T, A> {
         o.names.cells o.names.others };
 }
 
-// Not derived, so that those that drop objects prove nothing of their parts.
+// Not derived, so that code that drops the table need not prove anything about its parts.
 impl<T: Drop, A: Allocator + Copy> Drop for Objects<T, A> {
     fn drop(self) {
         let Objects {
@@ -82,7 +82,7 @@ impl<T: Drop, A: Allocator + Copy> Drop for Objects<T, A> {
 }
 
 impl<T, A: Allocator + Copy> Objects<T, A> {
-    /// A table with no object. It takes no memory.
+    /// Creates an empty table, which allocates nothing.
     pub fn new(alloc: A) -> Self
         ensures { result ≡ [] }
     {
@@ -93,7 +93,7 @@ impl<T, A: Allocator + Copy> Objects<T, A> {
         }
     }
 
-    /// How many objects there are.
+    /// Returns the number of objects.
     pub fn len(&self) -> usize
         ensures len { result ≡ length self.now }
         ensures within { length self.now ≤ most_objects }
@@ -101,7 +101,7 @@ impl<T, A: Allocator + Copy> Objects<T, A> {
         self.numbers.len()
     }
 
-    /// The value of the object with this number.
+    /// Returns the value of the object with this number, if there is one.
     #[inline(always)]
     pub fn at(&self, number: u64) -> Option<&T>
         ensures { option_copied result ≡ object_value self.now number }
@@ -112,7 +112,7 @@ impl<T, A: Allocator + Copy> Objects<T, A> {
         }
     }
 
-    /// The number of the object with this name.
+    /// Returns the number of the object with this name, if there is one.
     pub fn find(&self, name: &Name) -> Option<u64>
         ensures { result ≡ number_of self.now name.now }
     {
@@ -122,7 +122,7 @@ impl<T, A: Allocator + Copy> Objects<T, A> {
         }
     }
 
-    /// The number of the object with this name, and its value.
+    /// Returns the number and the value of the object with this name, if there is one.
     #[inline(always)]
     pub fn named(&self, name: &Name) -> Option<(u64, &T)>
         ensures number { option_map (λ p. p.0) result ≡ number_of self.now name.now }
@@ -134,9 +134,9 @@ impl<T, A: Allocator + Copy> Objects<T, A> {
         }
     }
 
-    /// The number of the object at this index, and its value.
+    /// Returns the number and the value of the object at this index.
     ///
-    /// The objects are in the order in which they were added, from index 0 on.
+    /// Objects are indexed from 0, in the order in which they were added.
     pub fn nth(&self, index: usize) -> Option<(u64, &T)>
         ensures number { option_map (λ p. p.0) result ≡ nth_number self.now index }
         ensures value { option_map (λ p. p.1.now) result ≡ nth_value self.now index }
@@ -147,7 +147,7 @@ impl<T, A: Allocator + Copy> Objects<T, A> {
         }
     }
 
-    /// The row at this index, in the order in which the objects were added.
+    /// Returns the row at this index, in the order in which the objects were added.
     pub fn row(&self, index: usize) -> Option<&ObjectRow<T>>
         ensures { option_copied result ≡ slice_get self.now index }
     {
@@ -168,14 +168,14 @@ impl<T, A: Allocator + Copy> Objects<T, A> {
 
     ghost use Rattle.pt_table.specs.ObjectLends.{lends_at, lends_if_at};
 
-    // The slot of an object's row, if there is such an object, found with no hint.
+    // Returns the slot of an object's row, found without the slot hint, if there is such an object.
     fn slot_if(&self, number: u64) -> Option<usize>
         ensures { is_some result ≡ has_object self.now number }
     {
         self.numbers.get(number)
     }
 
-    // The value of an object, whose row is looked for in this slot first.
+    // Returns a mutable reference to the value of an object. The given slot is tried first.
     #[inline(always)]
     fn value_mut(&mut self, slot: usize, number: u64) -> &mut T
         requires { IsSome (object_at self.old number) }
@@ -186,7 +186,8 @@ impl<T, A: Allocator + Copy> Objects<T, A> {
         self.rows[slot].value_mut()
     }
 
-    // The value of an object whose number's hint is of no use.
+    // Returns a mutable reference to the value of an object, found without the slot hint, if there
+    // is such an object.
     #[cold]
     #[inline(never)]
     fn at_mut_by_number(&mut self, number: u64) -> Option<&mut T>
@@ -199,7 +200,7 @@ impl<T, A: Allocator + Copy> Objects<T, A> {
         }
     }
 
-    // The slot of an object's row, if its number's hint is right.
+    // Returns the slot of an object's row if its number's hint is right.
     #[inline(always)]
     fn hinted(&self, number: u64) -> Option<usize>
         ensures { OnSome result (IsSome (object_at self.now number)) }
@@ -207,7 +208,7 @@ impl<T, A: Allocator + Copy> Objects<T, A> {
         slot_by_hint(&self.rows, &self.numbers, number)
     }
 
-    /// The value of the object with this number, to be changed.
+    /// Returns a mutable reference to the value of the object with this number, if there is one.
     #[inline(always)]
     pub fn at_mut(&mut self, number: u64) -> Option<&mut T>
         ensures* lends { sem 𝓛 (lends_if_at T.row A.row A.Allocator self.entry number result) }
@@ -219,7 +220,7 @@ impl<T, A: Allocator + Copy> Objects<T, A> {
         }
     }
 
-    // The slot of an object's row, or any if there is no such object.
+    // Returns the slot of an object's row, or any slot if there is no such object.
     pub(crate) fn slot_near(&self, number: u64) -> usize {
         match self.hinted(number) {
             Some(slot) => slot,
@@ -227,7 +228,7 @@ impl<T, A: Allocator + Copy> Objects<T, A> {
         }
     }
 
-    // The link of an object's row, which is looked for in this slot first.
+    // Returns the link of an object's row. The given slot is tried first.
     pub(crate) fn link_near(&self, slot: usize, number: u64) -> Link
         requires { IsSome (object_at self.now number) }
         ensures { link_of self.now number ≡ Some result }
@@ -236,7 +237,7 @@ impl<T, A: Allocator + Copy> Objects<T, A> {
         self.rows[slot].link.get()
     }
 
-    // The link of an object's row.
+    // Returns the link of an object's row, if there is such an object.
     pub(crate) fn link_of(&self, number: u64) -> Option<Link>
         ensures { result ≡ link_of self.now number }
     {
@@ -246,7 +247,7 @@ impl<T, A: Allocator + Copy> Objects<T, A> {
         }
     }
 
-    // Writes the link of an object's row, which is looked for in this slot first.
+    // Sets the link of an object's row. The given slot is tried first.
     #[inline(always)]
     pub(crate) fn set_link(&mut self, slot: usize, number: u64, link: Link)
         requires { IsSome (object_at self.old number) }
@@ -256,7 +257,8 @@ impl<T, A: Allocator + Copy> Objects<T, A> {
         self.rows[slot].link = StoredLink::of(link);
     }
 
-    // An object's row, which is looked for in this slot first, leads on as another does.
+    // Sets the next number and slot in the link of an object's row to those of another link. The
+    // given slot is tried first.
     #[inline(always)]
     pub(crate) fn set_next_near(&mut self, slot: usize, number: u64, link: Link)
         requires { IsSome (object_at self.old number) }
@@ -267,7 +269,8 @@ impl<T, A: Allocator + Copy> Objects<T, A> {
         self.rows[slot].link.set_next(link);
     }
 
-    // The same row leads back as another does.
+    // Sets the previous number and slot in the link of an object's row to those of another link.
+    // The given slot is tried first.
     #[inline(always)]
     pub(crate) fn set_before_near(&mut self, slot: usize, number: u64, link: Link)
         requires { IsSome (object_at self.old number) }
@@ -278,7 +281,7 @@ impl<T, A: Allocator + Copy> Objects<T, A> {
         self.rows[slot].link.set_before(link);
     }
 
-    /// Takes the object with this number out. Its name is free from then on.
+    /// Removes the object with this number, and returns its value. Its name is free from then on.
     #[inline(always)]
     pub fn remove(&mut self, number: u64) -> Option<T>
         ensures value { result ≡ object_value self.old number }
@@ -294,19 +297,20 @@ impl<T, A: Allocator + Copy> Objects<T, A> {
         Some(value)
     }
 
-    /// Prepares for a walk over all objects by their indices, which a removal makes slow. It takes
-    /// no memory.
+    /// Prepares for a walk over all objects by their indices, which removals make slow. It
+    /// allocates nothing.
     pub fn pack(&mut self)
         ensures { self.new ≡ self.old }
     {
         self.numbers.pack();
     }
 
-    /// Adds an object whose number and name are new, if there are fewer than 4,096 objects.
+    /// Adds an object whose number and name are new. There must be fewer than 4,096 objects.
     ///
     /// # Errors
     ///
-    /// A growth was refused. The table stays as it was, and the value is dropped.
+    /// Returns an error if a growth is refused. The table stays unchanged, and the value is
+    /// dropped.
     #[inline(always)]
     pub fn add_new(&mut self, number: u64, name: &Name, value: T) -> Result<(), AllocError>
     where
@@ -341,16 +345,16 @@ impl<T, A: Allocator + Copy> Objects<T, A> {
         Ok(())
     }
 
-    /// Adds an object with its value, or returns the value.
+    /// Adds an object with its value, or returns the value with the fault that prevented it.
     ///
     /// # Errors
     ///
-    /// Taken if an object has the number or the name already, else AtLimit at 4,096
-    /// objects, else Memory if a growth was refused. The table stays as it was.
+    /// Returns `Taken` if an object has the number or the name already, else `AtLimit` at 4,096
+    /// objects, else `Memory` if a growth is refused. The table stays unchanged.
     pub fn add(&mut self, number: u64, name: Name, value: T) -> Result<(), (T, TableFault)>
         ensures ok { OnOk result (self.new ≡ and_object self.old number name value) }
 
-        // Refused: for the first reason that applies, and nothing moved.
+        // A fault is the first one that applies, and the table stays unchanged.
         ensures taken { IsFault TableFault.Taken result ↔ IsTrue (is_taken self.old number name) }
         ensures at_limit { IsFault TableFault.AtLimit result ↔ IsFullFor self.old number name }
         ensures err { OnErr result (self.new ≡ self.old) }

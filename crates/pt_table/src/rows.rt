@@ -1,4 +1,4 @@
-// Rows in a slab, and where each number's row lies there.
+// Rows in a slab, and the slot of each number's row.
 ghost use Rattle.std.specs.Prelude.{◌≡◌, ◌<◌, ◌++◌, [], ◌∷◌, Some, None, IsSome, IfSome, IfNone};
 ghost use Rattle.std.specs.Prelude.{OnOk, OnSome, nat_eq};
 ghost use Rattle.std.specs.Option.{option_copied, option_map};
@@ -23,7 +23,7 @@ pub(crate) fn row_in<'a, R, A: Allocator + Copy>(
     }
 }
 
-// The row of a number whose hint is of no use.
+// Returns the row of a number, found without the slot hint.
 #[cold]
 #[inline(never)]
 pub(crate) fn row_by_number<'a, R, A: Allocator + Copy>(
@@ -37,7 +37,7 @@ pub(crate) fn row_by_number<'a, R, A: Allocator + Copy>(
     row_in(rows, numbers.get(number))
 }
 
-// The row of the number at this index.
+// Returns the row of the number at this index.
 pub(crate) fn nth_row<'a, R, A: Allocator + Copy>(
     rows: &'a Slab<R, A>,
     numbers: &Numbers<A>,
@@ -51,7 +51,7 @@ pub(crate) fn nth_row<'a, R, A: Allocator + Copy>(
     }
 }
 
-/// As `nth_row`, with the slot in which the row is.
+/// Does what `nth_row` does, and also returns the slot of the row.
 pub(crate) fn nth_row_in_slot<'a, R, A: Allocator + Copy>(
     rows: &'a Slab<R, A>,
     numbers: &Numbers<A>,
@@ -64,7 +64,7 @@ pub(crate) fn nth_row_in_slot<'a, R, A: Allocator + Copy>(
     Some((slot, rows.get(slot)?))
 }
 
-// The slot of a number that has one.
+// Returns the slot of a number that has one.
 pub(crate) fn slot_of<R, A: Allocator + Copy>(
     rows: &Slab<R, A>,
     numbers: &Numbers<A>,
@@ -92,7 +92,7 @@ pub(crate) fn make_room<R, A: Allocator + Copy>(
     numbers.reserve_one()
 }
 
-// Puts a row with a new number in, if there is room, and returns its slot.
+// Adds a row with a new number, and returns its slot. There must be room for it.
 #[inline(always)]
 pub(crate) fn put<R, A: Allocator + Copy>(
     rows: &mut Slab<R, A>,
@@ -114,7 +114,7 @@ pub(crate) fn put<R, A: Allocator + Copy>(
     slot
 }
 
-// Takes the row with a number out, if there is one.
+// Removes the row with a number, and returns it, if there is one.
 pub(crate) fn take_out<R, A: Allocator + Copy>(
     rows: &mut Slab<R, A>,
     numbers: &mut Numbers<A>,

@@ -1,26 +1,27 @@
-//! For each value of a key's low bits, the slot in which a row with such a key was last.
+//! Slot hints: for each value of a key's low bits, the slot in which a row with such a key was
+//! last.
 
 ghost use Rattle.std.specs.Prelude.{◌<◌, ◌^◌};
 
-/// How many hints there are.
+/// The number of hints.
 const COUNT: usize = 16384;
 
 /// For each value of a key's low 14 bits, the slot that was noted last with such a key.
 ///
-/// The hints lie in the value itself, so that one is read without a look at where they are and how
-/// many. A hint may be wrong: whoever takes it compares the key of the row in that slot.
+/// The hints are stored in the value itself, so that reading one does not require a look at where
+/// they are and how many. A hint may be wrong: its user compares the key of the row in that slot.
 #[derive(Drop)]
 pub(crate) struct SlotHints {
     slots: [u16; COUNT],
 }
 
 impl SlotHints {
-    /// Hints that all lead to slot 0.
+    /// Creates hints that all lead to slot 0.
     pub(crate) fn new() -> Self {
         SlotHints { slots: [0; COUNT] }
     }
 
-    /// The slot in which the row with a key is looked for first.
+    /// Returns the slot in which the row with a key is looked for first.
     #[inline(always)]
     pub(crate) fn get(&self, key: u64) -> usize
         ensures { result < 2 ^ 16 }

@@ -1,4 +1,4 @@
-//! Putting a chain in rising order. It takes no memory.
+//! Sorting of a chain into rising order, which allocates nothing.
 
 ghost use Rattle.std.specs.Bool.{OnTrue};
 ghost use Rattle.std.specs.Prelude.{◌≡◌, ◌<◌, ◌≤◌, ℕ, List, true, length, take};
@@ -14,8 +14,8 @@ use crate::objects::Objects;
 use pt_types::MOST_OBJECTS;
 use std::alloc::Allocator;
 
-/// A chain with at most so many rows is sorted in a short array: to zero one for all rows that
-/// there may be would cost more than the sort.
+/// The most rows of a chain that is sorted in a short array. Zeroing an array for all rows that a
+/// table may have would cost more than the sort.
 const FEW: usize = 32;
 
 fn sort_numbers(numbers: &mut [u64])
@@ -26,7 +26,7 @@ fn sort_numbers(numbers: &mut [u64])
     numbers.sort_unstable();
 }
 
-// The number before this index.
+// Returns the number before this index, if there is one.
 #[inline(always)]
 fn number_ahead(numbers: &[u64], i: usize) -> Option<u64>
     requires { i < length numbers.now }
@@ -36,7 +36,7 @@ fn number_ahead(numbers: &[u64], i: usize) -> Option<u64>
 }
 
 impl<T, A: Allocator + Copy> Objects<T, A> {
-    // Writes the numbers of the chain of a head to the front of a slice, and returns how many they
+    // Writes the numbers of the chain of a head to the front of a slice, and returns how many there
     // are.
     fn gather(&self, head: Option<u64>, numbers: &mut [u64]) -> usize
         requires chain { HasChain self.now head }
@@ -54,8 +54,8 @@ impl<T, A: Allocator + Copy> Objects<T, A> {
         count
     }
 
-    // Links rows to one another in the order of their numbers, whatever they were linked to, and
-    // returns the head of their chain. The last is linked first.
+    // Links rows to one another in the order of their numbers, whatever links they had, and returns
+    // the head of their chain. The last row is linked first.
     fn link_each(&mut self, numbers: &[u64]) -> Option<u64>
         requires rising { IsRising numbers.now }
         requires rows { (n : ℕ) → IsOneOf numbers.now n → has_object self.old n ≡ true }
@@ -89,7 +89,8 @@ impl<T, A: Allocator + Copy> Objects<T, A> {
         head
     }
 
-    // Puts the chain of a head in rising order, by a slice with room for its numbers.
+    // Sorts the chain of a head into rising order, in a slice with room for its numbers, and
+    // returns its new head.
     fn sort_by(&mut self, head: Option<u64>, room: &mut [u64]) -> Option<u64>
         requires chain { HasChain self.old head }
         requires room { IsAtMost self.old head (length room.old) }
@@ -104,7 +105,7 @@ impl<T, A: Allocator + Copy> Objects<T, A> {
         self.link_each(numbers)
     }
 
-    // Whether a chain has at most so many rows.
+    // Returns whether a chain has at most `most` rows.
     fn is_within(&self, head: Option<u64>, most: usize) -> bool
         ensures { OnTrue result (IsAtMost self.now head most) }
     {
@@ -118,7 +119,8 @@ impl<T, A: Allocator + Copy> Objects<T, A> {
         rest.is_none()
     }
 
-    // Whether the numbers of a chain rise, as those that were taken in falling order do.
+    // Returns whether the numbers of a chain rise, as they do if the rows were linked by falling
+    // number.
     fn is_rising(&self, head: Option<u64>) -> bool
         ensures { OnTrue result ((numbers : List ℕ)
             → IsChain self.now head numbers
@@ -139,7 +141,7 @@ impl<T, A: Allocator + Copy> Objects<T, A> {
         false
     }
 
-    /// Puts the chain of a head in rising order, and returns its head.
+    /// Sorts the chain of a head into rising order, and returns its new head.
     pub fn sort(&mut self, head: Option<u64>) -> Option<u64>
         requires { HasChain self.old head }
         ensures chain { IsSortedTo self.old self.new head result }

@@ -3,7 +3,7 @@ ghost use Rattle.std.specs.Prelude.{◌≡◌, Some, None, if◌then◌else◌};
 use crate::link::Link;
 use std::marker::Model;
 
-/// A link as it lies in its row: in 24 bytes.
+/// A link as its row stores it, in 24 bytes.
 #[derive(Drop)]
 pub struct StoredLink {
     next: u64,
@@ -30,7 +30,7 @@ impl Model for StoredLink {
     } };
 }
 
-// A number, if there is one.
+// Returns the number if `there` is true.
 #[inline(always)]
 fn number_if(there: bool, number: u64) -> Option<u64>
     ensures { result ≡ if there then Some number else None }
@@ -39,7 +39,7 @@ fn number_if(there: bool, number: u64) -> Option<u64>
 }
 
 impl StoredLink {
-    // A link that is stored.
+    // Converts a link to the form in which it is stored.
     #[inline(always)]
     pub(crate) fn of(link: Link) -> Self
         ensures { result ≡ link }
@@ -55,7 +55,7 @@ impl StoredLink {
         }
     }
 
-    // The link that is stored.
+    // Returns the link that is stored.
     #[inline(always)]
     pub(crate) fn get(&self) -> Link
         ensures { result ≡ self.now }
@@ -69,7 +69,7 @@ impl StoredLink {
         }
     }
 
-    // It leads on as another does, and back as it did.
+    // Sets the next number and slot to those of another link, and leaves the rest unchanged.
     #[inline(always)]
     pub(crate) fn set_next(&mut self, link: Link)
         ensures { self.new
@@ -80,7 +80,7 @@ impl StoredLink {
         self.next_slot = link.next_slot;
     }
 
-    // It leads back as another does, and on as it did.
+    // Sets the previous number and slot to those of another link, and leaves the rest unchanged.
     #[inline(always)]
     pub(crate) fn set_before(&mut self, link: Link)
         ensures { self.new

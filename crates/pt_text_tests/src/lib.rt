@@ -1,7 +1,7 @@
 //! Tests of devices, of lines, of the script engine and of the command line.
 //!
-//! There are only tests here, a file for each call or crate that is tested. They see what is public
-//! of it.
+//! This crate has only tests, in one file for each call or crate that is tested. They use public
+//! items alone.
 #![tactic(auto)]
 
 #[cfg(test)]

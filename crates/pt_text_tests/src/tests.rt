@@ -10,15 +10,15 @@ use pt_lines::{Cut, Cutter};
 use std::alloc::Global;
 use std::test::Fail;
 
-// A test plays on a thing that it borrows. Each early end of a function that owns one has to drop
-// it, and each such drop is proved; so this function owns it.
+// Lends a value to a test. A function that owns the value has to drop it at each early return, and
+// each such drop is proved. So this function owns it.
 fn lend<T: Drop, R, F: FnOnce(&mut T) -> R>(mut owned: T, play: F) -> R
     requires { F.IsAlwaysCallable play }
 {
     play(&mut owned)
 }
 
-// The first line of a text.
+// Returns the first line of a text.
 fn first_cut(alloc: Global, text: &[u8]) -> Result<Cut, Fail> {
     lend(Cutter::new(alloc), |cutter| {
         cutter.feed(text)?;

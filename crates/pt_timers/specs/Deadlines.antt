@@ -18,12 +18,12 @@ abbrev pub deadline_at : List (ℕ × (Clock × ℕ)) → ℕ → Option (Clock 
 deadline_at [] p = None
 deadline_at (t ∷ ts) p = if t.0 == p then Some t.1 else deadline_at ts p
 
--- whether what is set at a place is this
+-- whether the deadline that is set at a place is this one
 abbrev pub is_set_to : Clock → ℕ → Option (Clock × ℕ) → Bool
 is_set_to k n None = false
 is_set_to k n (Some d) = same_clock k d.0 && (n == d.1)
 
--- what each of the clocks shows; before its first moment nothing
+-- what each clock shows, which is nothing before its first moment
 abbrev pub moments : Option ℕ → Option ℕ → Clock → Option ℕ
 moments real mono Real = real
 moments real mono Mono = mono
@@ -33,11 +33,12 @@ abbrev pub is_reached : Option ℕ → ℕ → Bool
 is_reached None n = false
 is_reached (Some now) n = nat_le n now
 
--- what says which is due first: the deadline, then the place
+-- the pair that decides which key is due first: the deadline, then the place
 abbrev pub pair_of : TimerKey → ℕ × ℕ
 pair_of k = (k.nanos, k.place)
 
--- of a clock's deadlines the least by (deadline, place), if the clock has reached it
+-- it is the least of a clock's deadlines by (deadline, place), and the clock has reached it, or
+-- none if the clock has reached none
 abbrev pub IsFirstDue : List (ℕ × (Clock × ℕ)) → Clock → Option ℕ → Option TimerKey → Type 0
 IsFirstDue ts k now found =
     MatchOption found
@@ -46,8 +47,9 @@ IsFirstDue ts k now found =
     × (is_reached now t.nanos ≡ true)
     × ((q m : ℕ) → deadline_at ts q ≡ Some (k, m) → pair_before (m, q) (pair_of t) ≡ false))
 
--- of the deadlines that their own clocks have reached the least by (deadline, place), whichever the
--- clock; or none if none is reached  [XSH pthread_mutex_clocklock; the order is profile]
+-- it is the place of the least deadline, by (deadline, place), of those that their own clocks have
+-- reached, whichever the clock, or none if none is reached
+-- [XSH pthread_mutex_clocklock; the order is profile]
 abbrev pub IsLeastDue : List (ℕ × (Clock × ℕ)) → (Clock → Option ℕ) → Option ℕ → Type 0
 IsLeastDue ts now found =
     MatchOption found
@@ -56,7 +58,7 @@ IsLeastDue ts now found =
     × ((q : ℕ) (l : Clock) (m : ℕ) → deadline_at ts q ≡ Some (l, m)
     → is_reached (now l) m ≡ true → pair_before (m, q) (n, p) ≡ false))
 
--- a deadline of this clock that is set, and none of the clock is less; or none if none is set
+-- it is the least deadline that is set of this clock, as a time, or none if none is set
 abbrev pub IsLeast : List (ℕ × (Clock × ℕ)) → Clock → Option Timespec → Type 0
 IsLeast ts k found =
     MatchOption found
@@ -64,33 +66,33 @@ IsLeast ts k found =
     (λ d. (p : ℕ) × (deadline_at ts p ≡ Some (k, deadline_nanos d)) × (is_bad_deadline d ≡ false)
     × ((q m : ℕ) → deadline_at ts q ≡ Some (k, m) → deadline_nanos d ≤ m))
 
--- the sooner of these
+-- the sooner of the two keys, or the second if there is no first
 abbrev pub sooner_of : Option TimerKey → TimerKey → TimerKey
 sooner_of None t = t
 sooner_of (Some b) t = if pair_before (pair_of t) (pair_of b) then t else b
 
--- a key of these nanoseconds and this place
+-- a key with these nanoseconds and this place
 abbrev pub key_of : ℕ → ℕ → TimerKey
 key_of n p = record { nanos = n; place = p; client = 0 }
 
--- whether two keys are of the same deadline and place
+-- whether two keys have the same deadline and place
 abbrev pub same_key : TimerKey → TimerKey → Bool
 same_key a b = (a.nanos == b.nanos) && (a.place == b.place)
 
--- whether what is found has this key
+-- whether a key was found and equals this one
 abbrev pub is_found : Option TimerKey → TimerKey → Bool
 is_found None key = false
 is_found (Some f) key = same_key f key
 
--- the order of the keys: by nanoseconds, then by place, and the later is the less
+-- the order of the keys, by nanoseconds and then by place, in which the later key is the lesser
 abbrev pub key_cmp : TimerKey → TimerKey → Ordering
 key_cmp a b = ordering_then (nat_cmp b.nanos a.nanos) (nat_cmp b.place a.place)
 
--- whether one of these keys is of this deadline and place
+-- whether one of these keys has this deadline and place
 abbrev pub is_in : List TimerKey → TimerKey → Bool
 is_in keys q = list_any (is_at (key_cmp q)) keys
 
--- a key that is among these, and none of them is due before it; or none if none is there
+-- it is one of these keys, and none of them is due before it, or none if there are no keys
 abbrev pub IsFirst : List TimerKey → Option TimerKey → Type 0
 IsFirst keys found =
     MatchOption found
@@ -98,34 +100,35 @@ IsFirst keys found =
     (λ k. (is_in keys k ≡ true)
     × ((q : TimerKey) → is_in keys q ≡ true → pair_before (pair_of q) (pair_of k) ≡ false))
 
--- the keys of which none is canceled
+-- the keys that are not canceled
 abbrev pub live : List TimerKey → List TimerKey → List TimerKey
 live keys canceled = filter (λ k. not (is_in canceled k)) keys
 
--- whether a key is among these, and isn't canceled
+-- whether a key is among these and is not canceled
 abbrev pub is_live : List TimerKey → List TimerKey → TimerKey → Bool
 is_live keys canceled q = not (is_in canceled q) && is_in keys q
 
--- the first of the keys isn't canceled
+-- the first of the keys is not canceled
 abbrev pub IsApart : List TimerKey → List TimerKey → Type 0
 IsApart keys canceled = (t : TimerKey) → IsFirst keys (Some t) → is_in canceled t ≡ false
 
--- no key came after this place
+-- no key has a place after this one
 abbrev pub ComeBefore : List TimerKey → ℕ → Type 0
 ComeBefore keys last = (q : TimerKey) → is_in keys q ≡ true → q.place ≤ last
 
--- both are heaps; the first of the keys isn't canceled; and no canceled key came after this place
+-- both lists are heaps, the first of the keys is not canceled, and no canceled key has a place
+-- after `last`
 pub record IsOrder (keys canceled : List TimerKey) (last : ℕ) : Type 0 where
   pub heap : IsHeap key_cmp keys
   pub canceled_heap : IsHeap key_cmp canceled
   pub apart : IsApart keys canceled
   pub before : ComeBefore canceled last
 
--- the nanoseconds of a deadline that is a time are below these  [profile]
+-- the limit below which the nanoseconds of a deadline that is a time are  [profile]
 abbrev pub most_nanos : ℕ
 most_nanos = 10000000000 * second
 
--- the deadlines in their orders are those that are set at their places, and each is a time
+-- the deadlines in the orders are those that are set at their places, and each is a time
 -- [XSH pthread_mutex_timedlock, EINVAL]
 pub record AreTimers (places : List (ℕ × (Clock × ℕ)))
     (is_due : Clock → TimerKey → Bool) : Type 0 where

@@ -1,4 +1,4 @@
--- Deadlines: a finite map from places to deadlines in nanoseconds
+-- Deadlines: a finite map from places to deadlines, each with its clock and in nanoseconds
 pub mod Deadlines
 -- Orders: the deadlines of each clock, by their keys
 pub mod Orders

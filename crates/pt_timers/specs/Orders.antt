@@ -15,7 +15,7 @@ order_of o Mono = o.mono
 abbrev pub is_due_at : {A : Type 0} → Orders A → Clock → TimerKey → Bool
 is_due_at o k key = is_in (order_of o k) key
 
--- the deadlines of a clock with these keys, by their places
+-- the deadlines of a clock that have these keys, by their places
 abbrev pub by_places : Clock → List TimerKey → List (ℕ × (Clock × ℕ))
 by_places k [] = []
 by_places k (q ∷ qs) = (q.place, (k, q.nanos)) ∷ by_places k qs

@@ -8,8 +8,8 @@ ghost use Rattle.std.specs.Ordering.{nat_cmp, on, flip_args, then_cmp, as_partia
 use pt_types::ClientId;
 use std::cmp::Ordering;
 
-/// What says which deadline is due first: its nanoseconds, then the place of its call. The client
-/// of the call comes along.
+/// The key that decides which deadline is due first: by its nanoseconds, then by the place of its
+/// call. The call's client is stored with it, and is not compared.
 #[derive(Clone, Copy)]
 #[derive_where(PartialEq, Eq)]
 pub(crate) struct TimerKey {
@@ -19,8 +19,8 @@ pub(crate) struct TimerKey {
     pub(crate) client: ClientId,
 }
 
-// The later is the less, so that the one that is due first is the greatest. Both parts are always
-// compared: no processor foretells a branch on which of two keys is sooner.
+// The later key is the lesser one, so that the one due first is the greatest. Both parts are always
+// compared, since no processor predicts a branch on which of two keys is sooner.
 impl Ord for TimerKey {
     ghost cmp = { then_cmp (flip_args (on (λ k. k.nanos) nat_cmp))
         (flip_args (on (λ k. k.place) nat_cmp)) };
@@ -50,7 +50,7 @@ impl PartialOrd for TimerKey {
     }
 }
 
-/// The sooner of the two.
+/// Returns the sooner of the two keys, or `key` if there is no other.
 pub(crate) fn sooner(best: Option<TimerKey>, key: TimerKey) -> TimerKey
     ensures { result ≡ sooner_of best key }
 {

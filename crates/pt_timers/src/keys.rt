@@ -1,4 +1,4 @@
-//! The keys of deadlines in a heap, whose first is the one that is due first.
+//! The keys of deadlines, in a heap whose first key is the one that is due first.
 
 ghost use Rattle.std.specs.Prelude.{◌≡◌, ◌+◌, ◌<◌, ◌≤◌, ◌&&◌, ◌||◌, not, Some};
 ghost use Rattle.std.specs.Prelude.{OnOk, OnErr, IfErr, IsOk};
@@ -12,7 +12,7 @@ use pt_types::Refusal;
 use std::alloc::Allocator;
 use std::collections::BinaryHeap;
 
-/// The key that is due first.
+/// Returns the key that is due first.
 #[inline(always)]
 pub(crate) fn first_of<A: Allocator + Copy>(keys: &BinaryHeap<TimerKey, A>) -> Option<TimerKey>
     requires { IsHeap key_cmp (heap_items keys.now) }
@@ -24,7 +24,7 @@ pub(crate) fn first_of<A: Allocator + Copy>(keys: &BinaryHeap<TimerKey, A>) -> O
     }
 }
 
-/// Whether this key is the one that was found.
+/// Returns whether this key is the one that was found.
 pub(crate) fn is_key(found: &Option<TimerKey>, key: &TimerKey) -> bool
     ensures { result ≡ is_found found.now key.now }
 {
@@ -34,7 +34,7 @@ pub(crate) fn is_key(found: &Option<TimerKey>, key: &TimerKey) -> bool
     }
 }
 
-/// Room for so many more; ENOMEM if the growth is refused.
+/// Makes room for `additional` more keys. Returns ENOMEM if the growth is refused.
 #[inline(always)]
 pub(crate) fn reserve<A: Allocator + Copy>(
     keys: &mut BinaryHeap<TimerKey, A>,
@@ -49,7 +49,7 @@ pub(crate) fn reserve<A: Allocator + Copy>(
     }
 }
 
-/// Puts a key in; ENOMEM if the growth is refused, which changes nothing.
+/// Adds a key. Returns ENOMEM if the growth is refused, and then changes nothing.
 #[inline(always)]
 pub(crate) fn push<A: Allocator + Copy>(
     keys: &mut BinaryHeap<TimerKey, A>,
@@ -71,7 +71,7 @@ pub(crate) fn push<A: Allocator + Copy>(
     }
 }
 
-/// Takes one key that is due first away.
+/// Removes one key that is due first.
 #[inline(always)]
 pub(crate) fn pop<A: Allocator + Copy>(keys: &mut BinaryHeap<TimerKey, A>, first: &TimerKey)
     requires heap { IsHeap key_cmp (heap_items keys.old) }
@@ -84,7 +84,7 @@ pub(crate) fn pop<A: Allocator + Copy>(keys: &mut BinaryHeap<TimerKey, A>, first
     keys.pop();
 }
 
-/// Takes a key away wherever it is. It takes time that grows with how many keys there are.
+/// Removes a key, wherever it is. It takes time that grows with the number of keys.
 #[inline(never)]
 pub(crate) fn drop_key<A: Allocator + Copy>(keys: &mut BinaryHeap<TimerKey, A>, key: &TimerKey)
     ensures heap { IsHeap key_cmp (heap_items keys.new) }
@@ -94,7 +94,7 @@ pub(crate) fn drop_key<A: Allocator + Copy>(keys: &mut BinaryHeap<TimerKey, A>, 
     keys.retain(|other| other != key);
 }
 
-/// Takes the key that is due first away, however often it is in.
+/// Removes the key that is due first, however often it occurs.
 pub(crate) fn pop_all<A: Allocator + Copy>(keys: &mut BinaryHeap<TimerKey, A>, first: &TimerKey)
     requires heap { IsHeap key_cmp (heap_items keys.old) }
     requires first { IsFirst (heap_items keys.old) (Some first.now) }

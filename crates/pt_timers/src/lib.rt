@@ -1,7 +1,7 @@
 //! The deadlines of open calls.
 //!
-//! Contracts see a finite map from places to nanoseconds, by what is set at each place.
-//! Only tests show that room which is asked for is found.
+//! Contracts see a finite map from places to clocks and nanoseconds: the deadline that is set at
+//! each place. Only tests show that room is found when it is asked for.
 #![tactic(auto)]
 
 mod key;

@@ -14,7 +14,7 @@ use std::collections::BinaryHeap;
 use std::marker::Model;
 
 /// The deadlines of a clock. A deadline that is canceled while another is due before it stays among
-/// the keys, and is noted among the canceled ones, whose places are `last` or before it.
+/// the keys, and is noted among the canceled ones. The places of canceled keys are at most `last`.
 #[derive(Drop)]
 pub(crate) struct Order<A: Allocator + Copy> {
     keys: BinaryHeap<TimerKey, A>,
@@ -37,7 +37,7 @@ impl<A: Allocator + Copy> Model for Order<A> {
 }
 
 impl<A: Allocator + Copy> Order<A> {
-    /// No deadline. It takes no memory.
+    /// Creates an order with no deadline, which allocates nothing.
     pub(crate) fn new(alloc: A) -> Self
         ensures { (q : TimerKey) → is_in result q ≡ false }
     {
@@ -49,7 +49,7 @@ impl<A: Allocator + Copy> Order<A> {
         }
     }
 
-    /// The deadline that is due first.
+    /// Returns the deadline that is due first.
     #[inline(always)]
     pub(crate) fn first(&self) -> Option<TimerKey>
         ensures { IsFirst self.now result }
@@ -57,7 +57,7 @@ impl<A: Allocator + Copy> Order<A> {
         first_of(&self.keys)
     }
 
-    /// Puts a deadline in its order; ENOMEM if the growth is refused, which changes nothing.
+    /// Adds a deadline. Returns ENOMEM if a growth is refused, and then changes nothing.
     pub(crate) fn insert(&mut self, key: TimerKey) -> Result<(), Refusal>
         ensures ok { OnOk result ((q : TimerKey)
             → is_in self.new q ≡ (same_key key q || is_in self.old q)) }
@@ -69,7 +69,7 @@ impl<A: Allocator + Copy> Order<A> {
         Ok(())
     }
 
-    /// Takes a deadline away, if it is there. It takes no memory.
+    /// Removes a deadline, if it is there. It allocates nothing.
     pub(crate) fn remove(&mut self, key: TimerKey)
         ensures { (q : TimerKey) → is_in self.new q ≡ (not (same_key key q) && is_in self.old q) }
     {
@@ -83,7 +83,7 @@ impl<A: Allocator + Copy> Order<A> {
     }
 }
 
-// Puts a key in, and leaves room for all keys to be canceled.
+// Adds a key, and leaves room for all keys to be canceled.
 #[inline(always)]
 fn insert<A: Allocator + Copy>(
     keys: &mut BinaryHeap<TimerKey, A>,
@@ -115,7 +115,7 @@ fn insert<A: Allocator + Copy>(
     Ok(())
 }
 
-// Notes that a key is canceled, or takes it away if there is no room to note it.
+// Notes that a key is canceled, or removes it if there is no room for the note.
 #[inline(never)]
 fn cancel<A: Allocator + Copy>(
     keys: &mut BinaryHeap<TimerKey, A>,

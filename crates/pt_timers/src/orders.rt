@@ -19,7 +19,7 @@ impl<A: Allocator + Copy> Orders<A> {
     ghost use Rattle.pt_types.specs.declared.time.Clock.{Clock};
     ghost use Rattle.pt_timers.specs.Orders.{order_of, is_due_at};
 
-    /// No deadline. It takes no memory.
+    /// Creates orders with no deadline, which allocate nothing.
     pub(crate) fn new(alloc: A) -> Orders<A>
         ensures { (k : Clock) (q : TimerKey) → is_due_at result k q ≡ false }
     {
@@ -29,7 +29,7 @@ impl<A: Allocator + Copy> Orders<A> {
         }
     }
 
-    /// The deadlines of a clock.
+    /// Returns the deadlines of a clock.
     pub(crate) fn of(&self, clock: Clock) -> &Order<A>
         ensures { result.now ≡ order_of self.now clock }
     {
@@ -39,7 +39,7 @@ impl<A: Allocator + Copy> Orders<A> {
         }
     }
 
-    /// Puts a deadline in its order; ENOMEM if the growth is refused, which changes nothing.
+    /// Adds a deadline. Returns ENOMEM if a growth is refused, and then changes nothing.
     pub(crate) fn insert(&mut self, clock: Clock, key: TimerKey) -> Result<(), Refusal>
         ensures ok { OnOk result ((k : Clock) (q : TimerKey)
             → is_due_at self.new k q
@@ -54,7 +54,7 @@ impl<A: Allocator + Copy> Orders<A> {
         }
     }
 
-    /// Takes a deadline away, if it is there. It takes no memory.
+    /// Removes a deadline, if it is there. It allocates nothing.
     pub(crate) fn remove(&mut self, clock: Clock, key: TimerKey)
         ensures { (k : Clock) (q : TimerKey)
             → is_due_at self.new k q

@@ -1,4 +1,5 @@
-//! Keys that were canceled while others were due before them. They leave once they would be first.
+//! Keys that were canceled while others were due before them. They are removed once they would be
+//! first.
 
 ghost use Rattle.std.specs.Prelude.{◌≡◌, ◌+◌, ◌<◌, ◌≤◌, false, true};
 ghost use Rattle.std.specs.BinaryHeap.{IsHeap, heap_items, heap_len, heap_capacity};
@@ -11,11 +12,11 @@ use std::alloc::Allocator;
 use std::cmp::Ordering;
 use std::collections::BinaryHeap;
 
-// So few canceled keys may always stay.
+// The number of canceled keys that may stay however few the others are.
 const FEW: usize = 64;
 
-// Takes one key away if the first of the canceled ones isn't due after the first: that one if it is
-// canceled, or else the canceled one, which no key equals. Returns whether there was one.
+// Removes one key if the first canceled key is not due after the first key: the first key if the
+// two are equal, or else the canceled one, which no key equals. Returns whether a key was removed.
 #[inline(always)]
 fn drop_stale<A: Allocator + Copy>(
     keys: &mut BinaryHeap<TimerKey, A>,
@@ -49,7 +50,7 @@ fn drop_stale<A: Allocator + Copy>(
     true
 }
 
-/// Takes keys away until the first isn't canceled.
+/// Removes keys until the first one is not canceled.
 pub(crate) fn settle<A: Allocator + Copy>(
     keys: &mut BinaryHeap<TimerKey, A>,
     canceled: &mut BinaryHeap<TimerKey, A>,
@@ -68,7 +69,7 @@ pub(crate) fn settle<A: Allocator + Copy>(
     while drop_stale(keys, canceled) {}
 }
 
-// Moves those that aren't canceled to a heap that has room for them.
+// Moves the keys that are not canceled to a heap that has room for them.
 fn move_live<A: Allocator + Copy>(
     keys: &mut BinaryHeap<TimerKey, A>,
     canceled: &mut BinaryHeap<TimerKey, A>,
@@ -91,7 +92,7 @@ fn move_live<A: Allocator + Copy>(
     }
 }
 
-// Takes all canceled keys away, if there is memory.
+// Removes all canceled keys, if there is memory to do so.
 #[cold]
 #[inline(never)]
 fn compact<A: Allocator + Copy>(
@@ -117,7 +118,8 @@ fn compact<A: Allocator + Copy>(
     }
 }
 
-/// Takes all canceled keys away if they are more than three in four, and there is memory.
+/// Removes all canceled keys if they are more than `FEW` and more than three in four, and there is
+/// memory to do so.
 #[inline(always)]
 pub(crate) fn compact_if_sparse<A: Allocator + Copy>(
     keys: &mut BinaryHeap<TimerKey, A>,

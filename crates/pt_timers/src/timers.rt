@@ -8,10 +8,10 @@ use pt_types::{ClientId, Clock, Deadline, Moment, Refusal};
 use std::alloc::{Allocator, Global};
 use std::marker::Model;
 
-// A time has fewer nanoseconds beside its seconds.
+// The number of nanoseconds in a second. A time has fewer beside its seconds.
 const NANOSECONDS_IN_SECOND: u64 = 1_000_000_000;
 
-// All nanoseconds of a deadline that is a time.
+// Returns all nanoseconds of a deadline that is a time.
 fn nanos_of(deadline: Deadline) -> u64
     requires { is_bad_deadline deadline ≡ false }
     ensures nanos { result ≡ deadline_nanos deadline }
@@ -20,7 +20,7 @@ fn nanos_of(deadline: Deadline) -> u64
     deadline.sec() * NANOSECONDS_IN_SECOND + deadline.nsec()
 }
 
-// The deadline of these nanoseconds, as a time.
+// Returns the deadline of these nanoseconds, as a time.
 fn deadline_of(nanos: u64) -> Deadline
     requires { nanos < most_nanos }
     ensures nanos { deadline_nanos result ≡ nanos }
@@ -30,8 +30,8 @@ fn deadline_of(nanos: u64) -> Deadline
     Deadline::new(sec, nanos % NANOSECONDS_IN_SECOND).unwrap()
 }
 
-/// Deadlines by the places of their calls. Only `set` takes memory. Over many calls, each takes
-/// time that grows with the logarithm of how many are set.
+/// Deadlines by the places of their calls. Only `set` allocates. Over many operations, each takes
+/// time that grows with the logarithm of the number of deadlines that are set.
 pub struct Timers<A: Allocator + Copy = Global> {
     orders: Orders<A>,
 }
@@ -49,7 +49,7 @@ impl<A: Allocator + Copy> Model for Timers<A> {
     ghost invariant = { λ t. AreTimers (listed t.orders) (is_due_at t.orders) };
 }
 
-// Not derived, so that those that drop timers prove nothing of their parts.
+// Not derived, so that code that drops timers need not prove anything about their parts.
 impl<A: Allocator + Copy> Drop for Timers<A> {
     fn drop(self) {
         let Timers { orders: _ } = self;
@@ -62,7 +62,7 @@ impl<A: Allocator + Copy> Timers<A> {
     ghost use Rattle.pt_timers.specs.Deadlines.{deadline_at, is_set_to, moments, IsFirstDue};
     ghost use Rattle.pt_timers.specs.Deadlines.{IsLeast, IsLeastDue};
 
-    /// No deadline. It takes no memory.
+    /// Creates a map with no deadline, which allocates nothing.
     pub fn new(alloc: A) -> Self
         ensures { (p : ℕ) → deadline_at result p ≡ None }
     {
@@ -71,8 +71,8 @@ impl<A: Allocator + Copy> Timers<A> {
         }
     }
 
-    /// Sets the deadline of a place that has none; `Enomem` if a growth is refused. The client is
-    /// what `least_due` gives with the place.
+    /// Sets the deadline of a place that has none. Returns `Enomem` if a growth is refused.
+    /// `least_due` returns the client together with the place.
     pub fn set(
         &mut self,
         place: u64,
@@ -87,7 +87,7 @@ impl<A: Allocator + Copy> Timers<A> {
             ≡ (if place == p then Some (clock, deadline_nanos deadline)
             else deadline_at self.old p)) }
 
-        // Refused: unchanged.
+        // A refusal changes nothing.
         ensures err { OnErr result (self.new ≡ self.old) }
         ensures refusal { IfErr result (λ refusal. refusal ≡ Refusal.Enomem) }
     {
@@ -99,7 +99,7 @@ impl<A: Allocator + Copy> Timers<A> {
         self.orders.insert(clock, key)
     }
 
-    /// Takes the deadline of a place away, if it is this one. It takes no memory.
+    /// Removes the deadline of a place, if it is this one. It allocates nothing.
     pub fn cancel(&mut self, place: u64, clock: Clock, nanos: u64)
         ensures { (p : ℕ)
             → deadline_at self.new p
@@ -115,7 +115,7 @@ impl<A: Allocator + Copy> Timers<A> {
         self.orders.remove(clock, key);
     }
 
-    // Of a clock's deadlines the first, if the clock has reached it.
+    // Returns the first of a clock's deadlines, if the clock has reached it.
     #[inline(always)]
     fn first_due(&self, clock: Clock, now: Option<Moment>) -> Option<TimerKey>
         ensures { IsFirstDue self.now clock now result }
@@ -128,7 +128,7 @@ impl<A: Allocator + Copy> Timers<A> {
         }
     }
 
-    // Whether no deadline of a clock is set.
+    // Returns whether no deadline of a clock is set.
     #[inline(always)]
     fn has_none(&self, clock: Clock) -> bool
         ensures { IsTrue result
@@ -140,14 +140,14 @@ impl<A: Allocator + Copy> Timers<A> {
         }
     }
 
-    /// The place that is due, with the client that was set with it: of the deadlines at or before
-    /// the moment of their own clock the least, whichever the clock, and of equal ones that of the
-    /// least place.  [XSH pthread_mutex_clocklock; the order is profile]
+    /// Returns the place that is due, with the client that was set with it. Among the deadlines at
+    /// or before the moment of their own clock, it has the least, whichever the clock. Among equal
+    /// ones, it is the least place.  [XSH pthread_mutex_clocklock; the order is profile]
     #[inline(always)]
     pub fn least_due(&self, real: Option<Moment>, mono: Option<Moment>) -> Option<(u64, ClientId)>
         ensures { IsLeastDue self.now (moments real mono) (option_map (λ due. due.0) result) }
     {
-        // Asked first, since most often it is so.
+        // Tested first, since most often no deadline is set.
         if self.has_none(Clock::Real) && self.has_none(Clock::Mono) {
             return None;
         }
@@ -159,7 +159,7 @@ impl<A: Allocator + Copy> Timers<A> {
         Some((due.place, due.client))
     }
 
-    /// The least deadline of a clock.
+    /// Returns the least deadline of a clock.
     pub fn least(&self, clock: Clock) -> Option<Deadline>
         ensures { IsLeast self.now clock result }
     {

@@ -1,4 +1,4 @@
--- GoesOn: how entries go on by one event.
+-- GoesOn: how one event continues the entries of a history.
 use Rattle.std.specs.Prelude.{◌≡◌, List, [], ◌∷◌, ◌++◌}
 use Rattle.pt_model.specs.declared.entry.Entry.{Entry}
 use Rattle.pt_model.specs.declared.entry.Event.{Event}
@@ -8,7 +8,8 @@ use Rattle.pt_model.specs.Room.{entry_for}
 use Rattle.pt_model.specs.Legal.{LegalBehind, events_of}
 use Rattle.pt_model.specs.Steps.{IsStart}
 
--- the event's entry and forced ones follow the old entries of a Start, legally
+-- the new entries are the old ones after a Start, then the event's entry and the forced ones after
+-- it, and are legal
 pub record GoesOn (s : Start) (old : List Entry) (v : Event) (new : List Entry) : Type 0 where
   pub starts : IsStart s
   pub extends : (fs : List Entry) × (new ≡ old ++ entry_for (behind s old) v ∷ fs)

@@ -1,4 +1,5 @@
--- OwnEvents: what a client did by its entries, and where two accounts of it part.
+-- OwnEvents: the events of a client's own entries, and the place at which two accounts of them
+-- part.
 use Rattle.std.specs.Prelude.{ℕ, suc, ◌≡◌, ◌≢◌, ◌≤◌, ◌-◌, ◌==◌, ◌⊎◌, min, nat_le, List, [], ◌∷◌}
 use Rattle.std.specs.Prelude.{◌++◌, slice_get, Option, Some, None, if◌then◌else◌}
 use Rattle.std.specs.List.{filter}
@@ -15,17 +16,17 @@ own_event c (Call d call answer) = if d == c then Some (event.Call d call) else 
 own_event c (Death d) = if d == c then Some (event.Death d) else None
 own_event c _ = None
 
--- an event with its place; none if there is no event
+-- the list of an event with its place, if there is an event
 abbrev pub placed : ℕ → Option Event → List (ℕ × Event)
 placed k None = []
 placed k (Some v) = (k, v) ∷ []
 
--- the events of a client's own entries with their places, where the first entry is at place k
+-- the events of a client's own entries with their places, if the first entry is at place k
 abbrev pub own_from : ℕ → ℕ → List Entry → List (ℕ × Event)
 own_from c k [] = []
 own_from c k (e ∷ es) = placed k (own_event c e) ++ own_from c (suc k) es
 
--- a client's own entries since a Start
+-- the events of a client's own entries since a Start, with their places
 abbrev pub own_since : Start → List Entry → ℕ → List (ℕ × Event)
 own_since s es c = own_from c s.at es
 
@@ -38,11 +39,12 @@ own_if c (Some e) = own_event c e
 abbrev pub own_at : Start → List Entry → ℕ → ℕ → Option Event
 own_at s es c j = own_if c (slice_get es (j - s.at))
 
--- those whose places are this one or later
+-- the events whose places are this one or later
 abbrev pub placed_since : ℕ → List (ℕ × Event) → List (ℕ × Event)
 placed_since k xs = filter (λ x. nat_le k x.0) xs
 
--- the two agree so far and then part, first at this place: the lesser one of those two
+-- the two lists agree and then part at this place: the lesser place of the first two events that
+-- differ, or the place of the next event if one list has ended
 abbrev pub PartsAt : List (ℕ × Event) → List (ℕ × Event) → ℕ → Type 0
 PartsAt [] [] k = ⊥
 PartsAt (x ∷ xs) [] k = x.0 ≡ k
@@ -54,12 +56,13 @@ abbrev pub place_if : Option (ℕ × Event) → Option ℕ
 place_if None = None
 place_if (Some x) = Some x.0
 
--- the least place of which P holds; if it holds of none, this is so instead
+-- the option has the least place for which P holds, or it is none, P holds for no place, and So
+-- holds
 abbrev pub Finds : (ℕ → Type 0) → Type 0 → Option ℕ → Type 0
 Finds P So None = So × ((j : ℕ) → P j → ⊥)
 Finds P So (Some k) = P k × ((j : ℕ) → P j → k ≤ j)
 
--- whether an event with its place is the next of these: if not, the place at which they part
+-- the last option is none if x is the next event, and else has the place at which the two part
 abbrev pub Compares : ℕ × Event → Option (ℕ × Event) → Option ℕ → Type 0
 Compares x None parted = parted ≡ Some x.0
 Compares x (Some y) None = x ≡ y

@@ -7,19 +7,19 @@ use Rattle.pt_model.specs.Histories.{History}
 use Rattle.pt_model.specs.Records.{Told}
 use Rattle.pt_model.specs.Answers.{replies_behind, replies_to, open_place}
 
--- how many of these answers are a client's
+-- the number of these answers that go to a client
 abbrev pub heard : ℕ → List Told → ℕ
 heard c ts = length (replies_to c ts)
 
--- how many answers a client got since a Start
+-- the number of answers that a client got since a Start
 abbrev pub told_count : Start → List Entry → ℕ → ℕ
 told_count s es c = heard c (replies_behind s es)
 
--- 1 if a client has an open call, and else 0
+-- 1 if a client has an open call, else 0
 abbrev pub open_count : History → ℕ → ℕ
 open_count h c = if is_some (open_place h c) then 1 else 0
 
--- 1 if an entry is a call of the client, and else 0
+-- 1 if an entry is a call of the client, else 0
 abbrev pub asks : ℕ → Entry → ℕ
 asks c (Call d call reply) = if d == c then 1 else 0
 asks c _ = 0

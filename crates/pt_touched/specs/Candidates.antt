@@ -22,7 +22,7 @@ use Rattle.pt_model.specs.Forced.{is_served}
 use Rattle.pt_model.specs.Queries.{client_at}
 use Rattle.pt_touched.specs.Touched.{open_call_of}
 
--- the call that is served at an object: the first of those that may be  [XSH 2.8.4]
+-- the call that is served at an object: the first of those that may be served there  [XSH 2.8.4]
 abbrev pub served_at : History → ℕ → Option WaitingCall
 served_at h o = least (precedes h) (filter (is_served h) (waiting_at h o))
 
@@ -40,7 +40,7 @@ is_read _ = false
 abbrev pub reads_again : History → WaitingCall → Bool
 reads_again h w = is_read w.role && nat_lt 0 (reads h w.object w.client)
 
--- whose call came last, until the next event
+-- the client whose call came last, until the next event
 abbrev pub entering_by : Entry → Option ℕ → Option ℕ
 entering_by (Call c call r) before = Some c
 entering_by e before = if is_forced e then before else None
@@ -51,7 +51,7 @@ entering (Begin s) =
     client_at (least (precedes (Begin s)) (filter (reads_again (Begin s)) (open_calls (Begin s))))
 entering (h ▷ e) = entering_by e (entering h)
 
--- the open call of a client that was found
+-- the open call of a client, if one was found
 abbrev pub open_call_if : History → Option ℕ → Option WaitingCall
 open_call_if h None = None
 open_call_if h (Some c) = open_call_of h c
@@ -61,32 +61,33 @@ abbrev pub if_passes : (WaitingCall → Bool) → Option WaitingCall → Option 
 if_passes test None = None
 if_passes test (Some w) = if test w then Some w else None
 
--- whether a call that was found is for a write lock  [XSH pthread_rwlock_wrlock]
+-- whether there is a call and it is for a write lock  [XSH pthread_rwlock_wrlock]
 abbrev pub is_write_if : Option WaitingCall → Bool
 is_write_if None = false
 is_write_if (Some w) = is_write w.role
 
--- whether a wait has come back to this RECURSIVE mutex, if its client may lock again
+-- whether a call is a wait that has come back to this mutex, and the mutex is RECURSIVE
 -- [XSH pthread_cond_wait]
 abbrev pub comes_back : History → ℕ → WaitingCall → Bool
 comes_back h o w =
     (at_object h w == o)
     && (is_recursive (mutex_kind (kind_of h o)) && (is_wait w.role && is_moved h w))
 
--- whether a call at this lock is for a read lock that its client holds already
+-- whether a call waits at this lock for a read lock that its client holds already
 -- [XSH pthread_rwlock_rdlock]
 abbrev pub reads_again_at : History → ℕ → WaitingCall → Bool
 reads_again_at h o w = (at_object h w == o) && reads_again h w
 
--- the call that is served at a mutex: the first, if nobody owns it or it is lost, and otherwise a
--- wait of its owner that has come back  [XSH pthread_mutex_unlock, pthread_cond_wait]
+-- the call that is served at a mutex: the first, if nobody owns it or it is lost, else the owner's
+-- open call, if that is a wait that has come back  [XSH pthread_mutex_unlock, pthread_cond_wait]
 abbrev pub mutex_candidate : History → ℕ → Option WaitingCall
 mutex_candidate h m =
     if is_lost (consistency h m) || is_none (owner h m) then first_at h m
     else if_passes (comes_back h m) (open_call_if h (owner h m))
 
--- the call that is served at a read-write lock: none if it is written; the first, unless that is a
--- writer and others read; then only the call that came last, if its client reads already
+-- the call that is served at a read-write lock: none if a client holds the write lock; else the
+-- first, unless that is a writer's and clients hold read locks; then the call that came last, if it
+-- asks for a read lock that its client holds already
 -- [XSH pthread_rwlock_unlock, pthread_rwlock_rdlock]
 abbrev pub rwlock_candidate : History → ℕ → Option WaitingCall
 rwlock_candidate h r =
@@ -108,7 +109,7 @@ candidate_by h o (Some (Barrier n)) =
 abbrev pub candidate : History → ℕ → Option WaitingCall
 candidate h o = candidate_by h o (kind_of h o)
 
--- the candidate of an object that was found
+-- the candidate of an object, if one was found
 abbrev pub candidate_if : History → Option ℕ → Option WaitingCall
 candidate_if h None = None
 candidate_if h (Some o) = candidate h o

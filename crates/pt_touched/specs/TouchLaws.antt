@@ -17,8 +17,8 @@ abbrev pub WasServed : History → History → WaitingCall → Type 0
 WasServed h g w =
     In w (open_calls h) × (IsTrue (is_served h w) × (at_object h w ≡ at_object g w))
 
--- Touched: a call that may be served after an entry waits at what the entry touches, or could be
--- served before it, at the same object.
+-- Touched: a call that may be served after an entry waits at the object that the entry touches, or
+-- could be served at the same object before the entry.
 abbrev pub Touches : Type 0
 Touches =
     (h : History) (e : Entry) → Follows h → Step h e → (w : WaitingCall)
@@ -42,7 +42,8 @@ HasJustCome =
 abbrev pub Candidates : Type 0
 Candidates = (h : History) → Follows h → (o : ℕ) → served_at h o ≡ candidate h o
 
--- Service: the Trip or the Grant that must follow serves the candidate of the object touched.
+-- Service: the Trip or the Grant that must follow serves the candidate of the object that is
+-- touched.
 abbrev pub ServesTouched : Type 0
 ServesTouched =
     (h : History) → Follows h → forced_service h ≡ service_if h (candidate_if h (touched h))

@@ -22,30 +22,31 @@ use Rattle.pt_model.specs.Moves.{waiting_at, at_object}
 use Rattle.pt_model.specs.Verdicts.{bound_by}
 use Rattle.pt_model.specs.Forced.{is_served_before, is_served}
 
--- the object that a call is for in the end: a wait's is its mutex  [XSH pthread_cond_wait]
+-- the object at which a call waits in the end: for a wait its mutex, else the object that it names
+-- [XSH pthread_cond_wait]
 abbrev pub goal : Role → ℕ → ℕ
 goal (ForCond m) object = m
 goal _ object = object
 
--- the object that a call is for in the end as it comes, if it is left waiting
--- [XSH pthread_mutex_lock, pthread_cond_wait, pthread_barrier_wait]
+-- the object at which a call waits in the end, read off its operation as it comes, if the call is
+-- left waiting  [XSH pthread_mutex_lock, pthread_cond_wait, pthread_barrier_wait]
 abbrev pub goal_of_operation : History → Operation → Option ℕ
 goal_of_operation h (Acquires n lock_kind how) = Some (meant h n (class_needed lock_kind))
 goal_of_operation h (Awaits n m deadline) = Some (meant h m MutexClass)
 goal_of_operation h (Arrives n) = Some (meant h n BarrierClass)
 goal_of_operation h _ = None
 
--- the goal of a call that was found
+-- the goal of a call, if one was found
 abbrev pub goal_if : Option WaitingCall → Option ℕ
 goal_if None = None
 goal_if (Some w) = Some (goal w.role w.object)
 
--- the object at which a call that was found waits
+-- the object at which a call waits, if one was found
 abbrev pub object_if : History → Option WaitingCall → Option ℕ
 object_if h None = None
 object_if h (Some w) = Some (at_object h w)
 
--- the call at a place that was found
+-- the call at a place, if one was found
 abbrev pub waiting_if : History → Option ℕ → Option WaitingCall
 waiting_if h None = None
 waiting_if h (Some j) = at_place j (stood h)
@@ -54,12 +55,13 @@ waiting_if h (Some j) = at_place j (stood h)
 abbrev pub open_call_of : History → ℕ → Option WaitingCall
 open_call_of h c = waiting_if h (open_place h c)
 
--- the mutex bound to a condition that was found  [XSH pthread_cond_wait]
+-- the mutex to which a condition is bound, if one was found  [XSH pthread_cond_wait]
 abbrev pub bound_if : History → Option ℕ → Option ℕ
 bound_if h None = None
 bound_if h (Some q) = bound_by (waiting_at h q)
 
--- what an operation that was answered 0 touches  [XSH pthread_mutex_unlock, pthread_cond_signal]
+-- the object that an operation that was answered 0 touches
+-- [XSH pthread_mutex_unlock, pthread_cond_signal]
 abbrev pub touched_by_operation : History → Operation → Option ℕ
 touched_by_operation h (Unlocks n) = find h n MutexClass
 touched_by_operation h (Rwunlocks n) = find h n RwlockClass
@@ -67,8 +69,8 @@ touched_by_operation h (Signals n) = bound_if h (find h n CondClass)
 touched_by_operation h (Broadcasts n) = bound_if h (find h n CondClass)
 touched_by_operation h _ = None
 
--- the one object at which an entry can let a call go on that could not before: where a lock is
--- given back, a call leaves or a call comes
+-- the one object at which an entry can let a call go on that could not before: the one at which a
+-- lock is given back, a call leaves or a call comes
 -- [XSH pthread_mutex_unlock, pthread_rwlock_unlock, pthread_cond_signal, pthread_barrier_wait]
 abbrev pub touched_by : History → Entry → Option ℕ
 touched_by h (Call c call None) = goal_of_operation h (operation call)
@@ -79,17 +81,18 @@ touched_by h (Yield m) = Some m
 touched_by h (Expire j) = goal_if (at_place j (stood h))
 touched_by h _ = None
 
--- what is touched after an entry: a Grant changes nothing, for the next call to serve waits at the
--- same object
+-- the object that is touched after an entry; a Grant changes nothing, since the next call to serve
+-- waits at the same object
 abbrev pub touched_after : History → Entry → Option ℕ → Option ℕ
 touched_after h (Grant j x) before = before
 touched_after h e before = touched_by h e
 
--- the call that is served next, if one is  [XSH pthread_mutex_unlock, the lowest first is profile]
+-- the call that is served next, if there is one
+-- [XSH pthread_mutex_unlock, the lowest first is profile]
 abbrev pub next_served : History → Option WaitingCall
 next_served h = least (is_served_before h) (filter (is_served h) (open_calls h))
 
--- the one object at which a call may be served now, if one may
+-- the one object at which a call may be served now, if any call may
 abbrev pub touched : History → Option ℕ
 touched (Begin s) = object_if (Begin s) (next_served (Begin s))
 touched (h ▷ e) = touched_after h e (touched h)

@@ -1,11 +1,11 @@
-//! The laws of what is touched. Each function's contract is a law of all histories that can come
+//! The laws of what entries touch. Each function's contract is a law of all histories that can come
 //! about; its body is empty.
 
 ghost use Rattle.pt_touched.specs.TouchLaws.{AreTouched, BeginsUntouched, Candidates, HasJustCome};
 ghost use Rattle.pt_touched.specs.TouchLaws.{RestsUntouched, ServesTouched, Touches};
 
-/// Touched: a call that may be served after an entry waits at the object that the entry touches,
-/// or could be served before it, at the same object.
+/// Touched: a call that may be served after an entry waits at the object that the entry touches, or
+/// could be served at the same object before the entry.
 /// [XSH pthread_mutex_unlock, pthread_rwlock_unlock]
 pub fn law_touched()
     ensures { Touches }

@@ -1,29 +1,29 @@
--- Keys: the number by which a name is looked for.
+-- Keys: the number by which a name is looked up.
 use Rattle.std.specs.Prelude.{ℕ, ◌+◌, ◌-◌, ◌*◌, ◌/◌, ◌%◌, ◌^◌, List, [], ◌∷◌, length, drop, bit_and}
 use Rattle.std.specs.Prelude.{if◌then◌else◌, nat_lt}
 use Rattle.std.specs.Int.{w32, from_le_bytes}
 
--- four bytes as four digits
+-- four bytes read as four digits
 abbrev pub four_digits : List ℕ → ℕ
 four_digits bytes =
     let digits = (from_le_bytes w32 bytes + (2 ^ 32 - 808464432)) % 2 ^ 32 in
     let pairs = bit_and ((digits * 2561) % 2 ^ 32 / 2 ^ 8) 16711935 in
     (pairs * 6553601) % 2 ^ 32 / 2 ^ 16
 
--- fewer bytes as digits
+-- fewer than four bytes read as digits
 abbrev pub few_digits : List ℕ → ℕ
 few_digits [] = 0
 few_digits (a ∷ []) = a
 few_digits (a ∷ b ∷ []) = a * 10 + b
 few_digits (a ∷ b ∷ c ∷ rest) = a * 100 + b * 10 + c
 
--- the last bytes of a name as digits
+-- the last bytes of a name, up to four, read as digits
 abbrev pub end_digits : List ℕ → ℕ
 end_digits bytes =
     if nat_lt (length bytes) 4
     then few_digits bytes
     else four_digits (drop (length bytes - 4) bytes)
 
--- the key of a name: its last bytes as digits, and so far apart for its length
+-- the key of a name: its last bytes read as digits, plus a distance for each byte of its length
 abbrev pub key : List ℕ → ℕ
 key bytes = (end_digits bytes + (10615 * length bytes) % 2 ^ 64) % 2 ^ 64

@@ -1,4 +1,4 @@
--- NamedVerbs: the call of a word that one name follows.
+-- NamedVerbs: the calls whose word takes one name and no other argument.
 use Rattle.std.specs.Prelude.{ℕ, List}
 use Rattle.pt_types.specs.declared.call.Call.{Call}
 use Rattle.pt_types.specs.declared.call.Call.TheVariants as call

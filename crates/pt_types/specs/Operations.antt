@@ -25,14 +25,14 @@ use Rattle.pt_types.specs.declared.operations.ObjectClass.TheVariants.{Rwlock as
 use Rattle.pt_types.specs.declared.operations.ObjectClass.TheVariants.{Cond as CondClass}
 use Rattle.pt_types.specs.declared.operations.ObjectClass.TheVariants.{Barrier as BarrierClass}
 
--- the class of an object, whatever else is known of it  [XSH 2.9]
+-- the class of an object of this kind  [XSH 2.9]
 abbrev pub class_of : ObjectKind → ObjectClass
 class_of (Mutex kind robust) = MutexClass
 class_of Rwlock = RwlockClass
 class_of Cond = CondClass
 class_of (Barrier count) = BarrierClass
 
--- whether two classes are one
+-- whether two classes are the same
 abbrev pub same_class : ObjectClass → ObjectClass → Bool
 same_class MutexClass MutexClass = true
 same_class RwlockClass RwlockClass = true
@@ -40,7 +40,7 @@ same_class CondClass CondClass = true
 same_class BarrierClass BarrierClass = true
 same_class _ _ = false
 
--- the class of object that has such a lock  [XSH 2.9]
+-- the class of the objects that have such a lock  [XSH 2.9]
 abbrev pub class_needed : LockKind → ObjectClass
 class_needed MutexLock = MutexClass
 class_needed ReadLock = RwlockClass
@@ -59,7 +59,7 @@ pub data Operation : Type 0 where
   Broadcasts : List ℕ → Operation
   Arrives : List ℕ → Operation
 
--- what each call word does; its page has its name after `pthread_`  [XSH, the call's page]
+-- what each call word does, as the page of its function says  [XSH, the call's page]
 abbrev pub operation : Call → Operation
 operation (MutexInit n kind robust) = Makes n (Mutex kind robust)
 operation (Lock n) = Acquires n MutexLock Plain
@@ -91,7 +91,7 @@ operation (BarrierInit n count) = Makes n (Barrier count)
 operation (Bwait n) = Arrives n
 operation (BarrierDestroy n) = Ends n BarrierClass
 
--- the clock of a call's deadline; a word that names none uses the real one, which is profile for
+-- the clock of a call's deadline; a call that names none uses the real one, which is profile for
 -- conditions  [XSH pthread_mutex_clocklock, pthread_cond_clockwait, pthread_rwlock_clockrdlock]
 abbrev pub clock_of : Call → Clock
 clock_of (Clocklock n k d) = k
@@ -100,7 +100,7 @@ clock_of (Clockwrlock n k d) = k
 clock_of (Clockwait n m k d) = k
 clock_of _ = Real
 
--- whether two clocks are one
+-- whether two clocks are the same
 abbrev pub same_clock : Clock → Clock → Bool
 same_clock Real Real = true
 same_clock Mono Mono = true
@@ -111,7 +111,7 @@ abbrev pub is_try : How → Bool
 is_try Try = true
 is_try _ = false
 
--- the deadline of a call for a lock  [XSH pthread_mutex_timedlock]
+-- the deadline of a call for a lock, if it has one  [XSH pthread_mutex_timedlock]
 abbrev pub deadline_of : How → Option Timespec
 deadline_of (Timed d) = Some d
 deadline_of _ = None

@@ -1,10 +1,10 @@
--- Shown: what a call does, as the definitions say it: with the bytes of each name.
+-- Shown: what a call does, in the form of the definitions: with the bytes of each name.
 use Rattle.pt_types.specs.Operations.{Operation, Makes, Ends, Acquires, Unlocks, Restores}
 use Rattle.pt_types.specs.Operations.{Rwunlocks, Awaits, Signals, Broadcasts, Arrives}
 use Rattle.pt_types.specs.declared.operations.Operation.{Operation as PlainOperation}
 use Rattle.pt_types.specs.declared.operations.Operation.TheVariants as operations
 
--- what a call does
+-- what a call does, with the bytes of each name
 abbrev pub shown_operation : PlainOperation → Operation
 shown_operation (operations.Makes n kind) = Makes n.now kind
 shown_operation (operations.Ends n class) = Ends n.now class

@@ -3,7 +3,8 @@
 ghost use Rattle.std.specs.Prelude.{◌≡◌};
 ghost use Rattle.pt_types.specs.KeyOrder.{goes_before as goes_before_key};
 
-/// What decides between calls: priority, whether for a write lock, arrival.  [XSH 2.8.4]
+/// What orders the calls at one object: priority, whether the call is for a write lock, and
+/// arrival.  [XSH 2.8.4]
 #[derive(Clone, Copy)]
 pub struct Key {
     pub priority: u64,
@@ -11,7 +12,8 @@ pub struct Key {
     pub arrival: (u64, u64),
 }
 
-/// Higher priority, then writers, then lesser arrival.  [XSH pthread_rwlock_unlock, 2.8.4]
+/// Returns whether `a` goes before `b`: higher priority first, then writers, then lesser arrival.
+/// [XSH pthread_rwlock_unlock, 2.8.4]
 pub fn goes_before(a: Key, b: Key) -> bool
     ensures { result ≡ goes_before_key a b }
 {

@@ -1,16 +1,16 @@
-//! The keys of names.
+//! The keys by which names are looked up.
 
 ghost use Rattle.std.specs.Prelude.{◌≡◌, ◌≤◌, ◌<◌, ◌^◌, length};
 ghost use Rattle.pt_types.specs.Keys.{few_digits, four_digits, key};
 
-/// How far names that differ in their length alone lie apart, so that as many may end in
-/// consecutive numbers.
+/// The distance between the keys of two names that end alike and whose lengths differ by one. It
+/// leaves room for this many names of one length that end in consecutive numbers.
 const APART: u64 = 10615;
 
-/// Four digits 0.
+/// Four bytes, each the digit 0.
 const ZEROS: u32 = 0x3030_3030;
 
-// Fewer than four bytes, each times the power of ten that a digit in its place stands for.
+// Returns the sum of fewer than four bytes, each times the power of ten of a digit in its place.
 #[inline(always)]
 fn as_few_digits(bytes: &[u8]) -> u64
     ensures digits { length bytes.now < 4 → result ≡ few_digits bytes.now }
@@ -24,8 +24,8 @@ fn as_few_digits(bytes: &[u8]) -> u64
     }
 }
 
-// The sum of four bytes, each times the power of ten that a digit in its place stands for. Two
-// bytes are summed up at once, and then both sums.
+// Returns the number that four digits spell, and some number below 2^16 for other bytes. The bytes
+// are summed up in pairs, and then the two sums.
 #[inline(always)]
 fn as_four_digits(bytes: [u8; 4]) -> u64
     ensures digits { result ≡ four_digits bytes }
@@ -36,8 +36,8 @@ fn as_four_digits(bytes: [u8; 4]) -> u64
     (pairs.wrapping_mul(100 << 16 | 1) >> 16) as u64
 }
 
-/// The key of a name. Names that end in consecutive numbers have consecutive keys, but for a step
-/// in a few rows of them.
+/// Returns the key of a name. Names that end in consecutive numbers have consecutive keys, except
+/// for a jump in a few such sequences.
 #[inline(always)]
 pub fn key_of(bytes: &[u8]) -> u64
     ensures value { result ≡ key bytes.now }

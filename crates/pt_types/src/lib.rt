@@ -1,8 +1,8 @@
 //! Names, numbers, calls and outcomes of a server of shared pthread objects.
 //!
-//! Contracts see a number type as its number, a name as its bytes and a moment as its nanoseconds.
-//! The verdict tables of all calls are in `specs/`, over what one object is seen as.
-//! Only tests show the texts that `Display` writes.
+//! Contracts see a number type as its number, a name as its bytes and a moment as its number of
+//! nanoseconds. The verdict tables of all calls are in `specs/`; each is over the view of one
+//! object. The texts that `Display` writes are shown by tests alone.
 #![tactic(auto)]
 
 mod call;

@@ -5,7 +5,7 @@ ghost use Rattle.pt_types.specs.NamedVerbs.{call_on};
 use crate::call::Call;
 use crate::name::Name;
 
-/// A call word that one name follows, and nothing else.  [XSH, the call's page]
+/// A call word that takes one name and no other argument.  [XSH, the call's page]
 #[derive(Clone, Copy, PartialEq, Eq)]
 pub enum NamedVerb {
     Lock,
@@ -29,7 +29,7 @@ pub enum NamedVerb {
 }
 
 impl NamedVerb {
-    /// The word and the name of a call; None if other arguments follow its word.
+    /// Returns the word and the name of a call, or None if its word takes other arguments.
     /// [XSH, the call's page]
     #[inline(always)]
     pub fn of(call: &Call) -> Option<(NamedVerb, &Name)>
@@ -60,7 +60,7 @@ impl NamedVerb {
         }
     }
 
-    /// The call of this word on this name.  [XSH, the call's page]
+    /// Returns the call of this word on this name.  [XSH, the call's page]
     #[inline(always)]
     pub fn call(self, name: Name) -> Call
         ensures { result ≡ call_on self name }

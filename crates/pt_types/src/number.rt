@@ -1,7 +1,7 @@
 use crate::limits::MOST_PRIORITY;
 use std::marker::Model;
 
-/// A client, by the place of its join.  [profile]
+/// The number of a client: the place of its Join.  [profile]
 #[derive(Clone, Copy, PartialEq, Eq)]
 pub struct ClientId(pub u64);
 
@@ -15,7 +15,7 @@ impl Model for ClientId {
     ghost inverse = { λ n. record { 0 = n } };
 }
 
-/// An object, by the place of the call that made it.  [profile]
+/// The number of an object: the place of the call that made it.  [profile]
 #[derive(Clone, Copy, PartialEq, Eq)]
 pub struct ObjectId(pub u64);
 
@@ -29,7 +29,7 @@ impl Model for ObjectId {
     ghost inverse = { λ n. record { 0 = n } };
 }
 
-/// A priority of SCHED_FIFO, from 1 to the highest.  [XSH 2.8.4]
+/// A SCHED_FIFO priority, from 1 to the highest.  [XSH 2.8.4]
 #[derive(Clone, Copy, PartialEq, Eq)]
 pub struct Priority {
     level: u8,
@@ -52,7 +52,8 @@ impl Priority {
     ghost use Rattle.std.specs.Prelude.{◌≡◌, ◌≤◌, ◌↔◌, IsSome, IfSome};
     ghost use Rattle.pt_types.specs.Limits.{most_priority};
 
-    /// The priority of this level; None below 1 and above the highest.  [profile]
+    /// Returns the priority of this level, or None if it is below 1 or above the highest.
+    /// [profile]
     pub fn new(level: u64) -> Option<Priority>
         ensures valid { IsSome result ↔ ((1 ≤ level) × (level ≤ most_priority)) }
         ensures value { IfSome result (λ p. p ≡ level) }
@@ -63,7 +64,7 @@ impl Priority {
         Some(Priority { level: level as u8 })
     }
 
-    /// The level, from 1 to the highest.
+    /// Returns the level, from 1 to the highest.
     pub fn level(self) -> u8
         ensures value { result ≡ self }
         ensures least { 1 ≤ result }

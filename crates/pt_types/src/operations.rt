@@ -18,7 +18,7 @@ pub enum ObjectClass {
     Barrier,
 }
 
-/// The three locks that can be asked for.
+/// The three kinds of locks that a call can ask for.
 /// [XSH pthread_mutex_lock, pthread_rwlock_rdlock, pthread_rwlock_wrlock]
 #[derive(Clone, Copy)]
 pub enum LockKind {
@@ -42,7 +42,7 @@ pub enum Operation<'a> {
     Arrives(&'a Name),
 }
 
-/// What a call word does.  [XSH, the call's page]
+/// Returns what a call does, with the names of its objects.  [XSH, the call's page]
 #[inline(always)]
 pub fn operation_of(call: &Call) -> Operation<'_>
     ensures { shown_operation result ≡ operation_meant call.now }
@@ -80,7 +80,8 @@ pub fn operation_of(call: &Call) -> Operation<'_>
     }
 }
 
-/// The clock of a call's deadline.  [XSH pthread_mutex_clocklock]
+/// Returns the clock of a call's deadline: the real one if the call names none.
+/// [XSH pthread_mutex_clocklock]
 pub fn clock_of(call: &Call) -> Clock
     ensures { result ≡ clock_meant call.now }
 {
@@ -93,7 +94,7 @@ pub fn clock_of(call: &Call) -> Clock
     }
 }
 
-/// The class of an object, whatever else is known of it.  [XSH 2.9]
+/// Returns the class of an object of this kind.  [XSH 2.9]
 pub fn class_of(kind: ObjectKind) -> ObjectClass
     ensures { result ≡ class_meant kind }
 {
@@ -105,7 +106,7 @@ pub fn class_of(kind: ObjectKind) -> ObjectClass
     }
 }
 
-/// The class of object that has such a lock.  [XSH 2.9]
+/// Returns the class of the objects that have such a lock.  [XSH 2.9]
 pub fn class_needed(lock_kind: LockKind) -> ObjectClass
     ensures { result ≡ class_meant_by lock_kind }
 {
@@ -115,7 +116,7 @@ pub fn class_needed(lock_kind: LockKind) -> ObjectClass
     }
 }
 
-/// Whether two classes are one.
+/// Returns whether two classes are the same.
 pub fn is_same(one: ObjectClass, other: ObjectClass) -> bool
     ensures { result ≡ same_class one other }
 {
@@ -128,7 +129,7 @@ pub fn is_same(one: ObjectClass, other: ObjectClass) -> bool
     )
 }
 
-/// The deadline of a call for a lock.  [XSH pthread_mutex_timedlock]
+/// Returns the deadline of a call for a lock, if it has one.  [XSH pthread_mutex_timedlock]
 pub fn deadline_of(how: How) -> Option<Deadline>
     ensures { result ≡ deadline_meant how }
 {

@@ -1,4 +1,4 @@
-//! What becomes of a call at once, and what a mutex answers to the call that is granted it.
+//! The verdict of a call, and the outcome of a call that is granted a mutex.
 
 ghost use Rattle.std.specs.Prelude.{◌≡◌};
 ghost use Rattle.pt_types.specs.Tables.{reply as reply_of_verdict};
@@ -7,7 +7,7 @@ ghost use Rattle.pt_types.specs.MutexTable.{lock_outcome as outcome_of_lock};
 
 use crate::{Consistency, Outcome, Verdict};
 
-/// The answer that a call gets at once, or none if it waits.
+/// Returns the answer that a call gets at once, or None if it waits.
 pub fn reply(verdict: Verdict) -> Option<Outcome>
     ensures { result ≡ reply_of_verdict verdict }
 {
@@ -17,7 +17,8 @@ pub fn reply(verdict: Verdict) -> Option<Outcome>
     }
 }
 
-/// Ending an object that is busy or isn't; EBUSY is profile.  [XSH pthread_mutex_destroy]
+/// Returns the verdict of destroying an object, which is busy or not. EBUSY is profile.
+/// [XSH pthread_mutex_destroy]
 pub fn destroy_verdict(busy: bool) -> Verdict
     ensures { result ≡ destroy_table busy }
 {
@@ -28,7 +29,7 @@ pub fn destroy_verdict(busy: bool) -> Verdict
     }
 }
 
-/// What a mutex answers to the call that is granted it.
+/// Returns the outcome of a call that is granted a mutex.
 /// [XSH pthread_mutex_lock, pthread_cond_timedwait]
 pub fn lock_outcome(consistency: Consistency, expired: bool) -> Outcome
     ensures { result ≡ outcome_of_lock consistency expired }

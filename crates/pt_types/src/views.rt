@@ -5,7 +5,8 @@ ghost use Rattle.pt_types.specs.MutexTable.{is_acquired as is_acquired_by};
 
 use crate::{ClientId, Consistency, MutexKind, Outcome};
 
-/// A mutex: its words, its consistency, its owner and how often that one holds it.  [XSH 2.9.3]
+/// A mutex: its kind, whether it is robust, its consistency, its owner, and how many locks the
+/// owner has.  [XSH 2.9.3]
 #[derive(Drop)]
 pub struct MutexView {
     pub kind: MutexKind,
@@ -15,8 +16,8 @@ pub struct MutexView {
     pub count: u64,
 }
 
-/// A read-write lock as one caller sees it: its own write lock and read locks, and whether
-/// anybody, dead or alive, holds some.  [XSH 2.9]
+/// A read-write lock as one caller sees it: the caller's own write lock and read locks, and whether
+/// anybody, dead or alive, holds a write lock or a read lock.  [XSH 2.9]
 #[derive(Clone, Copy)]
 pub struct RwlockView {
     pub writes: bool,
@@ -25,7 +26,7 @@ pub struct RwlockView {
     pub is_read: bool,
 }
 
-/// Whether an outcome says that the mutex was acquired.  [XSH pthread_mutex_lock]
+/// Returns whether an outcome says that the mutex was acquired.  [XSH pthread_mutex_lock]
 pub fn is_acquired(x: Outcome) -> bool
     ensures { result ≡ is_acquired_by x }
 {

@@ -1,4 +1,4 @@
--- Who waits where, and the waiters that are the last of their clients.
+-- Which client waits where, and the waiters that are the last of their clients.
 use Rattle.std.proofs.Common.{◌≡◌, ℕ, ◌≤◌, length, ◌==◌, inl, inr, Bool, true, false, cond, ◌&&◌}
 use Rattle.std.proofs.Common.{◌||◌, not, List, [], ◌∷◌, ◌++◌, filter, refl, sym, ap, ◌∙◌, subst}
 use Rattle.std.proofs.Common.{arith, eq-eqb}
@@ -12,7 +12,7 @@ use Rattle.pt_waitq.specs.ListLemmas.{any-in, any-out, any-append, any-filter, f
 use Rattle.pt_waitq.specs.ListLemmas.{filter-none}
 use Rattle.pt_waitq.specs.QueueLemmas.{queue_of-filter, any-queue_of}
 
--- who waits in a queue has an entry there
+-- a client that waits in a queue has an entry there
 pub stands-entry : (c q : ℕ) (es : List (ℕ × Waiter)) → stands_in c (queue_of q es) ≡ true
     → (e : ℕ × Waiter) × In e es × (e.0 ≡ q) × (e.1.client ≡ c)
 stands-entry c q es s =
@@ -34,7 +34,7 @@ false_unless : (b : Bool) → (b ≡ true → ⊥) → b ≡ false
 false_unless true f = absurd (f refl)
 false_unless false f = refl
 
--- who has no entry waits nowhere, and the other way round
+-- a client that has no entry waits nowhere, and the other way round
 pub nowhere : (c q : ℕ) (es : List (ℕ × Waiter)) → has_waiter c es ≡ false
     → stands_in c (queue_of q es) ≡ false
 nowhere c q es n =
@@ -52,7 +52,7 @@ no-entry c es f =
     let t = subst (λ n. stands_in n (queue_of r.0.0 es) ≡ true) same (entry-stands r.0 es r.1) in
     absurd (false≢true (sym (f r.0.0) ∙ t)))
 
--- the one entry of a client
+-- the only entry of a client
 filter-one : (c : ℕ) (e : ℕ × Waiter) (es : List (ℕ × Waiter)) → IsOnce es → In e es
     → e.1.client ≡ c → filter (λ d. d.1.client == c) es ≡ e ∷ []
 filter-one c e [] o i is = absurd i
@@ -84,7 +84,7 @@ pub queue_of-without : (c q : ℕ) (es : List (ℕ × Waiter))
     → queue_of q (filter (λ e. not (e.1.client == c)) es) ≡ without c (queue_of q es)
 queue_of-without c q es = queue_of-filter (λ w. not (w.client == c)) q es
 
--- entries stay alone for their clients
+-- each entry stays the only one of its client
 pub IsOnce-push : (e : ℕ × Waiter) (es : List (ℕ × Waiter)) → IsOnce es
     → has_waiter e.1.client es ≡ false → IsOnce (es ++ e ∷ [])
 IsOnce-push e [] o n = (refl, tt)
@@ -118,7 +118,7 @@ IsOnce-filter p (e ∷ es) o = go (p e) (IsOnce-filter p es o.1)
     go true ih = (none, ih)
     go false ih = ih
 
--- the last of each client
+-- the last entry of each client
 has_waiter-latest : (c : ℕ) (es : List (ℕ × Waiter)) → has_waiter c (latest es) ≡ has_waiter c es
 has_waiter-latest c [] = refl
 has_waiter-latest c (e ∷ es) =
@@ -156,7 +156,7 @@ In-latest d (e ∷ es) i = go (has_waiter e.1.client es) (In-latest d es) i
     go false ih (inl h) = inl h
     go false ih (inr h) = inr (ih h)
 
--- if all waiters are queued, each queue is made of all of them
+-- if all waiters are queued, each queue is formed from all of them
 pub all-stand : (w : Waits) → AllStand w.objects w.waiting → waiting_of w ≡ w.waiting
 all-stand w a =
     ap latest (filter-all (λ (e : ℕ × Waiter). is_listed e.0 w.objects) w.waiting a.made)
@@ -166,7 +166,7 @@ pub queue-is : (w : Waits) → AllStand w.objects w.waiting
     → (q : ℕ) → queue_in w q ≡ queue_of q w.waiting
 queue-is w a q = ap (queue_of q) (all-stand w a)
 
--- two entries of one client are one
+-- two entries of one client are the same
 pub one_entry : (d e : ℕ × Waiter) (es : List (ℕ × Waiter)) → IsOnce es → In d es → In e es
     → d.1.client ≡ e.1.client → d ≡ e
 one_entry d e [] o i j same = absurd i

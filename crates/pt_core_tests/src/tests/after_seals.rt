@@ -4,7 +4,7 @@ use super::sealed::seals;
 use super::*;
 use pt_types::Outcome::{Done, Ebusy, Etimedout};
 
-// Locks of readers and writers that a dead client held are still held after a seal.
+// Read locks and write locks that a dead client held are still held after a seal.
 #[test]
 fn row_39_of_rwlocks(rt: HostRuntime) -> Result<(), Fail> {
     lend(
@@ -33,7 +33,7 @@ fn play_row_39_of_rwlocks(rt: &impl Abort, core: &mut Core) -> Result<(), Fail> 
     plays(rt, core, &after)
 }
 
-// A reading of a clock.
+// Returns a reading of a clock.
 fn reading(clock: Clock, sec: u64, nsec: u64) -> Event
     requires sec { sec ≤ 9999999999 }
     requires nsec { nsec < 1000000000 }
@@ -41,7 +41,7 @@ fn reading(clock: Clock, sec: u64, nsec: u64) -> Event
     Event::Moment(clock, Moment::new(sec, nsec).unwrap())
 }
 
-// A call for a mutex with a deadline by a clock.
+// Returns a call for a mutex with a deadline by a clock.
 fn until(m: &Name, clock: Clock, sec: u64, nsec: u64) -> Call
     requires sec { sec ≤ 9999999999 }
     requires nsec { nsec ≤ 9999999999 }
@@ -53,7 +53,7 @@ fn until(m: &Name, clock: Clock, sec: u64, nsec: u64) -> Call
     }
 }
 
-// Both clocks go on from where they were at a seal.
+// After a seal, both clocks go on from what they showed before it.
 #[test]
 fn row_41(rt: HostRuntime) -> Result<(), Fail> {
     lend(Core::new(rt.alloc())?, |core| play_row_41(&rt, core))

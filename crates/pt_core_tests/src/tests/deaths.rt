@@ -3,13 +3,13 @@ use std::alloc::Global;
 
 const MUTEXES: u64 = 4096;
 
-// The name `m` with a number after it.
+// Returns the name `m` with a number after it.
 fn numbered(alloc: Global, number: u64) -> Result<Name, Fail> {
     let text = format!(in alloc; "m{number}")?;
     name(text.as_bytes())
 }
 
-// The first client makes the mutexes in rising order.
+// Lets the first client make the mutexes in rising order.
 fn make_all(alloc: Global, core: &mut Core) -> Result<(), Fail> {
     for number in 0..MUTEXES {
         let m = numbered(alloc, number)?;
@@ -18,7 +18,7 @@ fn make_all(alloc: Global, core: &mut Core) -> Result<(), Fail> {
     Ok(())
 }
 
-// It locks them in falling order.
+// Lets the first client lock the mutexes in falling order.
 fn lock_all(alloc: Global, core: &mut Core) -> Result<(), Fail> {
     for number in 0..MUTEXES {
         let m = numbered(alloc, MUTEXES - 1 - number)?;
@@ -27,8 +27,8 @@ fn lock_all(alloc: Global, core: &mut Core) -> Result<(), Fail> {
     Ok(())
 }
 
-// Whether the objects from one number up to another are taken from their owner, each at the place
-// so far after its number.
+// Returns true if each object from `first` up to `end` is taken from its owner, at the place that
+// is `ahead` after its number.
 fn are_taken(core: &Core, first: u64, end: u64, ahead: u64) -> bool {
     for number in first..end {
         let entry = core.entry(number.wrapping_add(ahead));
@@ -39,8 +39,8 @@ fn are_taken(core: &Core, first: u64, end: u64, ahead: u64) -> bool {
     true
 }
 
-// Whether the mutexes are taken from the dead client in rising order, and the call that waits for
-// the eighth is granted before the next one is taken.
+// Returns true if the mutexes are taken from the dead client in rising order, and the call that
+// waits for the eighth is granted before the next one is taken.
 fn are_taken_in_order(core: &Core) -> bool {
     let granted = Entry::Grant(12_290, Outcome::Eownerdead);
     core.entry(12_291) == Some(Entry::Death(ClientId(0)))

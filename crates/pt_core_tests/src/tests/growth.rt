@@ -5,8 +5,8 @@ use std::alloc::Global;
 
 type Refused<'a> = Core<&'a Refusing<Global>>;
 
-// An event is applied, the first time or the second: a refused growth leaves the core as it was.
-// The answer says whether one was refused.
+// Applies an event, at the first or the second attempt. A refused growth must leave the core as it
+// was. Returns what was applied, and whether a growth was refused.
 fn lands(core: &mut Refused, event: Event) -> Result<(Applied, bool), &'static str> {
     let before = (core.first(), core.len());
     match core.apply(event.copied()) {
@@ -23,7 +23,8 @@ fn lands(core: &mut Refused, event: Event) -> Result<(Applied, bool), &'static s
     }
 }
 
-// An event is sealed and written so; the answer says whether a growth was refused.
+// Applies an event, which must be written at these places, after a seal at this place or without
+// one. Returns whether a growth was refused.
 fn lands_at(
     core: &mut Refused,
     event: Event,
@@ -37,7 +38,8 @@ fn lands_at(
     Ok(met)
 }
 
-// A client joins, makes a robust mutex and locks it, after a seal.
+// Lets a client join, make a robust mutex and, after a seal, lock it. Returns whether a growth was
+// refused.
 fn plays_refused(core: &mut Refused) -> Result<bool, &'static str> {
     let priority = Priority::new(10).ok_or("a priority")?;
     let m = Name::new(b"m").ok_or("a name")?;

@@ -1,6 +1,7 @@
 use super::*;
 
-// An accepted event wrote these places, after a seal at this place or without one.
+// Applies an event, which must be accepted and write these places, after a seal at this place or
+// without one.
 fn writes(
     rt: &impl Abort,
     core: &mut Core,
@@ -14,14 +15,15 @@ fn writes(
     Ok(())
 }
 
-// An event is refused so: nothing is written, and nothing is sealed.
+// Applies an event, which must be refused for this reason. Nothing is written, and nothing is
+// sealed.
 fn refuses(rt: &impl Abort, core: &mut Core, event: Event, refusal: Refusal) {
     let before = (core.first(), core.len());
     assert_eq!(rt; core.apply(event), Err(refusal));
     assert_eq!(rt; (core.first(), core.len()), before);
 }
 
-// A client joins and makes a robust mutex.
+// Lets a client join and make a robust mutex.
 fn begins(rt: &impl Abort, core: &mut Core, m: &Name) -> Result<(), Fail> {
     let init = Call::MutexInit(m.copied(), MutexKind::Normal, true);
     writes(rt, core, join(10)?, None, (0, 0))?;
@@ -56,7 +58,7 @@ fn play_row_23(rt: &impl Abort, core: &mut Core) -> Result<(), Fail> {
     Ok(())
 }
 
-// The same, if a Yield must still be written.
+// Row 23, if a Yield must still be written.
 #[test]
 fn row_23_with_a_yield(rt: HostRuntime) -> Result<(), Fail> {
     lend(
@@ -76,7 +78,7 @@ fn play_row_23_with_a_yield(rt: &impl Abort, core: &mut Core) -> Result<(), Fail
     Ok(())
 }
 
-// With six entries at most the first lock has no room without a seal.
+// With six entries at most, the first lock has no room without a seal.
 #[test]
 fn row_38_of_six(rt: HostRuntime) -> Result<(), Fail> {
     lend(
@@ -91,7 +93,7 @@ fn play_row_38_of_six(rt: &impl Abort, six: &mut Core) -> Result<(), Fail> {
     writes(rt, six, ask(0, Call::Lock(m)), Some(2), (2, 3))
 }
 
-// With four it has none after a seal either.
+// With four entries at most, the first lock has no room after a seal either.
 #[test]
 fn row_38_of_four(rt: HostRuntime) -> Result<(), Fail> {
     lend(
@@ -123,7 +125,7 @@ fn play_row_35(rt: &impl Abort, one: &mut Core) -> Result<(), Fail> {
     writes(rt, one, moment(2, 0)?, Some(1), (1, 1))
 }
 
-// And of none: no seal makes room.
+// Histories of no entry: no seal makes room.
 #[test]
 fn row_35_of_none(rt: HostRuntime) -> Result<(), Fail> {
     lend(

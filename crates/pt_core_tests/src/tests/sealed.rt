@@ -1,7 +1,7 @@
 use super::*;
 use pt_types::Outcome::{Done, Ebusy, Eownerdead, Etimedout};
 
-// A core is sealed at the next free place, which stays the same.
+// Seals a core at the next free place, which stays the same.
 pub(super) fn seals(rt: &impl Abort, core: &mut Core) -> Result<(), Fail> {
     let next = core.len();
     assert_eq!(rt; core.seal()?, next);

@@ -1,7 +1,7 @@
 use pt_barrier::{BarrierObj, verdict_init};
 use pt_types::{Outcome, Verdict};
 
-// Whether these counts are answered so.
+// Returns true if counts are answered as the table says.
 fn are_counts_told() -> bool {
     for (count, outcome) in [
         (0, Outcome::Einval),
@@ -22,7 +22,7 @@ fn counts_from_1_to_1024(rt: HostRuntime) {
     assert!(rt; are_counts_told());
 }
 
-// Whether barriers are full with so many calls.
+// Returns true if barriers are full with exactly as many calls as their counts.
 fn are_full_in_time() -> bool {
     let barrier = BarrierObj::new(3);
     for (waiting, full) in [(0, false), (2, false), (3, true), (4, false)] {

@@ -10,7 +10,7 @@ const M: ObjectId = ObjectId(3);
 
 const N: ObjectId = ObjectId(4);
 
-// A condition at which calls wait with this mutex.
+// Returns a condition at which calls wait with this mutex.
 fn bound_to(mutex: ObjectId) -> CondObj
     ensures { result ≡ record { bound = Some mutex } }
 {
@@ -19,7 +19,8 @@ fn bound_to(mutex: ObjectId) -> CondObj
     cond
 }
 
-// Whether waits are answered so, at a condition of `M` and at one of nothing.
+// Returns true if waits are answered as the table says, at a condition bound to `M`, and as they
+// must be at one bound to nothing.
 fn are_waits_told() -> bool {
     let good = Deadline::new(9, 999_999_999);
     let bad = Deadline::new(9, 1_000_000_000);

@@ -7,14 +7,15 @@ const A: ClientId = ClientId(0);
 
 const B: ClientId = ClientId(1);
 
-// A deadline in the ninth second.
+// Returns a deadline of nine seconds and these nanoseconds.
 fn deadline(nsec: u64) -> Deadline
     requires { nsec ≤ 9999999999 }
 {
     Deadline::new(9, nsec).unwrap()
 }
 
-// What `lock`, `trylock`, `timedlock`, and `timedlock` with a second of nanoseconds answer.
+// Returns the verdicts of `lock`, `trylock`, `timedlock`, and `timedlock` with 1,000,000,000
+// nanoseconds.
 fn told(mutex: &MutexObj, caller: ClientId) -> [Verdict; 4] {
     [
         mutex.verdict_lock(caller),
@@ -24,7 +25,7 @@ fn told(mutex: &MutexObj, caller: ClientId) -> [Verdict; 4] {
     ]
 }
 
-// What `unlock` and `consistent` are answered.
+// Returns the verdicts of `unlock` and `consistent`.
 fn told_by_right(mutex: &MutexObj, caller: ClientId) -> [Verdict; 2] {
     [
         mutex.verdict_unlock(caller),
@@ -32,7 +33,7 @@ fn told_by_right(mutex: &MutexObj, caller: ClientId) -> [Verdict; 2] {
     ]
 }
 
-// Gives the client the lock, if it can be given it once more.
+// Gives the client the lock, if it can have it once more.
 fn lock(mutex: &mut MutexObj, client: ClientId) {
     let relocks = mutex.kind() == MutexKind::Recursive && mutex.count() < MOST_LOCKS;
     if mutex.owner().is_none() || mutex.is_owned_by(client) && relocks {
@@ -47,20 +48,20 @@ fn unlock(mutex: &mut MutexObj, client: ClientId) {
     }
 }
 
-/// What became of a robust mutex so far.
+/// What happened to a robust mutex so far.
 #[derive(Clone, Copy)]
 enum Past {
-    /// A has locked it so often, or as often as it can.
+    /// A has locked it this often, or as often as it can.
     Locked(u8),
-    /// A has died with it.
+    /// A died while it owned the mutex.
     Orphaned,
-    /// B has it after A has died with it.
+    /// A died while it owned the mutex, and B owns it.
     Inherited,
-    /// And B has given it back.
+    /// A died while it owned the mutex, and B owned it and gave it back.
     Lost,
 }
 
-// A robust mutex after this.
+// Returns a robust mutex of this kind with this past.
 fn mutex_after(kind: MutexKind, past: Past) -> MutexObj {
     let mut mutex = MutexObj::new(kind, true);
     let locks = if let Past::Locked(locks) = past {
@@ -83,7 +84,7 @@ fn mutex_after(kind: MutexKind, past: Past) -> MutexObj {
     mutex
 }
 
-// Whether the client is answered this of a mutex.
+// Returns true if a mutex gives the client these verdicts.
 fn is_told(
     mutex: &MutexObj,
     caller: ClientId,
@@ -93,7 +94,7 @@ fn is_told(
     told(mutex, caller) == locks && told_by_right(mutex, caller) == by_right
 }
 
-// Whether verdicts that no kind changes are so for a mutex of this kind.
+// Returns true if the verdicts that are the same for every kind hold for a mutex of this kind.
 fn is_as_every_mutex(kind: MutexKind) -> bool {
     let [busy, einval, eperm] = [Outcome::Ebusy, Outcome::Einval, Outcome::Eperm].map(
         Verdict::Reply,
@@ -121,7 +122,7 @@ fn verdicts_of_every_kind(rt: HostRuntime) {
     assert!(rt; is_as_every_mutex(MutexKind::Recursive));
 }
 
-// Whether owners are answered this.
+// Returns true if owners are answered as the table says.
 fn are_owners_told() -> bool {
     let [done, busy] = [Outcome::Done, Outcome::Ebusy].map(Verdict::Reply);
     let [again, deadlock, einval] = [Outcome::Eagain, Outcome::Edeadlk, Outcome::Einval].map(
@@ -161,7 +162,7 @@ fn verdicts_of_an_owner(rt: HostRuntime) {
     assert!(rt; are_owners_told());
 }
 
-// Whether A has so many locks after so many calls.
+// Returns true if A has `count` locks after `locks` calls.
 fn is_counted(kind: MutexKind, locks: u8, count: u8) -> bool {
     let mutex = mutex_after(kind, Past::Locked(locks));
     mutex.is_owned_by(A) && mutex.owner() == Some(A) && mutex.count() == count
@@ -176,7 +177,7 @@ fn counts_up_to_255(rt: HostRuntime) {
     );
 }
 
-// Whether this is the consistency after this past, and the other once it is marked.
+// Returns true if the consistency after this past is `before`, and is `after` once it is marked.
 fn is_marked(past: Past, before: Consistency, after: Consistency) -> bool {
     let mut mutex = mutex_after(MutexKind::Recursive, past);
     let first = mutex.consistency();
@@ -199,12 +200,12 @@ fn the_consistency_by_its_events(rt: HostRuntime) {
     );
 }
 
-// The consistency, the owner and the count.
+// Returns the consistency, the owner and the count.
 fn seen(mutex: &MutexObj) -> (Consistency, Option<ClientId>, u8) {
     (mutex.consistency(), mutex.owner(), mutex.count())
 }
 
-// Whether a robust mutex is in order again after two deaths and a repair.
+// Returns true if a robust mutex is in order again after two deaths and a repair.
 fn is_repaired() -> bool {
     let mut mutex = mutex_after(MutexKind::Recursive, Past::Inherited);
     mutex.yield_dead();
@@ -227,7 +228,8 @@ fn a_second_death_and_a_repair(rt: HostRuntime) {
     assert!(rt; is_repaired());
 }
 
-// What `mutex-destroy` answers: if the owner lives, if also a call waits, if the owner is dead.
+// Returns the verdicts of `mutex-destroy`: if the owner lives, if also a call waits, and if the
+// owner is dead.
 fn told_destroy(mutex: &MutexObj) -> [Verdict; 3] {
     [
         mutex.verdict_destroy(true, false),
@@ -236,7 +238,8 @@ fn told_destroy(mutex: &MutexObj) -> [Verdict; 3] {
     ]
 }
 
-// Whether `mutex-destroy` is answered so: of a free mutex, an owned one, and one that a wait names.
+// Returns true if `mutex-destroy` is answered as it must be: for a free mutex, for an owned one,
+// and for one that a wait names.
 fn is_busy_in_time() -> bool {
     let [done, ebusy] = [Outcome::Done, Outcome::Ebusy].map(Verdict::Reply);
     let mut mutex = MutexObj::new(MutexKind::Normal, true);

@@ -4,7 +4,8 @@ use pt_types::key_of;
 use std::alloc::{AllocError, Global};
 use std::test::Fail;
 
-// The row at an index: its key is the index, and its place ten times that. Each third is gone.
+// Returns the row at an index: its key is the index, and its place is ten times the index. Every
+// third row is gone.
 fn row_at(index: usize) -> Option<(u64, usize)> {
     if index % 3 == 2 {
         return None;
@@ -47,7 +48,8 @@ fn at_most_16384_hints(rt: HostRuntime) -> Result<(), Fail> {
     Ok(())
 }
 
-// Makes hints three times, once more if there was no memory for them.
+// Grows hints three times, each once more if memory was refused. Returns whether memory was
+// refused.
 fn grow_thrice(heap: &Refusing<Global>) -> Result<bool, AllocError> {
     let mut hints = Hints::new(heap);
     let mut met = false;

@@ -1,6 +1,7 @@
 use pt_lanes::{all_zero, any_from, highest};
 
-// Whether these are the answers for the counts, of which so many are seen from an index on.
+// Returns true if the counts give these answers: whether one is above 0 from an index on, and the
+// last index at which one is.
 fn is_told(counts: &[u32], from: usize, any: bool, greatest: Option<usize>) -> bool {
     any_from(counts, from) == any
         && highest(counts) == greatest

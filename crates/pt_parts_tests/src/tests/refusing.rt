@@ -7,7 +7,7 @@ fn is_refused(heap: &Refusing<Global>, len: usize) -> bool {
     block.is_err()
 }
 
-// Asks for three blocks, each once more if it was refused.
+// Asks for three blocks, each once more if it was refused. Returns whether one was refused.
 fn three_blocks(heap: &Refusing<Global>) -> Result<bool, AllocError> {
     let mut met = false;
     for len in 1..4 {
@@ -53,7 +53,7 @@ fn refuses_each_in_turn(rt: HostRuntime) -> Result<(), Fail> {
     Ok(())
 }
 
-// Asks for the blocks, and reports that some memory was not there.
+// Asks for three blocks, and reports that memory was refused even if it was not.
 fn three_blocks_met(heap: &Refusing<Global>) -> Result<bool, AllocError> {
     three_blocks(heap)?;
     Ok(true)

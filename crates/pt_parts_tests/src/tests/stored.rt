@@ -1,4 +1,4 @@
-//! Entries of every kind are read as they were pushed, whatever their numbers.
+//! Tests that entries of every kind are read as they were pushed, whatever their numbers.
 
 ghost use Rattle.std.specs.Prelude.{false, ◌<◌, ◌≡◌, ◌≤◌};
 
@@ -10,10 +10,10 @@ use pt_types::{Call, ClientId, Clock, Deadline, Moment, MutexKind, Name, ObjectI
 use std::alloc::{Allocator, Global};
 use std::test::Fail;
 
-// How many entries there are: the calls, and one or two of each other kind.
+// The number of entries: the calls, and one or two of each other kind.
 const ENTRIES: u64 = 44;
 
-// The names and the deadline of the calls.
+// The names and times of the entries.
 #[derive(Drop)]
 struct Words {
     one: Name,
@@ -31,7 +31,8 @@ fn make_words() -> Option<Words> {
     })
 }
 
-// The calls whose only object is their one name.
+// Returns one of the calls whose one name is their only object, without a number, deadline or
+// clock.
 fn named(number: u64, name: Name) -> Call {
     match number {
         0 => Call::MutexInit(name, MutexKind::Normal, false),
@@ -58,7 +59,7 @@ fn named(number: u64, name: Name) -> Call {
     }
 }
 
-// The calls of one name and a number, a deadline or a clock.
+// Returns one of the calls of one name and a number, a deadline or a clock.
 fn limited(number: u64, name: Name, due: Deadline) -> Call {
     match number {
         21 => Call::BarrierInit(name, 1024),
@@ -75,7 +76,7 @@ fn limited(number: u64, name: Name, due: Deadline) -> Call {
     }
 }
 
-// The waits.
+// Returns one of the waits.
 fn wait(number: u64, cond: Name, mutex: Name, due: Deadline) -> Call {
     match number {
         32 => Call::Wait(cond, mutex),
@@ -93,7 +94,7 @@ fn call(words: &Words, number: u64) -> Call {
     }
 }
 
-// An answer to a call, or none.
+// No answer, and each answer to a call.
 const ANSWERS: [Option<Outcome>; 11] = [
     None,
     Some(Outcome::Done),
@@ -108,8 +109,8 @@ const ANSWERS: [Option<Outcome>; 11] = [
     Some(Outcome::Enotrecoverable),
 ];
 
-// The entry of a number: the calls first, and then those of other kinds. Clients, places and
-// objects count from a number.
+// Returns the entry of a number: the calls first, and then the other kinds. Clients, places and
+// objects count from `from`.
 fn entry(words: &Words, from: u64, number: u64) -> Entry {
     let named = from.wrapping_add(number);
     match number {
@@ -128,12 +129,12 @@ fn entry(words: &Words, from: u64, number: u64) -> Entry {
     }
 }
 
-// Each entry in turn, counted from each of four numbers in turn.
+// Returns each entry in turn, counted from each of four numbers in turn.
 fn sample(words: &Words, numbers: &[u64; 4], index: u64) -> Entry {
     entry(words, numbers[(index % 4) as usize], index / 4)
 }
 
-// A history that begins at a place.
+// Returns a history that begins at a place.
 fn begin<A: Allocator + Copy>(alloc: A, at: u64) -> History<A>
     requires { at ≤ 4611686018427387904 }
 {
@@ -151,8 +152,8 @@ fn begin<A: Allocator + Copy>(alloc: A, at: u64) -> History<A>
     history
 }
 
-// Pushes a call or an entry that must follow in the way that is for such entries. Reports whether
-// it is one.
+// Pushes a call or a forced entry by the method that is made for it. Returns whether the entry is
+// one of these.
 fn push_short(history: &mut History, entry: &Entry) -> bool
     requires { 0 < history.old.room }
     ensures { result ≡ false → history.new ≡ history.old }
@@ -168,7 +169,7 @@ fn push_short(history: &mut History, entry: &Entry) -> bool
     true
 }
 
-// Pushes all entries, as far as there is room.
+// Pushes all entries, as far as room is left.
 fn push_all(history: &mut History, words: &Words, numbers: &[u64; 4]) {
     for index in 0..4 * ENTRIES {
         if history.room() > 0 {
@@ -180,7 +181,7 @@ fn push_all(history: &mut History, words: &Words, numbers: &[u64; 4]) {
     }
 }
 
-// Whether all entries are read, from a place on.
+// Returns true if all entries are read, from a place on.
 fn are_read(history: &History, at: u64, words: &Words, numbers: &[u64; 4]) -> bool {
     for index in 0..4 * ENTRIES {
         let stored = history.entry(at.wrapping_add(index));
@@ -191,7 +192,7 @@ fn are_read(history: &History, at: u64, words: &Words, numbers: &[u64; 4]) -> bo
     true
 }
 
-// Whether a history that begins at a place has each entry that was pushed.
+// Returns true if a history that begins at a place has each entry that was pushed.
 fn are_stored(alloc: Global, words: &Words, at: u64, numbers: &[u64; 4]) -> bool
     requires { at ≤ 4611686018427387904 }
 {
@@ -201,8 +202,9 @@ fn are_stored(alloc: Global, words: &Words, at: u64, numbers: &[u64; 4]) -> bool
     is_reserved && are_read(&history, at, words, numbers)
 }
 
-// The second history begins 2^31 past a number of more than 33 bits, from which 32 bits count: its
-// entries count from 0, from near the least number and the greatest of these, and from its place.
+// The second history begins 2^31 past a number of more than 33 bits, from which numbers of 32 bits
+// count. Its entries count from 0, from near the least and the greatest of these numbers, and from
+// its place.
 fn are_all_stored(alloc: Global) -> bool {
     let Some(words) = make_words() else {
         return false;
@@ -235,7 +237,7 @@ fn push_ordinary(history: &mut History<&LocalHeap>, words: &Words, from: u64, co
     }
 }
 
-// Whether ordinary entries from a place on take at most 40 bytes each.
+// Returns true if ordinary entries from a place on take at most 40 bytes each.
 fn are_small(alloc: Global, words: &Words, at: u64) -> Result<bool, Fail>
     requires { at ≤ 4611686018427387904 }
 {

@@ -10,7 +10,7 @@ use pt_types::Name;
 use std::alloc::Global;
 use std::test::Fail;
 
-// The name of four digits of a number below 10,000.
+// Returns the name made of the four digits of a number below 10,000.
 fn name_of(number: u64) -> Option<Name> {
     let mut digits = [b'0'; 4];
     for (place, unit) in [(0, 1000), (1, 100), (2, 10), (3, 1)] {
@@ -41,7 +41,7 @@ fn fill_objects(objects: &mut Objects<u64>, count: u64) -> bool
     true
 }
 
-// Adds a client, once more if there was no memory for it.
+// Adds a client, once more if memory was refused. Returns whether memory was refused.
 fn add_client(
     clients: &mut Clients<u64, &Refusing<Global>>,
     number: u64,
@@ -105,7 +105,7 @@ fn add_objects(heap: &Refusing<Global>) -> Result<bool, &'static str> {
     add_20_objects(&mut objects)
 }
 
-// Writes to the row of a number, if there is one.
+// Writes to the row of a number, if it exists.
 fn write(rows: &mut Objects<u32>, number: u64, value: u32)
     ensures { OnTrue (has_object rows.old number) (rows.new ≡ with_object rows.old number value) }
 {
@@ -114,7 +114,8 @@ fn write(rows: &mut Objects<u32>, number: u64, value: u32)
     }
 }
 
-// Adds three clients, of which the last has a number that is taken.
+// Adds three clients, the last with a number that is taken. Returns true if only that one is
+// refused.
 fn is_taken_seen(clients: &mut Clients<u32>) -> bool {
     for (number, value, refused) in [
         (3, 30, None),
@@ -128,7 +129,7 @@ fn is_taken_seen(clients: &mut Clients<u32>) -> bool {
     clients.len() == 2 && matches!(clients.nth(1), Some((5, _)))
 }
 
-// Writes to a client's value, and takes another client out.
+// Writes to a client's value, and removes another client. Returns true if the table shows both.
 fn is_removed(clients: &mut Clients<u32>) -> bool {
     if let Some(value) = clients.at_mut(5) {
         *value = 51;
@@ -147,7 +148,8 @@ fn clients_by_number(rt: HostRuntime) {
     assert!(rt; is_removed(&mut clients));
 }
 
-// Adds two objects, and two more whose number or name is taken.
+// Adds two objects, and two more whose number or name is taken. Returns true if only these are
+// refused.
 fn are_taken_seen(objects: &mut Objects<u32>, m: &Name, n: &Name, o: &Name) -> bool {
     for (number, name, value, refused) in [
         (3, m, 30, None),
@@ -162,7 +164,8 @@ fn are_taken_seen(objects: &mut Objects<u32>, m: &Name, n: &Name, o: &Name) -> b
     objects.find(m) == Some(3) && matches!(objects.nth(1), Some((4, _)))
 }
 
-// The first object is taken out, and another one put in with its name.
+// Removes the first object, and adds another one with its name. Returns true if the table shows
+// both.
 fn is_name_free_again(objects: &mut Objects<u32>, m: &Name, n: &Name) -> bool {
     write(objects, 4, 41);
     write(objects, 5, 51);
@@ -178,7 +181,7 @@ fn is_name_free_again(objects: &mut Objects<u32>, m: &Name, n: &Name) -> bool {
         && objects.len() == 2
 }
 
-// Whether objects are found by their numbers and their names.
+// Returns true if objects are found by their numbers and their names.
 fn are_found(alloc: Global) -> bool {
     let (Some(m), Some(n), Some(o)) = (Name::new(b"m"), Name::new(b"n"), Name::new(b"o")) else {
         return false;
@@ -192,7 +195,7 @@ fn objects_by_number_and_name(rt: HostRuntime) {
     assert!(rt; are_found(rt.alloc()));
 }
 
-// Whether a chain has these numbers and no more.
+// Returns true if a chain has these numbers and no more.
 fn has_numbers(objects: &Objects<u64>, head: Option<u64>, numbers: &[u64]) -> bool {
     let mut rest = head;
     for number in numbers {
@@ -204,7 +207,7 @@ fn has_numbers(objects: &Objects<u64>, head: Option<u64>, numbers: &[u64]) -> bo
     rest.is_none()
 }
 
-// Puts a row that is in no chain first in the chain of a head.
+// Puts a row that is in no chain at the front of the chain that begins with `head`.
 fn link_free(objects: &mut Objects<u64>, head: Option<u64>, number: u64) -> u64
     requires chain { HasChain objects.old head }
     requires free { IsFree objects.old number }
@@ -219,7 +222,8 @@ fn link_free(objects: &mut Objects<u64>, head: Option<u64>, number: u64) -> u64
     objects.link(head, number)
 }
 
-// Whether a chain is what it was put together as, then lacks a row, and then rises.
+// Returns true if a chain has the rows that were linked, then lacks the one that was unlinked, and
+// is then sorted.
 fn is_chain_sorted(objects: &mut Objects<u64>) -> bool
     requires { AreFree objects.old 6 }
 {
@@ -243,7 +247,7 @@ fn chains_of_objects(rt: HostRuntime) {
     assert!(rt; fill_objects(&mut objects, 6) && is_chain_sorted(&mut objects));
 }
 
-// Whether a table of 1,023 clients takes one more, and no other until one is gone.
+// Returns true if a table of 1,023 clients takes one more, and no other until one is removed.
 fn is_full_at_1024(clients: &mut Clients<u64>) -> bool {
     for (number, value, refused) in [
         (1023, 7, None),
@@ -265,7 +269,7 @@ fn at_most_1024_clients(rt: HostRuntime) {
     assert!(rt; fill_clients(&mut clients, 1023) && is_full_at_1024(&mut clients));
 }
 
-// Whether a table of 4,095 objects takes one more, and no other until one is gone.
+// Returns true if a table of 4,095 objects takes one more, and no other until one is removed.
 fn is_full_at_4096(objects: &mut Objects<u64>, last: &Name, more: &Name) -> bool {
     for (number, name, value, refused) in [
         (4095, last, 7, None),
@@ -282,7 +286,7 @@ fn is_full_at_4096(objects: &mut Objects<u64>, last: &Name, more: &Name) -> bool
     len == 4096 && removed == Some(0) && objects.add(4096, more.copied(), 8).is_ok()
 }
 
-// Whether a table takes 4,096 objects and no more.
+// Returns true if a table takes 4,096 objects and no more.
 fn are_objects_limited(alloc: Global) -> bool {
     let (Some(last), Some(more)) = (name_of(4095), name_of(4096)) else {
         return false;
@@ -303,7 +307,7 @@ fn each_growth_is_refused_in_turn(rt: HostRuntime) -> Result<(), Fail> {
     Ok(())
 }
 
-// Whether new tables ask for no memory of a heap that refuses the first growth.
+// Returns true if new tables ask for no memory of a heap that refuses the first growth.
 fn take_no_memory(heap: &Refusing<Global>) -> bool {
     let clients: Clients<u64, &Refusing<Global>> = Clients::new(heap);
     let objects: Objects<u64, &Refusing<Global>> = Objects::new(heap);

@@ -11,14 +11,14 @@ use std::test::Fail;
 // A place that is due, with its client.
 type Due = (u64, ClientId);
 
-// What can be seen at the end of second 20 of both clocks.
+// Returns what can be seen at the end of second 20 of both clocks.
 fn seen(timers: &Timers<&Refusing<Global>>) -> Result<([Option<Deadline>; 2], Option<Due>), Fail> {
     let now = Moment::new(20, 999_999_999).ok_or("moment")?;
     let least = [timers.least(Clock::Real), timers.least(Clock::Mono)];
     Ok((least, timers.least_due(Some(now), Some(now))))
 }
 
-// The one clock for even numbers, the other for odd ones.
+// Returns one clock for even numbers, and the other for odd ones.
 fn clock_of(number: u64) -> Clock {
     if number % 2 == 0 {
         Clock::Real
@@ -27,12 +27,13 @@ fn clock_of(number: u64) -> Clock {
     }
 }
 
-// The client of the call at a place.
+// Returns the client of the call at a place.
 fn client_at(place: u64) -> ClientId {
     ClientId(u64::MAX - place)
 }
 
-// Sets the deadline of the next place, once more if there was no memory for it.
+// Sets the deadline of the next place, once more if memory was refused. Returns whether memory was
+// refused.
 fn set_next(
     timers: &mut Timers<&Refusing<Global>>,
     place: u64,
@@ -57,7 +58,7 @@ fn set_next(
     Ok(true)
 }
 
-// Takes the soonest of 20 timers away, one by one.
+// Cancels 20 timers one by one, the soonest first.
 fn take_all(timers: &mut Timers<&Refusing<Global>>) -> Result<(), Fail> {
     for left in 0..20 {
         let place = 19 - left;
@@ -74,7 +75,8 @@ fn take_all(timers: &mut Timers<&Refusing<Global>>) -> Result<(), Fail> {
     Ok(())
 }
 
-// Sets 20 timers, each sooner than those before it.
+// Sets 20 timers, each sooner than those before it, and cancels them. Returns whether memory was
+// refused.
 fn set_20_timers(timers: &mut Timers<&Refusing<Global>>) -> Result<bool, Fail>
     requires { (p : ℕ) → deadline_at timers.old p ≡ None }
 {
@@ -92,7 +94,7 @@ fn set_timers(heap: &Refusing<Global>) -> Result<bool, Fail> {
     set_20_timers(&mut timers)
 }
 
-// The place that is due at these seconds of both clocks, the last nanosecond of the second counted.
+// Returns the place that is due at the last nanosecond of these seconds of both clocks.
 fn due_in(timers: &Timers, real: u64, mono: u64) -> Option<u64> {
     due_at(
         timers,
@@ -101,13 +103,14 @@ fn due_in(timers: &Timers, real: u64, mono: u64) -> Option<u64> {
     )
 }
 
-// The place that is due at these moments of both clocks.
+// Returns the place that is due at these moments of both clocks.
 fn due_at(timers: &Timers, real: Option<Moment>, mono: Option<Moment>) -> Option<u64> {
     let (place, _) = timers.least_due(real, mono)?;
     Some(place)
 }
 
-// Whether three timers of one clock are due by their deadlines, and then by their places.
+// Returns true if three timers of one clock are due in the order of their deadlines, then of their
+// places.
 fn are_due_in_order(alloc: Global, soon: Deadline, late: Deadline) -> bool
     requires soon { is_bad_deadline soon ≡ false }
     requires late { is_bad_deadline late ≡ false }
@@ -141,7 +144,7 @@ fn due_at_their_nanosecond_by_deadline_then_place(rt: HostRuntime) -> Result<(),
     Ok(())
 }
 
-// Whether three timers are due by their own clocks.
+// Returns true if three timers are due by their own clocks.
 fn are_due_by_their_clocks(alloc: Global, soon: Deadline, late: Deadline) -> bool
     requires soon { is_bad_deadline soon ≡ false }
     requires late { is_bad_deadline late ≡ false }

@@ -1,4 +1,4 @@
-//! The same calls on both lists of waiters. After each call they answer alike.
+//! Plays the same calls on both lists of waiters, which must answer alike after each call.
 
 ghost use Rattle.std.specs.Prelude.{ℕ, ◌≡◌, ◌+◌, ◌<◌, true, false, OnOk, []};
 ghost use Rattle.std.specs.List.{AllByRecursion as Each};
@@ -15,7 +15,7 @@ const CLIENTS: u64 = 40;
 
 const QUEUES: u64 = 2;
 
-/// What is done to a list.
+/// A change that is made to a list.
 #[derive(Clone, Copy)]
 enum Change {
     Insert,
@@ -25,7 +25,7 @@ enum Change {
     MakeAgain,
 }
 
-/// A change, with what it is done to.
+/// A change, with the clients, the queue and the waiter that it is made to.
 #[derive(Clone, Copy)]
 struct Step {
     change: Change,
@@ -54,7 +54,7 @@ impl Step {
     }
 }
 
-/// A fixed sequence of numbers, by a linear congruential generator.
+/// A fixed sequence of numbers, from a linear congruential generator.
 #[derive(Drop)]
 struct Draws {
     last: u64,
@@ -72,7 +72,7 @@ impl Draws {
         (self.last >> 33) % end
     }
 
-    // Where the queues fill, 10 changes of 16 put a waiter in, and else 1 of 7.
+    // While the queues fill, 10 changes of 16 insert a waiter. Otherwise 1 of 7 does.
     fn change(&mut self, fills: bool) -> Change {
         match self.below(if fills { 16 } else { 7 }) {
             0..=2 => Change::Remove,
@@ -95,7 +95,7 @@ impl Draws {
     }
 }
 
-// Puts a waiter in, unless its client waits.
+// Inserts a waiter, unless its client waits already.
 fn insert<W: WaitList>(list: &mut W, object: ObjectId, waiter: Waiter)
     requires admitted { (W.seen list.old).admitted waiter.client ≡ true }
     requires made { (W.seen list.old).made object ≡ true }
@@ -110,7 +110,7 @@ fn insert<W: WaitList>(list: &mut W, object: ObjectId, waiter: Waiter)
     list.insert(object, waiter);
 }
 
-// Gives the room of two clients back and makes room for both, unless one of them waits.
+// Gives the room of two clients back and makes room for both again, unless one of them waits.
 fn admit_again<W: WaitList>(list: &mut W, one: ClientId, other: ClientId) -> Result<(), Refusal>
     requires one { (W.seen list.old).admitted one ≡ true }
     requires other { (W.seen list.old).admitted other ≡ true }
@@ -128,7 +128,7 @@ fn admit_again<W: WaitList>(list: &mut W, one: ClientId, other: ClientId) -> Res
     list.admit(other)
 }
 
-// Takes a queue away and makes it, unless one waits there.
+// Discards a queue and makes it again, unless a call waits there.
 fn make_again<W: WaitList>(list: &mut W, object: ObjectId) -> Result<(), Refusal>
     requires { (W.seen list.old).made object ≡ true }
     ensures admitted { (c : ℕ) → (W.seen list.new).admitted c ≡ (W.seen list.old).admitted c }
@@ -142,7 +142,7 @@ fn make_again<W: WaitList>(list: &mut W, object: ObjectId) -> Result<(), Refusal
     list.make(object)
 }
 
-// Whose waiter is taken out: the first of the queue, or the client's own.
+// Returns the client whose waiter is removed: the first of the queue, or the step's own client.
 fn leaving<W: WaitList>(list: &W, step: &Step) -> ClientId {
     match step.change {
         Change::RemoveFirst => match list.first(ObjectId(step.object)) {
@@ -153,7 +153,7 @@ fn leaving<W: WaitList>(list: &W, step: &Step) -> ClientId {
     }
 }
 
-// Makes a change at this place, and reports who was taken out.
+// Makes a change at this place, and returns the waiter that was removed.
 fn play<W: WaitList>(
     list: &mut W,
     step: &Step,
@@ -184,7 +184,7 @@ fn play<W: WaitList>(
     }
 }
 
-// What can be seen of a queue.
+// Returns what can be seen of a queue.
 fn seen<W: WaitList>(
     list: &W,
     object: ObjectId,
@@ -216,7 +216,7 @@ fn clients_agree<P: WaitList, C: WaitList>(plain: &P, chains: &C) -> bool {
     true
 }
 
-// Plays a step on both lists, and compares what they answer and every queue.
+// Plays a step on both lists, and compares their results, every queue and every client.
 fn play_on_both<P: WaitList, C: WaitList>(
     plain: &mut P,
     chains: &mut C,
@@ -262,7 +262,7 @@ fn make_all<W: WaitList>(list: &mut W) -> Result<(), Refusal>
     list.make(ObjectId(1))
 }
 
-// Brings an empty list into play.
+// Brings an empty list into play: admits the clients and makes the queues.
 fn begin<W: WaitList>(list: &mut W) -> Result<(), &'static str>
     requires clients { (c : ℕ) → (W.seen list.old).admitted c ≡ false }
     requires unmade { (q : ℕ) → (W.seen list.old).made q ≡ false }
@@ -273,8 +273,8 @@ fn begin<W: WaitList>(list: &mut W) -> Result<(), &'static str>
     make_all(list).ok().ok_or("queues")
 }
 
-/// Five clients come into one chain. Then the one in the middle leaves, the head, the tail, the
-/// head again, and the only one.
+/// Five clients enter one chain. Then five leave: the one in the middle, the head, the tail, the
+/// head again, and the only one left.
 const ONE_CHAIN: [(Change, u64); 10] = [
     (Change::Insert, 0),
     (Change::Insert, 1),
@@ -313,7 +313,7 @@ fn play_one_chain<P: WaitList, C: WaitList>(
     Ok(())
 }
 
-// The queues fill and empty in turn, 250 changes each.
+// Plays 2,000 drawn changes. The queues fill and empty in turn, 250 changes each.
 fn play_2000<P: WaitList, C: WaitList>(plain: &mut P, chains: &mut C) -> Result<(), &'static str>
     requires plain { IsInPlay (P.seen plain.old) 10 }
     requires chains { IsInPlay (C.seen chains.old) 10 }
@@ -341,7 +341,7 @@ fn play_all<P: WaitList, C: WaitList>(plain: &mut P, chains: &mut C) -> Result<(
     play_2000(plain, chains)
 }
 
-// Whether both lists, empty at first, answer all calls alike.
+// Returns true if both lists, empty at first, answer all calls alike.
 fn answer_alike(alloc: Global) -> bool {
     let mut plain = PlainList::new(alloc);
     let mut chains = Chains::new(alloc);

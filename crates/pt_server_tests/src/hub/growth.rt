@@ -1,4 +1,4 @@
-//! A hub to which each growth is refused in turn.
+//! Tests of a hub with each growth of memory refused in turn.
 
 ghost use Rattle.std.specs.Prelude.{◌≡◌, ◌^◌};
 
@@ -11,7 +11,7 @@ use std::alloc::Global;
 use std::marker::Brand;
 use std::sync::ledger::{Blank, Ledger};
 
-// A client joins, the first time or the second. Whether a growth was refused.
+// Lets a client join, at the first or the second attempt. Returns whether a growth was refused.
 fn joins<'a, L: Ledger>(
     hub: &mut Hub<L, &'a Refusing<Global>>,
 ) -> Result<(Pass<L, &'a Refusing<Global>>, bool), &'static str> {
@@ -27,8 +27,8 @@ fn joins<'a, L: Ledger>(
     }
 }
 
-// A call is answered 0 at this place, made the first time or the second. Whether a growth was
-// refused.
+// Makes a call that is answered 0 at this place, at the first or the second attempt. Returns
+// whether a growth was refused.
 fn asks<'a, L: Ledger>(
     hub: &mut Hub<L, &'a Refusing<Global>>,
     pass: &mut Pass<L, &'a Refusing<Global>>,
@@ -47,7 +47,7 @@ fn asks<'a, L: Ledger>(
     Ok(is_refused)
 }
 
-// The answer 0 to the call at this place is taken.
+// Takes the answer 0 to the call at this place.
 fn takes<'a, L: Ledger>(
     hub: &mut Hub<L, &'a Refusing<Global>>,
     pass: &mut Pass<L, &'a Refusing<Global>>,
@@ -61,7 +61,8 @@ fn takes<'a, L: Ledger>(
     }
 }
 
-// The history is sealed at this place, the first time or the second. Whether a growth was refused.
+// Seals the history at this place, at the first or the second attempt. Returns whether a growth was
+// refused.
 fn seals<'a, L: Ledger>(
     hub: &mut Hub<L, &'a Refusing<Global>>,
     at: u64,
@@ -77,8 +78,8 @@ fn seals<'a, L: Ledger>(
     Ok(is_refused)
 }
 
-// A client makes a mutex and locks it; the history is sealed before the lock, and before its answer
-// is taken. Whether a growth was refused.
+// Lets a client make a mutex and lock it. The history is sealed before the lock, and again before
+// its answer is taken. Returns whether a growth was refused.
 fn plays<'a, L: Ledger>(hub: &mut Hub<L, &'a Refusing<Global>>) -> Result<bool, &'static str> {
     let (mut pass, joined) = joins(hub)?;
     let made = asks(hub, &mut pass, Word::MutexInit, 1)?;

@@ -10,13 +10,13 @@ use std::alloc::Global;
 use std::marker::Brand;
 use std::sync::ledger::{Blank, Ledger};
 
-// What is done with a hub, and what must come of it. Clients are numbered in the order of their
-// joins.
+// A step of a row: what is done with a hub, and what must come of it. Clients are numbered in the
+// order in which they join.
 #[derive(Clone, Copy)]
 pub(super) enum Step {
-    // A client's call, whose entry has this place, and which is answered at once.
+    // A client's call that is answered at once. Its entry has this place.
     Asks(usize, Word, u64),
-    // The same, but it has to wait.
+    // A client's call that has to wait. Its entry has this place.
     Waits(usize, Word, u64),
     Refused(usize, Word, Refusal),
     // A client takes an answer: the place of its call, and the outcome.
@@ -24,13 +24,14 @@ pub(super) enum Step {
     TakesNothing(usize),
     // A reading of the clock, in seconds and nanoseconds.
     Moment(u64, u64),
-    // The moment one second, so many times.
+    // The moment of one second, handed in this many times.
     Moments(u64),
     // The least deadline, in seconds.
     LeastDeadline(u64),
-    // The entries from a place on answer a call of this client first; none if a seal dropped them.
+    // The client whose call is the first that the entries from a place on answer, or none if a seal
+    // dropped them.
     Answers(u64, Option<u64>),
-    // The history is sealed, and goes on at this place.
+    // A seal of the history, which goes on at this place.
     Seals(u64),
 }
 
@@ -41,7 +42,8 @@ pub(super) struct Leaving<'a> {
 }
 
 // A row: each client joins with priority 10, the steps follow, and each client dies, in order. A
-// close without the last of them finds so many events; with all of them the hub closes.
+// close without what the last client left finds `found_without_last` events. With all that was left
+// the hub closes.
 pub(super) struct Row<'a> {
     pub steps: &'a [Step],
     pub leaving: &'a [Leaving<'a>],
@@ -113,13 +115,13 @@ fn advances_often<L: Ledger>(
     true
 }
 
-// Whose call the entries from a place on answer first.
+// Returns the number of the client whose call the entries from a place on answer first.
 fn first_answered<L: Ledger>(hub: &Hub<L, Global>, place: u64) -> Option<u64> {
     let reply = hub.answer_since(place, 0)?;
     Some(reply.client.0)
 }
 
-// Whether what a client does comes out as it must.
+// Returns true if what a client does comes out as it must.
 fn comes_out<L: Ledger>(hub: &mut Hub<L, Global>, pass: &mut Pass<L>, step: Step) -> bool {
     match step {
         Step::Asks(_, word, place) => sends(hub, pass, word) == Ok(Sent { place, ready: true }),
@@ -134,7 +136,7 @@ fn comes_out<L: Ledger>(hub: &mut Hub<L, Global>, pass: &mut Pass<L>, step: Step
     }
 }
 
-// Whether a step comes out as it must.
+// Returns true if a step comes out as it must.
 fn plays<L: Ledger>(
     hub: &mut Hub<L, Global>,
     clock: &mut ClockPass<L>,
@@ -204,7 +206,7 @@ fn are_left<L: Ledger>(lefts: &[Left<L>], leaving: &[Leaving]) -> bool {
     lefts.len() == leaving.len()
 }
 
-// What a client left is handed in, if it left. If memory lacks the close finds too few events.
+// Adds what a client left, if it left. If memory is lacking, the close finds too few events.
 pub(super) fn add<L: Ledger>(lefts: &mut Vec<Left<L>>, left: Option<Left<L>>) {
     if let Some(left) = left {
         let _ = lefts.push(left);
@@ -224,7 +226,8 @@ fn is_closed<L: Ledger>(ended: Result<Closed, CloseRefused<L>>, expected: Closed
     }
 }
 
-// A close that was refused since the last client is missing, and then one with all of them.
+// Returns true if a close was refused because the last client is missing, and a close with all
+// clients succeeds.
 fn closes_again<L: Ledger>(refused: CloseRefused<L>, last: Option<Left<L>>, row: &Row) -> bool {
     let CloseRefused {
         fault,
@@ -253,8 +256,8 @@ fn closes<L: Ledger>(
     }
 }
 
-// Ends a hub on which all steps were played. No way out leaves before the close, since each would
-// have to drop the hub.
+// Ends a hub on which all steps were played. No path returns before the close, since it would have
+// to drop the hub.
 fn ends<L: Ledger>(
     alloc: Global,
     mut hub: Hub<L, Global>,
@@ -293,7 +296,7 @@ fn is_played_in<L: Ledger>(alloc: Global, blank: Blank, row: &Row) -> bool
     }
 }
 
-// Whether a row comes out as it must, on a hub of its own.
+// Returns true if a row comes out as it must, on a hub of its own.
 pub(super) fn is_played(alloc: Global, row: &Row) -> bool {
     is_played_in::<Brand>(alloc, Blank::new(1 << 63), row)
 }

@@ -5,7 +5,7 @@ use super::play::{Leaving, Row, Step, is_played};
 use pt_hub::Closed;
 use pt_types::{Outcome, Refusal};
 
-// What the two clients of the first row leave, whether its history is sealed on the way or not.
+// What the two clients of row 24 leave, whether or not its history is sealed on the way.
 pub(super) const LEFT_24: &[Leaving] = &[
     Leaving {
         receipts: &[
@@ -21,7 +21,7 @@ pub(super) const LEFT_24: &[Leaving] = &[
     },
 ];
 
-// What is answered, taken and refused.
+// Calls that are answered or refused, and answers that are taken.
 const ROW_24: Row = Row {
     steps: &[
         Step::Asks(0, Word::MutexInit, 2),

@@ -6,8 +6,8 @@ use super::rows::LEFT_24;
 use pt_hub::Closed;
 use pt_types::{Outcome, Refusal};
 
-// Row 24, sealed before answers are taken: one is owed from before the seal, as that of the first
-// lock, or its call was open then, as the second lock.
+// Row 24, sealed before answers are taken. The answer to the first lock is owed from before a seal.
+// The second lock is open at a seal.
 const ROW_24_SEALED: Row = Row {
     steps: &[
         Step::Asks(0, Word::MutexInit, 2),
@@ -39,9 +39,10 @@ fn row_24_sealed(rt: HostRuntime) {
     assert!(rt; is_played(rt.alloc(), &ROW_24_SEALED));
 }
 
-// A history of at most 1,048,576 entries runs on past them. Five of these stay reserved: two for
-// the Deaths, and three for the open lock. So the moment at place 1,048,571 is the first one for
-// which there is no room, and seals: the Grant at place 4 is there before it, and gone after it.
+// A history of at most 1,048,576 entries, which goes on past this number. Five entries stay
+// reserved: two for the Deaths, and three for the open lock. So the moment at place 1,048,571 is
+// the first one for which no room is left, and the history is sealed for it. The Grant at place 4
+// is in the history before this moment, and gone after it.
 const RUNS_ON: Row = Row {
     steps: &[
         Step::Asks(0, Word::MutexInit, 2),

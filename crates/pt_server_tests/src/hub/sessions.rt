@@ -9,7 +9,7 @@ use std::alloc::Global;
 use std::marker::Brand;
 use std::sync::ledger::{Blank, Ledger};
 
-// A session opens as the one of this number, with a clock that has submitted nothing.
+// Returns true if a session opens with this number, and with a clock that has submitted nothing.
 fn opens<L: Ledger>(hub: &mut Hub<L, Global>, number: u64) -> bool {
     match hub.open_session() {
         Ok((session, clock)) => {
@@ -19,7 +19,7 @@ fn opens<L: Ledger>(hub: &mut Hub<L, Global>, number: u64) -> bool {
     }
 }
 
-// Marks are those of open sessions alone, and no number is given twice.
+// Returns true if marks are those of open sessions alone, and no number is given twice.
 fn are_marked<L: Ledger>(hub: &mut Hub<L, Global>) -> bool {
     if !opens(hub, 0) || !opens(hub, 1) {
         return false;
@@ -34,7 +34,7 @@ fn are_marked<L: Ledger>(hub: &mut Hub<L, Global>) -> bool {
     hub.input_ended(SessionId(1)) && hub.input_ended(SessionId(u64::MAX)) && opens(hub, 2)
 }
 
-// A clock has the moments that were submitted by it, in order.
+// Returns true if a clock has the moments that were submitted by it, in order.
 fn are_submitted<L: Ledger>(
     hub: &mut Hub<L, Global>,
     clock: &mut ClockPass<L>,

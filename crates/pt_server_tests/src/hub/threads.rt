@@ -14,10 +14,10 @@ use std::sync::ledger::{Blank, Ledger};
 use std::thread;
 use std::thread::Threads;
 
-// How often each client locks and unlocks the mutex.
+// The number of times that each client locks and unlocks the mutex.
 const TURNS: u8 = 50;
 
-// A call is accepted, and answered 0.
+// Returns true if a call is accepted and answered 0.
 fn asks<L: Ledger, R: Wait>(
     rt: &R,
     shared: &Shared<L>,
@@ -53,7 +53,8 @@ fn asks_all<L: Ledger, R: Wait>(
     true
 }
 
-// A client joins, makes its calls, and dies. `None` if one of them was not answered 0.
+// Lets a client join, make its calls and die. Returns `None` if it can't join, or if a call is not
+// answered 0.
 fn client<L: Ledger, R: Wait>(rt: &R, shared: &Shared<L>, session: SessionId) -> Option<Left<L>> {
     let mut pass = shared.join(rt, session, Priority::new(10)?).ok()?;
     let answered = asks_all(rt, shared, session, &mut pass);
@@ -61,7 +62,7 @@ fn client<L: Ledger, R: Wait>(rt: &R, shared: &Shared<L>, session: SessionId) ->
     if answered { Some(left) } else { None }
 }
 
-// The client that makes the mutex. It dies before the others join.
+// Runs the client that makes the mutex. It dies before the others join.
 fn first_client<L: Ledger, R: Wait>(
     rt: &R,
     shared: &Shared<L>,
@@ -73,7 +74,7 @@ fn first_client<L: Ledger, R: Wait>(
     if answered { Some(left) } else { None }
 }
 
-// What all clients left.
+// Returns what all clients left.
 fn lefts<L: Ledger + Send + Sync, R: Threads + Wait + Sync>(
     rt: &R,
     alloc: Global,
@@ -132,7 +133,7 @@ fn two_clients<R: Threads + Wait + Sync>(rt: &R, alloc: Global) -> Option<Closed
     two_clients_in::<Brand, R>(rt, alloc, Blank::new(1 << 63))
 }
 
-// The first client makes 3 events, and the others 102 each: a join, the calls and a death.
+// The first client makes 3 events, and each of the others 102: a join, its calls and a death.
 #[test]
 fn two_clients_in_two_threads(rt: HostRuntime) {
     match two_clients(&rt, rt.alloc()) {

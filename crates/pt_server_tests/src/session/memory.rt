@@ -1,4 +1,4 @@
-//! One session over memory, on a hub of its own.
+//! Tests of one session over memory, on a hub of its own.
 
 ghost use Rattle.std.specs.Prelude.{◌≡◌, ◌^◌};
 
@@ -28,15 +28,15 @@ struct Case {
     mode: ClockMode,
     input: &'static str,
     shut_at: u64,
-    // The writer's call that fails; it takes a byte at each.
+    // The number of the writer's call that fails, or 0. Each write takes one byte.
     fails_at: u64,
     text: &'static str,
-    // How many lines are pushed, submitted and answered.
+    // The numbers of lines that are pushed, submitted and answered.
     counts: (u64, u64, u64),
     cause: EndCause,
     joins: bool,
     moments: usize,
-    // How many events there are in the end, the client's death with them.
+    // The number of events in the end, including the client's death.
     events: u64,
 }
 
@@ -52,7 +52,7 @@ fn is_as<L: Ledger>(end: &SessionEnd<Faulty, Faulty, L>, case: &Case) -> bool {
         && text == case.text.as_bytes()
 }
 
-// The hub closes with what a session left.
+// Returns true if the hub closes with what a session left, and finds this number of events.
 fn closes<L: Ledger>(
     alloc: Global,
     hub: Hub<L, Global>,
@@ -121,7 +121,7 @@ fn are_played<R: Threads + Wait + Sync>(rt: &R, alloc: Global, cases: &[Case]) -
     true
 }
 
-// The last lock is open when the input ends.
+// In the first case, the last lock is open when the input ends.
 #[test]
 fn row_26(rt: HostRuntime) {
     let cases = [
@@ -165,8 +165,8 @@ fn row_26(rt: HostRuntime) {
     assert!(rt; are_played(&rt, rt.alloc(), &cases));
 }
 
-// A line that is not accepted is answered with its reason, and a session ends by its gate or by its
-// writer.
+// A line that is not accepted is answered with the reason. A session ends when its gate is shut, or
+// when its writer fails.
 #[test]
 fn refusals_and_ends(rt: HostRuntime) {
     let cases = [

@@ -17,24 +17,24 @@ use std::thread::Threads;
 use std::time::{Clock as HostClock, Duration};
 use std::{io, thread};
 
-// How often who waits looks again, at most; it sleeps a millisecond meanwhile.
+// The most times that a waiting reader or gate looks again. It sleeps a millisecond in between.
 const TURNS: u32 = 10_000;
 
-// How many lines of a session were asked for, and how many were answered.
+// Counts of a session's lines: how many its gate was asked for, and how many were answered.
 #[derive(Drop)]
 struct Marks {
     asked: AtomicU64,
     answered: AtomicU64,
 }
 
-// What is waited for: a number of lines, or the deadline 9 0.
+// What a gate waits for: a number of lines, or a least deadline of 9 0.
 #[derive(Clone, Copy)]
 enum Until<'a> {
     Reaches(&'a AtomicU64, u64),
     Deadline,
 }
 
-// A reader of these bytes, which then reports its end once so many lines are answered, or asked.
+// A reader of these bytes. After them it reports its end, once a count of lines reaches `ends_at`.
 #[derive(Drop)]
 struct Reader<'a, 'b, T> {
     rt: &'a T,
@@ -58,7 +58,7 @@ impl<'a, 'b, T: HostClock> Read for Reader<'a, 'b, T> {
     }
 }
 
-// A writer of a session: each flush is an answer.
+// The writer of a session. Each flush counts as an answer.
 #[derive(Drop)]
 struct Writer<'a> {
     answered: &'a AtomicU64,
@@ -77,7 +77,7 @@ impl<'a> Write for Writer<'a> {
     }
 }
 
-// A gate that holds one line until something is so.
+// A gate that holds one line until a number of lines or a deadline is reached.
 #[derive(Drop)]
 struct Holding<'a, 'b, 'c, L: Ledger, T> {
     rt: &'a T,
@@ -114,8 +114,8 @@ impl<'a, 'b, 'c, L: Ledger, T: Wait + HostClock> Gate for Holding<'a, 'b, 'c, L,
     }
 }
 
-// What a session is given: its lines, which of them is held until when, and when its input ends;
-// and what it must write.
+// What a session is given: its lines, the line that is held and until when, and when its input
+// ends. `text` is what it must write.
 #[derive(Clone, Copy)]
 struct Play<'a> {
     input: &'static str,
@@ -183,7 +183,7 @@ fn are_played_in<L: Ledger + Send + Sync, R: Threads + Wait + HostClock + Sync>(
     }
 }
 
-// Both sessions at once, each in a thread.
+// Plays both sessions at once, each in a thread.
 fn are_played<R: Threads + Wait + HostClock + Sync>(
     rt: &R,
     alloc: Global,
@@ -200,8 +200,8 @@ fn no_marks() -> Marks {
     }
 }
 
-// The first session's stream ends while its client owns the robust mutex, and the second is let in
-// to its lock.
+// The first session's stream ends while its client owns the robust mutex, and the second session is
+// let through to its lock.
 #[test]
 fn row_27(rt: HostRuntime) {
     let (one, two) = (no_marks(), no_marks());
@@ -226,8 +226,8 @@ fn row_27(rt: HostRuntime) {
     assert!(rt; are_played(&rt, rt.alloc(), &first, &second));
 }
 
-// The second session comes in once the first asks for its unlock, and that is held until the second
-// waits for the mutex.
+// The second session's first line passes once the first session asks for its unlock. The unlock is
+// held until the second client waits for the mutex.
 #[test]
 fn gate_crossing(rt: HostRuntime) {
     let (one, two) = (no_marks(), no_marks());

@@ -21,7 +21,7 @@ use std::sync::Wait;
 use std::sync::ledger::Ledger;
 
 impl<C: LegalHistory, L: Ledger> Shared<C, L> {
-    /// A client joins, whose answers this session takes.
+    /// Joins a client whose answers this session takes, and returns its pass.
     pub fn join<R: Wait>(
         &self,
         rt: &R,
@@ -48,7 +48,7 @@ impl<C: LegalHistory, L: Ledger> Shared<C, L> {
         }
     }
 
-    /// A client makes a call, which is in its receipts from then on.
+    /// Makes a call for a client, and adds it to the client's receipts.
     pub fn call<R: Wait>(&self, rt: &R, pass: &mut Pass<L>, call: Call) -> Result<Sent, Refusal>
         ensures pass { IfOk result (λ sent. pass.new ≡ record pass.old {
           receipts = pass.old.receipts
@@ -73,8 +73,8 @@ impl<C: LegalHistory, L: Ledger> Shared<C, L> {
         }
     }
 
-    /// The client's answer that isn't taken, if its last receipt waits for it. The receipt has it
-    /// from then on.
+    /// Takes the answer to the client's last call, if it has come and was not taken yet, and stores
+    /// it in the call's receipt.
     pub fn take<R: Wait>(&self, rt: &R, pass: &mut Pass<L>) -> Option<Answer>
         ensures pass { IfSome result (λ answer. pass.new
             ≡ record pass.old { receipts = answered pass.old.receipts answer.outcome }) }
@@ -94,8 +94,8 @@ impl<C: LegalHistory, L: Ledger> Shared<C, L> {
         }
     }
 
-    /// A client makes a call, which is in its receipts from then on, and takes its answer if that
-    /// is there at once: `call` and then `take`, with no other event between them.
+    /// Makes a call for a client, adds it to the client's receipts, and takes its answer if that
+    /// comes at once: `call` and then `take`, with no other event between them.
     pub fn ask<R: Wait>(
         &self,
         rt: &R,
@@ -125,7 +125,8 @@ impl<C: LegalHistory, L: Ledger> Shared<C, L> {
         }
     }
 
-    /// Waits for the answer to the client's last call. `None` if the session's input ends first.
+    /// Waits for the answer to the client's last call, and takes it. Returns `None` if the
+    /// session's input ends first.
     pub fn wait_for_answer<R: Wait>(
         &self,
         rt: &R,
@@ -159,7 +160,7 @@ impl<C: LegalHistory, L: Ledger> Shared<C, L> {
         unreachable!()
     }
 
-    /// A client dies.
+    /// Lets a client die, and returns what it leaves.
     pub fn die<R: Wait>(&self, rt: &R, pass: Pass<L>) -> Left<L>
         ensures left { (result.client ≡ pass.client) × (result.priority ≡ pass.priority)
             × (result.receipts ≡ pass.receipts) }
@@ -175,7 +176,7 @@ impl<C: LegalHistory, L: Ledger> Shared<C, L> {
         left
     }
 
-    /// A reading of a clock is handed in.
+    /// Hands in a reading of a clock.
     pub fn moment<R: Wait>(
         &self,
         rt: &R,
@@ -205,7 +206,8 @@ impl<C: LegalHistory, L: Ledger> Shared<C, L> {
         }
     }
 
-    /// The least deadline by this clock of the open calls that are not moved, as it was written.
+    /// Returns the least deadline by this clock of the open calls that are not moved, as it was
+    /// written.
     pub fn least_deadline<R: Wait>(&self, rt: &R, clock: Clock) -> Option<Deadline>
         ensures { Found (λ hub. option_map deadline_nanos result
             ≡ least_deadline_in (past (kept hub.desk)) clock) }

@@ -1,4 +1,4 @@
-//! The rows of the open calls.
+//! The rows of a Start that copy the open calls.
 
 ghost use Rattle.std.specs.Prelude.{◌≡◌, ◌++◌, IfOk, OnOk, map, option_to_list};
 ghost use Rattle.pt_records.specs.Callers.{opens_of};
@@ -9,7 +9,7 @@ use pt_records::{Caller, Open};
 use pt_table::Clients;
 use std::alloc::{AllocError, Allocator};
 
-// Adds an open call, if there is one, with its move.
+// Appends an open call with its move, if there is one.
 fn add_call<A: Allocator + Copy>(
     rows: &mut Vec<StartCall, A>,
     open: Option<Open>,
@@ -23,7 +23,7 @@ fn add_call<A: Allocator + Copy>(
     Ok(())
 }
 
-/// The open calls with their moves, in the order in which their clients joined.
+/// Copies the open calls with their moves, in the order in which their clients joined.
 pub(crate) fn copy_calls<A: Allocator + Copy>(
     clients: &Clients<Caller, A>,
     alloc: A,

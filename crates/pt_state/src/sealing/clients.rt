@@ -1,4 +1,4 @@
-//! The rows of the living clients.
+//! The rows of a Start that copy the living clients.
 
 ghost use Rattle.std.specs.Prelude.{◌≡◌, ◌++◌, ◌∷◌, [], IfOk, OnOk, map};
 ghost use Rattle.pt_state.specs.Copies.{client_start};
@@ -9,7 +9,7 @@ use pt_table::{ClientRow, Clients};
 use pt_types::ClientId;
 use std::alloc::{AllocError, Allocator};
 
-// A client with its priority, its latest call and the answer to that.
+// Copies a client with its priority, its latest call and the answer to that call.
 fn copy_client(row: &ClientRow<Caller>) -> StartClient
     ensures { result ≡ client_start row.now }
 {
@@ -21,7 +21,7 @@ fn copy_client(row: &ClientRow<Caller>) -> StartClient
     }
 }
 
-// Adds a client.
+// Appends a copy of a client.
 fn add_client<A: Allocator + Copy>(
     rows: &mut Vec<StartClient, A>,
     row: &ClientRow<Caller>,
@@ -32,7 +32,7 @@ fn add_client<A: Allocator + Copy>(
     Ok(())
 }
 
-/// The living clients, in the order in which they joined.
+/// Copies the living clients, in the order in which they joined.
 pub(crate) fn copy_clients<A: Allocator + Copy>(
     clients: &Clients<Caller, A>,
     alloc: A,

@@ -1,4 +1,4 @@
-//! The rows of the objects.
+//! The rows of a Start that copy the objects.
 
 ghost use Rattle.std.specs.Prelude.{◌≡◌, ◌++◌, ◌∷◌, [], IfOk, OnOk, map};
 ghost use Rattle.pt_state.specs.Copies.{holders_start, object_start};
@@ -10,7 +10,7 @@ use pt_table::{ObjectRow, Objects};
 use pt_types::{ObjectId, ObjectKind};
 use std::alloc::{AllocError, Allocator};
 
-// Who holds an object, but for the readers of a lock.  [XSH 2.9]
+// Returns who holds an object, except for the readers of a lock.  [XSH 2.9]
 fn copy_holders<A: Allocator + Copy>(object: &Object<A>) -> StartHolders
     ensures { result ≡ holders_start object.now }
 {
@@ -21,7 +21,7 @@ fn copy_holders<A: Allocator + Copy>(object: &Object<A>) -> StartHolders
     }
 }
 
-// What an object was made as.  [XSH 2.9]
+// Returns the kind that an object was made with.  [XSH 2.9]
 fn copy_kind<A: Allocator + Copy>(object: &Object<A>) -> ObjectKind
     ensures { result ≡ kind_in_row object.now }
 {
@@ -33,7 +33,7 @@ fn copy_kind<A: Allocator + Copy>(object: &Object<A>) -> ObjectKind
     }
 }
 
-// An object with its number, its name, its kind and its holders.
+// Copies an object with its number, its name, its kind and its holders.
 fn copy_object<A: Allocator + Copy>(row: &ObjectRow<Object<A>>) -> StartObject
     ensures { result ≡ object_start row.now }
 {
@@ -45,7 +45,7 @@ fn copy_object<A: Allocator + Copy>(row: &ObjectRow<Object<A>>) -> StartObject
     }
 }
 
-// Adds an object.
+// Appends a copy of an object.
 fn add_object<A: Allocator + Copy>(
     rows: &mut Vec<StartObject, A>,
     row: &ObjectRow<Object<A>>,
@@ -56,7 +56,7 @@ fn add_object<A: Allocator + Copy>(
     Ok(())
 }
 
-/// The objects, in the order in which they were made.
+/// Copies the objects, in the order in which they were made.
 pub(crate) fn copy_objects<A: Allocator + Copy>(
     objects: &Objects<Object<A>, A>,
     alloc: A,

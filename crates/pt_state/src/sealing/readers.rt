@@ -1,4 +1,4 @@
-//! The rows of the readers of locks.
+//! The rows of a Start that copy the readers of locks.
 
 ghost use Rattle.std.specs.Prelude.{◌≡◌, ◌++◌, OnOk, IfOk};
 ghost use Rattle.pt_state.specs.Copies.{readers_at, readers_in, readers_of};
@@ -10,7 +10,7 @@ use pt_table::{ObjectRow, Objects};
 use pt_types::{ClientId, ObjectId};
 use std::alloc::{AllocError, Allocator};
 
-// Adds the rows of a lock's readers.
+// Appends the rows of a lock's readers.
 fn add_readers_of<A: Allocator + Copy>(
     rows: &mut Vec<StartReader, A>,
     number: u64,
@@ -29,7 +29,7 @@ fn add_readers_of<A: Allocator + Copy>(
     Ok(())
 }
 
-// Adds the rows of an object's readers, if it is a lock.
+// Appends the rows of an object's readers, if it is a read-write lock.
 fn add_readers<A: Allocator + Copy>(
     rows: &mut Vec<StartReader, A>,
     row: &ObjectRow<Object<A>>,
@@ -43,7 +43,7 @@ fn add_readers<A: Allocator + Copy>(
     Ok(())
 }
 
-/// The readers of all locks, lock by lock in the order in which these were made.
+/// Copies the readers of all locks, lock by lock, in the order in which the locks were made.
 /// [XSH pthread_rwlock_rdlock]
 pub(crate) fn copy_readers<A: Allocator + Copy>(
     objects: &Objects<Object<A>, A>,

@@ -1,4 +1,4 @@
-//! A state whose entries are put aside, so that it can go back to them.
+//! Seals that put the entries aside, so that a state can go back to them.
 
 ghost use Rattle.std.specs.Prelude.{◌≡◌, ◌≤◌, [], IfErr, IfOk, OnErr, map};
 ghost use Rattle.pt_types.specs.Limits.{most_places};
@@ -27,8 +27,8 @@ pub struct Unsealed<A: Allocator + Copy = Global> {
     pub answers: AnswerLog<A>,
 }
 
-// A history that begins with the seal of a state's history, with room for so many entries. ENOMEM
-// if a growth is refused.
+// Returns a history that begins with the seal of a state's history and has room for `room` entries.
+// Returns ENOMEM if a growth is refused.
 fn sealed_history<A: Allocator + Copy>(state: &State<A>, room: u64) -> Result<History<A>, Refusal>
     requires read { AreTables state.now }
     requires places { place (past state.now) ≤ most_places }
@@ -52,9 +52,9 @@ fn sealed_history<A: Allocator + Copy>(state: &State<A>, room: u64) -> Result<Hi
     }
 }
 
-/// Puts the entries and the answers aside: the history goes on from its seal, with room for so many
-/// entries and answers. Clients, objects and clocks stay as they are. ENOMEM if a growth is
-/// refused: then nothing changes.
+/// Puts the entries and the answers aside, and returns them. The history goes on from its seal,
+/// with room for `room` entries and answers. Clients, objects and clocks stay as they are. Returns
+/// ENOMEM if a growth is refused; then nothing changes.
 pub fn seal_with_room<A: Allocator + Copy>(
     state: &mut State<A>,
     room: u64,
@@ -71,7 +71,8 @@ pub fn seal_with_room<A: Allocator + Copy>(
     let Ok(answers) = AnswerLog::with_room(state.alloc, room as usize) else {
         return Err(Refusal::Enomem);
     };
-    // The rows of the Start are copied from the objects by their indices.
+    // The rows of the Start are copied from the objects by index, which is fast once they are
+    // packed.
     state.objects.pack();
     let stored = sealed_history(state, room)?;
     Ok(Unsealed {
@@ -80,7 +81,8 @@ pub fn seal_with_room<A: Allocator + Copy>(
     })
 }
 
-/// Goes back to the entries and the answers that were put aside, if no entry came since.
+/// Goes back to the entries and the answers that were put aside. No entry may have been pushed
+/// since.
 pub fn unseal<A: Allocator + Copy>(state: &mut State<A>, unsealed: Unsealed<A>)
     requires read { AreTables state.old }
     requires begins { past state.old ≡ Begin (seal (past_of unsealed.stored)) }
@@ -94,8 +96,8 @@ pub fn unseal<A: Allocator + Copy>(state: &mut State<A>, unsealed: Unsealed<A>)
     state.answers = unsealed.answers;
 }
 
-/// Moves entries and answers into the memory of those that were put aside, and that are needed no
-/// more. So a seal gives no memory back that the history would soon ask for again.
+/// Moves entries and answers into the memory of those that were put aside and are no longer needed.
+/// So a seal does not free memory that the history would soon ask for again.
 pub fn take_memory<A: Allocator + Copy>(state: &mut State<A>, unsealed: Unsealed<A>)
     requires { AreTables state.old }
     ensures { StaysOrGrows state.old state.new }

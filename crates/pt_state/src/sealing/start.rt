@@ -1,4 +1,4 @@
-//! The Start of a whole state.
+//! The Start that is copied from a whole state.
 
 ghost use Rattle.std.specs.Prelude.{◌≡◌, ◌≤◌, IfOk};
 ghost use Rattle.pt_model.specs.StartRows.{reads_of, rows_of};
@@ -14,8 +14,8 @@ use crate::state::State;
 use pt_model::Start;
 use std::alloc::{AllocError, Allocator};
 
-/// The seal of a state's history: what is known of it once its entries are dropped. The state stays
-/// as it is. An error if a growth is refused.
+/// Returns the seal of a state's history: all that is known of it after its entries are dropped.
+/// The state stays as it is. Returns an error if a growth is refused.
 pub fn start_of<A: Allocator + Copy>(state: &State<A>) -> Result<Start<A>, AllocError>
     requires { AreTables state.now }
     ensures reads { IfOk result (λ start. reads_of (rows_of start) ≡ seal (past state.now)) }

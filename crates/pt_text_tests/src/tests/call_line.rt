@@ -7,7 +7,7 @@ fn asks(text: &[u8], call: Call) -> bool {
     read_call(text) == Ok(CallLine::Ask(call))
 }
 
-// Whether each call on a mutex is read.
+// Returns true if each call on a mutex is read.
 fn are_mutex_calls_read() -> bool {
     let (Some(m), Some(late)) = (Name::new(b"m"), Deadline::new(5, 9_999_999_999)) else {
         return false;
@@ -31,7 +31,7 @@ fn are_mutex_calls_read() -> bool {
         && asks(b"mutex-destroy m", Call::MutexDestroy(m.copied()))
 }
 
-// Whether the inits of a mutex are read.
+// Returns true if the inits of a mutex are read.
 fn are_inits_read() -> bool {
     let Some(m) = Name::new(b"m") else {
         return false;
@@ -59,7 +59,7 @@ fn are_inits_read() -> bool {
     true
 }
 
-// Whether each call on a read-write lock is read.
+// Returns true if each call on a read-write lock is read.
 fn are_rwlock_calls_read() -> bool {
     let (Some(r), Some(due)) = (Name::new(b"r"), Deadline::new(0, 1_000_000_000)) else {
         return false;
@@ -89,7 +89,7 @@ fn are_rwlock_calls_read() -> bool {
         && asks(b"rwlock-destroy r", Call::RwlockDestroy(r.copied()))
 }
 
-// Whether each wait at a condition is read.
+// Returns true if each wait at a condition is read.
 fn are_waits_read(c: &Name, m: &Name) -> bool {
     let Some(due) = Deadline::new(9_999_999_999, 7) else {
         return false;
@@ -109,7 +109,7 @@ fn are_waits_read(c: &Name, m: &Name) -> bool {
         )
 }
 
-// Whether each call on a condition or a barrier is read.
+// Returns true if each call on a condition or a barrier is read.
 fn are_other_calls_read() -> bool {
     let (Some(c), Some(m)) = (Name::new(b"c"), Name::new(b"m")) else {
         return false;
@@ -138,7 +138,7 @@ fn calls_on_each_kind_of_object(rt: HostRuntime) {
     );
 }
 
-// Whether a hello of the lowest, a middle and the highest priority is read.
+// Returns true if a hello of the lowest, a middle and the highest priority is read.
 fn are_hellos_read() -> bool {
     let table: [(&[u8], u64); 3] = [(b"hello 1", 1), (b"hello 33", 33), (b"hello 99", 99)];
     for (text, level) in table {
@@ -150,7 +150,7 @@ fn are_hellos_read() -> bool {
     true
 }
 
-// Whether the last moment of each clock is read.
+// Returns true if the last moment of each clock is read.
 fn are_moments_read() -> bool {
     let Some(last) = Moment::new(9_999_999_999, 999_999_999) else {
         return false;
@@ -168,7 +168,7 @@ fn hellos_and_moments(rt: HostRuntime) {
 const LONGEST: &[u8] = b"clockwait xxxxxxxxxxxxxxxxxxxxxxxxxxxxxxxx \
     xxxxxxxxxxxxxxxxxxxxxxxxxxxxxxxx mono 9999999999 9999999999";
 
-// Whether the longest line is read.
+// Returns true if the longest line is read.
 fn is_longest_read() -> bool {
     let due = Deadline::new(9_999_999_999, 9_999_999_999);
     let (Some(name), Some(due)) = (Name::new(&[b'x'; 32]), due) else {
@@ -178,7 +178,7 @@ fn is_longest_read() -> bool {
     LONGEST.len() == 102 && asks(LONGEST, call)
 }
 
-// Whether names of 1 to 32 bytes are read, and no others.
+// Returns true if names of 1 to 32 bytes are read, and no others.
 fn are_names_limited() -> bool {
     let mut text = [b'x'; 38];
     text[..5].copy_from_slice(b"lock ");
@@ -190,7 +190,7 @@ fn are_names_limited() -> bool {
     true
 }
 
-// Whether lines from 129 bytes on are too long.
+// Returns true if lines from 129 bytes on are too long.
 fn are_lines_limited() -> bool {
     let bytes = [b'x'; 200];
     for (count, refusal) in [
@@ -282,7 +282,7 @@ const NO_LINES: [&[u8]; 69] = [
     b"moment mono 1 0",
 ];
 
-// Whether none of these lines is read.
+// Returns true if none of these lines is read.
 fn are_refused() -> bool {
     for text in NO_LINES {
         if read_call(text).err() != Some(Refusal::Syntax) {
@@ -297,7 +297,7 @@ fn lines_that_no_connection_may_send(rt: HostRuntime) {
     assert!(rt; are_refused());
 }
 
-// Whether a line that was cut is read, and one that is too long is refused.
+// Returns true if a line that was cut is read, and one that is too long is refused.
 fn is_cut_read(cut: &Cut) -> bool {
     let hello = Priority::new(5).map(CallLine::Hello);
     hello.is_some()

@@ -3,7 +3,7 @@ use pt_command::command;
 use std::alloc::Global;
 use std::test::Fail;
 
-// The exit status that clap gives for these words, or that of a run.
+// Returns the exit status that clap gives for these words, or 0 if the program is to run.
 fn exit_of(alloc: Global, words: &[&str]) -> Result<i32, Fail> {
     match command(alloc)?.try_get_matches_from(words) {
         Ok(_) => Ok(0),
@@ -11,7 +11,7 @@ fn exit_of(alloc: Global, words: &[&str]) -> Result<i32, Fail> {
     }
 }
 
-// Whether these words give these statuses.
+// Returns true if these words give the exit statuses of the table.
 fn are_statuses_told(alloc: Global) -> Result<bool, Fail> {
     let table: [(&[&str], i32); 6] = [
         (&["ptserver", "script"], 0),
@@ -29,7 +29,7 @@ fn are_statuses_told(alloc: Global) -> Result<bool, Fail> {
     Ok(true)
 }
 
-// Whether the options of `serve` give these statuses.
+// Returns true if these options of `serve` give the exit statuses of the table.
 fn are_services_told(alloc: Global) -> Result<bool, Fail> {
     let table: [(&[&str], i32); 7] = [
         (&["--socket", "p"], 0),

@@ -7,7 +7,7 @@ use pt_types::{Call, Name, Refusal};
 use std::alloc::{Allocator, Global};
 use std::test::Fail;
 
-// Writes lines, each with a bar after it.
+// Appends lines, each with a bar after it.
 fn show(text: &mut Vec<u8>, cuts: &[Cut]) -> Result<(), Fail> {
     for cut in cuts {
         match cut {
@@ -19,7 +19,7 @@ fn show(text: &mut Vec<u8>, cuts: &[Cut]) -> Result<(), Fail> {
     Ok(())
 }
 
-// Whether the lines of the pieces are these, each with a bar after it.
+// Returns true if the lines of the pieces are these, each with a bar after it.
 fn are_lines(alloc: Global, pieces: &[&[u8]], expected: &[u8]) -> Result<bool, Fail> {
     let cuts = cut_all(alloc, pieces)?;
     let mut text = Vec::new(alloc);
@@ -27,7 +27,7 @@ fn are_lines(alloc: Global, pieces: &[&[u8]], expected: &[u8]) -> Result<bool, F
     Ok(text.as_slice() == expected)
 }
 
-// Whether these pieces are cut at their newlines.
+// Returns true if these pieces are cut at their newlines.
 fn are_cut_at_newlines(alloc: Global) -> Result<bool, Fail> {
     let table: [(&[&[u8]], &[u8]); 9] = [
         (&[b"hel", b"lo 5\nlo", b"ck m\n"], b"hello 5|lock m|"),
@@ -54,7 +54,7 @@ fn cuts_at_newlines(rt: HostRuntime) -> Result<(), Fail> {
     Ok(())
 }
 
-// Whether these lines are given, wherever the bytes are cut in two.
+// Returns true if these lines are given, wherever the bytes are cut in two.
 fn is_given_at_each_cut(alloc: Global, bytes: &[u8], expected: &[u8]) -> Result<bool, Fail> {
     for at in 0..bytes.len() {
         let (front, back) = bytes.split_at(at);
@@ -65,8 +65,8 @@ fn is_given_at_each_cut(alloc: Global, bytes: &[u8], expected: &[u8]) -> Result<
     Ok(true)
 }
 
-// Whether a line of so many bytes and one more line are given, the first one as these bytes or as
-// too long.
+// Returns true if a line of this many bytes and one more line are given, the first one as its bytes
+// or as too long.
 fn is_line_given(alloc: Global, count: usize, is_long: bool) -> Result<bool, Fail>
     requires { count ≤ 10000 }
 {
@@ -82,7 +82,7 @@ fn is_line_given(alloc: Global, count: usize, is_long: bool) -> Result<bool, Fai
     is_given_at_each_cut(alloc, &bytes[..count + 8], expected)
 }
 
-// Whether lines of up to 128 bytes are given, and longer ones are too long.
+// Returns true if lines of up to 128 bytes are given, and longer ones are too long.
 fn are_lines_limited(alloc: Global) -> Result<bool, Fail> {
     Ok(
         is_line_given(alloc, 127, false)?
@@ -110,7 +110,7 @@ fn count_long<A: Allocator + Copy>(cutter: &mut Cutter<A>, piece: &[u8]) -> Resu
     Ok(long)
 }
 
-// How often a line of so many bytes is reported as too long, when it is fed byte by byte.
+// Returns how often a line of this many bytes is reported as too long when it is fed byte by byte.
 fn count_long_by_bytes(cutter: &mut Cutter, count: usize) -> Result<usize, Fail> {
     let mut long: usize = 0;
     for _ in 0..count {
@@ -119,7 +119,7 @@ fn count_long_by_bytes(cutter: &mut Cutter, count: usize) -> Result<usize, Fail>
     Ok(long)
 }
 
-// How often lines of these bytes are reported as too long, when they are fed byte by byte.
+// Returns true if lines of these lengths, fed byte by byte, are reported as too long this often.
 fn are_long_counted(alloc: Global) -> Result<bool, Fail> {
     for (count, long) in [(128, 0), (129, 1), (130, 1), (10_000, 1)] {
         let told = lend(
@@ -133,7 +133,7 @@ fn are_long_counted(alloc: Global) -> Result<bool, Fail> {
     Ok(true)
 }
 
-// Whether a line is too long as soon as its 129th byte comes, and once.
+// Returns true if a line is too long as soon as its 129th byte comes, and is reported once.
 fn is_long_told_once(cutter: &mut Cutter) -> Result<bool, Fail> {
     cutter.feed(&[b'x'; 128])?;
     let early = cutter.next_line();
@@ -143,7 +143,7 @@ fn is_long_told_once(cutter: &mut Cutter) -> Result<bool, Fail> {
     Ok(early.is_none() && long == Some(Cut::Long) && again.is_none())
 }
 
-// Whether nothing is left of a line that was too long when the input ends.
+// Returns true if nothing is left of a line that was too long when the input ends.
 fn is_nothing_left(alloc: Global) -> Result<bool, Fail> {
     let mut cutter = Cutter::new(alloc);
     cutter.feed(&[b'x'; 129])?;
@@ -166,12 +166,13 @@ fn long_comes_once_with_the_129th_byte(rt: HostRuntime) -> Result<(), Fail> {
     Ok(())
 }
 
-// Whether the next line of a connection is there, and is read as this.
+// Returns true if the next line of a connection has come and is read as this.
 fn is_next_call_line(cutter: &mut Cutter, expected: Result<CallLine, Refusal>) -> bool {
     cutter.next_call_line() == Some(expected)
 }
 
-// Whether a whole line, a line that spells nothing and a line that is too long are read in turn.
+// Returns true if a whole line, a line outside the grammar and a line that is too long are read in
+// turn.
 fn are_whole_lines_read(cutter: &mut Cutter) -> Result<bool, Fail> {
     let call = Call::Lock(Name::new(b"m").ok_or("name")?);
     cutter.feed(b"lock m\nlokc m\n")?;
@@ -184,8 +185,8 @@ fn are_whole_lines_read(cutter: &mut Cutter) -> Result<bool, Fail> {
     )
 }
 
-// Whether a line that comes in two pieces, the first of which ends a line that was too long, is
-// read with the second.
+// Returns true if a line that comes in two pieces is read with the second piece. The first piece
+// also ends a line that was too long.
 fn is_line_in_two_pieces_read(cutter: &mut Cutter) -> Result<bool, Fail> {
     let call = Call::Unlock(Name::new(b"m").ok_or("name")?);
     cutter.feed(b"xx\nunlo")?;
@@ -194,7 +195,8 @@ fn is_line_in_two_pieces_read(cutter: &mut Cutter) -> Result<bool, Fail> {
     Ok(early.is_none() && is_next_call_line(cutter, Ok(CallLine::Ask(call))))
 }
 
-// Whether lines of a connection are read where they lie, and those that are not whole are not.
+// Returns true if lines of a connection are read in place, and lines that are not whole are not
+// read.
 fn are_call_lines_read(cutter: &mut Cutter) -> Result<bool, Fail> {
     Ok(are_whole_lines_read(cutter)? && is_line_in_two_pieces_read(cutter)?)
 }
@@ -205,8 +207,8 @@ fn lines_of_a_connection_are_read(rt: HostRuntime) -> Result<(), Fail> {
     Ok(())
 }
 
-// Whether all that a cutter takes of its heap stays below a bound while a piece is fed so many
-// times.
+// Returns true if a cutter never takes more than 65,536 bytes of its heap while a piece is fed this
+// many times.
 fn stays_small(heap: &LocalHeap, piece: &[u8], times: usize) -> Result<bool, Fail> {
     lend(Cutter::new(heap), |cutter| {
         for _ in 0..times {
@@ -219,7 +221,7 @@ fn stays_small(heap: &LocalHeap, piece: &[u8], times: usize) -> Result<bool, Fai
     })
 }
 
-// The same with a heap of 1 MB.
+// Does what `stays_small` does, with a heap of 1 MB.
 fn takes_little_memory(alloc: Global, piece: &[u8], times: usize) -> Result<bool, Fail> {
     let heap = LocalHeap::new(alloc, 1 << 20)?;
     stays_small(&heap, piece, times)

@@ -49,7 +49,7 @@ fn copy<R: Source, W: Sink>(reader: &mut R, writer: &mut W) -> io::Result<()>
     Err(io::Error::from(ErrorKind::TimedOut))
 }
 
-/// Answers its first calls by an error.
+/// A device that answers its first reads or writes with an error.
 #[derive(Drop)]
 struct Unready {
     bytes: VecDeque<u8>,
@@ -95,7 +95,7 @@ impl Write for Unready {
     }
 }
 
-// Whether all bytes of a reader come in pieces of four, and then its end.
+// Returns true if all bytes of a reader come in pieces of four, and then its end.
 fn come_in_pieces(reader: &mut Counted<VecDeque<u8>>) -> io::Result<bool>
     requires { reader.old.has_failed ≡ false }
 {
@@ -121,7 +121,7 @@ fn all_bytes_of_a_reader_come_in_pieces(rt: HostRuntime) -> Result<(), Fail> {
     Ok(())
 }
 
-// Whether a writer takes all bytes and is given back.
+// Returns true if a writer takes all bytes and is given back.
 fn is_given_back(alloc: Global) -> bool {
     let mut writer = Counted::new(VecDeque::new(alloc));
     let is_put = put(&mut writer, b"1 0\n").is_ok() && put(&mut writer, b"2 0\n").is_ok();
@@ -135,7 +135,8 @@ fn a_writer_takes_all_bytes_and_is_given_back(rt: HostRuntime) {
     assert!(rt; is_given_back(rt.alloc()));
 }
 
-// Whether a reader that fails at this call, or at none, has given these bytes in pieces of three.
+// Returns true if a reader that fails at this call, or at none, has given these bytes in pieces of
+// three.
 fn has_given(
     alloc: Global,
     fails_at: u64,
@@ -153,7 +154,7 @@ fn has_given(
     )
 }
 
-// Whether each reader has given what came before its failure.
+// Returns true if each reader has given what came before its failure.
 fn have_given(alloc: Global) -> Result<bool, Fail> {
     let table: [(u64, bool, &[u8], &[u8]); 6] = [
         (1, true, b"", b"abcdefg"),
@@ -171,7 +172,7 @@ fn have_given(alloc: Global) -> Result<bool, Fail> {
     Ok(true)
 }
 
-// Whether a writer that fails at this call has taken these bytes, two at a time.
+// Returns true if a writer that fails at this call has taken these bytes, two at a time.
 fn has_taken(alloc: Global, fails_at: u64, taken: &[u8]) -> bool {
     let mut writer = Faulty::new(Vec::new(alloc), 2, fails_at);
     let is_put = put(&mut writer, b"1 0\n2").is_ok();
@@ -190,7 +191,8 @@ fn a_failing_device_has_moved_what_came_before(rt: HostRuntime) -> Result<(), Fa
     Ok(())
 }
 
-// Whether a read of a device that is so often unready fails, or gives its bytes.
+// Returns true if a read of a device that is unready this many times fails, or else gives its
+// bytes, as `fails` says.
 fn is_read(alloc: Global, times: u32, kind: ErrorKind, fails: bool) -> Result<bool, Fail> {
     let bytes = VecDeque::from_array(alloc, *b"abc")?;
     let mut reader = Counted::new(Unready { bytes, times, kind });
@@ -201,7 +203,8 @@ fn is_read(alloc: Global, times: u32, kind: ErrorKind, fails: bool) -> Result<bo
     )
 }
 
-// Whether a write to a device that is so often unready fails, or leaves its bytes there.
+// Returns true if a write to a device that is unready this many times fails, or else leaves its
+// bytes there, as `fails` says.
 fn is_written(alloc: Global, times: u32, kind: ErrorKind, fails: bool) -> bool {
     let bytes = VecDeque::new(alloc);
     let mut writer = Counted::new(Unready { bytes, times, kind });
@@ -209,7 +212,7 @@ fn is_written(alloc: Global, times: u32, kind: ErrorKind, fails: bool) -> bool {
     (has_erred, writer.has_failed()) == (fails, fails) && writer.device().bytes.is_empty() == fails
 }
 
-// Whether interruptions alone are tried again, up to sixteen times.
+// Returns true if only interruptions are tried again, up to sixteen times.
 fn are_tried_again(alloc: Global) -> Result<bool, Fail> {
     for (kind, times, fails) in [
         (ErrorKind::Interrupted, 0, false),

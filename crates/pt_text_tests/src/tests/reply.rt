@@ -4,7 +4,7 @@ use pt_types::{Outcome, Refusal};
 use std::alloc::Global;
 use std::test::Fail;
 
-// The answer lines of each word, to line 1 of nobody and to the last line of a client.
+// The answer lines of each word: to line 1 of nobody, and to the last line of a client.
 const ANSWERS: [(Word, &[u8]); 18] = [
     (
         Word::Outcome(Outcome::Done),
@@ -80,7 +80,7 @@ const ANSWERS: [(Word, &[u8]); 18] = [
     ),
 ];
 
-// Whether a word is written so.
+// Returns true if a word is written as expected.
 fn is_written(out: &mut Vec<u8>, word: Word, expected: &[u8]) -> Result<bool, Fail> {
     write_reply(out, None, 1, word)?;
     write_reply(out, Some(&Who::named(b"abcdefgh")), u64::MAX, word)?;
@@ -89,7 +89,7 @@ fn is_written(out: &mut Vec<u8>, word: Word, expected: &[u8]) -> Result<bool, Fa
     Ok(is_expected)
 }
 
-// Whether each word is written so.
+// Returns true if each word is written as expected.
 fn are_written(out: &mut Vec<u8>) -> Result<bool, Fail> {
     for (word, expected) in ANSWERS {
         if !is_written(out, word, expected)? {
@@ -99,7 +99,8 @@ fn are_written(out: &mut Vec<u8>) -> Result<bool, Fail> {
     Ok(true)
 }
 
-// Whether answers to a client, to the clock, to an unknown client and to nobody are lines in a row.
+// Returns true if answers to a client, to `*`, to an unknown client and to nobody are lines in a
+// row.
 fn are_in_a_row(out: &mut Vec<u8>) -> Result<bool, Fail> {
     let a = Who::named(b"A");
     write_reply(out, Some(&a), 12, Word::Outcome(Outcome::Eperm))?;

@@ -14,13 +14,13 @@ use std::test::Fail;
 
 mod faults;
 
-// Two clients, of which the second waits for a mutex of the first.
+// A script of two clients, the second of which waits for a mutex of the first.
 const TWO_CLIENTS: &[u8] = b"A hello 10\nB hello 20\nA mutex-init m normal stalled\n\
     A lock m\nB lock m\nA unlock m\n";
 
 const TWO_CLIENTS_TOLD: &[u8] = b"A 1 0\nB 1 0\nA 2 0\nA 3 0\nA 4 0\nB 2 0\n";
 
-// A device that gives these bytes, up to `step` of them per call, and fails at a call.
+// Returns a device that gives these bytes, up to `step` of them per call, and fails at a call.
 fn reader<A: Allocator + Copy>(
     alloc: A,
     bytes: &[u8],
@@ -34,7 +34,7 @@ fn reader<A: Allocator + Copy>(
     Ok(Faulty::new(Vec::from_slice(alloc, bytes)?, step, fails_at))
 }
 
-// The core of a script.
+// Returns the core of a script.
 fn core<A: Allocator + Copy>(alloc: A) -> Result<Core<A>, ScriptFault>
     ensures { IfOk result (λ core. shown core
         ≡ record { start = nothing; entries = []; limit = entries_between_seals }) }
@@ -58,7 +58,7 @@ fn play<R: Source, W: Sink, A: Allocator + Copy>(
     script(core(alloc)?, alloc, reader, writer)
 }
 
-// Runs a script with at most so many reads.
+// Runs a script with at most this many reads.
 fn play_within<R: Source, W: Sink, A: Allocator + Copy>(
     alloc: A,
     reads: u64,
@@ -73,7 +73,7 @@ fn play_within<R: Source, W: Sink, A: Allocator + Copy>(
     script_within(core(alloc)?, alloc, reads, reader, writer)
 }
 
-// Writes what this input is answered, which is read to its end.
+// Writes the answers to this input, which is read to its end.
 fn tell(alloc: Global, bytes: &[u8], step: usize, writer: &mut Faulty) -> Result<ScriptEnd, Fail>
     requires step { 0 < step }
     requires fresh { writer.old.taken ≡ [] }
@@ -85,7 +85,7 @@ fn tell(alloc: Global, bytes: &[u8], step: usize, writer: &mut Faulty) -> Result
     Ok(ended?)
 }
 
-// What is written for this input, which is read to its end.
+// Returns what is written for this input, which is read to its end.
 fn told(alloc: Global, bytes: &[u8], step: usize) -> Result<(Faulty, ScriptEnd), Fail>
     requires { 0 < step }
 {
@@ -105,7 +105,7 @@ fn the_answer_comes_before_the_grant(rt: HostRuntime) -> Result<(), Fail> {
     Ok(())
 }
 
-// Lines that are refused among others, one of them of 129 bytes.
+// Returns a script with refused lines among others. One of them has 129 bytes.
 fn lines_refused(alloc: Global) -> Result<Vec<u8>, Fail> {
     let mut input = Vec::from_slice(alloc, b"A lock m\n")?;
     input.extend_from_slice(&[b'x'; 129])?;
@@ -154,7 +154,8 @@ fn a_dead_name_stays_dead_and_a_refused_hello_may_come_again(rt: HostRuntime) ->
     Ok(())
 }
 
-// A call that waits, so many moments, and the death of the owner for which it waits.
+// Returns a script in which a call waits, `count` moments come, and the owner for which the call
+// waits dies.
 fn many_moments(alloc: Global, count: usize) -> Result<Vec<u8>, Fail> {
     let mut input = Vec::from_slice(
         alloc,

@@ -3,13 +3,13 @@ use pt_lines::{ClientName, Cut, ScriptBody, ScriptLine, Who, read_script_line};
 use pt_types::{Call, Clock, Moment, Name, Priority, Refusal};
 use std::test::Fail;
 
-// Whether a line of a script is this client's, and is refused for this.
+// Returns true if a line of a script is this client's, and is refused for this reason.
 fn is_refused(text: &[u8], who: &[u8], refusal: Refusal) -> bool {
     let line = read_script_line(text);
     line.who.as_bytes() == who && line.body == Err(refusal)
 }
 
-// Whether each of these lines is its client's, and is refused.
+// Returns true if each of these lines is its client's, and is refused.
 fn are_refused() -> bool {
     let table: [(&[u8], &[u8]); 26] = [
         (b"", b"?"),
@@ -54,13 +54,13 @@ fn script_lines_with_faults(rt: HostRuntime) {
     assert!(rt; are_refused());
 }
 
-// Whether a line is this client's, and has this body.
+// Returns true if a line is this client's, and has this body.
 fn is_read(text: &[u8], who: &[u8], body: ScriptBody) -> bool {
     let line = read_script_line(text);
     line.who.as_bytes() == who && line.body == Ok(body)
 }
 
-// Whether a call, a hello and a die are read with their clients.
+// Returns true if a call, a hello and a die are read with their clients.
 fn are_client_lines_read() -> bool {
     let (Some(m), Some(most)) = (Name::new(b"m"), Priority::new(99)) else {
         return false;
@@ -74,7 +74,7 @@ fn are_client_lines_read() -> bool {
         && is_read(b"A die", b"A", ScriptBody::Die)
 }
 
-// Whether this line is a tick of this clock to the first second.
+// Returns true if this line is a moment of one second of this clock.
 fn is_tick(text: &[u8], clock: Clock) -> bool {
     let line = read_script_line(text);
     let tick = Moment::new(1, 0).map(|moment| ScriptBody::Tick(clock, moment));
@@ -96,7 +96,7 @@ fn script_lines_of_clients_and_the_clocks(rt: HostRuntime) {
     );
 }
 
-// Whether these are names of clients, or not.
+// Returns true if texts are accepted as clients' names exactly as the table says.
 fn are_client_names_known() -> bool {
     let table: [(&[u8], bool); 8] = [
         (b"", false),

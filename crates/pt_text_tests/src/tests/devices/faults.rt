@@ -3,7 +3,7 @@ ghost use Rattle.std.specs.Prelude.{◌≡◌, false};
 use super::*;
 use std::io::BufWriter;
 
-/// Answers each of its first calls by an error of this kind.
+/// A device that answers each of its first calls with an error of this kind.
 #[derive(Drop)]
 struct Failing {
     times: u32,
@@ -38,7 +38,7 @@ impl Write for Failing {
     }
 }
 
-/// Accepts so many bytes, and then none.
+/// A writer that accepts this many bytes, and then none.
 #[derive(Drop)]
 struct Filling {
     room: usize,
@@ -66,8 +66,8 @@ fn kind_of<T: Drop>(answer: io::Result<T>) -> Option<ErrorKind> {
     answer.err().map(|error| error.kind())
 }
 
-// What a read, a write and a flush report of a device whose first calls fail, and whether each has
-// failed.
+// Returns the errors that a read, a write and a flush report for a device whose first calls fail,
+// and whether each has failed.
 fn reported(times: u32, kind: ErrorKind) -> [(Option<ErrorKind>, bool); 3] {
     let mut reader = counted_failing(times, kind);
     let read = kind_of(reader.read(&mut [0; 8]));
@@ -82,7 +82,7 @@ fn reported(times: u32, kind: ErrorKind) -> [(Option<ErrorKind>, bool); 3] {
     ]
 }
 
-// Whether these are the errors that are reported.
+// Returns true if the errors of the table are reported.
 fn are_reported() -> bool {
     for (times, kind, reports) in [
         (1, ErrorKind::BrokenPipe, true),
@@ -110,7 +110,7 @@ fn the_error_is_the_one_of_the_device(rt: HostRuntime) {
     assert!(rt; are_reported());
 }
 
-// Whether a flush empties the buffer of the device.
+// Returns true if a flush empties the buffer of the device.
 fn is_flushed(writer: &mut Counted<BufWriter<VecDeque<u8>>>) -> io::Result<bool>
     requires fresh { writer.old.has_failed ≡ false }
 {
@@ -129,7 +129,7 @@ fn a_flush_empties_the_buffer_of_the_device(rt: HostRuntime) -> Result<(), Fail>
     Ok(())
 }
 
-// Whether a writer accepts two bytes, and then none.
+// Returns true if a writer accepts two bytes, and then none.
 fn is_full() -> io::Result<bool> {
     let mut writer = Counted::new(Filling { room: 2 });
     let none = writer.write(b"")?;
@@ -144,7 +144,7 @@ fn is_full() -> io::Result<bool> {
     )
 }
 
-// Whether the second flush fails, which is the third call.
+// Returns true if the second flush fails, which is the third call.
 fn fails_at_its_call(alloc: Global) -> io::Result<bool> {
     let mut writer = Faulty::new(Vec::new(alloc), 100, 3);
     put(&mut writer, b"1 0\n")?;

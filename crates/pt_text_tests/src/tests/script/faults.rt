@@ -6,7 +6,7 @@ use std::collections::VecDeque;
 use std::io;
 use std::io::{BufWriter, Write};
 
-// How many bytes of answers are due after so many bytes of the script of two clients.
+// Returns how many bytes of answers are due after this many bytes of the script of two clients.
 pub fn due(given: usize) -> usize
     ensures { result ≤ 36 }
 {
@@ -20,7 +20,7 @@ pub fn due(given: usize) -> usize
     }
 }
 
-// Accepts so many bytes, and then none.
+// A writer that accepts this many bytes, and then none.
 #[derive(Drop)]
 struct Filling {
     room: usize,
@@ -38,8 +38,8 @@ impl Write for Filling {
     }
 }
 
-// The exit status of the script of two clients if a call of one of these devices fails, and what
-// was written and reported.
+// Returns the exit status of the script of two clients if a call of one of these devices fails, and
+// what was written and reported.
 fn answered(
     alloc: Global,
     read_fails_at: u64,
